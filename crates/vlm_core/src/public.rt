@@ -1,6 +1,6 @@
 //! The core: whole steps alone.
 
-ghost use Rattle.std.specs.Prelude.{◌≡◌, []};
+ghost use Rattle.std.specs.Prelude.{◌≡◌};
 ghost use Rattle.vlm_words.specs.declared.resources.Queue.{Queue};
 ghost use Rattle.vlm_words.specs.Laws.{HeldModesAreCompatible, NothingIsLeftToGrant};
 ghost use Rattle.vlm_words.specs.State.{start};
@@ -98,14 +98,13 @@ impl Core {
     }
 
     /// The records of the core: its resources and its living processes are theirs without their handles, and
-    /// each queue of a resource is the locks that `head` and then `next` give there; no other lock is stored. No
-    /// two locks of a resource hold incompatible modes, and on none is anything left to grant.
+    /// each queue of a resource is the locks that `head` and then `next` give there. No two locks of a resource
+    /// hold incompatible modes, and on none is anything left to grant.
     pub fn store(&self) -> &Store
         ensures resources { plain_resources result.now ≡ self.now.resources }
         ensures processes { plain_processes result.now ≡ self.now.processes }
         ensures queues { (r : StoredResource) → IsIn r result.now.resources
             → (queue : Queue) → GivesInTurn r.at queue (rows_of_locks (queued queue r)) result.now }
-        ensures none_loose { result.now.loose ≡ [] }
         ensures held { HeldModesAreCompatible self.now }
         ensures served { NothingIsLeftToGrant self.now }
     {

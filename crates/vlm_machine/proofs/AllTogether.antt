@@ -231,20 +231,20 @@ module _ (m : MachineState) (sound : IsSound m.records) (rest : IsAtRest m.recor
   sublocks_go_too All some at other row up stored stored_up names chosen = refl
   sublocks_go_too (Below top) some at other row up stored stored_up names chosen =
       let resources : List Resource = plain_resources m.records in
-      let parent : parent_of row.lkid resources ≡ up.lkid = parent_named m.records sound rest.none_loose at row stored ∙ names in
+      let parent : parent_of row.lkid resources ≡ up.lkid = parent_named m.records sound at row stored ∙ names in
       between.chains top 16 row.lkid some
       (or_right (parent_of row.lkid resources == top) (is_below 15 top resources (parent_of row.lkid resources))
       (ap (is_below 15 top resources) parent ∙ chosen))
 
   -- where a lock is stored, some identification was given
   some_given : (at : ℕ) (row : Row) → Stores m.records at row → 0 < m.next_lkid
-  some_given at row stored = omega (arith, above_all m.records m.next_lkid rest.none_loose between.identifications.none_to_come at row stored)
+  some_given at row stored = omega (arith, above_all m.records m.next_lkid between.identifications.none_to_come at row stored)
 
   -- each lock of the process is one of its own locks
   own_listed : (pid at : ℕ) (row : Row) → Stores m.records at row → row.pid ≡ pid
       → list_any (λ n. row.lkid == n) (own_lkids (λ p. p == pid) (plain_state m)) ≡ true
   own_listed pid at row stored owned =
-      let stands = in_queue m.records rest.none_loose at row stored in
+      let stands = in_queue m.records at row stored in
       is_listed (λ p. p == pid) (plain_state m) (is_apart (plain_state m) between.identifications (some_given at row stored)) row.lkid
       (some_pass plain_resource (has_lock_among (λ p. p == pid) row.lkid) m.records.resources stands.resource stands.there
       (some_on pid stands.resource stands.queue (record { at = at; row = row }) stands.among owned))

@@ -111,7 +111,7 @@ among_all_some lkid (x ∷ rest) r among is =
       | inr there ↦ or_right (has_sublock_on lkid (plain_resource x)) (list_any (has_sublock_on lkid) (map plain_resource rest)) (among_all_some lkid rest r there is)
     ]
 
-module _ (s : Records) (sound : IsSound s) (none_loose : s.loose ≡ []) (f : Standing) (standing : IsStanding f s) where
+module _ (s : Records) (sound : IsSound s) (f : Standing) (standing : IsStanding f s) where
   -- no lock of a process's list has sublocks that are not rows of it
   pub none_in_rows : f.row.lkid ≢ 0 → HasNoSublocks f.lock s → list_any (has_sublock_on f.row.lkid) (plain_resources s) ≡ false
   none_in_rows named childless = of_list s.resources (λ r here. here)
@@ -152,7 +152,7 @@ module _ (s : Records) (sound : IsSound s) (none_loose : s.loose ≡ []) (f : St
       of_list [] is = refl
       of_list (at ∷ rest) is =
           let below = sublock_stored p own at among here same (subst (IsIn at) (sym is) (inl refl)) in
-          let in_q = in_queue s none_loose at below.0 below.1.0 in
+          let in_q = in_queue s at below.0 below.1.0 in
           let some : list_any (has_sublock_on f.row.lkid) (plain_resources s) ≡ true =
           among_all_some f.row.lkid s.resources in_q.resource in_q.there
           (on_resource_some f.row.lkid in_q.resource in_q.queue (record { at = at; row = below.0 }) in_q.among below.1.1) in
@@ -170,7 +170,7 @@ module _ (s : Records) (sound : IsSound s) (none_loose : s.loose ≡ []) (f : St
   -- no lock has the identification 0
   pub not_zero : sum_by (rows_on 0) (plain_resources s) ≡ 0 → f.row.lkid ≢ 0
   not_zero none is =
-      let there = in_queue s none_loose f.lock f.row (stored s f standing) in
+      let there = in_queue s f.lock f.row (stored s f standing) in
       let one = counted_on 0 there.resource there.queue (record { at = f.lock; row = f.row }) there.among is in
       let all = counted_all 0 s.resources there.resource there.there in
       absurd (omega (arith, one, all, none))
@@ -209,7 +209,7 @@ module _ (s : Records) (sound : IsSound s) (none_loose : s.loose ≡ []) (f : St
       of_list (at ∷ rest) is =
           let below = sublock_stored p own at among here same (subst (IsIn at) (sym is) (inl refl)) in
           let row : Row = below.0 in
-          let in_q = in_queue s none_loose at row below.1.0 in
+          let in_q = in_queue s at row below.1.0 in
           let its : HasItsParent (plain_resources s) (plain_resource in_q.resource) row =
           of_queue in_q.resource in_q.queue (record { at = at; row = row }) (HasItsParent (plain_resources s) (plain_resource in_q.resource))
           (each_resource (λ r. AllByRecursion (HasItsParent (plain_resources s) r) (r.granted ++ r.converting ++ r.waiting)) s.resources parents in_q.resource in_q.there) in_q.among in
@@ -230,18 +230,18 @@ by_recursion resources all =
 
 -- ---- the check of a dequeue
 
-module _ (m : MachineState) (sound : IsSound m.records) (none_loose : m.records.loose ≡ []) (f : Standing) (standing : IsStanding f m.records) (cancels : Bool) where
+module _ (m : MachineState) (sound : IsSound m.records) (f : Standing) (standing : IsStanding f m.records) (cancels : Bool) where
   -- a lock with sublocks is not given up
   pub sublocks_refused : cancels ≡ false → ¬ HasNoSublocks f.lock m.records → Some Sublocks ≡ sublocks_refusal (plain_state m) cancels f.row.lkid
   unfolding sublocks_refusal
-  sublocks_refused plain has = rw (plain, some_in_rows m.records sound none_loose f standing has) refl
+  sublocks_refused plain has = rw (plain, some_in_rows m.records sound f standing has) refl
 
   -- one without is
   pub sublocks_pass : sum_by (rows_on 0) (plain_resources m.records) ≡ 0 → HasNoSublocks f.lock m.records
       → None ≡ sublocks_refusal (plain_state m) cancels f.row.lkid
   unfolding sublocks_refusal
   sublocks_pass no_lkid_0 childless =
-      rw (none_in_rows m.records sound none_loose f standing (not_zero m.records sound none_loose f standing no_lkid_0) childless) (of_flag cancels)
+      rw (none_in_rows m.records sound f standing (not_zero m.records sound f standing no_lkid_0) childless) (of_flag cancels)
     where
       of_flag : (b : Bool) → None ≡ cond (not b && false) (Some Sublocks) None
       of_flag true = refl

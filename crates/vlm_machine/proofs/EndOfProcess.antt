@@ -32,11 +32,11 @@ pub can_end : (m : MachineState) (touched : Touches) → IsSound m.records → I
     → CanEndProcesses touched m.records
 can_end m touched sound rest paid between notes = record {
   rest = rest;
-  together = sublocks_are_own m.records sound rest.none_loose between.identifications.none_is_0 between.parents;
+  together = sublocks_are_own m.records sound between.identifications.none_is_0 between.parents;
   granted = granted_want_nothing m.records between.rows_fit;
   paid = paid;
   noted = λ t there. absurd (subst (IsIn t) notes.none there);
-  room = omega (arith, notes.room, as_many_stored m.records rest.none_loose, ap (λ (touches : List Touch). length touches) notes.none);
+  room = omega (arith, notes.room, as_many_stored m.records, ap (λ (touches : List Touch). length touches) notes.none);
 }
 
 -- ---- after

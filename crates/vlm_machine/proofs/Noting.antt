@@ -10,7 +10,7 @@ use Rattle.vlm_words.specs.Stepped.{Outcome}
 use Rattle.vlm_words.proofs.Totals.{most_added, one_each, step_total, total}
 use Rattle.vlm_words.proofs.Weights.{weigh}
 use Rattle.vlm_store.specs.Plain.{plain_resources}
-use Rattle.vlm_store.specs.Records.{Records, StoredLock}
+use Rattle.vlm_store.specs.Records.{Records}
 use Rattle.vlm_store.specs.Total.{lock_total}
 use Rattle.vlm_locks.specs.Touched.{Touches}
 use Rattle.vlm_locks.proofs.RunsDown.{total_is}
@@ -35,9 +35,9 @@ counted (r ∷ rs) =
       sum_by-cons (weigh one_each) r rs,
     )
 
--- as many locks are stored as stand on the resources, where none is loose
-pub as_many_stored : (s : Records) → s.loose ≡ [] → lock_total s ≡ total_locks_on (plain_resources s)
-as_many_stored s none_loose = omega (arith, counted (plain_resources s), total_is s.resources, ap (λ (locks : List StoredLock). length locks) none_loose)
+-- as many locks are stored as stand on the resources
+pub as_many_stored : (s : Records) → lock_total s ≡ total_locks_on (plain_resources s)
+as_many_stored s = omega (arith, counted (plain_resources s), total_is s.resources)
 
 -- at the start there is none
 pub none_at_start : (m : MachineState) (touched : Touches) → plain_state m ≡ start → touched.noted ≡ [] → HasRoomToNote touched m

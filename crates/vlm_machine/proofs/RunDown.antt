@@ -44,11 +44,11 @@ granted_want_nothing s fit res lock there = of_found (resource_at res s.resource
         let held : IsHeld lock.row = each_of (λ (k : StoredLock). k.row) IsHeld r.granted fits.granted lock here in
         held.1
 
-module _ (s : Records) (sound : IsSound s) (none_loose : s.loose ≡ []) where
+module _ (s : Records) (sound : IsSound s) where
   -- no lock has the identification 0
   none_is_0 : sum_by (rows_on 0) (plain_resources s) ≡ 0 → (at : ℕ) (row : Row) → Stores s at row → row.lkid ≢ 0
   none_is_0 none at row stored is =
-      let there = in_queue s none_loose at row stored in
+      let there = in_queue s at row stored in
       let one = counted_on 0 there.resource there.queue (record { at = at; row = row }) there.among is in
       let all = counted_all 0 s.resources there.resource there.there in
       absurd (omega (arith, one, all, none))
@@ -69,7 +69,7 @@ module _ (s : Records) (sound : IsSound s) (none_loose : s.loose ≡ []) where
       → All (λ r. All (HasItsParent (plain_resources s) r) (r.granted ++ r.converting ++ r.waiting)) (plain_resources s)
       → SublocksAreOwn s
   sublocks_are_own no_lkid_0 parents at other row up stored_row stored_up names =
-      let there = in_queue s none_loose at row stored_row in
+      let there = in_queue s at row stored_row in
       let r : Resource = plain_resource there.resource in
       let its : HasItsParent (plain_resources s) r row =
       of_queue there.resource there.queue (record { at = at; row = row }) (HasItsParent (plain_resources s) r)

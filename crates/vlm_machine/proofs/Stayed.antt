@@ -27,10 +27,9 @@ among_more (x ∷ ps) made p among =
 pub rests_declared : (s t : Records) (room : Room) (at pid : ℕ) (d : Declaration) → t ≡ with_process_room room (record s { processes = s.processes ++ new_stored_process at pid d ∷ [] }) → IsAtRest s → IsAtRest t
 rests_declared s t room at pid d is rest =
     subst IsAtRest (sym is) (record {
-      none_loose = rest.none_loose;
       keyed = rest.keyed;
       rising = λ p among. elim (among_more s.processes (new_stored_process at pid d) p among) [
-        | inl was ↦ rises_still s made p p (were_stored s made refl refl) refl (rest.rising p was)
+        | inl was ↦ rises_still s made p p (were_stored s made refl) refl (rest.rising p was)
         | inr new ↦ subst (HasRisingLocks made) new (record { own = tt; sublocks = λ own none. absurd none })
       ];
     })
@@ -42,9 +41,8 @@ rests_declared s t room at pid d is rest =
 pub rests_refused : (s t : Records) → IsUnchanged s t → IsAtRest s → IsAtRest t
 rests_refused s t unchanged rest =
     subst IsAtRest (sym unchanged.same) (record {
-      none_loose = rest.none_loose;
       keyed = rest.keyed;
-      rising = all_rise_still s (record s { room = t.room }) (were_stored s (record s { room = t.room }) refl refl) refl rest.rising;
+      rising = all_rise_still s (record s { room = t.room }) (were_stored s (record s { room = t.room }) refl) refl rest.rising;
     })
 
 -- ---- what is owed

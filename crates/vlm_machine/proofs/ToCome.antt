@@ -1,5 +1,5 @@
 -- An identification that is to come is that of no lock, and of no process.
-use Rattle.std.proofs.Common.{◌≡◌, ◌≢◌, ◌≤◌, ℕ, List, [], ◌∷◌, map, cond, Option, None, Some, refl, sym, ap, ◌∙◌, subst, inl, inr, arith, eq-eqb}
+use Rattle.std.proofs.Common.{◌≡◌, ◌≢◌, ◌≤◌, ℕ, List, [], ◌∷◌, map, cond, Option, None, Some, refl, sym, ap, ◌∙◌, inl, inr, arith, eq-eqb}
 use Rattle.std.specs.Prelude.{◌==◌}
 use Rattle.std.specs.List.{sum_by}
 use Rattle.std.specs.Option.{option_map_or}
@@ -16,7 +16,7 @@ use Rattle.vlm_words.specs.State.{Process}
 use Rattle.vlm_words.specs.Stepped.{refused_or, step_change}
 use Rattle.vlm_links.specs.Lists.{IsIn}
 use Rattle.vlm_records.specs.declared.handles.Place.{Place}
-use Rattle.vlm_records.specs.declared.handles.Place.TheVariants.{Loose, Queued}
+use Rattle.vlm_records.specs.declared.handles.Place.TheVariants.{Queued}
 use Rattle.vlm_store.specs.Plain.{plain_resource, plain_resources}
 use Rattle.vlm_store.specs.Records.{IsNewLock, IsNewProcess, Records, StoredLock, StoredProcess, StoredResource, locks_at, queued, resource_at, rows_of_locks}
 use Rattle.vlm_locks.specs.Rising.{IsAboveEachLock}
@@ -59,11 +59,10 @@ counted_all lkid (x ∷ rest) r among =
     ]
 
 -- where no row is counted the identification is new
-new_lock : (s : Records) (lkid : ℕ) → s.loose ≡ [] → sum_by (rows_on lkid) (plain_resources s) ≡ 0 → IsNewLock lkid s
-new_lock s lkid none_loose none at row stored same = by_place stored.0 stored.1
+new_lock : (s : Records) (lkid : ℕ) → sum_by (rows_on lkid) (plain_resources s) ≡ 0 → IsNewLock lkid s
+new_lock s lkid none at row stored same = by_place stored.0 stored.1
   where
     by_place : (place : Place) → IsIn (record { at = at; row = row }) (locks_at place s) → ⊥
-    by_place Loose among = subst (IsIn (record { at = at; row = row })) none_loose among
     by_place (Queued res queue) among = of_found (resource_at res s.resources) refl among
       where
         of_found : (found : Option StoredResource) → resource_at res s.resources ≡ found → IsIn (record { at = at; row = row }) (option_map_or (queued queue) found []) → ⊥
@@ -74,8 +73,8 @@ new_lock s lkid none_loose none at row stored same = by_place stored.0 stored.1
             absurd (omega (arith, one, all, none))
 
 -- where none is counted from an identification on, it is above all
-pub above_all : (s : Records) (lkid : ℕ) → s.loose ≡ [] → ((other : ℕ) → lkid ≤ other → sum_by (rows_on other) (plain_resources s) ≡ 0) → IsAboveEachLock lkid s
-above_all s lkid none_loose none at row stored = lt_of_not-le (λ from. new_lock s row.lkid none_loose (none row.lkid from) at row stored refl)
+pub above_all : (s : Records) (lkid : ℕ) → ((other : ℕ) → lkid ≤ other → sum_by (rows_on other) (plain_resources s) ≡ 0) → IsAboveEachLock lkid s
+above_all s lkid none at row stored = lt_of_not-le (λ from. new_lock s row.lkid (none row.lkid from) at row stored refl)
 
 -- ---- processes
 

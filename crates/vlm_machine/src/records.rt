@@ -44,13 +44,6 @@ impl Model for Machine {
 }
 
 impl Machine {
-    /// A machine at its start, whose index of names hashes by fixed keys. It takes no memory.
-    pub fn new(alloc: Global) -> Machine
-        ensures { plain_state result ≡ start }
-    {
-        Machine::with_keys(alloc, HashKeys::fixed())
-    }
-
     /// A machine at its start, whose index of names hashes by these keys. It takes no memory.
     pub fn with_keys(alloc: Global, keys: HashKeys) -> Machine
         ensures { plain_state result ≡ start }

@@ -1,4 +1,4 @@
-use Rattle.std.proofs.Common.{◌≡◌, [], sym, ap, ◌∙◌, subst}
+use Rattle.std.proofs.Common.{sym, ap, ◌∙◌, subst}
 use Rattle.vlm_words.specs.Dequeue.{sublocks_refusal}
 use Rattle.vlm_store.specs.Plain.{plain_resources}
 use Rattle.vlm_store.specs.Records.{HasNoSublocks, IsSound}
@@ -16,7 +16,7 @@ returns-then-has_sublocks-clause-refusal c pid lkid found =
     let m = c.args.self.now in
     let f = c.standing-standing.result in
     let stands = c.standing-standing.ensures.standing pid lkid found in
-    sublocks_refused m (rw (← c.self.view_is) c.law_records_are_sound.ensures) (rw (← c.self.view_is) c.self.invariant.rest.none_loose) f stands.standing c.args.cancels c.if-not-cancels.true
+    sublocks_refused m (rw (← c.self.view_is) c.law_records_are_sound.ensures) f stands.standing c.args.cancels c.if-not-cancels.true
     (λ none. c.if-has_sublocks.ensures.some (subst (λ (k : MachineState). HasNoSublocks f.lock k.records) (sym c.self.view_is) none))
     ∙ ap (sublocks_refusal (plain_state m) c.args.cancels) stands.named
 
@@ -26,14 +26,13 @@ returns-else-not-cancels-clause-refusal c pid lkid found =
     let f = c.standing-standing.result in
     let stands = c.standing-standing.ensures.standing pid lkid found in
     let sound : IsSound m.records = rw (← c.self.view_is) c.law_records_are_sound.ensures in
-    let none_loose : m.records.loose ≡ [] = rw (← c.self.view_is) c.self.invariant.rest.none_loose in
     elim c.else-not-cancels.branch [
       | else-not-cancels-via-then-not-cancels+else-has_sublocks w ↦
-          sublocks_pass m sound none_loose f stands.standing c.args.cancels c.requires.between.identifications.none_is_0
+          sublocks_pass m sound f stands.standing c.args.cancels c.requires.between.identifications.none_is_0
           (subst (λ (k : MachineState). HasNoSublocks f.lock k.records) c.self.view_is w.if-has_sublocks.ensures.none)
           ∙ ap (sublocks_refusal (plain_state m) c.args.cancels) stands.named
       | else-not-cancels-via-else-not-cancels w ↦
-          cancel_passes_sublocks m sound none_loose f stands.standing c.args.cancels w.if-not-cancels.false
+          cancel_passes_sublocks m sound f stands.standing c.args.cancels w.if-not-cancels.false
           ∙ ap (sublocks_refusal (plain_state m) c.args.cancels) stands.named
     ]
 
@@ -42,13 +41,12 @@ pub returns-else-not-cancels-clause-childless : goal.returns-else-not-cancels-cl
 returns-else-not-cancels-clause-childless c f stands is =
     let m = c.args.self.now in
     let sound : IsSound m.records = rw (← c.self.view_is) c.law_records_are_sound.ensures in
-    let none_loose : m.records.loose ≡ [] = rw (← c.self.view_is) c.self.invariant.rest.none_loose in
     elim c.else-not-cancels.branch [
       | else-not-cancels-via-then-not-cancels+else-has_sublocks w ↦
           λ _. rw (is ∙ sym c.standing-standing.ensures.lock) (subst (λ (k : MachineState). HasNoSublocks c.standing-standing.result.lock k.records) c.self.view_is w.if-has_sublocks.ensures.none)
       | else-not-cancels-via-else-not-cancels w ↦
           λ takes.
-          waiting_childless m.records sound none_loose f stands c.requires.between.identifications.none_is_0
+          waiting_childless m.records sound f stands c.requires.between.identifications.none_is_0
           (by_recursion (plain_resources m.records) c.requires.between.parents)
           (goes_waiting f.queue (sym (ap (λ b. goes b f.queue) w.if-not-cancels.false) ∙ takes))
     ]

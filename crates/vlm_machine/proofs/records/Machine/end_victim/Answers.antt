@@ -1,4 +1,4 @@
-use Rattle.std.proofs.Common.{◌≡◌, true, [], sym, ap, ◌∙◌, subst}
+use Rattle.std.proofs.Common.{◌≡◌, true, sym, ap, ◌∙◌, subst}
 use Rattle.vlm_words.specs.Withdrawals.{Withdrawal}
 use Rattle.vlm_store.specs.Plain.{plain_resources}
 use Rattle.vlm_store.specs.Records.{HasNoSublocks, IsSound}
@@ -16,11 +16,10 @@ withdraw-requires-clause-childless c =
     let m = c.args.self.now in
     let f = c.args.standing.now in
     let sound : IsSound m.records = rw (← c.self.view_is) c.law_records_are_sound.ensures in
-    let none_loose : m.records.loose ≡ [] = rw (← c.self.view_is) c.self.invariant.rest.none_loose in
     let stays : c.victim-withdrawal.result.stays ≡ true = ap (λ (w : Withdrawal). w.stays) c.victim-withdrawal.ensures in
     λ takes.
     subst (λ (k : MachineState). HasNoSublocks f.lock k.records) (sym c.self.view_is)
-    (waiting_childless m.records sound none_loose f c.requires.standing c.requires.between.identifications.none_is_0
+    (waiting_childless m.records sound f c.requires.standing c.requires.between.identifications.none_is_0
     (by_recursion (plain_resources m.records) c.requires.between.parents)
     (goes_waiting f.queue (sym (ap (λ b. goes b f.queue) stays) ∙ takes)))
 

@@ -41,7 +41,7 @@ returns-in-Ok-enq_change-clause-outcome c =
 -- room to note its resource was made before the lock entered
 pub returns-in-Ok-enq_change-clause-notes : goal.returns-in-Ok-enq_change-clause-notes
 returns-in-Ok-enq_change-clause-notes c =
-    let stored = as_many_stored c.self.inside.store c.self.invariant.rest.none_loose in
+    let stored = as_many_stored c.self.inside.store in
     let same : total_locks_on (plain_state c.args.self.now).resources ≡ total_locks_on (plain_resources c.self.inside.store) =
     ap (λ (m : MachineState). total_locks_on (plain_state m).resources) (sym c.self.view_is) in
     room_after c.args.self.now c.sweep.new.self c.make_room_beyond.new.self (Enq c.args.request.now) (Lock c.acceptance.result c.entry-entry.result.lkid)

@@ -17,7 +17,7 @@ enter-requires-clause-may_enter c =
     let lkid : c.args.entry.now.lkid ≡ c.self.inside.last_lkid + 1 = ap (λ (r : Row). r.lkid) admitted.entered.row in
     record {
       rest = c.self.invariant.rest;
-      rising = above_all c.self.inside.store c.args.entry.now.lkid c.self.invariant.rest.none_loose (λ other from. between.identifications.none_to_come other (omega (arith, lkid, from)));
+      rising = above_all c.self.inside.store c.args.entry.now.lkid (λ other from. between.identifications.none_to_come other (omega (arith, lkid, from)));
       owner = admitted.entered.owner;
       parent = admitted.entered.parent;
       keyed = admitted.entered.keyed;
