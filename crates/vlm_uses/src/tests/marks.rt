@@ -1,5 +1,6 @@
 //! Marked numbers, and the least of them.
 
+use std::alloc::AllocError;
 use std::process::Abort;
 use std::test::Fail;
 use vlm_marks::Marks;
@@ -7,39 +8,41 @@ use vlm_marks::Marks;
 // The ends of words, and of 64 words.
 const RISING: [u16; 8] = [0, 1, 63, 64, 4095, 4096, 8191, 65_535];
 
-// Marks these numbers, for which there is room.
-fn mark_all(rt: &impl Abort, marks: &mut Marks, numbers: &[u16]) {
+// Makes room for these numbers, and marks them.
+fn mark_all(rt: &impl Abort, marks: &mut Marks, numbers: &[u16]) -> Result<(), AllocError> {
     for number in numbers {
-        assert!(rt; usize::from(*number) < marks.room());
+        marks.make_room(*number)?;
         marks.mark(*number);
         assert!(rt; marks.has(*number));
     }
+    Ok(())
 }
 
-// Each number is the first, until its mark is taken away.
-fn unmark_all(rt: &impl Abort, marks: &mut Marks, numbers: &[u16]) {
+// Each number is the first, until its mark is taken away. Room for it is there already.
+fn unmark_all(rt: &impl Abort, marks: &mut Marks, numbers: &[u16]) -> Result<(), AllocError> {
     for number in numbers {
         assert!(rt; marks.first() == Some(*number));
-        assert!(rt; usize::from(*number) < marks.room());
+        marks.make_room(*number)?;
         marks.unmark(*number);
         assert!(rt; !marks.has(*number));
     }
     assert!(rt; marks.first().is_none());
+    Ok(())
 }
 
 // In any order they are marked, and the least is found first.
 #[test]
 fn the_least_comes_first(rt: HostRuntime) -> Result<(), Fail> {
     let mut marks = Marks::new(rt.alloc());
-    assert!(&rt; marks.first().is_none() && !marks.has(0) && marks.room() == 0);
+    assert!(&rt; marks.first().is_none() && !marks.has(0));
     marks.make_room(65_535)?;
-    assert!(&rt; marks.room() == 65_536 && marks.first().is_none());
+    assert!(&rt; marks.first().is_none());
     mark_all(
         &rt,
         &mut marks,
         &[4096, 65_535, 63, 0, 8191, 64, 4095, 1, 64],
-    );
-    unmark_all(&rt, &mut marks, &RISING);
+    )?;
+    unmark_all(&rt, &mut marks, &RISING)?;
     Ok(())
 }
 
@@ -48,11 +51,10 @@ fn the_least_comes_first(rt: HostRuntime) -> Result<(), Fail> {
 fn room_is_made_beside_marks(rt: HostRuntime) -> Result<(), Fail> {
     let mut marks = Marks::new(rt.alloc());
     for number in RISING {
-        marks.make_room(number)?;
-        mark_all(&rt, &mut marks, &[number]);
+        mark_all(&rt, &mut marks, &[number])?;
     }
     marks.make_room(7)?;
-    assert!(&rt; marks.room() == 65_536 && !marks.has(62) && !marks.has(65_534));
-    unmark_all(&rt, &mut marks, &RISING);
+    assert!(&rt; !marks.has(62) && !marks.has(65_534));
+    unmark_all(&rt, &mut marks, &RISING)?;
     Ok(())
 }

@@ -2,13 +2,14 @@
 
 ghost use Rattle.std.specs.Prelude.{◌≡◌};
 
-use crate::tests::stores;
+use crate::tests::stores::{self, Spot};
 use std::alloc::AllocError;
 use std::mem::size_of;
 use std::process::Abort;
 use std::test::Fail;
 use vlm_store::{Lock, Resource, Store};
 use vlm_words::locks::Row;
+use vlm_words::resources::Key;
 use vlm_words::steps::Declaration;
 
 const PID: u32 = 65_537;
@@ -38,7 +39,8 @@ fn row(lkid: u32, parent: u32) -> Row
     }
 }
 
-fn declare(store: &mut Store) -> Result<(), AllocError> {
+// A process that lives, and a resource.
+fn begin(store: &mut Store, key: &Key) -> Result<(), AllocError> {
     let declaration = Declaration {
         node: 1,
         group: 7,
@@ -46,14 +48,15 @@ fn declare(store: &mut Store) -> Result<(), AllocError> {
         quota: 9,
         blocks: 2,
     };
-    stores::declare(store, PID, &declaration)
+    stores::declare(store, PID, &declaration)?;
+    stores::open(store, 1, key)
 }
 
 // The process has two locks, of which none stands below the other.
-fn make_two(rt: &impl Abort, store: &mut Store) -> Result<(), AllocError> {
-    declare(store)?;
-    stores::add(rt, store, row(1, 0))?;
-    stores::add(rt, store, row(2, 0))
+fn make_two(rt: &impl Abort, store: &mut Store, key: &Key) -> Result<(), AllocError> {
+    begin(store, key)?;
+    stores::add(rt, store, key, row(1, 0))?;
+    stores::add(rt, store, key, row(2, 0))
 }
 
 // The process has so many locks, of which the second is one.
@@ -67,8 +70,9 @@ fn check_locks(rt: &impl Abort, store: &Store, count: usize) {
 
 #[test]
 fn a_process_owns_its_locks(rt: HostRuntime) -> Result<(), Fail> {
+    let key = stores::key(b"A")?;
     let mut store = Store::new(rt.alloc());
-    make_two(&rt, &mut store)?;
+    make_two(&rt, &mut store, &key)?;
     check_locks(&rt, &store, 2);
     assert!(rt; stores::leave(&rt, &mut store, 1));
     check_locks(&rt, &store, 1);
@@ -76,20 +80,25 @@ fn a_process_owns_its_locks(rt: HostRuntime) -> Result<(), Fail> {
 }
 
 // The process has a lock, and another below it.
-fn make_tree(rt: &impl Abort, store: &mut Store) -> Result<(), AllocError> {
-    declare(store)?;
-    stores::add(rt, store, row(1, 0))?;
+fn make_tree(rt: &impl Abort, store: &mut Store, key: &Key) -> Result<(), AllocError> {
+    begin(store, key)?;
+    stores::add(rt, store, key, row(1, 0))?;
     store.reserve_lock()?;
     let parent = stores::lock(rt, store, 1);
     let below = row(2, store.lock_record(parent).row.lkid());
-    stores::add_reserved(rt, store, below, Some(parent));
+    let spot = Spot {
+        parent: Some(parent),
+        to: stores::place(rt, store, key, &below),
+    };
+    stores::add_reserved(rt, store, below, spot);
     Ok(())
 }
 
 #[test]
 fn a_parent_outlives_its_sublock(rt: HostRuntime) -> Result<(), Fail> {
+    let key = stores::key(b"A")?;
     let mut store = Store::new(rt.alloc());
-    make_tree(&rt, &mut store)?;
+    make_tree(&rt, &mut store, &key)?;
     assert!(rt; !stores::leave(&rt, &mut store, 1));
     assert!(rt; stores::leave(&rt, &mut store, 2));
     assert!(rt; stores::leave(&rt, &mut store, 1));

@@ -9,7 +9,7 @@ use crate::tests::stores::{self, key, lock, process, resource};
 use std::alloc::AllocError;
 use std::process::Abort;
 use std::test::Fail;
-use vlm_queue::{can_hold, head, is_idle, next, pop_front, push_back, unlink};
+use vlm_queue::{can_hold, head, is_idle, next};
 use vlm_store::{Place, Store, StoredRow};
 use vlm_words::flags::EnqFlags;
 use vlm_words::locks::{Request, Row};
@@ -73,39 +73,22 @@ fn open(rt: &impl Abort, store: &mut Store, serial: u32, key: &Key) -> Result<()
     Ok(())
 }
 
-// Adds a lock in no queue, unless it is there. Where memory was refused once it is not there, and is added
-// again.
-fn add(rt: &impl Abort, store: &mut Store, row: Row) -> Result<(), AllocError>
+// Adds a lock at the end of its queue, unless it is there. Where memory was refused once it is not there, and
+// is added again.
+fn enter(rt: &impl Abort, store: &mut Store, key: &Key, row: Row) -> Result<(), AllocError>
     requires { row.parent ≡ 0 }
 {
     let owner = process(rt, store, row.pid);
     let count = store.lock_count(owner);
-    if stores::add(rt, store, row).is_err() {
+    if stores::add(rt, store, key, row).is_err() {
         assert!(rt;
             store.lock(row.lkid).is_none(),
             "a refused lock is not there"
         );
         let owner = process(rt, store, row.pid);
         assert_eq!(rt; store.lock_count(owner), count);
-        stores::add(rt, store, row)?;
+        stores::add(rt, store, key, row)?;
     }
-    Ok(())
-}
-
-// Adds a lock at the end of a queue, unless it is there.
-fn enter(
-    rt: &impl Abort,
-    store: &mut Store,
-    key: &Key,
-    row: Row,
-    queue: Queue,
-) -> Result<(), AllocError>
-    requires { row.parent ≡ 0 }
-{
-    add(rt, store, row)?;
-    let res = resource(rt, store, key);
-    let lock = lock(rt, store, row.lkid);
-    push_back(store, res, queue, lock);
     Ok(())
 }
 
@@ -117,10 +100,10 @@ fn fill(rt: &impl Abort, store: &mut Store, key: &Key) -> Result<(), AllocError>
     let next_waiting = row(4, None, Some(Mode::Cr));
     declare(rt, store, 1)?;
     open(rt, store, 1, key)?;
-    enter(rt, store, key, granted, Queue::Granted)?;
-    enter(rt, store, key, converting, Queue::Conversion)?;
-    enter(rt, store, key, first_waiting, Queue::Waiting)?;
-    enter(rt, store, key, next_waiting, Queue::Waiting)
+    enter(rt, store, key, granted)?;
+    enter(rt, store, key, converting)?;
+    enter(rt, store, key, first_waiting)?;
+    enter(rt, store, key, next_waiting)
 }
 
 // Removes a lock, below which none stands.
@@ -128,18 +111,21 @@ fn leave(rt: &impl Abort, store: &mut Store, lkid: u32) {
     assert!(rt; stores::leave(rt, store, lkid));
 }
 
-// Takes the first converting lock out of its queue, and gives it this mode. It then stands in no queue.
+// Grants the first converting lock this mode.
 fn serve(rt: &impl Abort, store: &mut Store, key: &Key, lkid: u32, mode: Mode) {
     let res = resource(rt, store, key);
-    let served = pop_front(store, res, Queue::Conversion);
     let lock = lock(rt, store, lkid);
-    assert!(rt; served == Some(lock));
+    assert!(rt; head(store, res, Queue::Conversion) == Some(lock));
     let row = Row {
         held: Some(request(mode)),
         want: None,
         ..store.lock_record(lock).row.row()
     };
-    store.move_lock(lock, StoredRow::of(&row), Place::Loose);
+    store.move_lock(
+        lock,
+        &StoredRow::of(&row),
+        Place::Queued(res, Queue::Granted),
+    );
 }
 
 // Whether a mode can be held beside all locks, or beside all but one.
@@ -217,30 +203,24 @@ fn an_emptied_resource_leaves_the_order_of_the_others(rt: HostRuntime) -> Result
     Ok(())
 }
 
-// Puts a lock that stands in no queue among the granted.
-fn settle(rt: &impl Abort, store: &mut Store, key: &Key, lkid: u32) {
-    let loose = lock(rt, store, lkid);
+// The lock is the first that is granted, and no conversion waits.
+fn check_served(rt: &impl Abort, store: &Store, key: &Key, lkid: u32) {
     let res = resource(rt, store, key);
-    push_back(store, res, Queue::Granted, loose);
-}
-
-// Takes a lock out of its queue.
-fn loosen(rt: &impl Abort, store: &mut Store, lkid: u32) {
-    let granted = lock(rt, store, lkid);
-    unlink(store, granted);
+    assert_eq!(rt; head(store, res, Queue::Granted), store.lock(lkid));
+    assert!(rt; head(store, res, Queue::Conversion).is_none());
 }
 
 #[test]
-fn a_served_lock_is_loose_and_holds_its_mode(rt: HostRuntime) -> Result<(), Fail> {
+fn a_served_lock_is_granted_and_holds_its_mode(rt: HostRuntime) -> Result<(), Fail> {
     let key = key(b"A")?;
     let mut store = Store::new(rt.alloc());
     fill(&rt, &mut store, &key)?;
     leave(&rt, &mut store, 1);
     serve(&rt, &mut store, &key, 2, Mode::Pr);
-    settle(&rt, &mut store, &key, 2);
+    check_served(&rt, &store, &key, 2);
     assert!(rt; !fits(&rt, &store, &key, Mode::Pw, None));
     assert!(rt; fits(&rt, &store, &key, Mode::Pw, Some(2)));
-    loosen(&rt, &mut store, 2);
+    leave(&rt, &mut store, 2);
     assert!(rt; fits(&rt, &store, &key, Mode::Pw, None));
     Ok(())
 }
@@ -254,7 +234,7 @@ fn arm(rt: &impl Abort, store: &mut Store, key: &Key, lkid: u32) {
         ..store.lock_record(granted).row.row()
     };
     let to = Place::Queued(res, Queue::Granted);
-    store.move_lock(granted, StoredRow::of(&row), to);
+    store.move_lock(granted, &StoredRow::of(&row), to);
 }
 
 fn disarm(rt: &impl Abort, store: &mut Store, lkid: u32) {
@@ -314,8 +294,7 @@ fn what_has_room_is_added(rt: HostRuntime) -> Result<(), Fail> {
     declare(&rt, &mut store, 1)?;
     make_room(&mut store)?;
     stores::open(&mut store, 1, &key)?;
-    stores::add(&rt, &mut store, row(1, Some(Mode::Ex), None))?;
-    settle(&rt, &mut store, &key, 1);
+    stores::add(&rt, &mut store, &key, row(1, Some(Mode::Ex), None))?;
     assert!(rt; !fits(&rt, &store, &key, Mode::Cr, None));
     Ok(())
 }

@@ -1,7 +1,7 @@
 //! Calls on a store that is as it is between two steps.
 
 ghost use Rattle.std.specs.Prelude.{◌≡◌};
-ghost use Rattle.vlm_store.specs.Records.{HasProcess, HasResource, HasRoomForLock, IsParentOf, IsProcess, IsStored};
+ghost use Rattle.vlm_store.specs.Records.{HasPlace, HasProcess, HasResource, HasRoomForLock, IsParentOf, IsProcess, IsStored};
 
 use std::alloc::AllocError;
 use std::process::Abort;
@@ -9,8 +9,15 @@ use std::test::Fail;
 use vlm_store::{LockAt, Place, ProcAt, ResAt, Store, StoredRow};
 use vlm_words::locks::Row;
 use vlm_words::names::Name;
-use vlm_words::resources::{Domain, Key, Site};
+use vlm_words::resources::{Domain, Key, Queue, Site};
 use vlm_words::steps::Declaration;
+
+/// Where a new lock goes: below another or below none, and to the end of a queue.
+#[derive(Clone, Copy)]
+pub struct Spot {
+    pub parent: Option<LockAt>,
+    pub to: Place,
+}
 
 /// The handle of a root in the system's domain.
 pub fn key(name: &[u8]) -> Result<Key, Fail> {
@@ -72,25 +79,43 @@ pub fn open(store: &mut Store, serial: u32, key: &Key) -> Result<(), AllocError>
     }
 }
 
-/// Adds a lock in no queue and without a parent, unless it is there.
-pub fn add(rt: &impl Abort, store: &mut Store, row: Row) -> Result<(), AllocError>
+// The queue in which a lock stands that holds and wants this.
+fn queue_of(row: &Row) -> Queue {
+    match (row.held.is_some(), row.want.is_some()) {
+        (_, false) => Queue::Granted,
+        (true, true) => Queue::Conversion,
+        (false, true) => Queue::Waiting,
+    }
+}
+
+/// The queue of a resource in which such a lock stands. The resource has to be there.
+pub fn place(rt: &impl Abort, store: &Store, key: &Key, row: &Row) -> Place
+    ensures { HasPlace result store.now }
+{
+    Place::Queued(resource(rt, store, key), queue_of(row))
+}
+
+/// Adds a lock without a parent at the end of its queue of the resource, unless it is there.
+pub fn add(rt: &impl Abort, store: &mut Store, key: &Key, row: Row) -> Result<(), AllocError>
     requires { row.parent ≡ 0 }
 {
     store.reserve_lock()?;
-    add_reserved(rt, store, row, None);
+    let to = place(rt, store, key, &row);
+    add_reserved(rt, store, row, Spot { parent: None, to });
     Ok(())
 }
 
-/// Adds a lock in no queue, below a parent or below none, unless it is there. There is room for it.
-pub fn add_reserved(rt: &impl Abort, store: &mut Store, row: Row, parent: Option<LockAt>)
+/// Adds a lock, unless it is there. There is room for it.
+pub fn add_reserved(rt: &impl Abort, store: &mut Store, row: Row, spot: Spot)
     requires room { HasRoomForLock store.old }
-    requires parent { IsParentOf parent row store.old }
+    requires parent { IsParentOf spot.parent row store.old }
+    requires there { HasPlace spot.to store.old }
 {
     let owner = process(rt, store, row.pid);
     match store.lock(row.lkid) {
         Some(_) => {}
         None => {
-            store.add_lock_reserved(&StoredRow::of(&row), owner, parent, Place::Loose);
+            store.add_lock_reserved(&StoredRow::of(&row), owner, spot.parent, spot.to);
         }
     }
 }
