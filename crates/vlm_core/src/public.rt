@@ -97,9 +97,9 @@ impl Core {
         let _machine = &self.machine;
     }
 
-    /// The records of the core: its resources and its living processes are theirs without their handles, and
-    /// each queue of a resource is the locks that `head` and then `next` give there. No two locks of a resource
-    /// hold incompatible modes, and on none is anything left to grant.
+    /// The records of the core. They show the resources and the living processes of the machine. `head` and then `next`
+    /// give the locks of a queue in order. No two locks of a resource hold incompatible modes, and nothing is left to
+    /// grant.
     pub fn store(&self) -> &Store
         ensures resources { plain_resources result.now ≡ self.now.resources }
         ensures processes { plain_processes result.now ≡ self.now.processes }

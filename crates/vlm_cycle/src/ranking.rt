@@ -296,7 +296,7 @@ fn walk_from(store: &Store, ranks: &mut Ranks, walk: Walk, root: ProcAt) -> Walk
 /// two have one rank where each leads to the other. Others have rank 0. It takes no memory. The cost grows with the
 /// queued requests and, where there are such, with the processes, and for each process with its locks and what it looks at
 /// for each of its queued requests.
-// (a call of its own, whose walk needs each register)
+// Kept out of line: its walk needs each register.
 #[inline(never)]
 pub(crate) fn rank_processes(store: &Store, ranks: &mut Ranks) {
     if store.queued_locks().next().is_none() {

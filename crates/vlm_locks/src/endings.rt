@@ -148,8 +148,8 @@ fn tell_grant(store: &mut Store, at: ProcAt, row: &StoredRow, request: &Request,
     }
 }
 
-/// Accepts a request without VALBLK and grants it at once. One write makes its status block that of the grant; then the
-/// completion AST is queued, and the room of the ASTs that will not come is free again.
+/// Accepts a request without VALBLK and grants it at once. It writes the status block once, queues the completion AST,
+/// and frees the room of the ASTs that will not come.
 #[tactic(auto, unfolding(vlm_words::specs::Grants::grant_act))]
 pub(crate) fn grant_without_value_block(
     store: &mut Store,

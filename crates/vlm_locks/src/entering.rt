@@ -99,8 +99,8 @@ fn entered_queue(entry: &Entry) -> Queue
     }
 }
 
-// Adds a new lock to a resource that is there: at the end of the granted queue where it is granted at once, else at
-// that of the waiting queue.
+// Adds a new lock to a resource: to the end of the granted queue if it is granted at once, else to the end of the
+// waiting queue.
 fn enter_at(store: &mut Store, entry: &Entry, row: &StoredRow, res: ResAt)
     requires may_enter { MayEnter entry.now store.old }
     requires row { row.now ≡ new_row entry.now }

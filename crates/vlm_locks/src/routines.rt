@@ -25,7 +25,7 @@ fn routines_of(want: Option<Request>) -> usize
 
 /// Owes a process the ASTs of the routines that a request of it names, if there is one. Where memory is refused
 /// nothing is changed.
-// (a part of its callers: most requests name no routine, and a test is all that they need)
+// Inlined: most requests name no routine, and need no more than the test.
 #[inline(always)]
 pub(crate) fn owe_routines(
     store: &mut Store,

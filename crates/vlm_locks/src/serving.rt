@@ -95,7 +95,7 @@ fn nothing_queued(store: &Store, res: ResAt) -> bool
 }
 
 // Grants what can be granted on a resource, with the value block that the grants leave.
-// (a call of its own, as `warn` is: most sweeps find nothing queued, and need none of its registers)
+// Kept out of line, as `warn` is: most sweeps find nothing queued.
 #[inline(never)]
 fn grant_queued(store: &mut Store, res: ResAt)
     requires there { HasResource res store.old }

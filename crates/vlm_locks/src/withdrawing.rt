@@ -214,7 +214,7 @@ fn remove(store: &mut Store, standing: &Standing)
 }
 
 // The conversion of the lock is given up: it goes to the end of the granted queue and wants nothing.
-// (a call of its own: few dequeues cancel a conversion)
+// Kept out of line: few dequeues cancel a conversion.
 #[inline(never)]
 fn grant_again(store: &mut Store, standing: &Standing)
     requires rest { IsAtRest store.old }
@@ -277,7 +277,7 @@ pub(crate) fn give_up(store: &mut Store, standing: &Standing, withdrawal: &Withd
 /// Then it goes from its queue; or where a converting lock is to stay, it goes to the end of the granted queue
 /// and holds what it held, while a waiting one goes and a granted one stays as it is. A lock that goes has no
 /// sublocks.
-// (a part of its callers, as `remove` is: a dequeue has just read the lock)
+// Inlined, as `remove` is: a dequeue has just read the lock.
 #[inline(always)]
 pub fn withdraw(store: &mut Store, standing: &Standing, withdrawal: &Withdrawal)
     requires rest { IsAtRest store.old }

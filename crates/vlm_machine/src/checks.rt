@@ -134,7 +134,7 @@ impl Machine {
 
     /// The lock of the caller with this identification. IVLOCKID where it has none.
     #[tactic(auto, unfolding(vlm_words::specs::Checks::lock_refusal))]
-    // (a part of its callers: a step finds one lock)
+    // Inlined, as `check_cancel` is: each step finds one lock.
     #[inline(always)]
     pub(crate) fn checked_lock(&self, caller: &Caller, lkid: u32) -> Result<LockAt, Cond>
         ensures refusal { result_err result

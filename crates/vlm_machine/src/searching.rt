@@ -19,7 +19,7 @@ use vlm_words::steps::{Answer, Step};
 
 impl Machine {
     /// Searches for a deadlock: its checks; the request that is found ends, and its resource is swept. It takes no memory.
-    // (a call of its own: the other steps would save registers that only a search needs)
+    // Kept out of line: inlined, it would cost the other steps registers.
     #[inline(never)]
     pub(crate) fn search(&mut self, scratch: &mut Scratch, node: u8) -> Answer
         requires between { IsBetweenSteps (plain_state self.old) }

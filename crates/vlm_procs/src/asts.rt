@@ -35,7 +35,7 @@ pub fn take(store: &mut Store, at: ProcAt) -> Option<Ast>
 
 /// Makes room for so many more ASTs of a process than are queued to it and owed, and owes them. Where memory is
 /// refused nothing is changed.
-// (a call of its own, whose registers only a request with routines has to save)
+// Kept out of line: only requests that name routines come here.
 #[inline(never)]
 pub fn owe(store: &mut Store, at: ProcAt, count: usize) -> Result<(), AllocError>
     requires { HasProcess at store.old }

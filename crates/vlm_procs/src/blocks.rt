@@ -71,8 +71,8 @@ pub fn accept(store: &mut Store, at: ProcAt, number: u8, lkid: u32)
     store.set_request(at, number, 0, lkid);
 }
 
-/// A request for the lock was accepted with this status block, and granted at once: the block has the lock's
-/// identification and NORMAL, and keeps its value part and its tail. It is one write for `accept` and `end`.
+/// Accepts a request for the lock and grants it at once: the status block gets the lock's identification and NORMAL, and
+/// keeps its value part and its tail. It does what `accept` and then `end` do, in one write.
 #[tactic(auto, unfolding(vlm_words::specs::StatusBlocks::processes_after_acceptance))]
 pub fn accept_granted(store: &mut Store, at: ProcAt, number: u8, lkid: u32)
     requires { HasProcess at store.old }

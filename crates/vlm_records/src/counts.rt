@@ -83,7 +83,7 @@ impl Queues {
 
     /// Whether the mode is compatible with what each lock of a resource holds, but for the lock that
     /// asks.
-    // Inlined, its readings of the lock and the resource are one with its caller's.
+    // Inlined: its caller reads the same lock and resource.
     #[inline(always)]
     pub fn fits(&self, res: ResAt, mode: Mode, asking: Option<LockAt>) -> bool
         requires placed { IsPlaced self.now None }

@@ -5,15 +5,15 @@
 //! Three slabs have the records of locks, resources and processes. A handle is a record's slot in its slab,
 //! in four bytes (`At`): it is good until the record is removed, and may then be given to another.
 //!
-//! A lock notes where it stands: its queue (`place`), its process (`owner`) and its parent, if it has one. In
-//! the list of each it is linked by a pair of links of its own. The ends of these lists are in the records that
-//! have them: three queues in a resource, own locks in a process, sublocks in a lock. A granted lock that is
-//! armed stands in one list more, that of the armed locks of
-//! its resource, in the order of the granted queue; and one whose request is queued in the line, the list of all such
-//! locks, of whichever resource. Resources and processes are linked in order of making. A resource counts its locks in a
-//! tally, so a lock that moves leaves the armed ones, is counted out, linked anew and counted in, and joins the armed ones
-//! at their end, if it is armed. A lock that is granted again where it stands last, armed as it was, keeps
-//! its links: its row and its counts alone are written.
+//! A lock names its queue (`place`), its process (`owner`) and its parent, if it has one. It is in a list of each, by a
+//! pair of links of its own. The ends of these lists are in the other records: three queues in a resource, own locks in
+//! a process, sublocks in a lock. Two more lists have only some locks: the armed locks of a resource, in the order of
+//! its granted queue, and the line, which has the queued locks of all resources. Resources and processes are linked in
+//! order of making.
+//!
+//! A resource counts its locks in a tally. A lock that moves leaves the armed locks, is counted out, is linked anew, is
+//! counted in, and joins the end of the armed locks if it is armed. A lock that is granted again, was last in its queue
+//! and stays armed or not as it was, keeps its links: only its row and the counts change.
 //!
 //! `Queues` has the slabs of locks and resources, and the lists of a resource (`queues`, `counts`, `armed`). The lists
 //! of own locks and of sublocks are linked beside it (`kin`), since the slab of processes is its owner's, as are the line

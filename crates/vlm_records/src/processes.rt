@@ -100,8 +100,8 @@ impl Process {
         }
     }
 
-    /// Makes the status block with this number, from 1, if it is there, that of a request for a lock, with this status:
-    /// 0 while the request is pending. Its value part and its tail stay.
+    /// Writes the status and the lock of the status block with this number, from 1, if it is there. Status 0 means that
+    /// the request is pending. The value part and the tail stay.
     pub fn set_request(&mut self, number: u8, status: u8, lkid: u32)
         ensures plain { plain_process self.new
             ≡ with_changed_block number (requested status lkid) (plain_process self.old) }

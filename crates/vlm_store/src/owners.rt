@@ -135,8 +135,8 @@ impl Store {
         self.processes[at.slot()].set_status(number, status);
     }
 
-    /// Makes the status block with this number, from 1, of a process, if it is there, that of a request for a lock, with
-    /// this status: 0 while the request is pending. Its value part and its tail stay.
+    /// Writes the status and the lock of a process's status block with this number, from 1, if it is there. Status 0
+    /// means that the request is pending. The value part and the tail stay.
     pub fn set_request(&mut self, at: ProcAt, number: u8, status: u8, lkid: u32)
         requires { HasProcess at self.old }
         ensures { self.new ≡ record self.old {

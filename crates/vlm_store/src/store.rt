@@ -381,7 +381,7 @@ impl Store {
     }
 
     /// Removes a resource in whose queues no lock stands. The others keep their order. Its slot is free again; the index may have to grow for the next one.
-    // (a call of its own, whose registers only a step that removes a resource has to save)
+    // Kept out of line: inlined, it would cost registers in steps that remove nothing.
     #[inline(never)]
     pub fn remove_resource(&mut self, res: ResAt)
         requires there { HasResource res self.old }

@@ -44,8 +44,8 @@ impl Name {
         }
     }
 
-    /// The name's bytes as words of eight, the low byte first and zeros behind the last: those of its first 24 bytes,
-    /// and that of the last eight that a name can have.
+    /// The name as four words of eight bytes, the low byte first, padded with zeros. A name has at most 31 bytes, so the
+    /// last word begins at byte 23 and shares that byte with the third.
     pub fn words(&self) -> [u64; 4]
         ensures { result ≡ name_words self.now }
     {

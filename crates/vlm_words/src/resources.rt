@@ -58,8 +58,7 @@ impl Key {
         }
     }
 
-    /// What a key is hashed by: the space that its name is in and the name's length in a word, and behind it the words
-    /// of the name.
+    /// The words that a key is hashed by: first its name space and the length of its name, then the words of the name.
     pub fn words(&self) -> [u64; 5]
         ensures { result ≡ key_words self.now }
     {
@@ -101,7 +100,7 @@ impl PartialEq for Key {
 
     ghost laws = { partial_equiv_from_equiv (decided is_same_key is_same_key-Decides) };
 
-    // Each look-up calls it at one place; inlined there it costs the step registers.
+    // Kept out of line: inlined, it would cost each step registers.
     #[inline(never)]
     fn eq(&self, other: &Key) -> bool {
         match (self, other) {

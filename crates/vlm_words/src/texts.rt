@@ -57,7 +57,7 @@ impl<const N: usize> Text<N> {
         self.len
     }
 
-    /// The eight bytes from this index on as a word, the low byte first, and zeros behind the last byte of the text.
+    /// The eight bytes from this index on as a word, the low byte first. Past the end of the text the bytes are zeros.
     pub fn word(&self, at: usize) -> u64
         requires { at + 8 ≤ N }
         ensures { result ≡ word_at (padded N self.now) at }
