@@ -9,6 +9,7 @@ pub mod Made
 pub mod Noting
 pub mod Pairing
 pub mod Roomy
+pub mod Quiet
 pub mod RunDown
 pub mod Searches
 pub mod Settling

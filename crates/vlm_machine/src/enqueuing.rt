@@ -1,6 +1,7 @@
 //! The step that asks for a new lock.
 
-ghost use Rattle.std.specs.Prelude.{◌≡◌, ◌<◌, ◌^◌, ◌+◌, ℕ, true, false, is_some, find, unwrap_or, [], if◌then◌else◌, IfOk, IfSome, IsOk, OnErr, OnOk};
+ghost use Rattle.std.specs.Prelude.{◌≡◌, ◌<◌, ◌^◌, ◌+◌, ℕ, true, false, is_some, find, unwrap_or, [], ◌∷◌, if◌then◌else◌, IfOk, IfSome, IsOk, OnErr, OnOk};
+ghost use Rattle.std.specs.List.{AllByRecursion};
 ghost use Rattle.std.specs.Result.{result_err};
 ghost use Rattle.vlm_words.specs.declared.locks.Request.{Request};
 ghost use Rattle.vlm_words.specs.declared.resources.Site.{Site};
@@ -8,14 +9,17 @@ ghost use Rattle.vlm_words.specs.declared.steps.NewRequest.{NewRequest};
 ghost use Rattle.vlm_words.specs.Enqueue.{enq_change, enq_flags_refusal, enq_form_refusal, enq_limit_refusal, enq_refusal, expedite_refusal, is_at_once, name_refusal};
 ghost use Rattle.vlm_words.specs.Names.{is_name};
 ghost use Rattle.vlm_words.specs.Resources.{is_at, new_resource};
-ghost use Rattle.vlm_words.specs.Flags.{flag_bits};
+ghost use Rattle.vlm_words.specs.Flags.{expedite, flag_bits, has_flag};
+ghost use Rattle.vlm_words.specs.Settled.{IsSettled};
 ghost use Rattle.vlm_words.specs.Stepped.{Outcome};
+ghost use Rattle.vlm_words.specs.Sweeps.{state_after_sweep};
 ghost use Rattle.vlm_store.specs.Index.{hash_key};
 ghost use Rattle.vlm_store.specs.Plain.{plain_resources};
 ghost use Rattle.vlm_store.specs.Records.{FindsResource, HasResource, IsUnchanged};
 ghost use Rattle.vlm_locks.specs.Entering.{HasRoomToEnter};
 ghost use Rattle.vlm_words.specs.Resources.{IsKeyed};
 ghost use Rattle.vlm_locks.specs.Rest.{IsAtRest, OthersStay};
+ghost use Rattle.vlm_locks.specs.Sweeping.{AreSettledBut};
 ghost use Rattle.vlm_machine.specs.Admissions.{IsAdmitted, IsAskedBy, IsCaller, IsChecked, IsForm};
 ghost use Rattle.vlm_machine.specs.Between.{IsBetweenSteps};
 ghost use Rattle.vlm_machine.specs.Machine.{plain_state};
@@ -125,7 +129,7 @@ impl Machine {
         let entry = self.entry(request, checked);
         match self.enq_change(request, &entry) {
             Ok(res) => {
-                self.sweep(res);
+                self.sweep_entered(&entry, res);
                 Answer::Lock(acceptance(entry.asked.flags, entry.at_once), entry.lkid)
             }
             Err(AllocError) => Answer::Plain(Cond::Insfmem),
@@ -226,6 +230,22 @@ impl Machine {
             res: checked.found.res,
             at_once: checked.found.at_once,
         }
+    }
+
+    // Sweeps the resource that a new lock has entered. After a grant at once nothing is to be done, since nobody is queued
+    // there; only an expedited lock may be granted beside a queue.
+    fn sweep_entered(&mut self, entry: &Entry, res: ResAt)
+        requires there { HasResource res self.old.records }
+        requires settled { AreSettledBut (res ∷ []) self.old.records.resources }
+        requires at_once { entry.now.at_once ≡ true
+            → has_flag (flag_bits entry.now.asked.flags) expedite ≡ false
+            → AllByRecursion IsSettled (plain_state self.old).resources }
+        ensures { plain_state self.new ≡ state_after_sweep (plain_state self.old) }
+    {
+        if entry.at_once && !entry.asked.flags.has(EnqFlags::EXPEDITE) {
+            return;
+        }
+        self.sweep(res);
     }
 
     // The lock enters its resource, with all that becomes of its status block, and the numbers that it took are used

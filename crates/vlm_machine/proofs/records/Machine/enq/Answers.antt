@@ -1,4 +1,4 @@
-use Rattle.std.proofs.Common.{◌≡◌, None, ap, sym, arith, ◌∙◌, refl, rules}
+use Rattle.std.proofs.Common.{◌≡◌, None, true, ap, sym, arith, ◌∙◌, refl, rules, subst}
 use Rattle.vlm_store.specs.Plain.{plain_resources}
 use Rattle.vlm_machine.specs.Machine.{MachineState}
 use Rattle.vlm_machine.specs.Notes.{total_locks_on}
@@ -10,16 +10,34 @@ use Rattle.vlm_words.specs.declared.steps.Answer.TheVariants.{Lock}
 use Rattle.vlm_words.specs.declared.steps.Step.TheVariants.{Enq}
 use Rattle.vlm_words.specs.Checks.{acceptance}
 use Rattle.vlm_words.specs.Flags.{flag_bits}
-use Rattle.vlm_words.specs.Enqueue.{enq_at_once, enq_change, enq_refusal, enq_request}
+use Rattle.vlm_words.specs.Enqueue.{enq_at_once, enq_change, enq_refusal, enq_request, enq_resource, enq_row, resources_after_entry}
+use Rattle.std.specs.List.{AllByRecursion}
+use Rattle.vlm_words.specs.Settled.{IsSettled}
+use Rattle.vlm_words.specs.State.{State}
+use Rattle.vlm_words.specs.Trees.{enq_site}
 use Rattle.vlm_words.specs.Sweeps.{state_after_sweep}
 use Rattle.vlm_machine.specs.Machine.{plain_state}
 use Rattle.vlm_machine.proofs.Made.{made_swept}
+use Rattle.vlm_machine.proofs.Quiet.{all_quiet}
 use Rattle.vlm_machine.proofs.Settling.{settled_but}
 use Rattle.vlm_machine.proofs.records.Machine.enq.Goals as goal
 
-pub sweep-requires-clause-settled : goal.sweep-requires-clause-settled
-sweep-requires-clause-settled c =
+pub sweep_entered-requires-clause-settled : goal.sweep_entered-requires-clause-settled
+sweep_entered-requires-clause-settled c =
     settled_but c.args.self.now.records c.enq_change.new.self.records c.in-Ok-enq_change.res c.requires.between.settled c.in-Ok-enq_change.ensures.others
+
+pub sweep_entered-requires-clause-at_once : goal.sweep_entered-requires-clause-at_once
+unfolding enq_change enq_resource
+sweep_entered-requires-clause-at_once c at_once plain =
+    let s = plain_state c.args.self.now in
+    let e = c.args.request.now in
+    let entry = c.entry-entry.result in
+    let is = c.entry-entry.ensures.entered in
+    let asked : entry.asked ≡ enq_request s e = same_Some entry.asked (enq_request s e) (ap (λ (row : Row). row.want) is.row) in
+    let now : enq_at_once s e ≡ true = sym is.at_once ∙ at_once in
+    let all = all_quiet (enq_request s e) s.next_serial (enq_site s e) (enq_row s e) s.resources c.requires.between.settled now (rw asked at plain) in
+    subst (λ (t : State). AllByRecursion IsSettled t.resources) (sym c.in-Ok-enq_change.ensures.change)
+    (subst (λ now_at_once. AllByRecursion IsSettled (resources_after_entry s.next_serial (enq_site s e) (enq_row s e) now_at_once s.resources)) (sym now) all)
 
 pub returns-in-Ok-enq_change-clause-outcome : goal.returns-in-Ok-enq_change-clause-outcome
 unfolding enq_change
@@ -31,8 +49,8 @@ returns-in-Ok-enq_change-clause-outcome c =
     let passed : None ≡ enq_refusal s e = search rules in
     let wants = ap (λ (row : Row). row.want) is.row in
     let asked : entry.asked ≡ enq_request s e = same_Some entry.asked (enq_request s e) wants in
-    made_swept s (plain_state c.sweep.new.self) (Enq e) (Lock c.acceptance.result entry.lkid) refl passed
-    (c.sweep.ensures ∙ ap state_after_sweep c.in-Ok-enq_change.ensures.change)
+    made_swept s (plain_state c.sweep_entered.new.self) (Enq e) (Lock c.acceptance.result entry.lkid) refl passed
+    (c.sweep_entered.ensures ∙ ap state_after_sweep c.in-Ok-enq_change.ensures.change)
     (ap (λ answer. Lock answer entry.lkid) c.acceptance.ensures
     ∙ ap (λ (q : Request). Lock (acceptance (flag_bits q.flags) entry.at_once) entry.lkid) asked
     ∙ ap (λ at_once. Lock (acceptance e.flags at_once) entry.lkid) is.at_once
@@ -44,6 +62,6 @@ returns-in-Ok-enq_change-clause-notes c =
     let stored = as_many_stored c.self.inside.store in
     let same : total_locks_on (plain_state c.args.self.now).resources ≡ total_locks_on (plain_resources c.self.inside.store) =
     ap (λ (m : MachineState). total_locks_on (plain_state m).resources) (sym c.self.view_is) in
-    room_after c.args.self.now c.sweep.new.self c.make_room_beyond.new.self (Enq c.args.request.now) (Lock c.acceptance.result c.entry-entry.result.lkid)
+    room_after c.args.self.now c.sweep_entered.new.self c.make_room_beyond.new.self (Enq c.args.request.now) (Lock c.acceptance.result c.entry-entry.result.lkid)
     (returns-in-Ok-enq_change-clause-outcome c) c.make_room_beyond.ensures.none
     (omega (arith, stored, same, c.in-Ok-make_room_beyond.ensures.room, c.total_locks.ensures))
