@@ -9,3 +9,4 @@ pub mod Peaks
 pub mod Ranked
 pub mod Noted
 pub mod Led
+pub mod Dated

@@ -1,9 +1,6 @@
 -- What a ranking names is there: the locks and the processes to which its walk comes.
-use Rattle.std.proofs.Common.{◌≡◌, ℕ, List, ◌++◌, length, take, drop, arith, map, Option, None, Some, IfSome, refl, sym, ◌∙◌, subst}
-use Rattle.std.specs.List.{All}
+use Rattle.std.proofs.Common.{◌≡◌, ℕ, map, Option, None, Some, IfSome, refl, sym, ◌∙◌, subst}
 use Rattle.std.specs.Option.{ForSome}
-use Rattle.std.proofs.lemmas.List.{append-nil, drop_all}
-use Rattle.std.proofs.lemmas.List.Elements.{All-take}
 use Rattle.std.proofs.lemmas.Option.{none-some, same_Some}
 use Rattle.vlm_words.specs.declared.locks.Row.{Row}
 use Rattle.vlm_links.specs.Lists.{IsIn, first_handle, handle_after, handle_before}
@@ -14,12 +11,6 @@ use Rattle.vlm_store.specs.Records.{IsProcess, IsSound, IsStored, Records, Store
 use Rattle.vlm_store.proofs.Walks.{at_lock}
 use Rattle.vlm_locks.proofs.RunsDown.{its_handles, owned_here, stored_here}
 use Rattle.vlm_cycle.specs.Notes.{LivesAt}
-
--- what is written in the place of a whole list holds of all that then stands there
-pub all_written : {X : Type 0} (P : X → Type 0) (new old : List X) (count : ℕ) → length new ≡ length old → All P new → All P (take count (new ++ drop (length new) old))
-all_written P new old count as_long are =
-    let none = drop_all (length new) old (omega (arith, as_long)) in
-    All-take P count (new ++ drop (length new) old) (subst (λ rest. All P (new ++ rest)) (sym none) (subst (All P) (sym (append-nil new)) are))
 
 -- what is named is there where the one is
 pub some_there : (P : ℕ → Type 0) (one : ℕ) → P one → ForSome (Some one) P

@@ -21,7 +21,7 @@ use Rattle.vlm_locks.specs.declared.finding.Standing.{Standing}
 use Rattle.vlm_locks.specs.Standing.{IsStanding}
 use Rattle.vlm_cycle.specs.declared.gauge.Gauge.{Gauge}
 use Rattle.vlm_cycle.specs.declared.gauge.Peak.{Peak}
-use Rattle.vlm_cycle.specs.declared.ranks.Ranks.{Ranks}
+use Rattle.vlm_cycle.specs.Ranks.{Ranks}
 use Rattle.vlm_cycle.specs.Ranking.{CountsHeld, CountsHolders, Falls, FallsOn, HasPassed, IsAboveAll, IsGaugeAt, IsGaugeOf, PassesQueue, PassesOne, rank_at, rank_of}
 use Rattle.vlm_cycle.specs.Waiting.{OwnsWaitedFor, OwnsBefore, OwnsBlocker, OwnsHolder, OwnsKeeper, rows_before, searched}
 use Rattle.vlm_cycle.proofs.Keeping.{none_waited, none_wanted, waited_keeps}

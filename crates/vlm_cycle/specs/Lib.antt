@@ -4,3 +4,4 @@ pub mod Finding
 pub mod Leading
 pub mod Ranking
 pub mod Notes
+pub mod Ranks

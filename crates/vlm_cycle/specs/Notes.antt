@@ -5,7 +5,7 @@ use Rattle.std.specs.Option.{ForSome}
 use Rattle.vlm_store.specs.Records.{HasResource, IsProcess, IsStored, Records}
 use Rattle.vlm_cycle.specs.declared.ranking.Walk.{Walk}
 use Rattle.vlm_cycle.specs.declared.ranks.Note.{Note}
-use Rattle.vlm_cycle.specs.declared.ranks.Ranks.{Ranks}
+use Rattle.vlm_cycle.specs.Ranks.{Ranks}
 use Rattle.vlm_cycle.specs.declared.wanting.Wanting.{Wanting}
 
 -- a process of this handle lives
@@ -21,7 +21,7 @@ pub record IsNote (s : Records) (note : Note) : Type 0 where
 
 -- that of all notes
 abbrev pub AreNotes : Records → Ranks → Type 0
-AreNotes s ranks = All (IsNote s) ranks.notes.items
+AreNotes s ranks = All (IsNote s) ranks
 
 -- each process that the walk names is there
 pub record IsWalk (s : Records) (walk : Walk) : Type 0 where

@@ -15,14 +15,14 @@ use Rattle.vlm_queue.specs.Walks.{rows_queued}
 use Rattle.vlm_locks.specs.declared.finding.Standing.{Standing}
 use Rattle.vlm_cycle.specs.declared.gauge.Gauge.{Gauge}
 use Rattle.vlm_cycle.specs.declared.gauge.Peak.{Peak}
-use Rattle.vlm_cycle.specs.declared.ranks.Ranks.{Ranks}
+use Rattle.vlm_cycle.specs.Ranks.{Ranks}
 use Rattle.vlm_cycle.specs.Waiting.{OwnsBefore, OwnsBlocker, rows_before, searched}
 
 -- ---- ranks
 
 -- the rank that is noted of the process of this handle, 0 where none is
 abbrev pub rank_at : Ranks → ℕ → ℕ
-rank_at ranks process = option_map_or (λ note. note.rank) (slice_get ranks.notes.items process) 0
+rank_at ranks process = option_map_or (λ note. note.rank) (slice_get ranks process) 0
 
 -- the rank of the living process with this identification, 0 where there is none
 unfoldable pub rank_of : Records → Ranks → ℕ → ℕ

@@ -193,7 +193,7 @@ fn best_of_led(
 }
 
 /// The lock of the deadlocked request that was made last, if some request is deadlocked. It takes no memory. The cost grows
-/// with the queued requests and the locks of their resources, with the processes where there are such requests, and for each
+/// with the queued requests, with the locks of their resources and of the processes that own or block them, and for each
 /// request that the ranks of processes leave in doubt with the locks of the processes that it is found to lead to.
 pub fn victim(store: &Store, scratch: &mut Scratch) -> Option<Standing>
     requires rest { IsAtRest store.now }

@@ -1,10 +1,10 @@
 //! The notes of the processes, read and written.
 
-ghost use Rattle.std.specs.Prelude.{◌≡◌, length};
-ghost use Rattle.std.specs.List.{All};
+ghost use Rattle.std.specs.Prelude.{◌≡◌};
 ghost use Rattle.std.specs.Option.{ForSome};
 ghost use Rattle.vlm_store.specs.Records.{IsStored, Records};
 ghost use Rattle.vlm_cycle.specs.Notes.{AreNotes, IsNote};
+ghost use Rattle.vlm_cycle.specs.Ranks.{blank_note};
 
 use crate::ranks::{Note, Ranks};
 use vlm_store::{LockAt, ProcAt};
@@ -23,7 +23,7 @@ pub(crate) enum Part {
 impl Note {
     /// The note of a process that is not found.
     pub(crate) fn blank() -> Note
-        ensures { (s : Records) → IsNote s result }
+        ensures { result ≡ blank_note }
     {
         Note {
             rank: 0,
@@ -71,51 +71,7 @@ impl Note {
     }
 }
 
-// The note in a slot, if there is room for it.
-fn note_in(notes: &[Note], slot: usize) -> Note
-    ensures { (s : Records) → All (IsNote s) notes.now → IsNote s result }
-{
-    if slot < notes.len() {
-        notes[slot]
-    } else {
-        Note::blank()
-    }
-}
-
-// Forgets what the notes say.
-fn clear_notes(notes: &mut [Note])
-    ensures len { length notes.new ≡ length notes.old }
-    ensures none { (s : Records) → All (IsNote s) notes.new }
-{
-    for slot in 0..notes.len() {
-        notes[slot] = Note::blank();
-    }
-}
-
 impl Ranks {
-    /// The note of a process.
-    pub(crate) fn note(&self, process: ProcAt) -> Note
-        ensures { (s : Records) → AreNotes s self.now → IsNote s result }
-    {
-        note_in(&self.notes, process.slot())
-    }
-
-    /// Notes this of a process, if there is room for it.
-    pub(crate) fn put(&mut self, process: ProcAt, note: Note)
-        ensures { (s : Records) → AreNotes s self.old → IsNote s note → AreNotes s self.new }
-    {
-        if process.slot() < self.notes.len() {
-            self.notes[process.slot()] = note;
-        }
-    }
-
-    /// Forgets what is noted of all processes.
-    pub(crate) fn clear(&mut self)
-        ensures { (s : Records) → AreNotes s self.new }
-    {
-        clear_notes(&mut self.notes);
-    }
-
     /// A process, if there is one, leads back to the one that was found under this number.
     pub(crate) fn lower(&mut self, process: Option<ProcAt>, low: u32)
         ensures { (s : Records) → AreNotes s self.old → AreNotes s self.new }

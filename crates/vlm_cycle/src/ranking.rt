@@ -132,7 +132,7 @@ fn go_down(store: &Store, ranks: &mut Ranks, walk: Walk, process: ProcAt) -> Wal
     ensures notes { AreNotes store.now ranks.new }
 {
     law_records_are_sound(store);
-    if process.slot() >= ranks.notes.len() {
+    if process.slot() >= ranks.len() {
         return walk;
     }
     let found = walk.found.saturating_add(1);
@@ -180,7 +180,7 @@ fn close(ranks: &mut Ranks, walk: Walk, first: ProcAt) -> Walk
 {
     let rank = walk.closed.saturating_add(1);
     let mut opened = walk.opened;
-    for _ in 0..ranks.notes.len() {
+    for _ in 0..ranks.len() {
         let Some(process) = opened else {
             return walk.with_closed(None, rank);
         };
@@ -294,15 +294,15 @@ fn walk_from(store: &Store, ranks: &mut Ranks, walk: Walk, root: ProcAt) -> Walk
 
 /// Ranks the processes that own queued requests, and those that these lead to: none waits for one of a higher rank, and
 /// two have one rank where each leads to the other. Others have rank 0. It takes no memory. The cost grows with the
-/// queued requests and, where there are such, with the processes, and for each process with its locks and what it looks at
-/// for each of its queued requests.
+/// queued requests and, for each process that owns one or is waited for, with its locks and what it looks at for each of
+/// its queued requests.
 // Kept out of line: its walk needs each register.
 #[inline(never)]
 pub(crate) fn rank_processes(store: &Store, ranks: &mut Ranks) {
     if store.queued_locks().next().is_none() {
         return;
     }
-    ranks.clear();
+    ranks.begin();
     let mut walk = Walk {
         process: None,
         opened: None,

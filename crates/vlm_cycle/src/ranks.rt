@@ -1,10 +1,15 @@
 //! Ranks of processes: advice, of which nothing is promised. What is concluded from them is checked first.
 
-ghost use Rattle.std.specs.Prelude.{◌≡◌};
+ghost use Rattle.std.specs.Prelude.{◌≡◌, ◌≤◌, [], length, slice_index_or, slice_set};
+ghost use Rattle.std.specs.List.{All};
+ghost use Rattle.vlm_store.specs.Records.{Records};
+ghost use Rattle.vlm_cycle.specs.Notes.{AreNotes, IsNote};
 ghost use Rattle.vlm_cycle.specs.Ranking.{rank_at};
+ghost use Rattle.vlm_cycle.specs.Ranks.{blank_dated, blank_note};
 
 use crate::notes::Part;
 use std::alloc::{AllocError, Global};
+use std::marker::Model;
 use vlm_store::{LockAt, ProcAt};
 
 /// What is noted of a process.
@@ -28,17 +33,75 @@ pub(crate) struct Note {
     pub(crate) at: Option<LockAt>,
 }
 
-/// The ranks of the processes, each by its slot.
+/// A note, and the number of the search that wrote it.
+#[derive(Clone, Copy)]
+struct DatedNote {
+    search: u64,
+    note: Note,
+}
+
+impl DatedNote {
+    // A blank note, by no search.
+    fn blank() -> DatedNote
+        ensures { result ≡ blank_dated }
+    {
+        DatedNote {
+            search: 0,
+            note: Note::blank(),
+        }
+    }
+}
+
+/// The notes of the processes, each by its slot. A search reads only its own notes. It reads those of earlier searches as
+/// blank. So a search that begins takes the next number and clears nothing.
 #[derive(Drop)]
 pub(crate) struct Ranks {
-    pub(crate) notes: Vec<Note>,
+    // the last note of each process
+    notes: Vec<DatedNote>,
+    // the number of the search
+    search: u64,
+}
+
+impl Model for Ranks {
+    ghost use Rattle.std.specs.Prelude.{List};
+    ghost use Rattle.vlm_cycle.specs.declared.ranks.Note.{Note};
+
+    // The notes as the search reads them.
+    ghost Value = { List Note };
+
+    ghost use Rattle.vlm_cycle.specs.Ranks.{IsDated, notes_read};
+
+    ghost view = { notes_read };
+
+    ghost invariant = { IsDated };
 }
 
 impl Ranks {
     /// No note of any process. It takes no memory.
-    pub(crate) fn new(alloc: Global) -> Ranks {
+    pub(crate) fn new(alloc: Global) -> Ranks
+        ensures { result ≡ [] }
+    {
         Ranks {
             notes: Vec::new(alloc),
+            search: 0,
+        }
+    }
+
+    /// How many processes there is room for.
+    pub(crate) fn len(&self) -> usize
+        ensures { result ≡ length self.now }
+    {
+        self.notes.len()
+    }
+
+    /// The note of a process, a blank one where there is no room for it.
+    pub(crate) fn note(&self, process: ProcAt) -> Note
+        ensures note { result ≡ slice_index_or self.now process blank_note }
+        ensures there { (s : Records) → AreNotes s self.now → IsNote s result }
+    {
+        match self.notes.get(process.slot()) {
+            Some(dated) if dated.search == self.search => dated.note,
+            _ => Note::blank(),
         }
     }
 
@@ -47,8 +110,36 @@ impl Ranks {
         ensures { result ≡ rank_at self.now process }
     {
         match self.notes.get(process.slot()) {
-            Some(note) => note.rank,
-            None => 0,
+            Some(dated) if dated.search == self.search => dated.note.rank,
+            _ => 0,
+        }
+    }
+
+    /// Notes this of a process, if there is room for it.
+    pub(crate) fn put(&mut self, process: ProcAt, note: Note)
+        ensures noted { self.new ≡ slice_set self.old process note }
+        ensures there { (s : Records) → AreNotes s self.old → IsNote s note → AreNotes s self.new }
+    {
+        if process.slot() < self.notes.len() {
+            self.notes[process.slot()] = DatedNote {
+                search: self.search,
+                note,
+            };
+        }
+    }
+
+    /// Begins a search, to which all notes are blank. It takes constant time. After 2^64 searches the numbers begin anew,
+    /// and the room for notes is lost: the search then has no ranks.
+    pub(crate) fn begin(&mut self)
+        ensures blank { All (λ note. note ≡ blank_note) self.new }
+        ensures no_more { length self.new ≤ length self.old }
+    {
+        match self.search.checked_add(1) {
+            Some(search) => self.search = search,
+            None => {
+                self.notes.clear();
+                self.search = 0;
+            }
         }
     }
 
@@ -56,10 +147,10 @@ impl Ranks {
     /// seldom move it.
     pub(crate) fn make_room(&mut self, living: usize) -> Result<(), AllocError> {
         if self.notes.len() <= living {
-            match living.checked_add(1) {
-                Some(count) => self.notes.resize(count, Note::blank())?,
-                None => return Err(AllocError),
-            }
+            let Some(count) = living.checked_add(1) else {
+                return Err(AllocError);
+            };
+            self.notes.resize(count, DatedNote::blank())?;
         }
         Ok(())
     }

@@ -5,8 +5,8 @@ use Rattle.vlm_cycle.proofs.ranking.close.Goals as goal
 pub loop-preserved : goal.loop-preserved
 loop-preserved c s are opened =
     let so_far = c.loop.invariant s are opened in
-    let note = c.note-note.ensures s so_far.0 in
-    (c.put.ensures s so_far.0 (c.ranked.ensures s note), note.opened)
+    let note = c.note-note.ensures.there s so_far.0 in
+    (c.put.ensures.there s so_far.0 (c.ranked.ensures s note), note.opened)
 
 pub returns-in_default : goal.returns-in_default
 returns-in_default c s are walk = ((c.loop.invariant s are walk.opened).0, c.with_closed.ensures s walk (none_there (LivesAt s)))
@@ -14,8 +14,8 @@ returns-in_default c s are walk = ((c.loop.invariant s are walk.opened).0, c.wit
 pub returns-then-slot : goal.returns-then-slot
 returns-then-slot c s are walk =
     let so_far = c.loop.invariant s are walk.opened in
-    let note = c.note-note.ensures s so_far.0 in
-    (c.put.ensures s so_far.0 (c.ranked.ensures s note), c.with_closed-then-slot.ensures s walk note.opened)
+    let note = c.note-note.ensures.there s so_far.0 in
+    (c.put.ensures.there s so_far.0 (c.ranked.ensures s note), c.with_closed-then-slot.ensures s walk note.opened)
 
 pub returns : goal.returns
 returns c s are walk =

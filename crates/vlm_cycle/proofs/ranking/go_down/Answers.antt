@@ -10,4 +10,4 @@ with_own-requires-clause-own c =
     first_own_there c.args.store.now c.law_records_are_sound.ensures c.args.process c.first_own.result c.requires.process c.first_own.ensures
 
 pub returns-clause-notes : goal.returns-clause-notes
-returns-clause-notes c = c.put.ensures c.args.store.now c.requires.notes c.with_own.ensures
+returns-clause-notes c = c.put.ensures.there c.args.store.now c.requires.notes c.with_own.ensures

@@ -1,5 +1,6 @@
 use Rattle.std.proofs.Common.{inl, inr, refl, subst, sym}
 use Rattle.vlm_links.specs.Lists.{IsIn}
+use Rattle.vlm_cycle.proofs.Dated.{blanks_there}
 use Rattle.vlm_cycle.specs.Notes.{LivesAt}
 use Rattle.vlm_cycle.proofs.Led.{queued_is_stored}
 use Rattle.vlm_cycle.proofs.Noted.{none_there}
@@ -9,7 +10,7 @@ pub loop-lock-init : goal.loop-lock-init
 loop-lock-init c = record {
   queued = λ at found. c.queued_locks-lock-items.ensures.queued at (subst (IsIn at) c.into_iter-lock-iterator.ensures.into_iter_gives found);
   walk = record { process = none_there (LivesAt c.args.store.now); opened = none_there (LivesAt c.args.store.now) };
-  notes = c.clear.ensures c.args.store.now;
+  notes = blanks_there c.args.store.now c.begin.new.self c.begin.ensures.blank;
 }
 
 pub lock_record-requires : goal.lock_record-requires

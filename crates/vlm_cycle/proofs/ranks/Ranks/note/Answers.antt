@@ -1,7 +1,11 @@
-use Rattle.std.proofs.Common.{sym, subst}
-use Rattle.std.specs.List.{All}
+use Rattle.std.proofs.Common.{arith, subst, sym}
+use Rattle.std.proofs.lemmas.Grind.{common_steps}
 use Rattle.vlm_cycle.specs.Notes.{IsNote}
+use Rattle.vlm_cycle.proofs.Dated.{note_there}
 use Rattle.vlm_cycle.proofs.ranks.Ranks.note.Goals as goal
 
-pub returns : goal.returns
-returns c s are = c.note_in.ensures s (subst (All (IsNote s)) (sym c.deref.ensures.value) are)
+pub returns-in-Some-clause-note : goal.returns-in-Some-clause-note
+returns-in-Some-clause-note c = grind (arith, common_steps)
+
+pub returns-in-Some-clause-there : goal.returns-in-Some-clause-there
+returns-in-Some-clause-there c s are = subst (IsNote s) (sym (returns-in-Some-clause-note c)) (note_there s c.args.self.now c.args.process are)

@@ -1,0 +1,31 @@
+-- The notes of the processes, as a search reads them.
+use Rattle.std.specs.Prelude.{◌==◌, ◌≤◌, ℕ, List, None, if◌then◌else◌, map}
+use Rattle.std.specs.List.{All}
+use Rattle.vlm_cycle.specs.declared.notes.Part.TheVariants.{Before}
+use Rattle.vlm_cycle.specs.declared.ranks.DatedNote.{DatedNote}
+use Rattle.vlm_cycle.specs.declared.ranks.Note.{Note}
+use Rattle.vlm_cycle.specs.declared.ranks.Ranks.TheInside.{Inside}
+
+-- what is noted of each process, by its slot
+abbrev pub Ranks : Type 0
+Ranks = List Note
+
+-- the note of a process that is not found
+abbrev pub blank_note : Note
+blank_note = record { rank = 0; index = 0; low = 0; caller = None; opened = None; own = None; part = Before; at = None }
+
+-- the blank note, by no search
+abbrev pub blank_dated : DatedNote
+blank_dated = record { search = 0; note = blank_note }
+
+-- the note as the search of this number reads it: it reads its own alone
+abbrev pub note_read : ℕ → DatedNote → Note
+note_read search dated = if dated.search == search then dated.note else blank_note
+
+-- the notes as the present search reads them
+abbrev pub notes_read : Inside → Ranks
+notes_read r = map (note_read r.search) r.notes.items
+
+-- no note is of a later search than the present one
+abbrev pub IsDated : Inside → Type 0
+IsDated r = All (λ dated. dated.search ≤ r.search) r.notes.items
