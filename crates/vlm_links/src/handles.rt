@@ -1,8 +1,9 @@
 //! The handles of records, those of each kind of a type of their own.
 
-ghost use Rattle.std.specs.Prelude.{◌≡◌, ◌≤◌};
+ghost use Rattle.std.specs.Prelude.{◌≡◌, ◌≤◌, None};
+ghost use Rattle.std.specs.Option.{ForSome};
 
-use crate::link::LAST_HANDLE;
+use crate::link::{LAST_HANDLE, Link};
 use std::marker::{Model, PhantomData};
 
 /// The handle of a record of one kind: its slot in the slab of these. It is good until its record is
@@ -42,5 +43,52 @@ impl<Kind> At<Kind> {
         ensures { result ≡ self }
     {
         self.at as usize
+    }
+}
+
+/// The handle of a record of one kind, or none, in four bytes.
+#[derive_where(Clone, Copy)]
+pub struct MaybeAt<Kind> {
+    // the slot of the record, if there is one
+    link: Link,
+    // names the kind, and takes no room
+    kind: PhantomData<Kind>,
+}
+
+impl<Kind> Model for MaybeAt<Kind> {
+    ghost use Rattle.std.specs.Prelude.{ℕ, Option};
+
+    ghost Value = { Option ℕ };
+
+    ghost view = { λ k. k.link };
+
+    ghost inverse = { λ link. record { link = link; kind = record {} } };
+}
+
+impl<Kind> MaybeAt<Kind> {
+    /// This handle, or none.
+    pub fn of(at: Option<At<Kind>>) -> Self
+        requires { ForSome at (λ slot. slot ≤ LAST_HANDLE) }
+        ensures { result ≡ at }
+    {
+        let link = match at {
+            Some(at) => Link::to(at.slot()),
+            None => Link::none(),
+        };
+        MaybeAt {
+            link,
+            kind: PhantomData,
+        }
+    }
+
+    /// The handle, if there is one.
+    pub fn get(self) -> Option<At<Kind>>
+        ensures { result ≡ self }
+    {
+        let slot = self.link.handle()?;
+        Some(At {
+            at: slot as u32,
+            kind: PhantomData,
+        })
     }
 }

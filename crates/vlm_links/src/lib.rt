@@ -26,7 +26,7 @@ mod sip;
 mod tables;
 
 pub use growth::{reserve_one, reserve_slot};
-pub use handles::At;
+pub use handles::{At, MaybeAt};
 pub use hashing::{HashKeys, HashSpread};
 pub use link::{LAST_HANDLE, Links};
 pub use lists::{Linked, LinkedList};

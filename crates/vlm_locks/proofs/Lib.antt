@@ -40,3 +40,4 @@ pub mod GivenUp
 pub mod ProcessGone
 pub mod NodeGone
 pub mod WithdrawnEnds
+pub mod Spared

@@ -16,7 +16,9 @@ use Rattle.vlm_words.specs.Asts.{Queued as QueuedAst, blocking_asts, has_to_warn
 use Rattle.vlm_words.specs.Dues.{due_to, one_where, routines_of, row_due}
 use Rattle.vlm_words.proofs.Warned.{blind_warned}
 use Rattle.vlm_links.specs.Lists.{IsIn}
+use Rattle.vlm_records.specs.declared.handles.Armed.{Armed}
 use Rattle.vlm_records.specs.declared.handles.Place.TheVariants.{Queued}
+use Rattle.vlm_records.specs.Armed.{is_listed}
 use Rattle.vlm_store.specs.Armed.{IsArmedAt, armed_among, armed_at}
 use Rattle.vlm_store.specs.Plain.{plain_processes, plain_resource}
 use Rattle.vlm_store.proofs.Walks.{lock_among}
@@ -28,7 +30,7 @@ use Rattle.vlm_locks.specs.Rest.{IsReplaced}
 use Rattle.vlm_locks.specs.Serving.{nothing_queued}
 use Rattle.vlm_locks.specs.Staying.{LocksStay}
 use Rattle.vlm_locks.proofs.Ended.{empty_is}
-use Rattle.vlm_locks.specs.Warning.{IsLockWarned, IsWarned, disarmed_if, disarmed_row, is_warned_on}
+use Rattle.vlm_locks.specs.Warning.{IsLockWarned, IsWarned, SparesOthers, disarmed_if, disarmed_row, is_warned_on}
 use Rattle.vlm_locks.proofs.ArmedOnes.{StartsArmed, among_armed, armed_apart, armed_split, behind, from_armed, from_lock, handles, handles_from}
 use Rattle.vlm_locks.proofs.Found.{on_resource-own, on_resource-put, resource_alone, resource_at-put}
 use Rattle.vlm_locks.proofs.Moves.{no_first}
@@ -136,19 +138,19 @@ pub record IsWarning (res : ℕ) (old s : Records) (next : Option ℕ) : Type 0 
   pub effect : processes_after_asts (flat_map (row_warnings (rows_of_locks had.converting) (rows_of_locks had.waiting)) (rows_of_locks todo)) (plain_processes s)
       ≡ processes_after_asts (warnings (plain_resource had)) (plain_processes old)
 
--- one that is not armed is not warned
-unarmed_stays : (r : StoredResource) (k : StoredLock) → k.row.armed ≡ false → warned_lock r k ≡ k
-unfolding is_to_warn row_after_warning
-unarmed_stays r k is = rw is refl
+-- one that is not to be warned stays, and says nothing
+lock_is_not_warned : (r : StoredResource) (k : StoredLock) → is_warned_on r k.row ≡ false → warned_lock r k ≡ k
+unfolding row_after_warning
+lock_is_not_warned r k is = rw is refl
 
-unarmed_says_nothing : (r : StoredResource) (k : StoredLock) → k.row.armed ≡ false → row_warnings (rows_of_locks r.converting) (rows_of_locks r.waiting) k.row ≡ []
-unfolding is_to_warn row_warnings
-unarmed_says_nothing r k is = rw is refl
+lock_says_nothing : (r : StoredResource) (k : StoredLock) → is_warned_on r k.row ≡ false → row_warnings (rows_of_locks r.converting) (rows_of_locks r.waiting) k.row ≡ []
+unfolding row_warnings
+lock_says_nothing r k is = rw is refl
 
 -- the walk passes over it
-passed : (res : ℕ) (old s : Records) (next : Option ℕ) (w : IsWarning res old s next) (k : StoredLock) (rest : List StoredLock) → w.todo ≡ k ∷ rest → k.row.armed ≡ false
+passed : (res : ℕ) (old s : Records) (next : Option ℕ) (w : IsWarning res old s next) (k : StoredLock) (rest : List StoredLock) → w.todo ≡ k ∷ rest → is_warned_on w.had k.row ≡ false
     → (x : IsWarning res old s (first_at rest)) × (x.todo ≡ rest)
-passed res old s next w k rest is unarmed =
+passed res old s next w k rest is unwarned =
     let warned = warned_lock w.had in
     let says = row_warnings (rows_of_locks w.had.converting) (rows_of_locks w.had.waiting) in
     let same : map warned w.done ++ w.todo ≡ map warned (w.done ++ k ∷ []) ++ rest =
@@ -156,7 +158,7 @@ passed res old s next w k rest is unarmed =
     ∙ sym (
     ap (λ locks. locks ++ rest) (map-append warned w.done (k ∷ []))
     ∙ append_assoc (map warned w.done) (warned k ∷ []) rest
-    ∙ ap (λ (x : StoredLock). map warned w.done ++ x ∷ rest) (unarmed_stays w.had k unarmed)
+    ∙ ap (λ (x : StoredLock). map warned w.done ++ x ∷ rest) (lock_is_not_warned w.had k unwarned)
     ) in (
       record {
         had = w.had;
@@ -166,41 +168,41 @@ passed res old s next w k rest is unarmed =
         replaced = subst (λ locks. IsReplaced res w.had (record w.had { granted = locks }) old s) same w.replaced;
         first = refl;
         effect =
-            ap (λ asts. processes_after_asts (asts ++ flat_map says (rows_of_locks rest)) (plain_processes s)) (sym (unarmed_says_nothing w.had k unarmed))
+            ap (λ asts. processes_after_asts (asts ++ flat_map says (rows_of_locks rest)) (plain_processes s)) (sym (lock_says_nothing w.had k unwarned))
             ∙ ap (λ locks. processes_after_asts (flat_map says (rows_of_locks locks)) (plain_processes s)) (sym is)
             ∙ w.effect;
       },
       refl,
     )
 
--- it stands at an armed lock, or at the end
-pub record IsAtArmed (res : ℕ) (old s : Records) (next : Option ℕ) : Type 0 where
+-- it stands at a lock of the list, or at the end
+pub record IsAtArmed (which : Armed) (res : ℕ) (old s : Records) (next : Option ℕ) : Type 0 where
   pub warning : IsWarning res old s next
-  pub armed : StartsArmed warning.todo
+  pub armed : StartsArmed which warning.todo
 
 -- from where it stands it goes on to the first that is armed
-to_armed : (res : ℕ) (old s : Records) (todo : List StoredLock) (next after : Option ℕ) (w : IsWarning res old s next) → w.todo ≡ todo → after ≡ first_at (armed_among todo) → IsAtArmed res old s after
-to_armed res old s [] next after w is first = record {
+to_armed : (which : Armed) (res : ℕ) (old s : Records) → SparesOthers which res old → (todo : List StoredLock) (next after : Option ℕ) (w : IsWarning res old s next) → w.todo ≡ todo → after ≡ first_at (armed_among which todo) → IsAtArmed which res old s after
+to_armed which res old s spares [] next after w is first = record {
   warning = record { had = w.had; done = w.done; todo = w.todo; split = w.split; replaced = w.replaced; first = first ∙ ap first_at (sym is); effect = w.effect };
-  armed = subst StartsArmed (sym is) tt;
+  armed = subst (StartsArmed which) (sym is) tt;
 }
-to_armed res old s (k ∷ rest) next after w is first =
-    elim (cases_Bool k.row.armed) [
+to_armed which res old s spares (k ∷ rest) next after w is first =
+    elim (cases_Bool (is_listed which k.row)) [
       | inl armed ↦ record {
         warning = record { had = w.had; done = w.done; todo = w.todo; split = w.split; replaced = w.replaced; first = (rw armed at first) ∙ ap first_at (sym is); effect = w.effect };
-        armed = subst StartsArmed (sym is) armed;
+        armed = subst (StartsArmed which) (sym is) armed;
       }
       | inr unarmed ↦
-          let on = passed res old s next w k rest is unarmed in
-          to_armed res old s rest (first_at rest) after on.0 on.1 (rw unarmed at first)
+          let on = passed res old s next w k rest is (spares w.had k.row w.replaced.was unarmed) in
+          to_armed which res old s spares rest (first_at rest) after on.0 on.1 (rw unarmed at first)
     ]
 
 -- before the first
-pub warning_begun : (res : ℕ) (s : Records) (next : Option ℕ) → IsSound s → HasResource res s → next ≡ first_at (armed_at res s) → IsAtArmed res s s next
+pub warning_begun : (which : Armed) (res : ℕ) (s : Records) (next : Option ℕ) → IsSound s → HasResource res s → SparesOthers which res s → next ≡ first_at (armed_at which res s) → IsAtArmed which res s s next
 unfolding warnings
-warning_begun res s next sound there is = of_found (resource_at res s.resources) refl there
+warning_begun which res s next sound there spares is = of_found (resource_at res s.resources) refl there
   where
-    of_found : (o : Option StoredResource) → resource_at res s.resources ≡ o → IsSome o → IsAtArmed res s s next
+    of_found : (o : Option StoredResource) → resource_at res s.resources ≡ o → IsSome o → IsAtArmed which res s s next
     of_found None found there = cc
     of_found (Some r) found there =
         let w : IsWarning res s s (first_at r.granted) = record {
@@ -217,7 +219,7 @@ warning_begun res s next sound there is = of_found (resource_at res s.resources)
           first = refl;
           effect = refl;
         } in
-        to_armed res s s r.granted (first_at r.granted) next w refl (is ∙ ap (λ o. first_at (armed_among (option_map_or (queued Granted) o []))) found)
+        to_armed which res s s spares r.granted (first_at r.granted) next w refl (is ∙ ap (λ o. first_at (armed_among which (option_map_or (queued Granted) o []))) found)
 
 -- a list without the lock stays
 disarm_absent : (at : ℕ) (locks : List StoredLock) → ((row : Row) → ¬ IsIn (record { at = at; row = row }) locks) → map (λ (k : StoredLock). cond (k.at == at) (disarmed k) k) locks ≡ locks
@@ -244,10 +246,6 @@ left_to_warn res next s = handles_from next (handles (locks_at (Queued res Grant
 lock_is_warned : (r : StoredResource) (k : StoredLock) → is_warned_on r k.row ≡ true → warned_lock r k ≡ disarmed k
 unfolding row_after_warning
 lock_is_warned r k is = rw is refl
-
-lock_is_not_warned : (r : StoredResource) (k : StoredLock) → is_warned_on r k.row ≡ false → warned_lock r k ≡ k
-unfolding row_after_warning
-lock_is_not_warned r k is = rw is refl
 
 -- it stays the lock that it was
 same_warned : (r : StoredResource) (k : StoredLock) → IsSameLock k.row (warned_lock r k).row
@@ -424,31 +422,31 @@ module _ (res : ℕ) (old s : Records) (next : Option ℕ) (warning : IsWarning 
     pub next_stored : Stores s lock has_next.row
     next_stored = (Queued res Granted, next_stands)
 
-    module _ (armed : StartsArmed warning.todo) where
-      own_armed : has_next.row.armed ≡ true
-      own_armed = subst StartsArmed has_next.is armed
+    module _ (which : Armed) (armed : StartsArmed which warning.todo) where
+      own_armed : is_listed which has_next.row ≡ true
+      own_armed = subst (StartsArmed which) has_next.is armed
 
-      pub stands_armed : IsArmedAt res lock s
-      stands_armed = (has_next.row, among_armed own (locks_at (Queued res Granted) s) next_stands own_armed)
+      pub stands_armed : IsArmedAt which res lock s
+      stands_armed = (has_next.row, among_armed which own (locks_at (Queued res Granted) s) next_stands own_armed)
 
       -- the armed lock that follows it
-      pub follows : (after : Option ℕ) → after ≡ at_after lock (armed_at res s) → after ≡ first_at (armed_among has_next.rest)
+      pub follows : (after : Option ℕ) → after ≡ at_after lock (armed_at which res s) → after ≡ first_at (armed_among which has_next.rest)
       follows after is =
-          let split : armed_among (before ++ own ∷ has_next.rest) ≡ armed_among before ++ own ∷ armed_among has_next.rest = armed_split before own has_next.rest own_armed in
-          is ∙ ap (at_after lock) (ap armed_among granted_split ∙ split)
-          ∙ behind own (armed_among has_next.rest) (armed_among before) (subst AreApart split (armed_apart (before ++ own ∷ has_next.rest) granted_apart))
+          let split : armed_among which (before ++ own ∷ has_next.rest) ≡ armed_among which before ++ own ∷ armed_among which has_next.rest = armed_split which before own has_next.rest own_armed in
+          is ∙ ap (at_after lock) (ap (armed_among which) granted_split ∙ split)
+          ∙ behind own (armed_among which has_next.rest) (armed_among which before) (subst AreApart split (armed_apart which (before ++ own ∷ has_next.rest) granted_apart))
 
     -- what is left for the walk is one less behind it
-    pub left_shorter : (after : Option ℕ) → after ≡ first_at (armed_among has_next.rest) → length (left_to_warn res after s) < length (left_to_warn res next s)
-    left_shorter after is =
+    pub left_shorter : (which : Armed) (after : Option ℕ) → after ≡ first_at (armed_among which has_next.rest) → length (left_to_warn res after s) < length (left_to_warn res next s)
+    left_shorter which after is =
         let here : left_to_warn res next s ≡ lock ∷ handles has_next.rest =
         ap (λ (n : Option ℕ). handles_from n (handles (locks_at (Queued res Granted) s))) (sym first) ∙ ap (λ locks. handles_from (Some lock) (handles locks)) granted_split
         ∙ from_lock own has_next.rest before granted_apart in
         let apart : before ++ own ∷ has_next.rest ≡ (before ++ own ∷ []) ++ has_next.rest = sym (append_assoc before (own ∷ []) has_next.rest) in
-        let there : left_to_warn res after s ≡ handles_from (first_at (armed_among has_next.rest)) (handles ((before ++ own ∷ []) ++ has_next.rest)) =
+        let there : left_to_warn res after s ≡ handles_from (first_at (armed_among which has_next.rest)) (handles ((before ++ own ∷ []) ++ has_next.rest)) =
         ap (λ (n : Option ℕ). handles_from n (handles (locks_at (Queued res Granted) s))) is
-        ∙ ap (λ locks. handles_from (first_at (armed_among has_next.rest)) (handles locks)) (granted_split ∙ apart) in
-        let few = from_armed has_next.rest (before ++ own ∷ []) (subst AreApart apart granted_apart) in
+        ∙ ap (λ locks. handles_from (first_at (armed_among which has_next.rest)) (handles locks)) (granted_split ∙ apart) in
+        let few = from_armed which has_next.rest (before ++ own ∷ []) (subst AreApart apart granted_apart) in
         rw (here, there) (omega (arith, few))
 
     -- the resource once it is warned too
@@ -485,8 +483,8 @@ module _ (res : ℕ) (old s : Records) (next : Option ℕ) (warning : IsWarning 
           of_test false is = (subst (λ b. SameButNotices (disarmed_if b lock s) t) is warned.only).processes
 
       -- the walk goes on
-      pub warning_next : (after : Option ℕ) → after ≡ first_at (armed_among has_next.rest) → IsAtArmed res old t after
-      warning_next after is =
+      pub warning_next : (which : Armed) → SparesOthers which res old → (after : Option ℕ) → after ≡ first_at (armed_among which has_next.rest) → IsAtArmed which res old t after
+      warning_next which spares after is =
           let w : IsWarning res old t (first_at has_next.rest) = record {
             had = warning.had;
             done = warning.done ++ own ∷ [];
@@ -507,7 +505,7 @@ module _ (res : ℕ) (old s : Records) (next : Option ℕ) (warning : IsWarning 
                 ∙ ap (λ locks. processes_after_asts (flat_map (row_warnings converting waiting) (rows_of_locks locks)) (plain_processes s)) (sym has_next.is)
                 ∙ warning.effect;
           } in
-          to_armed res old t has_next.rest (first_at has_next.rest) after w refl is
+          to_armed which res old t spares has_next.rest (first_at has_next.rest) after w refl is
         where
           converting : List Row
           converting = rows_of_locks warning.had.converting
@@ -516,13 +514,13 @@ module _ (res : ℕ) (old s : Records) (next : Option ℕ) (warning : IsWarning 
           waiting = rows_of_locks warning.had.waiting
 
       -- with one lock less to look at
-      pub warning_shorter : (after : Option ℕ) → after ≡ first_at (armed_among has_next.rest) → length (left_to_warn res after t) < length (left_to_warn res next s)
-      warning_shorter after is =
+      pub warning_shorter : (which : Armed) (after : Option ℕ) → after ≡ first_at (armed_among which has_next.rest) → length (left_to_warn res after t) < length (left_to_warn res next s)
+      warning_shorter which after is =
           let there : handles (locks_at (Queued res Granted) t) ≡ handles (locks_at (Queued res Granted) s) =
           ap (λ o. handles (option_map_or (queued Granted) o []))
           (ap (resource_at res) resources_then ∙ resource_at-put res then s.resources now (left_at res warning.had now old s warning.replaced) now_found)
           ∙ ap handles then_granted ∙ same_handles before ∙ sym (ap handles granted_split) in
-          subst (λ hs. length (handles_from after hs) < length (left_to_warn res next s)) (sym there) (left_shorter after is)
+          subst (λ hs. length (handles_from after hs) < length (left_to_warn res next s)) (sym there) (left_shorter which after is)
         where
           same_handles : (xs : List StoredLock) → handles (xs ++ warned_lock warning.had own ∷ has_next.rest) ≡ handles (xs ++ own ∷ has_next.rest)
           same_handles [] = refl

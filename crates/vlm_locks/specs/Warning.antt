@@ -1,9 +1,11 @@
 -- The warnings of a resource's granted locks.
-use Rattle.std.specs.Prelude.{◌≡◌, ℕ, Bool, false, if◌then◌else◌}
+use Rattle.std.specs.Prelude.{◌≡◌, ℕ, Bool, false, Some, if◌then◌else◌}
 use Rattle.vlm_words.specs.declared.locks.Row.{Row}
 use Rattle.vlm_words.specs.Asts.{is_to_warn, processes_after_asts, resource_after_warning, row_after_warning, row_warnings, warnings}
+use Rattle.vlm_records.specs.declared.handles.Armed.{Armed}
+use Rattle.vlm_records.specs.Armed.{is_listed}
 use Rattle.vlm_store.specs.Plain.{plain_processes, plain_resource}
-use Rattle.vlm_store.specs.Records.{Records, SameButNotices, StoredResource, disarming, rows_of_locks, with_lists}
+use Rattle.vlm_store.specs.Records.{Records, SameButNotices, StoredResource, disarming, resource_at, rows_of_locks, with_lists}
 use Rattle.vlm_locks.specs.Owing.{OwedMoves}
 use Rattle.vlm_locks.specs.Rest.{IsReplaced}
 use Rattle.vlm_locks.specs.Staying.{LocksStay}
@@ -15,6 +17,10 @@ disarmed_row row = record row { armed = false }
 -- a granted lock with this row is to be warned on the resource
 abbrev pub is_warned_on : StoredResource → Row → Bool
 is_warned_on r row = is_to_warn (rows_of_locks r.converting) (rows_of_locks r.waiting) row
+
+-- no lock of the resource is to be warned that is not in this list of armed locks
+abbrev pub SparesOthers : Armed → ℕ → Records → Type 0
+SparesOthers which res s = (r : StoredResource) (row : Row) → resource_at res s.resources ≡ Some r → is_listed which row ≡ false → is_warned_on r row ≡ false
 
 -- the records once a lock is warned, if it is to be: it is armed no more
 abbrev pub disarmed_if : Bool → ℕ → Records → Records

@@ -7,12 +7,13 @@ ghost use Rattle.vlm_words.specs.Dues.{row_due};
 ghost use Rattle.vlm_store.specs.Plain.{plain_processes};
 ghost use Rattle.vlm_store.specs.Records.{HasResource, IsProcess, IsStored, SameButNotices, StoredResource, Stores, due_of, resource_at, rows_of_locks};
 ghost use Rattle.vlm_locks.specs.Owing.{IsPaid, OwedMoves};
-ghost use Rattle.vlm_locks.specs.Warning.{IsLockWarned, IsWarned, disarmed_row};
+ghost use Rattle.vlm_locks.specs.Warning.{IsLockWarned, IsWarned, SparesOthers, disarmed_row};
 
 use vlm_procs::{forgive, queue_ast};
 use vlm_store::laws::law_records_are_sound;
-use vlm_store::{LockAt, ProcAt, ResAt, Store, StoredRow};
+use vlm_store::{Armed, LockAt, ProcAt, ResAt, Store, StoredRow};
 use vlm_words::asts::{Ast, AstKind};
+use vlm_words::modes::Mode;
 
 // Whether a granted lock with this row is to be warned: it is armed, and what it holds is in the way of a queued
 // request.
@@ -75,27 +76,28 @@ fn warn_lock(store: &mut Store, res: ResAt, lock: LockAt)
     store.disarm(lock);
 }
 
-// Warns the armed locks of a resource, from the first to the last. Which one follows is read before a lock is warned,
-// since it may be armed no more then.
-fn warn_armed(store: &mut Store, res: ResAt)
+// Warns the locks of a list of armed ones that are in the way of a queued request, from the first to the last. Which
+// one follows is read before a lock is warned, since it may be in the list no more then.
+fn warn_armed(store: &mut Store, res: ResAt, which: Armed)
     requires there { HasResource res store.old }
+    requires spares { SparesOthers which res store.old }
     requires paid { IsPaid store.old }
     ensures warned { IfSome (resource_at res store.old.resources)
         (λ r. IsWarned res r store.old store.new) }
     ensures paid { IsPaid store.new }
 {
     law_records_are_sound(store);
-    let mut at = store.first_armed(res);
+    let mut at = store.first_armed(res, which);
     while let Some(lock) = at {
         law_records_are_sound(store);
-        at = store.next_armed(res, lock);
+        at = store.next_armed(res, which, lock);
         warn_lock(store, res, lock);
     }
 }
 
 /// Warns the granted locks of a resource that are armed and in the way of a queued request, in their order: the
-/// blocking AST of each is queued, and it is armed no more. Where counts show that there is none, no lock is looked at;
-/// else those that are armed are.
+/// blocking AST of each is queued, and it is armed no more. CR is in the way of EX alone, and EX has each armed lock in
+/// its way that holds more than NL. So after a grant as far as possible, each lock that is looked at is warned.
 #[inline(never)]
 pub(crate) fn warn(store: &mut Store, res: ResAt)
     requires there { HasResource res store.old }
@@ -104,8 +106,9 @@ pub(crate) fn warn(store: &mut Store, res: ResAt)
         (λ r. IsWarned res r store.old store.new) }
     ensures paid { IsPaid store.new }
 {
-    law_records_are_sound(store);
-    if store.may_warn(res) {
-        warn_armed(store, res);
+    if store.is_in_the_way(res, Mode::Cr) {
+        warn_armed(store, res, Armed::AboveNl);
+    } else {
+        warn_armed(store, res, Armed::AboveCr);
     }
 }

@@ -11,8 +11,8 @@ use Rattle.vlm_words.specs.declared.locks.Row.{Row}
 use Rattle.vlm_words.specs.declared.resources.Queue.TheVariants.{Granted, Conversion, Waiting}
 use Rattle.vlm_words.specs.Modes.{is_compatible}
 use Rattle.vlm_words.proofs.Compatible.{is_compatible-comm}
-use Rattle.vlm_tallies.specs.Tallies.{armed_request, counts_fit, counts_warn, each_counted, is_mode, one_if, total, weight_of}
-use Rattle.vlm_tallies.specs.Tallies.Count.{of_armed, of_held, of_wanted}
+use Rattle.vlm_tallies.specs.Tallies.{counts_fit, each_counted, is_mode, one_if, total, weight_of}
+use Rattle.vlm_tallies.specs.Tallies.Count.{of_held, of_wanted}
 use Rattle.vlm_tallies.proofs.ModesThatFit.{counts_fit-rows, each_counted-rows, passes}
 use Rattle.vlm_tallies.proofs.Totals.{total-both, total-nothing}
 use Rattle.vlm_records.specs.declared.handles.Place.TheVariants.{Queued}
@@ -62,18 +62,6 @@ module _ (rows : ℕ → Row) (converting waiting : List ℕ) (fit : Mode → Bo
           not_all (λ row. passes (is_compatible mode) row.want) rows ks
           ∙ ap (λ test. list_any test (map rows ks)) (fun_ext (λ (row : Row). passes_not mode row.want))
 
-  -- a granted lock is to be warned where it is armed and what it holds is in the way
-  to_warn : (row : Row) → not (passes fit (armed_request row)) ≡ (row.armed && is_in_the_way row.held (map rows converting) (map rows waiting))
-  to_warn row = armed row.armed row.held
-    where
-      holds : (held : Option Request) → not (passes fit held) ≡ is_in_the_way held (map rows converting) (map rows waiting)
-      holds None = refl
-      holds (Some held) = in_the_way held.mode
-
-      armed : (is_armed : Bool) (held : Option Request) → not (passes fit (if is_armed then held else None)) ≡ (is_armed && is_in_the_way held (map rows converting) (map rows waiting))
-      armed true held = holds held
-      armed false held = refl
-
 -- counts that are the shares of a resource tell which modes are in the way
 pub wanted-rows : (q : Queues) (res : ℕ) (wanted : Mode → ℕ) → ((m : Mode) → wanted m ≡ shares q (weight_of of_wanted m) None res) → (mode : Mode)
     → counts_fit mode wanted ≡ list_all (λ k. passes (is_compatible mode) (rows q k).want) (handles_at q (Queued res Conversion) ++ handles_at q (Queued res Waiting))
@@ -85,20 +73,3 @@ wanted-rows q res wanted wanted_is mode =
     let of_rows : (m : Mode) → wanted m ≡ total (λ row. one_if (is_mode m row.want)) (rows q) (converting ++ waiting) =
     λ m. omega (arith, wanted_is m, total-both (λ row. one_if (is_mode m row.want)) (rows q) converting waiting, total-nothing (rows q) granted) in
     ap (each_counted (is_compatible mode)) (fun_ext of_rows) ∙ each_counted-rows (is_compatible mode) (λ row. row.want) (rows q) (converting ++ waiting)
-
--- and whether some of its locks is to be warned
-pub shares-warn : (q : Queues) (res : ℕ) (armed wanted : Mode → ℕ) → ((m : Mode) → armed m ≡ shares q (weight_of of_armed m) None res) → ((m : Mode) → wanted m ≡ shares q (weight_of of_wanted m) None res)
-    → counts_warn armed wanted
-    ≡ list_any (λ row. row.armed && is_in_the_way row.held (map (rows q) (handles_at q (Queued res Conversion))) (map (rows q) (handles_at q (Queued res Waiting)))) (map (rows q) (handles_at q (Queued res Granted)))
-unfolding counts_warn
-shares-warn q res armed wanted armed_is wanted_is =
-    let granted = handles_at q (Queued res Granted) in
-    let converting = handles_at q (Queued res Conversion) in
-    let waiting = handles_at q (Queued res Waiting) in
-    let fit : Mode → Bool = λ mode. counts_fit mode wanted in
-    let of_armed_rows : (m : Mode) → armed m ≡ total (λ row. one_if (is_mode m (armed_request row))) (rows q) granted =
-    λ m. omega (arith, armed_is m, total-nothing (rows q) converting, total-nothing (rows q) waiting) in
-    ap (λ counts. not (each_counted fit counts)) (fun_ext of_armed_rows)
-    ∙ ap not (each_counted-rows fit armed_request (rows q) granted)
-    ∙ not_all (λ row. passes fit (armed_request row)) (rows q) granted
-    ∙ ap (λ test. list_any test (map (rows q) granted)) (fun_ext (to_warn (rows q) converting waiting fit (wanted-rows q res wanted wanted_is)))

@@ -13,13 +13,15 @@ use Rattle.vlm_links.proofs.HandleLists.{IsIn-push_kept, IsIn-push_last, IsIn-wi
 use Rattle.vlm_words.specs.declared.locks.Row.{Row}
 use Rattle.vlm_words.specs.declared.resources.Queue.{Queue}
 use Rattle.vlm_words.specs.declared.resources.Queue.TheVariants.{Granted, Conversion, Waiting}
+use Rattle.vlm_records.specs.declared.handles.Armed.{Armed}
+use Rattle.vlm_records.specs.declared.handles.Armed.TheVariants.{AboveNl, AboveCr}
 use Rattle.vlm_records.specs.declared.handles.Place.{Place}
 use Rattle.vlm_records.specs.declared.handles.Place.TheVariants.{Queued}
 use Rattle.vlm_words.specs.declared.resources.ValueBlock.{ValueBlock}
 use Rattle.vlm_records.specs.declared.locks.Lock.{Lock}
 use Rattle.vlm_records.specs.declared.queues.Queues.{Queues}
 use Rattle.vlm_records.specs.declared.resources.Resource.{Resource}
-use Rattle.vlm_records.specs.Armed.{IsArmed, armed_handles, armed_links, armed_list, armed_list_in}
+use Rattle.vlm_records.specs.Armed.{IsArmed, armed_handles, armed_links, armed_list, armed_list_in, list_of}
 use Rattle.vlm_records.specs.Shown.{Face, IsPlaced, IsTallied, face_in, face_of, handles_at, list_at, list_in, no_list, queue_links, rows, shares, tally_in, with_order_links}
 use Rattle.vlm_tallies.specs.Tallies.{how_many, no_tally, total, weight_of}
 use Rattle.vlm_tallies.proofs.Totals.{none_counted}
@@ -58,6 +60,10 @@ list_stays Granted r pair = refl
 list_stays Conversion r pair = refl
 list_stays Waiting r pair = refl
 
+armed_list_stays : (which : Armed) (r : Resource) (pair : Links) → armed_list_in which (Some (with_order_links r pair)) ≡ armed_list_in which (Some r)
+armed_list_stays AboveNl r pair = refl
+armed_list_stays AboveCr r pair = refl
+
 -- a resource comes, and is linked
 module _ (q : Queues) (r1 r2 : Slab Resource) (at : ℕ) (made : Resource) (updates : Updates q.resources r1 at (Some made)) (fresh : get q.resources at ≡ None)
     (relinks : Relinks with_order_links r1 r2) where
@@ -72,10 +78,11 @@ module _ (q : Queues) (r1 r2 : Slab Resource) (at : ℕ) (made : Resource) (upda
         relinked_same with_order_links (list_in queue) (list_stays queue) r1 r2 relinks r
         ∙ but_one (list_in queue) q.resources r1 at (ap (list_in queue) updates.changed ∙ made_list queue ∙ sym (ap (list_in queue) fresh)) (λ k differs. ap (list_in queue) (updates.others k differs)) r
 
-  pub added_armed : IsNoList made.armed → (r : ℕ) → armed_list_in (get r2 r) ≡ armed_list q r
-  added_armed none r =
-      relinked_same with_order_links armed_list_in (λ x pair. refl) r1 r2 relinks r
-      ∙ but_one armed_list_in q.resources r1 at (ap armed_list_in updates.changed ∙ no_list_is made.armed none ∙ sym (ap armed_list_in fresh)) (λ k differs. ap armed_list_in (updates.others k differs)) r
+  pub added_armed : (which : Armed) → IsNoList (list_of which made) → (r : ℕ) → armed_list_in which (get r2 r) ≡ armed_list which q r
+  added_armed which none r =
+      relinked_same with_order_links (armed_list_in which) (armed_list_stays which) r1 r2 relinks r
+      ∙ but_one (armed_list_in which) q.resources r1 at (ap (armed_list_in which) updates.changed ∙ no_list_is (list_of which made) none ∙ sym (ap (armed_list_in which) fresh))
+      (λ k differs. ap (armed_list_in which) (updates.others k differs)) r
 
   pub added_tallies : made.tally ≡ no_tally → (r : ℕ) → tally_in (get r2 r) ≡ tally_in (get q.resources r)
   added_tallies none r =
@@ -138,9 +145,10 @@ module _ (q : Queues) (res : ℕ) (was now : Resource) (there : ContainsKey q.re
       but_one (list_in queue) q.resources (with_value q.resources res now) res (ap (list_in queue) written.changed ∙ lists queue ∙ sym (ap (list_in queue) here))
       (λ k differs. ap (list_in queue) (written.others k differs)) r
 
-  pub written_armed : now.armed ≡ was.armed → (r : ℕ) → armed_list_in (get (with_value q.resources res now) r) ≡ armed_list q r
-  written_armed same =
-      but_one armed_list_in q.resources (with_value q.resources res now) res (ap armed_list_in written.changed ∙ same ∙ sym (ap armed_list_in here)) (λ k differs. ap armed_list_in (written.others k differs))
+  pub written_armed : (which : Armed) → list_of which now ≡ list_of which was → (r : ℕ) → armed_list_in which (get (with_value q.resources res now) r) ≡ armed_list which q r
+  written_armed which same =
+      but_one (armed_list_in which) q.resources (with_value q.resources res now) res (ap (armed_list_in which) written.changed ∙ same ∙ sym (ap (armed_list_in which) here))
+      (λ k differs. ap (armed_list_in which) (written.others k differs))
 
   pub written_tallies : now.tally ≡ was.tally → (r : ℕ) → tally_in (get (with_value q.resources res now) r) ≡ tally_in (get q.resources r)
   written_tallies tally =
@@ -150,6 +158,15 @@ pub block_list : (r : Resource) (value_block : ValueBlock) (queue : Queue) → l
 block_list r value_block Granted = refl
 block_list r value_block Conversion = refl
 block_list r value_block Waiting = refl
+
+-- both lists of armed locks are empty
+pub both_empty : (r : Resource) → IsNoList r.armed_above_nl → IsNoList r.armed_above_cr → (which : Armed) → IsNoList (list_of which r)
+both_empty r nl cr AboveNl = nl
+both_empty r nl cr AboveCr = cr
+
+pub block_armed : (r : Resource) (value_block : ValueBlock) (which : Armed) → list_of which (record r { value_block = value_block }) ≡ list_of which r
+block_armed r value_block AboveNl = refl
+block_armed r value_block AboveCr = refl
 
 -- a linked list without handles is an empty one
 pub no_list_has : {Kind : Type 0} (links : Lock → Links) (locks : Slab Lock) (list : LinkedList Kind) → IsLinked links locks list → handles_of links locks list ≡ [] → list ≡ no_list
@@ -166,11 +183,12 @@ module _ (q : Queues) (r1 r2 : Slab Resource) (at : ℕ) (relinks : Relinks with
       (ap (list_in queue) updates.changed ∙ sym (no_list_has queue_links q.locks (list_at q (Queued at queue)) (placed.linked (Queued at queue)) (idle queue)))
       (λ k differs. ap (list_in queue) (updates.others k differs) ∙ relinked_same with_order_links (list_in queue) (list_stays queue) q.resources r1 relinks k) r
 
-  pub removed_armed : IsArmed q None → (r : ℕ) → armed_list_in (get r2 r) ≡ armed_list q r
-  removed_armed armed =
-      but_one armed_list_in q.resources r2 at
-      (ap armed_list_in updates.changed ∙ sym (no_list_has armed_links q.locks (armed_list q at) (armed.linked at) (armed.order at ∙ ap (armed_handles (rows q)) (idle Granted))))
-      (λ k differs. ap armed_list_in (updates.others k differs) ∙ relinked_same with_order_links armed_list_in (λ x pair. refl) q.resources r1 relinks k)
+  pub removed_armed : (which : Armed) → IsArmed which q None → (r : ℕ) → armed_list_in which (get r2 r) ≡ armed_list which q r
+  removed_armed which armed =
+      but_one (armed_list_in which) q.resources r2 at
+      (ap (armed_list_in which) updates.changed
+      ∙ sym (no_list_has (armed_links which) q.locks (armed_list which q at) (armed.linked at) (armed.order at ∙ ap (armed_handles which (rows q)) (idle Granted))))
+      (λ k differs. ap (armed_list_in which) (updates.others k differs) ∙ relinked_same with_order_links (armed_list_in which) (armed_list_stays which) q.resources r1 relinks k)
 
   no_share : (weight : Queue → Row → ℕ) → shares q weight None at ≡ 0
   no_share weight = omega (arith, ap (total (weight Granted) (rows q)) (idle Granted), ap (total (weight Conversion) (rows q)) (idle Conversion), ap (total (weight Waiting) (rows q)) (idle Waiting))

@@ -1,31 +1,80 @@
--- The list of the granted locks of each resource that are armed, in the order of the granted queue.
-use Rattle.std.specs.Prelude.{◌≡◌, ℕ, List, [], ◌∷◌, ◌++◌, filter, if◌then◌else◌, Option, None, Some}
+-- The lists of armed locks of each resource, in the order of its granted queue.
+use Rattle.std.specs.Prelude.{◌≡◌, ◌<◌, ℕ, Bool, nat_lt, List, [], ◌∷◌, ◌++◌, filter, if◌then◌else◌, Option, None, Some}
 use Rattle.slab.specs.Slab.{get}
 use Rattle.vlm_links.specs.declared.link.Links.{Links}
 use Rattle.vlm_links.specs.declared.lists.LinkedList.{LinkedList}
 use Rattle.vlm_links.specs.Lists.{IsLinked, handles_of, without}
+use Rattle.vlm_words.specs.declared.locks.Request.{Request}
 use Rattle.vlm_words.specs.declared.locks.Row.{Row}
 use Rattle.vlm_words.specs.declared.resources.Queue.TheVariants.{Granted, Conversion, Waiting}
+use Rattle.vlm_words.specs.Modes.{rank}
+use Rattle.vlm_records.specs.declared.handles.Armed.{Armed}
+use Rattle.vlm_records.specs.declared.handles.Armed.TheVariants.{AboveNl, AboveCr}
 use Rattle.vlm_records.specs.declared.handles.Place.{Place}
 use Rattle.vlm_records.specs.declared.handles.Place.TheVariants.{Queued}
-use Rattle.vlm_records.specs.declared.locks.InArmed.{InArmed}
+use Rattle.vlm_records.specs.declared.locks.InAboveCr.{InAboveCr}
+use Rattle.vlm_records.specs.declared.locks.InAboveNl.{InAboveNl}
 use Rattle.vlm_records.specs.declared.locks.Lock.{Lock}
 use Rattle.vlm_records.specs.declared.queues.Queues.{Queues}
 use Rattle.vlm_records.specs.declared.resources.Resource.{Resource}
 use Rattle.vlm_records.specs.Shown.{IsPlaced, IsTallied, handles_at, handles_but, no_list, noted, rows}
 
--- the neighbours of a lock among the armed locks of its resource
-abbrev pub armed_links : Lock → Links
-armed_links l = l.in_armed
+-- ---- which rows a list has
 
--- the lock with other neighbours among the armed locks of its resource
-abbrev pub with_armed_links : Lock → Links → Lock
-with_armed_links l pair = record l { in_armed = pair }
+-- the rank of the highest mode that is not in a list
+abbrev pub floor : Armed → ℕ
+floor AboveNl = 0
+floor AboveCr = 1
 
--- the list of the armed locks of a resource, an empty one where there is no resource
-abbrev pub armed_list_in : Option Resource → LinkedList InArmed
-armed_list_in None = no_list
-armed_list_in (Some r) = r.armed
+-- the rank of a mode that is held, 0 where none is
+abbrev pub held_rank : Option Request → ℕ
+held_rank None = 0
+held_rank (Some held) = rank held.mode
+
+-- the rank of the mode that a row holds while it is armed, 0 where it is not
+abbrev pub armed_rank : Row → ℕ
+armed_rank row = if row.armed then held_rank row.held else 0
+
+-- a granted lock with this row is in the list
+abbrev pub is_listed : Armed → Row → Bool
+is_listed which row = nat_lt (floor which) (armed_rank row)
+
+-- ---- where a list is
+
+-- the other list
+abbrev pub other_list : Armed → Armed
+other_list AboveNl = AboveCr
+other_list AboveCr = AboveNl
+
+-- the kind of a list
+abbrev pub kind_of : Armed → Type 0
+kind_of AboveNl = InAboveNl
+kind_of AboveCr = InAboveCr
+
+-- the neighbours of a lock in a list
+abbrev pub armed_links : Armed → Lock → Links
+armed_links AboveNl l = l.in_above_nl
+armed_links AboveCr l = l.in_above_cr
+
+-- the lock with other neighbours in a list
+abbrev pub with_armed_links : Armed → Lock → Links → Lock
+with_armed_links AboveNl l pair = record l { in_above_nl = pair }
+with_armed_links AboveCr l pair = record l { in_above_cr = pair }
+
+-- the list of a resource
+abbrev pub list_of : (which : Armed) → Resource → LinkedList (kind_of which)
+list_of AboveNl r = r.armed_above_nl
+list_of AboveCr r = r.armed_above_cr
+
+-- the resource with another list
+abbrev pub with_list : (which : Armed) → LinkedList (kind_of which) → Resource → Resource
+with_list AboveNl list r = record r { armed_above_nl = list }
+with_list AboveCr list r = record r { armed_above_cr = list }
+
+-- the list of a resource, an empty one where there is no resource
+abbrev pub armed_list_in : (which : Armed) → Option Resource → LinkedList (kind_of which)
+armed_list_in which None = no_list
+armed_list_in which (Some r) = list_of which r
 
 -- the resource on which a lock at this place is granted
 abbrev pub granted_on : Place → Option ℕ
@@ -33,48 +82,49 @@ granted_on (Queued res Granted) = Some res
 granted_on (Queued res Conversion) = None
 granted_on (Queued res Waiting) = None
 
--- the resource among whose armed locks a lock stands: the one on which it is granted, if it is armed
-abbrev pub armed_of : Lock → Option ℕ
-armed_of l = if l.row.armed then granted_on l.place else None
+-- the resource in whose list a lock stands: the one on which it is granted, if its row is listed
+abbrev pub armed_of : Armed → Lock → Option ℕ
+armed_of which l = if is_listed which l.row then granted_on l.place else None
 
 -- the same, read off the record of a lock if there is one
-abbrev pub armed_on : Option Lock → Option ℕ
-armed_on None = None
-armed_on (Some l) = armed_of l
+abbrev pub armed_on : Armed → Option Lock → Option ℕ
+armed_on which None = None
+armed_on which (Some l) = armed_of which l
 
--- the handles among these whose rows are armed, in their order
-abbrev pub armed_handles : (ℕ → Row) → List ℕ → List ℕ
-armed_handles rows handles = filter (λ k. (rows k).armed) handles
+-- the handles among these whose rows are listed, in their order
+abbrev pub armed_handles : Armed → (ℕ → Row) → List ℕ → List ℕ
+armed_handles which rows handles = filter (λ k. is_listed which (rows k)) handles
 
 -- the handle is the last of these, and none of the others
 abbrev pub IsLast : ℕ → List ℕ → Type 0
 IsLast at handles = handles ≡ without at handles ++ at ∷ []
 
-module _ (q : Queues) where
-  -- the list of the armed locks of a resource
-  abbrev pub armed_list : ℕ → LinkedList InArmed
-  armed_list res = armed_list_in (get q.resources res)
+module _ (which : Armed) (q : Queues) where
+  -- a list of armed locks of a resource
+  abbrev pub armed_list : ℕ → LinkedList (kind_of which)
+  armed_list res = armed_list_in which (get q.resources res)
 
   -- the handles of that list, in its order
   abbrev pub armed_list_handles : ℕ → List ℕ
-  armed_list_handles res = handles_of armed_links q.locks (armed_list res)
+  armed_list_handles res = handles_of (armed_links which) q.locks (armed_list res)
 
-  -- the granted locks of a resource that are armed, but for one, in the order of the granted queue
+  -- the granted locks of a resource that are listed, but for one, in the order of the granted queue
   abbrev pub armed_granted : Option ℕ → ℕ → List ℕ
-  armed_granted out res = armed_handles (rows q) (handles_but q out (Queued res Granted))
+  armed_granted out res = armed_handles which (rows q) (handles_but q out (Queued res Granted))
 
-  -- each list of armed locks is linked, and holds just the granted locks of its resource that are armed, in the
-  -- order of the granted queue, but for one lock that is taken out
+  -- each list is linked, and holds just the granted locks of its resource that are listed, in the order of the granted
+  -- queue, but for one lock that is taken out
   pub record IsArmed (out : Option ℕ) : Type 0 where
-    pub linked : (res : ℕ) → IsLinked armed_links q.locks (armed_list res)
+    pub linked : (res : ℕ) → IsLinked (armed_links which) q.locks (armed_list res)
     pub order : (res : ℕ) → armed_list_handles res ≡ armed_granted out res
 
+module _ (q : Queues) where
   -- the lock stands last at the place that it notes
   abbrev pub StandsLast : ℕ → Type 0
   StandsLast at = (place : Place) → noted q at ≡ Some place → IsLast at (handles_at q place)
 
-  -- each lock stands at the place that it notes, each resource counts its locks, and has the armed ones among the granted
+  -- each lock stands at the place that it notes, each resource counts its locks, and lists the armed ones among the granted
   pub record IsLaidOut : Type 0 where
     pub placed : IsPlaced q None
     pub tallied : IsTallied q None
-    pub armed : IsArmed None
+    pub armed : (which : Armed) → IsArmed which q None

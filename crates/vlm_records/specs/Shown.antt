@@ -104,9 +104,9 @@ but_value_block r = record r { value_block = new_value_block }
 abbrev pub but_counted : Resource → Resource
 but_counted r = but_tally (but_lists r)
 
--- a resource but for the list of its armed locks
+-- a resource but for the lists of its armed locks
 abbrev pub but_armed : Resource → Resource
-but_armed r = record r { armed = no_list }
+but_armed r = record r { armed_above_nl = no_list; armed_above_cr = no_list }
 
 -- a resource but for its lists and counts
 abbrev pub but_queues : Resource → Resource
@@ -138,7 +138,7 @@ but_requeued l = record l { row = named_row l.row; place = no_place; in_queue = 
 
 -- a lock but for its neighbours among the armed locks of its resource
 abbrev pub but_in_armed : Lock → Lock
-but_in_armed l = record l { in_armed = no_links }
+but_in_armed l = record l { in_above_nl = no_links; in_above_cr = no_links }
 
 -- a lock but for its neighbours among those whose requests are queued
 abbrev pub but_in_line : Lock → Lock
@@ -158,7 +158,8 @@ new_lock row owner parent = record {
   row = named_row row;
   place = no_place;
   in_queue = no_links;
-  in_armed = no_links;
+  in_above_nl = no_links;
+  in_above_cr = no_links;
   in_line = no_links;
   owner = owner;
   of_process = no_links;

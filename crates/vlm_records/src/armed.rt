@@ -1,26 +1,68 @@
-//! The granted locks of each resource that are armed, as locks leave them and join them.
+//! The lists of armed locks of each resource, as locks leave them and join them.
 
-ghost use Rattle.std.specs.Prelude.{◌≤◌, None, Some};
+ghost use Rattle.std.specs.Prelude.{◌≤◌, ℕ, None, Option, Some};
 ghost use Rattle.slab.specs.Slab.{ContainsKey};
-ghost use Rattle.vlm_records.specs.Armed.{IsArmed, IsLaidOut, StandsLast};
+ghost use Rattle.vlm_records.specs.declared.handles.Armed.{Armed};
+ghost use Rattle.vlm_records.specs.Armed.{IsArmed, IsLaidOut, StandsLast, other_list};
 ghost use Rattle.vlm_records.specs.Kept.{KeepsPlaces};
 ghost use Rattle.vlm_records.specs.Shown.{IsPlaced, IsTallied};
 
+use crate::handles::Armed;
 use crate::queues::Queues;
 use vlm_links::LAST_HANDLE;
 
 impl Queues {
+    // Takes a lock off a list of armed locks, if it is in it.
+    // Kept out of line, as the other two are: few locks are armed.
+    #[inline(never)]
+    fn leave_list(&mut self, which: Armed, at: usize)
+        requires placed { IsPlaced self.old None }
+        requires tallied { IsTallied self.old None }
+        requires armed { IsArmed which self.old None }
+        requires present { ContainsKey self.old.locks at }
+        ensures armed { IsArmed which self.new (Some at) }
+        ensures other { (out : Option ℕ) → IsArmed (other_list which) self.old out
+            → IsArmed (other_list which) self.new out }
+        ensures places { KeepsPlaces self.old self.new }
+    {
+        let Some(res) = self.locks[at].armed_on(which) else {
+            return;
+        };
+        self.resources[res.slot()].unlink_armed(&mut self.locks, which, at);
+    }
+
+    // Puts a lock that stands last in its queue at the end of a list of armed locks, if it belongs there.
+    #[inline(never)]
+    fn join_list(&mut self, which: Armed, at: usize)
+        requires placed { IsPlaced self.old None }
+        requires tallied { IsTallied self.old None }
+        requires armed { IsArmed which self.old (Some at) }
+        requires present { ContainsKey self.old.locks at }
+        requires within { at ≤ LAST_HANDLE }
+        requires last { StandsLast self.old at }
+        ensures armed { IsArmed which self.new None }
+        ensures other { (out : Option ℕ) → IsArmed (other_list which) self.old out
+            → IsArmed (other_list which) self.new out }
+        ensures places { KeepsPlaces self.old self.new }
+    {
+        let Some(res) = self.locks[at].armed_on(which) else {
+            return;
+        };
+        self.resources[res.slot()].push_back_armed(&mut self.locks, which, at);
+    }
+
     /// Takes a lock off the armed locks of its resource, if it is among them.
     pub(crate) fn leave_armed(&mut self, at: usize)
         requires laid_out { IsLaidOut self.old }
         requires present { ContainsKey self.old.locks at }
-        ensures armed { IsArmed self.new (Some at) }
+        ensures armed { (which : Armed) → IsArmed which self.new (Some at) }
         ensures places { KeepsPlaces self.old self.new }
     {
-        let Some(res) = self.locks[at].armed_on() else {
+        if !self.locks[at].row.is_armed() {
             return;
-        };
-        self.resources[res.slot()].armed.unlink(&mut self.locks, at);
+        }
+        self.leave_list(Armed::AboveNl, at);
+        self.leave_list(Armed::AboveCr, at);
     }
 
     /// Puts a lock that stands last in its list at the end of the armed locks of its resource, if it is
@@ -28,18 +70,17 @@ impl Queues {
     pub(crate) fn join_armed(&mut self, at: usize)
         requires placed { IsPlaced self.old None }
         requires tallied { IsTallied self.old None }
-        requires armed { IsArmed self.old (Some at) }
+        requires armed { (which : Armed) → IsArmed which self.old (Some at) }
         requires present { ContainsKey self.old.locks at }
         requires within { at ≤ LAST_HANDLE }
         requires last { StandsLast self.old at }
-        ensures armed { IsArmed self.new None }
+        ensures armed { (which : Armed) → IsArmed which self.new None }
         ensures places { KeepsPlaces self.old self.new }
     {
-        let Some(res) = self.locks[at].armed_on() else {
+        if !self.locks[at].row.is_armed() {
             return;
-        };
-        self.resources[res.slot()]
-            .armed
-            .push_back(&mut self.locks, at);
+        }
+        self.join_list(Armed::AboveNl, at);
+        self.join_list(Armed::AboveCr, at);
     }
 }

@@ -1,6 +1,7 @@
-//! The kinds of handles, and where a lock stands.
+//! The kinds of handles, where a lock stands, and the lists of armed locks.
 
 ghost use Rattle.std.specs.Prelude.{◌≡◌};
+ghost use Rattle.vlm_records.specs.Armed.{floor};
 ghost use Rattle.vlm_records.specs.declared.handles.Place.{Place};
 
 use vlm_links::At;
@@ -23,6 +24,29 @@ pub type ResAt = At<ResourceKind>;
 
 /// The handle of a process record.
 pub type ProcAt = At<ProcessKind>;
+
+/// A list of armed locks of a resource. A request that CR is in the way of is an EX, and that has each armed lock in its
+/// way that holds more than NL. Any other request has only those in its way that hold more than CR. Nothing has NL in
+/// its way.
+#[derive(Clone, Copy)]
+pub enum Armed {
+    /// Those that hold more than NL.
+    AboveNl,
+    /// Those that hold more than CR.
+    AboveCr,
+}
+
+impl Armed {
+    /// The rank of the highest mode that is not in the list.
+    pub(crate) fn floor(self) -> usize
+        ensures { result ≡ floor self }
+    {
+        match self {
+            Armed::AboveNl => 0,
+            Armed::AboveCr => 1,
+        }
+    }
+}
 
 /// Where a lock stands.
 #[derive(Clone, Copy)]

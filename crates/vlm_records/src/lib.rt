@@ -33,10 +33,10 @@ mod queues;
 mod resources;
 mod rows;
 
-pub use handles::{LockAt, LockKind, Place, ProcAt, ProcessKind, ResAt, ResourceKind};
+pub use handles::{Armed, LockAt, LockKind, Place, ProcAt, ProcessKind, ResAt, ResourceKind};
 pub use kin::{join_parent, join_process, leave_parent, leave_process};
 pub use line::{join_line, leave_line};
-pub use locks::{InArmed, InLine, InQueue, Lock, OfParent, OfProcess};
+pub use locks::{InAboveCr, InAboveNl, InLine, InQueue, Lock, OfParent, OfProcess};
 pub use processes::{Authorization, Process, put_in, take_out};
 pub use queues::Queues;
 pub use resources::{InOrder, Resource};

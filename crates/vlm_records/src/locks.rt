@@ -2,16 +2,20 @@
 
 ghost use Rattle.std.specs.Prelude.{◌≡◌, refl};
 
-use crate::handles::{LockAt, Place, ProcAt, ResAt};
+use crate::handles::{Armed, LockKind, Place, ProcAt, ResAt};
 use crate::rows::StoredRow;
-use vlm_links::{Linked, LinkedList, Links};
+use vlm_links::{Linked, LinkedList, Links, MaybeAt};
 use vlm_words::resources::Queue;
 
 /// The lists of locks that are queues.
 pub struct InQueue;
 
-/// The list of the granted locks of a resource that are armed, in the order in which they were granted.
-pub struct InArmed;
+/// The list of the granted locks of a resource that are armed and hold more than NL, in the order in which they were
+/// granted.
+pub struct InAboveNl;
+
+/// The list of those of them that hold more than CR, in the same order.
+pub struct InAboveCr;
 
 /// The list of the locks whose requests are queued, of all resources, in the order in which they joined.
 pub struct InLine;
@@ -31,8 +35,10 @@ pub struct Lock {
     pub place: Place,
     // its neighbours there
     pub(crate) in_queue: Links,
-    // its neighbours among the armed locks of its resource, if it is granted and armed
-    pub(crate) in_armed: Links,
+    // its neighbours among the armed locks of its resource that hold more than NL, if it is one of them
+    pub(crate) in_above_nl: Links,
+    // its neighbours among those that hold more than CR, if it is one of them
+    pub(crate) in_above_cr: Links,
     // its neighbours among the locks whose requests are queued, if its own is
     pub(crate) in_line: Links,
     /// The process that owns it.
@@ -40,7 +46,7 @@ pub struct Lock {
     // its neighbours among that process's locks
     pub(crate) of_process: Links,
     /// The lock that it was made under, if its row names one.
-    pub parent: Option<LockAt>,
+    pub parent: MaybeAt<LockKind>,
     // its neighbours among that lock's sublocks
     pub(crate) of_parent: Links,
     /// The locks that were made under it and are there still.
@@ -50,12 +56,13 @@ pub struct Lock {
 impl Lock {
     ghost use Rattle.vlm_records.specs.Armed.{armed_of};
 
-    /// The resource among whose armed locks it belongs, if it is granted and armed.
-    pub(crate) fn armed_on(&self) -> Option<ResAt>
-        ensures { result ≡ armed_of self.now }
+    /// The resource in whose list of armed locks it belongs, if it does.
+    #[inline(always)]
+    pub(crate) fn armed_on(&self, which: Armed) -> Option<ResAt>
+        ensures { result ≡ armed_of which self.now }
     {
         match self.place {
-            Place::Queued(res, Queue::Granted) if self.row.is_armed() => Some(res),
+            Place::Queued(res, Queue::Granted) if which.floor() < self.row.armed_rank() => Some(res),
             _ => None,
         }
     }
@@ -81,10 +88,10 @@ impl Linked<InQueue> for Lock {
     }
 }
 
-impl Linked<InArmed> for Lock {
-    ghost links = { λ l. l.in_armed };
+impl Linked<InAboveNl> for Lock {
+    ghost links = { λ l. l.in_above_nl };
 
-    ghost with_links = { λ l pair. record l { in_armed = pair } };
+    ghost with_links = { λ l pair. record l { in_above_nl = pair } };
 
     ghost links_written = { λ l pair. refl };
 
@@ -93,11 +100,31 @@ impl Linked<InArmed> for Lock {
     ghost written_as_was = { λ l. refl };
 
     fn links(&self) -> Links {
-        self.in_armed
+        self.in_above_nl
     }
 
     fn set_links(&mut self, pair: Links) {
-        self.in_armed = pair;
+        self.in_above_nl = pair;
+    }
+}
+
+impl Linked<InAboveCr> for Lock {
+    ghost links = { λ l. l.in_above_cr };
+
+    ghost with_links = { λ l pair. record l { in_above_cr = pair } };
+
+    ghost links_written = { λ l pair. refl };
+
+    ghost written_twice = { λ l a b. refl };
+
+    ghost written_as_was = { λ l. refl };
+
+    fn links(&self) -> Links {
+        self.in_above_cr
+    }
+
+    fn set_links(&mut self, pair: Links) {
+        self.in_above_cr = pair;
     }
 }
 

@@ -2,11 +2,11 @@
 
 ghost use Rattle.std.specs.Prelude.{◌≡◌, ◌≢◌, ◌≤◌, ◌+◌, ℕ, false, None, Some, [], ◌∷◌, ◌++◌};
 ghost use Rattle.std.specs.Bool.{OnTrue};
-ghost use Rattle.std.specs.Option.{option_map};
+ghost use Rattle.std.specs.Option.{ForSome, option_map};
 ghost use Rattle.slab.specs.Slab.{get, ContainsKey, HasRoomFor};
 ghost use Rattle.vlm_links.specs.Lists.{IsIn, IsLinked, Lists, Relinks, without};
 ghost use Rattle.vlm_records.specs.declared.handles.Place.{Place};
-ghost use Rattle.vlm_records.specs.Armed.{IsLaidOut, StandsLast};
+ghost use Rattle.vlm_records.specs.Armed.{IsLaidOut, StandsLast, armed_rank};
 ghost use Rattle.vlm_records.specs.Kept.{Keeps, Requeues, Rewrites, WritesLock};
 ghost use Rattle.vlm_records.specs.Line.{line_links};
 ghost use Rattle.vlm_records.specs.Shown.{IsPlaced, IsTallied, IsThere, SameBut, but_counted, but_lists, but_place, but_queued, but_queues, but_requeued, but_row, handles_at, list_at, named_row, new_lock, noted, queue_links, room_in, rows, with_queue_links};
@@ -16,7 +16,7 @@ use crate::locks::{InQueue, Lock};
 use crate::resources::Resource;
 use crate::rows::StoredRow;
 use slab::Slab;
-use vlm_links::{LAST_HANDLE, LinkedList, Links};
+use vlm_links::{LAST_HANDLE, LinkedList, Links, MaybeAt};
 use vlm_words::resources::Queue;
 
 /// The locks, each in one queue of a resource.
@@ -178,10 +178,12 @@ impl Queues {
         requires present { ContainsKey self.now.locks at }
         ensures noted { OnTrue result (noted self.now at ≡ Some to.now) }
         ensures last { OnTrue result (StandsLast self.now at) }
-        ensures armed { OnTrue result ((rows self.now at).armed ≡ row.now.armed) }
+        ensures armed { OnTrue result (armed_rank (rows self.now at) ≡ armed_rank row.now) }
     {
         let lock = &self.locks[at];
-        is_same_grant(&lock.place, to) && lock.row.is_armed() == row.is_armed() && self.is_last(at)
+        is_same_grant(&lock.place, to)
+            && lock.row.armed_rank() == row.armed_rank()
+            && self.is_last(at)
     }
 
     // Gives a lock another row and leaves it in its queue. The list of armed locks is not touched.
@@ -267,6 +269,7 @@ impl Queues {
         requires room { HasRoomFor self.old.locks 1 }
         requires within { self.old.locks.vacant_key ≤ LAST_HANDLE }
         requires there { IsThere self.old.resources to }
+        requires parent { ForSome parent (λ up. up ≤ LAST_HANDLE) }
         ensures within { result ≤ LAST_HANDLE }
         ensures fresh { get self.old.locks result ≡ None }
         ensures laid_out { IsLaidOut self.new }
@@ -291,11 +294,12 @@ impl Queues {
             row: *row,
             place: to,
             in_queue: Links::none(),
-            in_armed: Links::none(),
+            in_above_nl: Links::none(),
+            in_above_cr: Links::none(),
             in_line: Links::none(),
             owner,
             of_process: Links::none(),
-            parent,
+            parent: MaybeAt::of(parent),
             of_parent: Links::none(),
             sublocks: LinkedList::new(),
         });

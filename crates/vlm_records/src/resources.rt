@@ -3,13 +3,14 @@
 ghost use Rattle.std.specs.Prelude.{◌≡◌, ◌≢◌, ◌≤◌, ◌+◌, ℕ, None, Some, [], ◌∷◌, ◌++◌, refl};
 ghost use Rattle.std.specs.Option.{option_map};
 ghost use Rattle.slab.specs.Slab.{get, ContainsKey, HasRoomFor};
-ghost use Rattle.vlm_links.specs.Lists.{IsIn, IsLinked, Lists, Relinks, handles_of, without};
+ghost use Rattle.vlm_links.specs.Lists.{IsIn, IsLinked, Lists, Relinks, first_handle, handle_after, handles_of, without};
 ghost use Rattle.vlm_words.specs.declared.resources.Queue.{Queue};
 ghost use Rattle.vlm_records.specs.declared.handles.Place.{Place};
-ghost use Rattle.vlm_records.specs.Armed.{IsLaidOut};
+ghost use Rattle.vlm_records.specs.Armed.{IsLaidOut, armed_links, list_of, with_armed_links, with_list};
 ghost use Rattle.vlm_records.specs.Shown.{SameBut, but_value_block, face_in, face_of, handles_at, new_face, order_links, room_in};
 
-use crate::locks::{InArmed, InQueue, Lock};
+use crate::handles::Armed;
+use crate::locks::{InAboveCr, InAboveNl, InQueue, Lock};
 use crate::queues::Queues;
 use slab::Slab;
 use vlm_links::{LAST_HANDLE, Linked, LinkedList, Links};
@@ -40,8 +41,10 @@ pub struct Resource {
     pub(crate) converting: LinkedList<InQueue>,
     // the locks that want a mode and hold none, the first in line first
     pub(crate) waiting: LinkedList<InQueue>,
-    /// Those of the granted locks that are armed, in the order of the granted queue.
-    pub armed: LinkedList<InArmed>,
+    // those of the granted locks that are armed and hold more than NL, in the order of the granted queue
+    pub(crate) armed_above_nl: LinkedList<InAboveNl>,
+    // those of them that hold more than CR
+    pub(crate) armed_above_cr: LinkedList<InAboveCr>,
     /// The locks of the three queues, counted by the modes that they hold and want.
     pub tally: Tally,
     // the resources made before and after it
@@ -122,6 +125,69 @@ impl Resource {
             Queue::Waiting => self.waiting.push_back(locks, at),
         }
     }
+
+    /// Takes a lock off a list of armed locks.
+    #[inline(always)]
+    pub(crate) fn unlink_armed(&mut self, locks: &mut Slab<Lock>, which: Armed, at: usize)
+        requires { Lists (armed_links which) locks.old (list_of which self.old) at }
+        ensures linked { IsLinked (armed_links which) locks.new (list_of which self.new) }
+        ensures handles { handles_of (armed_links which) locks.new (list_of which self.new)
+            ≡ without at (handles_of (armed_links which) locks.old (list_of which self.old)) }
+        ensures others { (other : ℕ)
+            → ¬ IsIn other (handles_of (armed_links which) locks.old (list_of which self.old))
+            → get locks.new other ≡ get locks.old other }
+        ensures relinks { Relinks (with_armed_links which) locks.old locks.new }
+        ensures rest { self.new ≡ with_list which (list_of which self.new) self.old }
+    {
+        match which {
+            Armed::AboveNl => self.armed_above_nl.unlink(locks, at),
+            Armed::AboveCr => self.armed_above_cr.unlink(locks, at),
+        }
+    }
+
+    /// Puts a lock that is not in a list of armed locks at the end of it.
+    #[inline(always)]
+    pub(crate) fn push_back_armed(&mut self, locks: &mut Slab<Lock>, which: Armed, at: usize)
+        requires linked { IsLinked (armed_links which) locks.old (list_of which self.old) }
+        requires present { ContainsKey locks.old at }
+        requires within { at ≤ LAST_HANDLE }
+        requires unlisted { ¬ IsIn at (handles_of (armed_links which) locks.old (list_of which self.old)) }
+        ensures linked { IsLinked (armed_links which) locks.new (list_of which self.new) }
+        ensures handles { handles_of (armed_links which) locks.new (list_of which self.new)
+            ≡ handles_of (armed_links which) locks.old (list_of which self.old) ++ at ∷ [] }
+        ensures others { (other : ℕ)
+            → ¬ IsIn other (handles_of (armed_links which) locks.old (list_of which self.old))
+            → other ≢ at → get locks.new other ≡ get locks.old other }
+        ensures relinks { Relinks (with_armed_links which) locks.old locks.new }
+        ensures rest { self.new ≡ with_list which (list_of which self.new) self.old }
+    {
+        match which {
+            Armed::AboveNl => self.armed_above_nl.push_back(locks, at),
+            Armed::AboveCr => self.armed_above_cr.push_back(locks, at),
+        }
+    }
+
+    /// The handle of the first lock of a list of armed locks, if there is one.
+    pub fn first_armed(&self, locks: &Slab<Lock>, which: Armed) -> Option<usize>
+        requires { IsLinked (armed_links which) locks.now (list_of which self.now) }
+        ensures { result ≡ first_handle (handles_of (armed_links which) locks.now (list_of which self.now)) }
+    {
+        match which {
+            Armed::AboveNl => self.armed_above_nl.first(locks),
+            Armed::AboveCr => self.armed_above_cr.first(locks),
+        }
+    }
+
+    /// The handle of the lock that follows one in a list of armed locks, if there is one.
+    pub fn next_armed(&self, locks: &Slab<Lock>, which: Armed, at: usize) -> Option<usize>
+        requires { Lists (armed_links which) locks.now (list_of which self.now) at }
+        ensures { result ≡ handle_after at (handles_of (armed_links which) locks.now (list_of which self.now)) }
+    {
+        match which {
+            Armed::AboveNl => self.armed_above_nl.next(locks, at),
+            Armed::AboveCr => self.armed_above_cr.next(locks, at),
+        }
+    }
 }
 
 impl Queues {
@@ -161,7 +227,8 @@ impl Queues {
             granted: LinkedList::new(),
             converting: LinkedList::new(),
             waiting: LinkedList::new(),
-            armed: LinkedList::new(),
+            armed_above_nl: LinkedList::new(),
+            armed_above_cr: LinkedList::new(),
             tally: Tally::new(),
             in_order: Links::none(),
         });

@@ -4,6 +4,7 @@ ghost use Rattle.std.specs.Prelude.{◌≡◌, ℕ, None, false};
 ghost use Rattle.vlm_words.specs.Convert.{wanting_row};
 ghost use Rattle.vlm_words.specs.Dues.{routines_of};
 ghost use Rattle.vlm_words.specs.Grants.{granted_row, is_arming};
+ghost use Rattle.vlm_records.specs.Armed.{armed_rank};
 ghost use Rattle.vlm_records.specs.declared.rows.Asked.{Asked};
 ghost use Rattle.vlm_records.specs.declared.rows.Routines.{Routines};
 ghost use Rattle.vlm_records.specs.Requests.{asked_kept, blocking_shown, completion_shown, kept_of, number_kept, request_shown, routines_kept};
@@ -251,6 +252,17 @@ impl StoredRow {
         ensures { result ≡ self.now.armed }
     {
         self.armed
+    }
+
+    /// The rank of the mode that it holds while it is armed, 0 where it is not.
+    #[inline(always)]
+    pub(crate) fn armed_rank(&self) -> usize
+        ensures { result ≡ armed_rank self.now }
+    {
+        if !self.armed || matches!(self.held_kept, Kept::Nothing) {
+            return 0;
+        }
+        self.held_asked.mode.rank()
     }
 
     /// The request that was granted last.

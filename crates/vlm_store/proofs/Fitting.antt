@@ -42,18 +42,6 @@ rows-under_handle : (rows : ℕ → Row) (ks : List ℕ) → rows_of_locks (map 
 rows-under_handle rows [] = refl
 rows-under_handle rows (k ∷ ks) = ap (λ rest. rows k ∷ rest) (rows-under_handle rows ks)
 
-pub warns-handles : (q : Queues) (l : Layout) (r : ℕ) → l.handles ≡ handles_at q → l.rows ≡ rows q
-    → list_any (λ row. row.armed && is_in_the_way row.held (map (rows q) (handles_at q (Queued r Conversion))) (map (rows q) (handles_at q (Queued r Waiting)))) (map (rows q) (handles_at q (Queued r Granted)))
-    ≡ has_to_warn (plain_resource (resource_of l r))
-unfolding has_to_warn is_to_warn
-warns-handles q l r handles rows_same =
-    rw (handles, rows_same)
-    (sym (rw (
-      rows-under_handle (rows q) (handles_at q (Queued r Granted)),
-      rows-under_handle (rows q) (handles_at q (Queued r Conversion)),
-      rows-under_handle (rows q) (handles_at q (Queued r Waiting)),
-    ) refl))
-
 -- a mode that does not fit beside what is wanted is in the way, as a caller sees it
 pub in_the_way-handles : (q : Queues) (l : Layout) (r : ℕ) (wanted : Mode → ℕ) → ((m : Mode) → wanted m ≡ shares q (weight_of of_wanted m) None r) → l.handles ≡ handles_at q → l.rows ≡ rows q
     → (mode : Mode) → not (counts_fit mode wanted)

@@ -3,7 +3,7 @@ use Rattle.std.proofs.Common.{◌≡◌, ◌≤◌, ℕ, zero, suc, true, nat_lt
 use Rattle.std.proofs.lemmas.Bool.Decides.{nat_tests}
 use Rattle.std.proofs.lemmas.Option.{none-some, same_Some}
 use Rattle.std.specs.Bool.{OnFalse, OnTrue}
-use Rattle.std.specs.Option.{option_map, option_map_or}
+use Rattle.std.specs.Option.{ForSome, option_map, option_map_or}
 use Rattle.slab.specs.Slab.{Slab, get, ContainsKey}
 use Rattle.indexmap.specs.IndexMap.{get as found}
 use Rattle.vlm_links.specs.Tables.{handle_of}
@@ -14,7 +14,7 @@ use Rattle.vlm_words.specs.declared.locks.Row.{Row}
 use Rattle.vlm_records.specs.declared.locks.Lock.{Lock}
 use Rattle.vlm_records.specs.declared.processes.Process.{Process}
 use Rattle.vlm_store.specs.declared.store.Store.TheInside.{Inside}
-use Rattle.vlm_store.specs.Records.{AreOwnApart, AreOwned, AreProcessesApart, FindsProcess, HasNoSublocks, HasProcess, IsProcess, IsSound, OwnLock, StoredProcess, Stores, own_at, process_at}
+use Rattle.vlm_store.specs.Records.{AreOwnApart, AreOwned, AreProcessesApart, FindsProcess, HasNoSublocks, HasProcess, IsParentOf, IsProcess, IsSound, OwnLock, StoredProcess, Stores, own_at, process_at}
 use Rattle.vlm_store.specs.Kept.{IsKept, beside_shown, found_in, processes_shown, records_shown}
 use Rattle.vlm_records.specs.Shown.{lkid_of, row_in, rows}
 use Rattle.vlm_store.specs.Holdings.{Holding, holding, own_of, process_face_in, process_under, processes_of}
@@ -85,6 +85,11 @@ module _ (s : Inside) (kept : IsKept s) where
 
   pub lock_there : (at : ℕ) (row : Row) → Stores (records_shown s) at row → ContainsKey s.queues.locks at × (at ≤ LAST_HANDLE) × (rows s.queues at ≡ row)
   lock_there = stored_there s.queues s.order (beside_shown s) kept.placed
+
+  -- so its handle, as that of a parent, fits into a link
+  pub parent_within : (parent : Option ℕ) (row : Row) → IsParentOf parent row (records_shown s) → ForSome parent (λ up. up ≤ LAST_HANDLE)
+  parent_within None row is up named = absurd (none-some up named)
+  parent_within (Some parent) row is up named = subst (λ k. k ≤ LAST_HANDLE) (same_Some parent up named) (lock_there parent is.0 is.1.0).1
 
   pub lock_stored : (at : ℕ) → ContainsKey s.queues.locks at → Stores (records_shown s) at (rows s.queues at)
   lock_stored = there_stored s.queues s.order (beside_shown s) kept.placed kept.linked kept.ordered

@@ -134,7 +134,7 @@ lock_room_kept s kept locks index is entries =
     record {
       placed = reserved_placed s.queues locks same kept.placed;
       tallied = reserved_tallied s.queues locks same kept.placed kept.tallied;
-      armed = armed_reserved s.queues locks same (reserved_handles s.queues locks same kept.placed) kept.armed;
+      armed = λ which. armed_reserved which s.queues locks same (reserved_handles s.queues locks same kept.placed) (kept.armed which);
       line = line_same s.queues.locks locks s.line same kept.line;
       linked = kept.linked;
       ordered = kept.ordered;
@@ -160,7 +160,7 @@ resource_room_kept s kept resources index is finds =
     record {
       placed = resources_placed s.queues resources kept.placed lists;
       tallied = resources_tallied s.queues resources kept.placed lists (λ r. ap tally_in (same r)) kept.tallied;
-      armed = armed_resources s.queues resources (λ r. ap armed_list_in (same r)) (resources_handles s.queues resources kept.placed lists) kept.armed;
+      armed = λ which. armed_resources which s.queues resources (λ r. ap (armed_list_in which) (same r)) (resources_handles s.queues resources kept.placed lists) (kept.armed which);
       line = kept.line;
       linked = same-linked order_links s.queues.resources resources s.order kept.linked (λ r _. same r);
       ordered = λ r there. rw (same-handles order_links s.queues.resources resources s.order kept.linked (λ x _. same x)) (kept.ordered r (rw (same r) at there));

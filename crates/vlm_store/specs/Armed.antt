@@ -1,19 +1,21 @@
--- The granted locks of a resource that are armed, in the order of the granted queue.
+-- The lists of armed locks of a resource, in the order of the granted queue.
 use Rattle.std.specs.Prelude.{ℕ, List, filter}
 use Rattle.vlm_links.specs.Lists.{IsIn}
 use Rattle.vlm_words.specs.declared.locks.Row.{Row}
 use Rattle.vlm_words.specs.declared.resources.Queue.TheVariants.{Granted}
+use Rattle.vlm_records.specs.declared.handles.Armed.{Armed}
 use Rattle.vlm_records.specs.declared.handles.Place.TheVariants.{Queued}
+use Rattle.vlm_records.specs.Armed.{is_listed}
 use Rattle.vlm_store.specs.Records.{Records, StoredLock, locks_at}
 
--- the locks among these that are armed, in their order
-abbrev pub armed_among : List StoredLock → List StoredLock
-armed_among locks = filter (λ k. k.row.armed) locks
+-- the locks among these whose rows are listed, in their order
+abbrev pub armed_among : Armed → List StoredLock → List StoredLock
+armed_among which locks = filter (λ k. is_listed which k.row) locks
 
--- the granted locks of the resource that are armed, the first in line first
-abbrev pub armed_at : ℕ → Records → List StoredLock
-armed_at res s = armed_among (locks_at (Queued res Granted) s)
+-- the list of armed locks of the resource, the first in line first
+abbrev pub armed_at : Armed → ℕ → Records → List StoredLock
+armed_at which res s = armed_among which (locks_at (Queued res Granted) s)
 
--- a lock of this handle is granted on the resource, and armed
-abbrev pub IsArmedAt : ℕ → ℕ → Records → Type 0
-IsArmedAt res at s = (row : Row) × IsIn (record { at = at; row = row }) (armed_at res s)
+-- a lock of this handle is in the list
+abbrev pub IsArmedAt : Armed → ℕ → ℕ → Records → Type 0
+IsArmedAt which res at s = (row : Row) × IsIn (record { at = at; row = row }) (armed_at which res s)

@@ -5,6 +5,7 @@ use Rattle.indexmap.specs.IndexMap.{get, spare}
 use Rattle.vlm_store.specs.Index.{hash_key}
 use Rattle.vlm_links.specs.Lists.{IsIn, IsLinked, handles_of}
 use Rattle.vlm_store.specs.declared.store.Store.TheInside.{Inside}
+use Rattle.vlm_records.specs.declared.handles.Armed.{Armed}
 use Rattle.vlm_records.specs.Armed.{IsArmed}
 use Rattle.vlm_store.specs.HashedKeys.{hashed, hashed_at}
 use Rattle.vlm_store.specs.KeyIndexes.{IsHashed, found_by, spare_of}
@@ -43,12 +44,12 @@ abbrev pub found_in : Inside → Key → Option ℕ
 found_in s key = found_by s.resource_index s.queues.resources (hashed (hash_key s.keys) key)
 
 -- each lock stands in the three lists that it notes and, if its request is queued, in the line, each resource counts its
--- locks and has the armed ones among the granted, resources and processes stand in their orders, each index finds just what is there, and marked are just the
+-- locks and lists the armed ones among the granted, resources and processes stand in their orders, each index finds just what is there, and marked are just the
 -- processes that live, and those with an AST pending
 pub record IsKept (s : Inside) : Type 0 where
   pub placed : IsPlaced s.queues None
   pub tallied : IsTallied s.queues None
-  pub armed : IsArmed s.queues None
+  pub armed : (which : Armed) → IsArmed which s.queues None
   pub line : IsLine s.queues.locks s.line None
   pub linked : IsLinked order_links s.queues.resources s.order
   pub ordered : (res : ℕ) → ContainsKey s.queues.resources res → IsIn res (handles_of order_links s.queues.resources s.order)

@@ -69,7 +69,7 @@ impl Store {
             → result ≡ handle_after lock (sublocks_at parent self.now) }
         ensures root { HasNoParent lock self.now → result ≡ None }
     {
-        let Some(parent) = self.queues.locks[lock.slot()].parent else {
+        let Some(parent) = self.queues.locks[lock.slot()].parent.get() else {
             return None;
         };
         let sublocks = self.queues.locks[parent.slot()].sublocks;

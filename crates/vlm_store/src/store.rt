@@ -6,10 +6,9 @@ ghost use Rattle.std.specs.Option.{ForSome};
 ghost use Rattle.vlm_words.specs.declared.locks.Row.{Row};
 ghost use Rattle.vlm_links.specs.Lists.{IsIn, handle_before};
 ghost use Rattle.vlm_records.specs.declared.handles.Place.{Place};
-ghost use Rattle.vlm_words.specs.Asts.{has_to_warn, keeps_out};
+ghost use Rattle.vlm_words.specs.Asts.{keeps_out};
 ghost use Rattle.vlm_store.specs.Index.{hash_key};
 ghost use Rattle.vlm_store.specs.Held.{held_counts};
-ghost use Rattle.vlm_store.specs.Plain.{plain_resource};
 ghost use Rattle.vlm_store.specs.Records.{FindsLock, FindsResource, HasNoSublocks, HasPlace, HasResource, HasRoomForLock, HasRoomForResource, IsGivenBack, IsTaken, IsUnchanged, IsParentOf, IsProcess, at_after, disarming, first_at, first_resource_at, fits_beside, resource_at_after, resource_at, rows_of_locks, IsIdle, IsNewKey, IsNewLock, IsRowOf, IsSound, IsStored, Stores, locks_at, moving, new_stored_resource, nothing, on_resource, queued, with_lists, with_lock_room, with_new_lock, with_resource_room, without_resource, without_stored_lock};
 ghost use Rattle.vlm_store.specs.Total.{lock_total};
 
@@ -196,7 +195,7 @@ impl Store {
         } = self.queues.locks[slot];
         join_line(&mut self.queues.locks, &mut self.line, slot, &place);
         join_process(&mut self.processes, &mut self.queues.locks, slot, owner);
-        join_parent(&mut self.queues.locks, slot, parent);
+        join_parent(&mut self.queues.locks, slot, parent.get());
         let at = LockAt::of(slot);
         let _ = self.lock_index.insert(row.lkid(), at);
         at
@@ -242,7 +241,7 @@ impl Store {
             parent,
             ..
         } = self.queues.locks[at];
-        leave_parent(&mut self.queues.locks, at, parent);
+        leave_parent(&mut self.queues.locks, at, parent.get());
         leave_process(&mut self.processes, &mut self.queues.locks, at, owner);
         leave_line(&mut self.queues.locks, &mut self.line, at, &place);
         self.queues.remove(at);
@@ -405,16 +404,6 @@ impl Store {
             ≡ fits_beside mode asking r) }
     {
         self.queues.fits(res, mode, asking)
-    }
-
-    /// Whether some granted lock of the resource is armed and in the way of a queued request. It reads counts
-    /// alone.
-    pub fn may_warn(&self, res: ResAt) -> bool
-        requires { HasResource res self.now }
-        ensures { IfSome (resource_at res self.now.resources) (λ r. result
-            ≡ has_to_warn (plain_resource r)) }
-    {
-        self.queues.resources[res.slot()].tally.may_warn()
     }
 
     /// Whether a lock that holds this mode keeps some queued request of the resource from being granted. It reads

@@ -5,7 +5,7 @@ use Rattle.vlm_words.specs.declared.locks.Row.{Row}
 use Rattle.vlm_words.specs.declared.modes.Mode.{Mode}
 use Rattle.vlm_words.specs.declared.modes.Mode.TheVariants.{Nl, Cr, Cw, Pr, Pw, Ex}
 use Rattle.vlm_tallies.specs.Tallies.{Count, by_mode, count_of, how_many, no_tally, total}
-use Rattle.vlm_tallies.specs.Tallies.Count.{of_armed, of_held, of_wanted}
+use Rattle.vlm_tallies.specs.Tallies.Count.{of_held, of_wanted}
 
 -- the rows of two lists
 pub total-both : (weight : Row → ℕ) (rows : ℕ → Row) (xs ys : List ℕ) → total weight rows (xs ++ ys) ≡ total weight rows xs + total weight rows ys
@@ -45,4 +45,3 @@ no_count Ex = refl
 pub none_counted : (count : Count) (mode : Mode) → how_many count no_tally mode ≡ 0
 none_counted of_held mode = no_count mode
 none_counted of_wanted mode = no_count mode
-none_counted of_armed mode = no_count mode

@@ -9,11 +9,10 @@ use Rattle.vlm_words.specs.declared.resources.Queue.TheVariants.{Granted, Conver
 use Rattle.vlm_words.specs.Modes.{is_compatible, rank}
 use Rattle.vlm_tallies.specs.declared.tallies.Tally.{Tally}
 
--- what is counted: the modes that are held, those that are wanted, and those that a granted lock holds that is armed
+-- what is counted: the modes that are held, and those that are wanted
 pub data Count : Type 0 where
   of_held : Count
   of_wanted : Count
-  of_armed : Count
 
 -- the request, if there is one, is for this mode
 abbrev pub is_mode : Mode → Option Request → Bool
@@ -32,7 +31,6 @@ count_of counts mode = slice_index_or counts (rank mode) 0
 abbrev pub how_many : Count → Tally → Mode → ℕ
 how_many of_held tally mode = count_of tally.held mode
 how_many of_wanted tally mode = count_of tally.wanted mode
-how_many of_armed tally mode = count_of tally.armed mode
 
 -- how many locks hold a mode, other than one that holds this
 abbrev pub held_beside : Option Request → Tally → Mode → ℕ
@@ -42,12 +40,7 @@ held_beside own tally mode = how_many of_held tally mode - one_if (is_mode mode 
 abbrev pub by_mode : (Mode → ℕ) → List ℕ
 by_mode counts = counts Nl ∷ counts Cr ∷ counts Cw ∷ counts Pr ∷ counts Pw ∷ counts Ex ∷ []
 
--- what a lock holds while it is armed
-abbrev pub armed_request : Row → Option Request
-armed_request row = if row.armed then row.held else None
-
--- the request for which a lock in a queue is counted: a waiting lock holds none, a granted one wants none, and only a
--- granted one is counted as armed
+-- the request for which a lock in a queue is counted: a waiting lock holds none, and a granted one wants none
 abbrev pub counted_request : Count → Queue → Row → Option Request
 counted_request of_held Granted row = row.held
 counted_request of_held Conversion row = row.held
@@ -55,9 +48,6 @@ counted_request of_held Waiting row = None
 counted_request of_wanted Granted row = None
 counted_request of_wanted Conversion row = row.want
 counted_request of_wanted Waiting row = row.want
-counted_request of_armed Granted row = armed_request row
-counted_request of_armed Conversion row = None
-counted_request of_armed Waiting row = None
 
 -- what a lock in a queue adds to a count of the mode
 abbrev pub weight_of : Count → Mode → Queue → Row → ℕ
@@ -65,7 +55,7 @@ weight_of count mode queue row = one_if (is_mode mode (counted_request count que
 
 -- no locks
 abbrev pub no_tally : Tally
-no_tally = record { held = replicate 6 0; wanted = replicate 6 0; armed = replicate 6 0 }
+no_tally = record { held = replicate 6 0; wanted = replicate 6 0 }
 
 -- what the rows of these numbers weigh together
 abbrev pub total : (Row → ℕ) → (ℕ → Row) → List ℕ → ℕ
@@ -84,7 +74,3 @@ each_counted test counts =
 -- the mode is compatible with every mode that is counted
 unfoldable pub counts_fit : Mode → (Mode → ℕ) → Bool
 counts_fit mode counts = each_counted (is_compatible mode) counts
-
--- some mode that is armed is incompatible with some mode that is wanted
-unfoldable pub counts_warn : (Mode → ℕ) → (Mode → ℕ) → Bool
-counts_warn armed wanted = not (each_counted (λ mode. counts_fit mode wanted) armed)

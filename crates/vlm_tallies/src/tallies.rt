@@ -3,22 +3,20 @@
 ghost use Rattle.std.specs.Prelude.{◌≡◌, ◌+◌, ◌<◌, ◌≤◌, ◌^◌, not};
 ghost use Rattle.vlm_words.specs.declared.modes.Mode.{Mode};
 ghost use Rattle.vlm_words.specs.Modes.{is_compatible};
-ghost use Rattle.vlm_tallies.specs.Tallies.{Count, armed_request, by_mode, count_of, counts_fit, counts_warn, held_beside, how_many, is_mode, none_or, one_if, weight_of};
-ghost use Rattle.vlm_tallies.specs.Tallies.Count.{of_armed, of_held, of_wanted};
+ghost use Rattle.vlm_tallies.specs.Tallies.{Count, by_mode, count_of, counts_fit, held_beside, how_many, is_mode, none_or, one_if, weight_of};
+ghost use Rattle.vlm_tallies.specs.Tallies.Count.{of_held, of_wanted};
 
 use vlm_words::locks::{Request, Row};
 use vlm_words::modes::{Mode, compatible};
 use vlm_words::resources::Queue;
 
-/// How many locks of a resource hold each mode, how many want it, and how many are granted in it and armed.
+/// How many locks of a resource hold each mode, and how many want it.
 #[derive(Clone, Copy)]
 pub struct Tally {
     // how many hold each mode, by its rank: the granted and the converting
     held: [u32; 6],
     // how many want each mode, by its rank: the converting and the waiting
     wanted: [u32; 6],
-    // how many hold each mode, by its rank, and are armed: of the granted alone
-    armed: [u32; 6],
 }
 
 // One more lock is counted with what is asked for.
@@ -41,13 +39,6 @@ fn count_out(counts: &mut [u32; 6], request: &Option<Request>)
     if let Some(request) = request {
         counts[request.mode.rank()] -= 1;
     }
-}
-
-// What a lock holds while it is armed.
-fn armed_request(row: &Row) -> Option<Request>
-    ensures { result ≡ armed_request row.now }
-{
-    if row.armed { row.held } else { None }
 }
 
 // Whether no lock is counted with this mode, or the one that is asked for is compatible with it.
@@ -80,7 +71,6 @@ impl Tally {
         Tally {
             held: [0; 6],
             wanted: [0; 6],
-            armed: [0; 6],
         }
     }
 
@@ -91,10 +81,7 @@ impl Tally {
             ≡ how_many count self.old mode + weight_of count mode queue row.now }
     {
         match queue {
-            Queue::Granted => {
-                count_in(&mut self.held, &row.held);
-                count_in(&mut self.armed, &armed_request(row));
-            }
+            Queue::Granted => count_in(&mut self.held, &row.held),
             Queue::Conversion => {
                 count_in(&mut self.wanted, &row.want);
                 count_in(&mut self.held, &row.held);
@@ -111,10 +98,7 @@ impl Tally {
             + weight_of count mode queue row.now ≡ how_many count self.old mode }
     {
         match queue {
-            Queue::Granted => {
-                count_out(&mut self.held, &row.held);
-                count_out(&mut self.armed, &armed_request(row));
-            }
+            Queue::Granted => count_out(&mut self.held, &row.held),
             Queue::Conversion => {
                 count_out(&mut self.wanted, &row.want);
                 count_out(&mut self.held, &row.held);
@@ -152,27 +136,5 @@ impl Tally {
         ensures { result ≡ not (counts_fit mode (how_many of_wanted self.now)) }
     {
         !counts_fit(&self.wanted, mode)
-    }
-
-    // Whether no granted lock with this mode is armed, or the mode is compatible with every mode that is wanted.
-    fn warns_none(&self, mode: Mode) -> bool
-        ensures { result
-            ≡ none_or (λ mode. counts_fit mode (how_many of_wanted self.now))
-            (how_many of_armed self.now) mode }
-    {
-        self.armed[mode.rank()] == 0 || counts_fit(&self.wanted, mode)
-    }
-
-    /// Whether some granted lock is armed whose mode is incompatible with some mode that is wanted.
-    #[tactic(auto, unfolding(crate::specs::Tallies::counts_warn))]
-    pub fn may_warn(&self) -> bool
-        ensures { result ≡ counts_warn (how_many of_armed self.now) (how_many of_wanted self.now) }
-    {
-        !(self.warns_none(Mode::Nl)
-            && self.warns_none(Mode::Cr)
-            && self.warns_none(Mode::Cw)
-            && self.warns_none(Mode::Pr)
-            && self.warns_none(Mode::Pw)
-            && self.warns_none(Mode::Ex))
     }
 }

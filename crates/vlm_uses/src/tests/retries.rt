@@ -10,7 +10,7 @@ use std::alloc::AllocError;
 use std::process::Abort;
 use std::test::Fail;
 use vlm_queue::{can_hold, head, is_idle, next};
-use vlm_store::{Place, Store, StoredRow};
+use vlm_store::{Armed, LockAt, Place, Store, StoredRow};
 use vlm_words::flags::EnqFlags;
 use vlm_words::locks::{Request, Row};
 use vlm_words::modes::Mode;
@@ -242,21 +242,30 @@ fn disarm(rt: &impl Abort, store: &mut Store, lkid: u32) {
     store.disarm(armed);
 }
 
-// Whether some granted lock of the resource is to be warned.
-fn may_warn(rt: &impl Abort, store: &Store, key: &Key) -> bool {
-    store.may_warn(resource(rt, store, key))
+// The first lock of a list of armed locks of the resource.
+fn first_armed(rt: &impl Abort, store: &Store, key: &Key, which: Armed) -> Option<LockAt> {
+    store.first_armed(resource(rt, store, key), which)
 }
 
+// The lock holds EX.
 #[test]
-fn an_armed_lock_is_to_be_warned_until_it_is_disarmed(rt: HostRuntime) -> Result<(), Fail> {
+fn an_armed_lock_is_in_both_lists_until_it_is_disarmed(rt: HostRuntime) -> Result<(), Fail> {
     let key = key(b"A")?;
     let mut store = Store::new(rt.alloc());
     fill(&rt, &mut store, &key)?;
-    assert!(rt; !may_warn(&rt, &store, &key));
+    assert!(rt; first_armed(&rt, &store, &key, Armed::AboveNl).is_none());
     arm(&rt, &mut store, &key, 1);
-    assert!(rt; may_warn(&rt, &store, &key));
+    assert_eq!(rt;
+        first_armed(&rt, &store, &key, Armed::AboveNl),
+        store.lock(1)
+    );
+    assert_eq!(rt;
+        first_armed(&rt, &store, &key, Armed::AboveCr),
+        store.lock(1)
+    );
     disarm(&rt, &mut store, 1);
-    assert!(rt; !may_warn(&rt, &store, &key));
+    assert!(rt; first_armed(&rt, &store, &key, Armed::AboveNl).is_none());
+    assert!(rt; first_armed(&rt, &store, &key, Armed::AboveCr).is_none());
     Ok(())
 }
 

@@ -1,12 +1,21 @@
 use Rattle.std.proofs.Common.{◌≡◌, IfSome, subst}
-use Rattle.vlm_words.specs.Asts.{has_to_warn}
-use Rattle.vlm_store.specs.Plain.{plain_resource}
-use Rattle.vlm_store.specs.Records.{resource_at}
-use Rattle.vlm_locks.proofs.Warned.{none_warned}
+use Rattle.std.specs.Prelude.{◌||◌}
+use Rattle.std.specs.List.{list_any}
+use Rattle.vlm_words.specs.declared.modes.Mode.TheVariants.{Cr}
+use Rattle.vlm_words.specs.Asts.{keeps_out}
+use Rattle.vlm_store.specs.Records.{resource_at, rows_of_locks}
+use Rattle.vlm_locks.proofs.Spared.{spares_above_cr, spares_above_nl}
 use Rattle.vlm_locks.proofs.warning.warn.Goals as goal
 
--- the counts show that nobody is to be warned
-pub returns-else-may_warn-clause-warned : goal.returns-else-may_warn-clause-warned
-returns-else-may_warn-clause-warned c =
-    none_warned c.args.res c.args.store.now c.law_records_are_sound.ensures c.requires.there
-    (subst (λ b. IfSome (resource_at c.args.res c.args.store.now.resources) (λ r. b ≡ has_to_warn (plain_resource r))) c.if-may_warn.false c.may_warn.ensures)
+-- CR is in the way
+pub warn_armed-requires-clause-spares : goal.warn_armed-requires-clause-spares
+warn_armed-requires-clause-spares c = spares_above_nl c.args.res c.args.store.now
+
+-- it is not
+pub warn_armed-requires-else-is_in_the_way-clause-spares : goal.warn_armed-requires-else-is_in_the_way-clause-spares
+warn_armed-requires-else-is_in_the_way-clause-spares c =
+    spares_above_cr c.args.res c.args.store.now
+    (subst
+    (λ b. IfSome (resource_at c.args.res c.args.store.now.resources)
+    (λ r. b ≡ (list_any (λ row. keeps_out Cr row.want) (rows_of_locks r.converting) || list_any (λ row. keeps_out Cr row.want) (rows_of_locks r.waiting))))
+    c.if-is_in_the_way.false c.is_in_the_way.ensures)

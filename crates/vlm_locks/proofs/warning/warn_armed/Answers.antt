@@ -4,7 +4,7 @@ use Rattle.vlm_locks.proofs.warning.warn_armed.Goals as goal
 
 pub loop-at-init : goal.loop-at-init
 loop-at-init c =
-    (warning_begun c.args.res c.args.store.now c.first_armed-at.result c.law_records_are_sound.ensures c.requires.there c.first_armed-at.ensures, c.requires.paid)
+    (warning_begun c.args.which c.args.res c.args.store.now c.first_armed-at.result c.law_records_are_sound.ensures c.requires.there c.requires.spares c.first_armed-at.ensures, c.requires.paid)
 
 pub next_armed-at-requires-clause-there : goal.next_armed-at-requires-clause-there
 next_armed-at-requires-clause-there c = warning_there c.args.res c.args.store.now c.loop-at.store c.loop-at.at c.loop-at.invariant.0.warning
@@ -14,7 +14,7 @@ next_armed-at-requires-clause-armed c =
     let s = c.loop-at.store in
     let w = c.loop-at.invariant.0 in
     let sound = c.law_records_are_sound-in-Some.ensures in
-    stands_armed c.args.res c.args.store.now s c.loop-at.at w.warning sound c.in-Some.lock (sym c.in-Some.is) w.armed
+    stands_armed c.args.res c.args.store.now s c.loop-at.at w.warning sound c.in-Some.lock (sym c.in-Some.is) c.args.which w.armed
 
 pub warn_lock-requires-clause-there : goal.warn_lock-requires-clause-there
 warn_lock-requires-clause-there c = warning_there c.args.res c.args.store.now c.loop-at.store c.loop-at.at c.loop-at.invariant.0.warning
@@ -38,8 +38,8 @@ loop-at-smaller c =
     let stored = next_stored c.args.res c.args.store.now s c.loop-at.at w sound c.in-Some.lock (sym c.in-Some.is) in
     let found = now_found c.args.res c.args.store.now s c.loop-at.at w in
     warning_shorter c.args.res c.args.store.now s c.loop-at.at w sound c.in-Some.lock (sym c.in-Some.is) c.warn_lock.new.store
-    (c.warn_lock.ensures (now c.args.res c.args.store.now s c.loop-at.at w) next.row found stored) c.next_armed-at.result
-    (follows c.args.res c.args.store.now s c.loop-at.at w sound c.in-Some.lock (sym c.in-Some.is) at_armed.armed c.next_armed-at.result c.next_armed-at.ensures)
+    (c.warn_lock.ensures (now c.args.res c.args.store.now s c.loop-at.at w) next.row found stored) c.args.which c.next_armed-at.result
+    (follows c.args.res c.args.store.now s c.loop-at.at w sound c.in-Some.lock (sym c.in-Some.is) c.args.which at_armed.armed c.next_armed-at.result c.next_armed-at.ensures)
 
 pub loop-at-preserved : goal.loop-at-preserved
 loop-at-preserved c =
@@ -52,8 +52,8 @@ loop-at-preserved c =
     let found = now_found c.args.res c.args.store.now s c.loop-at.at w in
     let r = now c.args.res c.args.store.now s c.loop-at.at w in
     let warned = c.warn_lock.ensures r next.row found stored in (
-      warning_next c.args.res c.args.store.now s c.loop-at.at w sound c.in-Some.lock (sym c.in-Some.is) c.warn_lock.new.store warned c.next_armed-at.result
-          (follows c.args.res c.args.store.now s c.loop-at.at w sound c.in-Some.lock (sym c.in-Some.is) at_armed.armed c.next_armed-at.result c.next_armed-at.ensures),
+      warning_next c.args.res c.args.store.now s c.loop-at.at w sound c.in-Some.lock (sym c.in-Some.is) c.warn_lock.new.store warned c.args.which c.requires.spares c.next_armed-at.result
+          (follows c.args.res c.args.store.now s c.loop-at.at w sound c.in-Some.lock (sym c.in-Some.is) c.args.which at_armed.armed c.next_armed-at.result c.next_armed-at.ensures),
       paid_warned s c.warn_lock.new.store sound r c.in-Some.lock next.row stored warned c.loop-at.invariant.1,
     )
 

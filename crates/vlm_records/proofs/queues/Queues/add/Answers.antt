@@ -36,7 +36,7 @@ join_armed-requires-clause-placed c =
     counted_placed c.push_at.new.self c.count_in.new.self None c.push_at.ensures.placed c.count_in.ensures.counts.rest c.count_in.ensures.counts.locks
 
 pub join_armed-requires-clause-armed : goal.join_armed-requires-clause-armed
-join_armed-requires-clause-armed c =
+join_armed-requires-clause-armed c which =
     let q = c.args.self.now in
     let at = c.insert_reserved-at.result in
     let q1 : Queues = record q { locks = c.insert_reserved-at.new.self } in
@@ -49,12 +49,12 @@ join_armed-requires-clause-armed c =
     let unlisted : (p : Place) → ¬ IsIn at (handles_at q p) = λ p. vacant_unlisted queue_links q.locks (list_at q p) (linked p) at c.insert_reserved-at.ensures.was_vacant in
     let handles1 = updated_handles q q1 at _ c.insert_reserved-at.ensures.updates linked unlisted (lists_same q q1 refl) in
     let handles3 = counted_handles q2 q3 None put.placed counts.rest counts.locks in
-    armed_but_one q q3 None (Some at) at c.requires.laid_out.armed
-    (λ res. vacant_unlisted armed_links q.locks (armed_list q res) (c.requires.laid_out.armed.linked res) at c.insert_reserved-at.ensures.was_vacant)
-    (armed_lists q.resources q3.resources
+    armed_but_one which q q3 None (Some at) at (c.requires.laid_out.armed which)
+    (λ res. vacant_unlisted (armed_links which) q.locks (armed_list which q res) ((c.requires.laid_out.armed which).linked res) at c.insert_reserved-at.ensures.was_vacant)
+    (armed_lists which q.resources q3.resources
     (same_then but_counted q.resources q2.resources q3.resources (lists_counted q.resources q2.resources put.kept.rest) (tally_counted q2.resources q3.resources counts.rest)))
     (λ k differs. ap (λ s. option_map but_requeued (get s k)) counts.locks ∙ put.kept.kin k ∙ ap (option_map but_requeued) (others k differs))
-    (added_granted q q3 at (λ k differs. ap (λ s. row_in (get s k)) counts.locks ∙ put.rows k ∙ ap row_in (others k differs)) unlisted c.args.to
+    (added_granted which q q3 at (λ k differs. ap (λ s. row_in (get s k)) counts.locks ∙ put.rows k ∙ ap row_in (others k differs)) unlisted c.args.to
     (handles3 c.args.to ∙ put.here ∙ ap (λ ks. ks ++ at ∷ []) (handles1 c.args.to)) (λ p differs. handles3 p ∙ put.elsewhere p differs ∙ handles1 p))
 
 pub join_armed-requires-clause-last : goal.join_armed-requires-clause-last
@@ -66,12 +66,11 @@ join_armed-requires-clause-last c =
     let q3 = c.count_in.new.self in
     let put = c.push_at.ensures in
     let counts = c.count_in.ensures.counts in
-    let others = c.insert_reserved-at.ensures.updates.others in
     let linked = c.requires.laid_out.placed.linked in
     let unlisted : (p : Place) → ¬ IsIn at (handles_at q p) = λ p. vacant_unlisted queue_links q.locks (list_at q p) (linked p) at c.insert_reserved-at.ensures.was_vacant in
     let handles1 = updated_handles q q1 at _ c.insert_reserved-at.ensures.updates linked unlisted (lists_same q q1 refl) in
     let handles3 = counted_handles q2 q3 None put.placed counts.rest counts.locks in
-    added_last q q3 at (λ k differs. ap (λ s. row_in (get s k)) counts.locks ∙ put.rows k ∙ ap row_in (others k differs)) unlisted c.args.to
+    added_last q q3 at unlisted c.args.to
     (handles3 c.args.to ∙ put.here ∙ ap (λ ks. ks ++ at ∷ []) (handles1 c.args.to)) (λ p differs. handles3 p ∙ put.elsewhere p differs ∙ handles1 p)
     (counted_placed q2 q3 None put.placed counts.rest counts.locks)
 

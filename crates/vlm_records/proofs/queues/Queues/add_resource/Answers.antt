@@ -3,7 +3,7 @@ use Rattle.std.proofs.Common.{ap, ◌∙◌, ◌+◌, ℕ}
 use Rattle.vlm_links.proofs.Keeping.{updated-linked, vacant_unlisted}
 use Rattle.vlm_records.specs.Shown.{order_links, with_order_links}
 use Rattle.vlm_records.proofs.Arming.{armed_resources}
-use Rattle.vlm_records.proofs.Making.{added_armed, added_lists, added_tallies, resources_handles, resources_placed, resources_tallied}
+use Rattle.vlm_records.proofs.Making.{added_armed, added_lists, added_tallies, both_empty, resources_handles, resources_placed, resources_tallied}
 use Rattle.vlm_records.proofs.queues.Queues.add_resource.Goals as goal
 
 pub push_back-requires-clause-linked : goal.push_back-requires-clause-linked
@@ -33,12 +33,12 @@ returns-clause-laid_out c = record {
       (added_lists c.args.self.now c.insert_reserved-at.new.self c.push_back.new.nodes c.insert_reserved-at.result _ c.insert_reserved-at.ensures.updates c.insert_reserved-at.ensures.was_vacant
       c.push_back.ensures.relinks c.new-2.ensures c.new-3.ensures c.new-4.ensures)
       (added_tallies c.args.self.now c.insert_reserved-at.new.self c.push_back.new.nodes c.insert_reserved-at.result _ c.insert_reserved-at.ensures.updates c.insert_reserved-at.ensures.was_vacant
-      c.push_back.ensures.relinks c.new-6.ensures) c.requires.laid_out.tallied;
-  armed =
+      c.push_back.ensures.relinks c.new-7.ensures) c.requires.laid_out.tallied;
+  armed = λ which.
       let q = c.args.self.now in
       let lists = added_lists q c.insert_reserved-at.new.self c.push_back.new.nodes c.insert_reserved-at.result _ c.insert_reserved-at.ensures.updates c.insert_reserved-at.ensures.was_vacant
       c.push_back.ensures.relinks c.new-2.ensures c.new-3.ensures c.new-4.ensures in
-      armed_resources q c.push_back.new.nodes
-      (added_armed q c.insert_reserved-at.new.self c.push_back.new.nodes c.insert_reserved-at.result _ c.insert_reserved-at.ensures.updates c.insert_reserved-at.ensures.was_vacant c.push_back.ensures.relinks c.new-5.ensures)
-      (resources_handles q c.push_back.new.nodes c.requires.laid_out.placed lists) c.requires.laid_out.armed;
+      armed_resources which q c.push_back.new.nodes
+      (added_armed q c.insert_reserved-at.new.self c.push_back.new.nodes c.insert_reserved-at.result _ c.insert_reserved-at.ensures.updates c.insert_reserved-at.ensures.was_vacant c.push_back.ensures.relinks which (both_empty _ c.new-5.ensures c.new-6.ensures which))
+      (resources_handles q c.push_back.new.nodes c.requires.laid_out.placed lists) (c.requires.laid_out.armed which);
 }

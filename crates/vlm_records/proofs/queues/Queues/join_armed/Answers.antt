@@ -1,34 +1,16 @@
-use Rattle.std.proofs.Common.{◌∙◌, ap, subst, sym}
-use Rattle.vlm_links.specs.Lists.{IsIn, handles_of}
-use Rattle.vlm_records.specs.Armed.{armed_links, armed_list_in, armed_on}
-use Rattle.vlm_records.proofs.Arming.{armed_resource, out_unlisted, relisted_joined, relisted_places, same_places, unarmed_joined}
+use Rattle.std.proofs.Common.{◌∙◌, None, Some, ap, sym}
+use Rattle.vlm_records.specs.declared.handles.Armed.TheVariants.{AboveNl, AboveCr}
+use Rattle.vlm_records.specs.Shown.{but_in_armed, row_in}
+use Rattle.vlm_records.proofs.Arming.{keeps_twice, same_places, unarmed_joined, unarmed_none}
+use Rattle.vlm_records.proofs.Places.{there_through}
 use Rattle.vlm_records.proofs.queues.Queues.join_armed.Goals as goal
 
--- it is not among the armed ones
-pub returns-in_default-clause-armed : goal.returns-in_default-clause-armed
-returns-in_default-clause-armed c = unarmed_joined c.args.self.now c.args.at c.requires.placed (ap armed_on c.index.ensures ∙ sym c.armed_on.ensures ∙ c.in_default.is) c.requires.armed
+-- it is not armed
+pub returns-then-not-is_armed-clause-armed : goal.returns-then-not-is_armed-clause-armed
+returns-then-not-is_armed-clause-armed c which =
+    unarmed_joined which c.args.self.now c.args.at c.requires.placed
+    (unarmed_none which _ (ap (λ slot. (row_in slot).armed) c.index.ensures ∙ sym c.is_armed.ensures ∙ c.if-not-is_armed.true)) (c.requires.armed which)
 
 -- it is
-pub index_mut-requires : goal.index_mut-requires
-index_mut-requires c = rw c.slot.ensures (armed_resource c.args.self.now c.args.at c.in-Some.res c.requires.placed (ap armed_on c.index.ensures ∙ sym c.armed_on.ensures ∙ c.in-Some.is))
-
-pub push_back-requires-clause-unlisted : goal.push_back-requires-clause-unlisted
-push_back-requires-clause-unlisted c found =
-    out_unlisted c.args.self.now c.args.at c.requires.armed c.in-Some.res
-    (subst (λ l. IsIn c.args.at (handles_of armed_links c.args.self.now.locks l)) (sym (ap armed_list_in (rw c.slot.ensures at c.index_mut.ensures.value))) found)
-
-pub returns-clause-armed : goal.returns-clause-armed
-returns-clause-armed c =
-    rw c.slot.ensures
-    (relisted_joined c.args.self.now c.push_back.new.nodes c.in-Some.res c.index_mut.result.now c.push_back.new.self
-    (rw c.slot.ensures at c.index_mut.ensures.value) c.push_back.ensures.relinks c.requires.placed
-    c.args.at c.push_back.ensures.linked (ap armed_on c.index.ensures ∙ sym c.armed_on.ensures ∙ c.in-Some.is) c.requires.armed c.push_back.ensures.handles c.push_back.ensures.others c.requires.last)
-
-pub returns-clause-places : goal.returns-clause-places
-returns-clause-places c =
-    rw c.slot.ensures
-    (relisted_places c.args.self.now c.push_back.new.nodes c.in-Some.res c.index_mut.result.now c.push_back.new.self
-    (rw c.slot.ensures at c.index_mut.ensures.value) c.push_back.ensures.relinks c.requires.placed c.requires.tallied)
-
-pub returns-in_default-clause-places : goal.returns-in_default-clause-places
-returns-in_default-clause-places c = same_places c.args.self.now c.requires.placed c.requires.tallied
+pub join_list-requires-clause-armed : goal.join_list-requires-clause-armed
+join_list-requires-clause-armed c = c.requires.armed AboveNl

@@ -1,39 +1,16 @@
-use Rattle.std.proofs.Common.{◌∙◌, None, ap, subst, sym}
-use Rattle.std.proofs.lemmas.Option.{none-some}
-use Rattle.vlm_links.specs.Lists.{Lists}
-use Rattle.vlm_records.specs.Armed.{armed_links, armed_list_in, armed_on}
-use Rattle.vlm_records.proofs.Arming.{armed_family, armed_resource, relisted_left, relisted_places, same_places, unarmed_left}
+use Rattle.std.proofs.Common.{◌∙◌, None, Some, ap, sym}
+use Rattle.vlm_records.specs.declared.handles.Armed.TheVariants.{AboveNl, AboveCr}
+use Rattle.vlm_records.specs.Shown.{but_in_armed, row_in}
+use Rattle.vlm_records.proofs.Arming.{keeps_twice, same_places, unarmed_left, unarmed_none}
+use Rattle.vlm_records.proofs.Places.{there_through}
 use Rattle.vlm_records.proofs.queues.Queues.leave_armed.Goals as goal
 
--- it is not among the armed ones
-pub returns-in_default-clause-armed : goal.returns-in_default-clause-armed
-returns-in_default-clause-armed c = unarmed_left c.args.self.now c.args.at c.requires.laid_out.placed (ap armed_on c.index.ensures ∙ sym c.armed_on.ensures ∙ c.in_default.is) c.requires.laid_out.armed
+-- it is not armed
+pub returns-then-not-is_armed-clause-armed : goal.returns-then-not-is_armed-clause-armed
+returns-then-not-is_armed-clause-armed c which =
+    unarmed_left which c.args.self.now c.args.at c.requires.laid_out.placed
+    (unarmed_none which _ (ap (λ slot. (row_in slot).armed) c.index.ensures ∙ sym c.is_armed.ensures ∙ c.if-not-is_armed.true)) (c.requires.laid_out.armed which)
 
 -- it is
-pub index_mut-requires : goal.index_mut-requires
-index_mut-requires c = rw c.slot.ensures (armed_resource c.args.self.now c.args.at c.in-Some.res c.requires.laid_out.placed (ap armed_on c.index.ensures ∙ sym c.armed_on.ensures ∙ c.in-Some.is))
-
-pub unlink-requires : goal.unlink-requires
-unlink-requires c =
-    let family = armed_family c.args.self.now None c.requires.laid_out.placed c.requires.laid_out.armed in
-    subst (λ l. Lists armed_links c.args.self.now.locks l c.args.at) (ap armed_list_in (rw c.slot.ensures at c.index_mut.ensures.value))
-    (record {
-      linked = c.requires.laid_out.armed.linked c.in-Some.res;
-      listed = family.stands c.in-Some.res c.args.at (λ e. none-some c.args.at (sym e)) (ap armed_on c.index.ensures ∙ sym c.armed_on.ensures ∙ c.in-Some.is);
-    })
-
-pub returns-clause-armed : goal.returns-clause-armed
-returns-clause-armed c =
-    rw c.slot.ensures
-    (relisted_left c.args.self.now c.unlink.new.nodes c.in-Some.res c.index_mut.result.now c.unlink.new.self
-    (rw c.slot.ensures at c.index_mut.ensures.value) c.unlink.ensures.relinks c.requires.laid_out.placed
-    c.args.at c.unlink.ensures.linked (ap armed_on c.index.ensures ∙ sym c.armed_on.ensures ∙ c.in-Some.is) c.requires.laid_out.armed c.unlink.ensures.handles c.unlink.ensures.others)
-
-pub returns-clause-places : goal.returns-clause-places
-returns-clause-places c =
-    rw c.slot.ensures
-    (relisted_places c.args.self.now c.unlink.new.nodes c.in-Some.res c.index_mut.result.now c.unlink.new.self
-    (rw c.slot.ensures at c.index_mut.ensures.value) c.unlink.ensures.relinks c.requires.laid_out.placed c.requires.laid_out.tallied)
-
-pub returns-in_default-clause-places : goal.returns-in_default-clause-places
-returns-in_default-clause-places c = same_places c.args.self.now c.requires.laid_out.placed c.requires.laid_out.tallied
+pub leave_list-requires-clause-armed : goal.leave_list-requires-clause-armed
+leave_list-requires-clause-armed c = c.requires.laid_out.armed AboveNl

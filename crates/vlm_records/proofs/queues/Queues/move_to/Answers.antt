@@ -12,7 +12,7 @@ pub returns-then-stays-clause-laid_out : goal.returns-then-stays-clause-laid_out
 returns-then-stays-clause-laid_out c = record {
   placed = c.rewrite.ensures.placed;
   tallied = c.rewrite.ensures.tallied;
-  armed = armed_rewritten c.args.self.now c.rewrite.new.self c.args.at c.args.row.now c.rewrite.ensures c.if-stays.ensures.armed c.requires.laid_out.armed;
+  armed = λ which. armed_rewritten which c.args.self.now c.rewrite.new.self c.args.at c.args.row.now c.rewrite.ensures c.if-stays.ensures.armed (c.requires.laid_out.armed which);
 }
 
 pub returns-then-stays-clause-here : goal.returns-then-stays-clause-here
@@ -40,12 +40,12 @@ pub requeue-requires-clause-named : goal.requeue-requires-clause-named
 requeue-requires-clause-named c = ap named_row (c.leave_armed.ensures.places.rows c.args.at) ∙ c.requires.named
 
 pub join_armed-requires-clause-armed : goal.join_armed-requires-clause-armed
-join_armed-requires-clause-armed c =
+join_armed-requires-clause-armed c which =
     let q1 = c.leave_armed.new.self in
     let q2 = c.requeue.new.self in
     let moved = c.requeue.ensures in
-    armed_but_one q1 q2 (Some c.args.at) (Some c.args.at) c.args.at c.leave_armed.ensures.armed (out_unlisted q1 c.args.at c.leave_armed.ensures.armed) (armed_lists q1.resources q2.resources moved.kept.rest)
-    (λ k _. moved.kept.kin k) (requeued_granted q1 q2 c.args.at moved.rows c.args.to moved.here moved.elsewhere)
+    armed_but_one which q1 q2 (Some c.args.at) (Some c.args.at) c.args.at (c.leave_armed.ensures.armed which) (out_unlisted which q1 c.args.at (c.leave_armed.ensures.armed which)) (armed_lists which q1.resources q2.resources moved.kept.rest)
+    (λ k _. moved.kept.kin k) (requeued_granted which q1 q2 c.args.at moved.rows c.args.to moved.here moved.elsewhere)
 
 pub join_armed-requires-clause-present : goal.join_armed-requires-clause-present
 join_armed-requires-clause-present c =
@@ -55,7 +55,7 @@ join_armed-requires-clause-present c =
 pub join_armed-requires-clause-last : goal.join_armed-requires-clause-last
 join_armed-requires-clause-last c =
     let moved = c.requeue.ensures in
-    requeued_last c.leave_armed.new.self c.requeue.new.self c.args.at moved.rows c.args.to moved.here moved.elsewhere moved.placed
+    requeued_last c.leave_armed.new.self c.requeue.new.self c.args.at c.args.to moved.here moved.elsewhere moved.placed
 
 pub returns-else-stays-clause-here : goal.returns-else-stays-clause-here
 returns-else-stays-clause-here c = c.join_armed.ensures.places.handles c.args.to ∙ c.requeue.ensures.here ∙ ap (λ ks. without c.args.at ks ++ c.args.at ∷ []) (c.leave_armed.ensures.places.handles c.args.to)

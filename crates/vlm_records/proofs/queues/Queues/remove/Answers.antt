@@ -43,18 +43,18 @@ returns-clause-laid_out c = record {
       c.take_off.ensures.kept.rest c.count_out.ensures.tallied in
       removed_tallied q2 (record q2 { locks = c.remove.new.self }) c.args.at None c.remove.ensures.updates placed2.linked (λ p. placed2.gone p c.args.at refl)
       (lists_same q2 (record q2 { locks = c.remove.new.self }) refl) refl tallied2;
-  armed =
+  armed = λ which.
       let q1 = c.leave_armed.new.self in
       let q2 = c.count_out.new.self in
       let q3 = c.take_off.new.self in
       let q4 : Queues = record q3 { locks = c.remove.new.self } in
-      let armed1 = c.leave_armed.ensures.armed in
+      let armed1 = c.leave_armed.ensures.armed which in
       let placed3 = c.take_off.ensures.placed in
       let others = c.remove.ensures.updates.others in
-      armed_but_one q1 q4 (Some c.args.at) None c.args.at armed1 (out_unlisted q1 c.args.at armed1)
-      (armed_lists q1.resources q3.resources (λ r. lists_counted q2.resources q3.resources c.take_off.ensures.kept.rest r ∙ tally_counted q1.resources q2.resources c.count_out.ensures.counts.rest r))
+      armed_but_one which q1 q4 (Some c.args.at) None c.args.at armed1 (out_unlisted which q1 c.args.at armed1)
+      (armed_lists which q1.resources q3.resources (λ r. lists_counted q2.resources q3.resources c.take_off.ensures.kept.rest r ∙ tally_counted q1.resources q2.resources c.count_out.ensures.counts.rest r))
       (λ k differs. ap (option_map but_requeued) (others k differs) ∙ c.take_off.ensures.kept.kin k ∙ ap (λ s. option_map but_requeued (get s k)) c.count_out.ensures.counts.locks)
-      (removed_granted q1 q4 c.args.at
+      (removed_granted which q1 q4 c.args.at
       (λ k differs. ap row_in (others k differs) ∙ rows_relinked q2.locks q3.locks c.take_off.ensures.relinks k ∙ ap (λ s. row_in (get s k)) c.count_out.ensures.counts.locks)
       (λ p.
       updated_handles q3 q4 c.args.at None c.remove.ensures.updates placed3.linked (λ x. placed3.gone x c.args.at refl) (lists_same q3 q4 refl) p

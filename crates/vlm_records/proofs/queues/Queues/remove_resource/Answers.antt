@@ -35,10 +35,10 @@ returns-clause-laid_out c = record {
       resources_placed c.args.self.now c.remove.new.self c.requires.laid_out.placed
       (removed_lists c.args.self.now c.unlink.new.nodes c.remove.new.self c.args.res c.unlink.ensures.relinks c.remove.ensures.updates c.requires.laid_out.placed c.requires.idle);
   tallied = removed_tally c.args.self.now c.unlink.new.nodes c.remove.new.self c.args.res c.unlink.ensures.relinks c.remove.ensures.updates c.requires.laid_out.placed c.requires.idle c.requires.laid_out.tallied;
-  armed =
+  armed = λ which.
       let q = c.args.self.now in
-      armed_resources q c.remove.new.self
-      (removed_armed q c.unlink.new.nodes c.remove.new.self c.args.res c.unlink.ensures.relinks c.remove.ensures.updates c.requires.laid_out.placed c.requires.idle c.requires.laid_out.armed)
+      armed_resources which q c.remove.new.self
+      (removed_armed q c.unlink.new.nodes c.remove.new.self c.args.res c.unlink.ensures.relinks c.remove.ensures.updates c.requires.laid_out.placed c.requires.idle which (c.requires.laid_out.armed which))
       (resources_handles q c.remove.new.self c.requires.laid_out.placed
-      (removed_lists q c.unlink.new.nodes c.remove.new.self c.args.res c.unlink.ensures.relinks c.remove.ensures.updates c.requires.laid_out.placed c.requires.idle)) c.requires.laid_out.armed;
+      (removed_lists q c.unlink.new.nodes c.remove.new.self c.args.res c.unlink.ensures.relinks c.remove.ensures.updates c.requires.laid_out.placed c.requires.idle)) (c.requires.laid_out.armed which);
 }

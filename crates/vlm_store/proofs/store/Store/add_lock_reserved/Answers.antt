@@ -30,12 +30,16 @@ use Rattle.vlm_store.proofs.Marked.{nodes-own, own_marked, waits-own}
 use Rattle.vlm_store.proofs.Kinship.{kin_handles, kin_placed, kin_rows, kin_tallied, own_below, own_pids, own_process_linked, own_process_whole, owner-queued, parent-queued, records_processes}
 use Rattle.vlm_store.proofs.Layouts.{joining-under_handle, lists_changed_beside}
 use Rattle.vlm_store.specs.KeyIndexes.{spare_of}
+use Rattle.vlm_store.proofs.Living.{parent_within}
 use Rattle.vlm_store.proofs.store.Store.add_lock_reserved.Goals as goal
 use Rattle.vlm_store.proofs.Order.{keys_same, order_handles, order_linked, order_whole}
 
 -- there is room in the slab, for a link, and in the index
 has_its_room : (s : Inside) → HasRoom (records_shown s).room.locks → HasRoomFor s.queues.locks 1 × (s.queues.locks.vacant_key ≤ LAST_HANDLE) × (0 < spare s.lock_index)
 has_its_room s has = has_room s.queues.locks (spare s.lock_index) (shown_room (λ r. HasRoom r.locks) (tables s.queues s.order (beside_shown s)) has)
+
+pub add-slot-requires-clause-parent : goal.add-slot-requires-clause-parent
+add-slot-requires-clause-parent c = parent_within c.self.inside c.self.invariant c.args.parent c.args.row.now (rw (← c.self.view_is) at c.requires.parent)
 
 pub add-slot-requires-clause-there : goal.add-slot-requires-clause-there
 add-slot-requires-clause-there c =
@@ -63,7 +67,7 @@ pub join_parent-requires-clause-parent : goal.join_parent-requires-clause-parent
 join_parent-requires-clause-parent c =
     let locks = c.add-slot.new.self.locks in
     relinked_same with_own_links parent_in (λ l pair. refl) c.join_line.new.locks c.join_process.new.locks c.join_process.ensures.relinks c.add-slot.result
-    ∙ through but_queued parent_in parent-queued locks c.join_line.new.locks (line_queued locks c.join_line.new.locks c.join_line.ensures.rest) c.add-slot.result ∙ ap parent_in c.index.ensures
+    ∙ through but_queued parent_in parent-queued locks c.join_line.new.locks (line_queued locks c.join_line.new.locks c.join_line.ensures.rest) c.add-slot.result ∙ ap parent_in c.index.ensures ∙ sym c.get.ensures
 
 pub index-requires : goal.index-requires
 index-requires c =
@@ -167,7 +171,7 @@ invariant_of-self c =
     record {
       placed = kin_placed q' c.join_parent.new.locks kin added.laid_out.placed;
       tallied = kin_tallied q' c.join_parent.new.locks kin added.laid_out.placed added.laid_out.tallied;
-      armed = armed_kin q' c.join_parent.new.locks kin (kin_handles q' c.join_parent.new.locks kin added.laid_out.placed) (kin_rows q' c.join_parent.new.locks kin) added.laid_out.armed;
+      armed = λ which. armed_kin which q' c.join_parent.new.locks kin (kin_handles q' c.join_parent.new.locks kin added.laid_out.placed) (kin_rows q' c.join_parent.new.locks kin) (added.laid_out.armed which);
       line = line_below c.join_process.new.locks c.join_parent.new.locks c.join_line.new.line below.rest (line_own locks1 c.join_process.new.locks c.join_line.new.line process.relinks c.join_line.ensures.line);
       linked = order_linked but_queues (λ r. refl) s.queues.resources q'.resources rest s.order kept.linked;
       ordered = order_whole but_queues (λ r. refl) s.queues.resources q'.resources rest s.order kept.linked kept.ordered;
@@ -251,10 +255,10 @@ add-slot-requires-clause-laid_out c = record {
   tallied =
       let s = c.self.inside in
       reserved_tallied s.queues c.self.inside.queues.locks (λ _. refl) c.self.invariant.placed c.self.invariant.tallied;
-  armed =
+  armed = λ which.
       let s = c.self.inside in
       let same : (k : ℕ) → slot_of s.queues.locks k ≡ slot_of s.queues.locks k = λ k. refl in
-      armed_reserved s.queues c.self.inside.queues.locks same (reserved_handles s.queues c.self.inside.queues.locks same c.self.invariant.placed) c.self.invariant.armed;
+      armed_reserved which s.queues c.self.inside.queues.locks same (reserved_handles s.queues c.self.inside.queues.locks same c.self.invariant.placed) (c.self.invariant.armed which);
 }
 
 pub add-slot-requires-clause-room : goal.add-slot-requires-clause-room

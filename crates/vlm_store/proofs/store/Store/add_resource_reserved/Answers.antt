@@ -142,11 +142,11 @@ add_resource-requires-clause-laid_out c = record {
       let s = c.self.inside in
       let same : (r : ℕ) → slot_of s.queues.resources r ≡ slot_of s.queues.resources r = λ r. refl in
       resources_tallied s.queues c.self.inside.queues.resources c.self.invariant.placed (reserved_lists s.queues c.self.inside.queues.resources same) (λ r. ap tally_in (same r)) c.self.invariant.tallied;
-  armed =
+  armed = λ which.
       let s = c.self.inside in
       let same : (r : ℕ) → slot_of s.queues.resources r ≡ slot_of s.queues.resources r = λ r. refl in
-      armed_resources s.queues c.self.inside.queues.resources (λ r. ap armed_list_in (same r))
-      (resources_handles s.queues c.self.inside.queues.resources c.self.invariant.placed (reserved_lists s.queues c.self.inside.queues.resources same)) c.self.invariant.armed;
+      armed_resources which s.queues c.self.inside.queues.resources (λ r. ap (armed_list_in which) (same r))
+      (resources_handles s.queues c.self.inside.queues.resources c.self.invariant.placed (reserved_lists s.queues c.self.inside.queues.resources same)) (c.self.invariant.armed which);
 }
 
 pub insert-requires-clause-there : goal.insert-requires-clause-there

@@ -92,7 +92,7 @@ invariant_of-self c =
     record {
       placed = placed3;
       tallied = kin_tallied q2 locks3 kin3 moved.laid_out.placed moved.laid_out.tallied;
-      armed = armed_kin q2 locks3 kin3 (kin_handles q2 locks3 kin3 moved.laid_out.placed) (kin_rows q2 locks3 kin3) moved.laid_out.armed;
+      armed = λ which. armed_kin which q2 locks3 kin3 (kin_handles q2 locks3 kin3 moved.laid_out.placed) (kin_rows q2 locks3 kin3) (moved.laid_out.armed which);
       line = c.join_line.ensures.line;
       linked = order_linked but_queues (λ r. refl) s.queues.resources q3.resources rest s.order kept.linked;
       ordered = order_whole but_queues (λ r. refl) s.queues.resources q3.resources rest s.order kept.linked kept.ordered;
@@ -143,8 +143,8 @@ move_to-requires-clause-laid_out c = record {
   tallied =
       let s = c.self.inside in
       kin_tallied s.queues c.leave_line.new.locks (line_kin s.queues.locks c.leave_line.new.locks c.leave_line.ensures.rest) c.self.invariant.placed c.self.invariant.tallied;
-  armed =
+  armed = λ which.
       let s = c.self.inside in
       let kin = line_kin s.queues.locks c.leave_line.new.locks c.leave_line.ensures.rest in
-      armed_kin s.queues c.leave_line.new.locks kin (kin_handles s.queues c.leave_line.new.locks kin c.self.invariant.placed) (kin_rows s.queues c.leave_line.new.locks kin) c.self.invariant.armed;
+      armed_kin which s.queues c.leave_line.new.locks kin (kin_handles s.queues c.leave_line.new.locks kin c.self.invariant.placed) (kin_rows s.queues c.leave_line.new.locks kin) (c.self.invariant.armed which);
 }

@@ -14,12 +14,12 @@ index-requires c =
 
 pub returns-in_default-clause-after : goal.returns-in_default-clause-after
 returns-in_default-clause-after c parent found =
-    absurd (unseen_below c.self.inside c.self.invariant c.args.lock parent (ap parent_in (rw c.slot.ensures at c.index.ensures) ∙ c.in_default.is) (rw (← c.self.view_is) at found))
+    absurd (unseen_below c.self.inside c.self.invariant c.args.lock parent (ap parent_in (rw c.slot.ensures at c.index.ensures) ∙ sym c.get.ensures ∙ c.in_default.is) (rw (← c.self.view_is) at found))
 
 pub next-requires : goal.next-requires
 next-requires c =
     let s = c.self.inside in
-    let notes = ap parent_in (rw c.slot.ensures at c.index.ensures) ∙ c.in-Some.is in
+    let notes = ap parent_in (rw c.slot.ensures at c.index.ensures) ∙ sym c.get.ensures ∙ c.in-Some.is in
     rw c.slot-3.ensures
     (subst (λ l. Lists below_links s.queues.locks l c.args.lock) (ap below_in (rw c.slot-2.ensures at c.index-2.ensures))
     (record {
@@ -37,7 +37,7 @@ of-requires c =
 pub returns-clause-after : goal.returns-clause-after
 returns-clause-after c parent found =
     let s = c.self.inside in
-    let notes = ap parent_in (rw c.slot.ensures at c.index.ensures) ∙ c.in-Some.is in
+    let notes = ap parent_in (rw c.slot.ensures at c.index.ensures) ∙ sym c.get.ensures ∙ c.in-Some.is in
     let listed = below_listed s c.self.invariant c.in-Some.parent c.index-2.result.now (rw c.slot-2.ensures at c.index-2.ensures) in
     let seen = below_of_lock s c.self.invariant c.args.lock c.in-Some.parent parent notes (rw (← c.self.view_is) at found) in
     rw (← c.self.view_is, c.of.ensures) ((rw c.slot-3.ensures at c.in_ok-at.ensures) ∙ ap (handle_after c.args.lock) (listed ∙ seen))
@@ -45,12 +45,12 @@ returns-clause-after c parent found =
 pub returns-in_err-at-clause-after : goal.returns-in_err-at-clause-after
 returns-in_err-at-clause-after c parent found =
     let s = c.self.inside in
-    let notes = ap parent_in (rw c.slot.ensures at c.index.ensures) ∙ c.in-Some.is in
+    let notes = ap parent_in (rw c.slot.ensures at c.index.ensures) ∙ sym c.get.ensures ∙ c.in-Some.is in
     let listed = below_listed s c.self.invariant c.in-Some.parent c.index-2.result.now (rw c.slot-2.ensures at c.index-2.ensures) in
     let seen = below_of_lock s c.self.invariant c.args.lock c.in-Some.parent parent notes (rw (← c.self.view_is) at found) in
     rw (← c.self.view_is) (c.from_residual.ensures ∙ (rw c.slot-3.ensures at c.in_err-at.ensures) ∙ ap (handle_after c.args.lock) (listed ∙ seen))
 
 pub returns-clause-root : goal.returns-clause-root
 returns-clause-root c none =
-    let notes = ap parent_in (rw c.slot.ensures at c.index.ensures) ∙ c.in-Some.is in
+    let notes = ap parent_in (rw c.slot.ensures at c.index.ensures) ∙ sym c.get.ensures ∙ c.in-Some.is in
     absurd (seen_below c.self.inside c.self.invariant c.args.lock c.in-Some.parent notes (rw (← c.self.view_is) at none))

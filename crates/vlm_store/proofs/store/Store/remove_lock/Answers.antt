@@ -162,7 +162,7 @@ remove-requires-clause-laid_out c = record {
       (same_then but_kin s.queues.locks c.leave_parent.new.locks c.leave_process.new.locks (below_kin s.processes s.queues.locks c.leave_parent.new.locks parent.rest) (own_kin c.leave_parent.new.locks c.leave_process.new.locks process.relinks))
       (line_kin c.leave_process.new.locks c.leave_line.new.locks lined.rest))
       kept.placed kept.tallied;
-  armed =
+  armed = λ which.
       let s = c.self.inside in
       let kept = c.self.invariant in
       let parent = rw c.slot-at.ensures at c.leave_parent.ensures in
@@ -171,5 +171,5 @@ remove-requires-clause-laid_out c = record {
       let kin = same_then but_kin s.queues.locks c.leave_process.new.locks c.leave_line.new.locks
       (same_then but_kin s.queues.locks c.leave_parent.new.locks c.leave_process.new.locks (below_kin s.processes s.queues.locks c.leave_parent.new.locks parent.rest) (own_kin c.leave_parent.new.locks c.leave_process.new.locks process.relinks))
       (line_kin c.leave_process.new.locks c.leave_line.new.locks lined.rest) in
-      armed_kin s.queues c.leave_line.new.locks kin (kin_handles s.queues c.leave_line.new.locks kin kept.placed) (kin_rows s.queues c.leave_line.new.locks kin) kept.armed;
+      armed_kin which s.queues c.leave_line.new.locks kin (kin_handles s.queues c.leave_line.new.locks kin kept.placed) (kin_rows s.queues c.leave_line.new.locks kin) (kept.armed which);
 }

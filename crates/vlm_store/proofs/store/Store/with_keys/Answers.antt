@@ -29,7 +29,7 @@ invariant_of-result c =
     record {
       placed = empty_placed q no_locks no_resources;
       tallied = empty_tallied q no_locks no_resources;
-      armed = empty_armed q no_resources (empty_handles q no_locks no_resources);
+      armed = λ which. empty_armed which q no_resources (empty_handles q no_locks no_resources);
       line = empty_line q.locks c.new-3.result c.new-3.ensures no_locks;
       linked = empty_linked q no_locks no_resources c.new-4.result c.new-4.ensures;
       ordered = empty_ordered q no_locks no_resources c.new-4.result c.new-4.ensures;

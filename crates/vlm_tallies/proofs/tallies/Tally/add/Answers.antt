@@ -1,11 +1,8 @@
-use Rattle.vlm_tallies.specs.Tallies.Count.{of_armed, of_held, of_wanted}
+use Rattle.vlm_tallies.specs.Tallies.Count.{of_held, of_wanted}
 use Rattle.vlm_tallies.proofs.tallies.Tally.add.Goals as goal
 
 pub count_in-requires : goal.count_in-requires
 count_in-requires c mode = c.requires of_held mode
-
-pub count_in-requires-in-Granted : goal.count_in-requires-in-Granted
-count_in-requires-in-Granted c mode = c.requires of_armed mode
 
 pub count_in-requires-in-Conversion : goal.count_in-requires-in-Conversion
 count_in-requires-in-Conversion c mode = c.requires of_wanted mode

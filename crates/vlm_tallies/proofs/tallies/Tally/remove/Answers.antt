@@ -1,11 +1,8 @@
-use Rattle.vlm_tallies.specs.Tallies.Count.{of_armed, of_held, of_wanted}
+use Rattle.vlm_tallies.specs.Tallies.Count.{of_held, of_wanted}
 use Rattle.vlm_tallies.proofs.tallies.Tally.remove.Goals as goal
 
 pub count_out-requires : goal.count_out-requires
 count_out-requires c mode = rw c.in-Granted.is at (c.requires of_held mode)
-
-pub count_out-requires-in-Granted : goal.count_out-requires-in-Granted
-count_out-requires-in-Granted c mode = rw c.armed_request.ensures (rw c.in-Granted.is at (c.requires of_armed mode))
 
 pub count_out-requires-in-Conversion : goal.count_out-requires-in-Conversion
 count_out-requires-in-Conversion c mode = rw c.in-Conversion.is at (c.requires of_wanted mode)
