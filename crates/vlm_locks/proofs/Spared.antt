@@ -11,7 +11,7 @@ use Rattle.vlm_words.specs.Modes.{is_compatible, rank}
 use Rattle.vlm_records.specs.declared.handles.Armed.{Armed}
 use Rattle.vlm_records.specs.declared.handles.Armed.TheVariants.{AboveNl, AboveCr}
 use Rattle.vlm_records.specs.Armed.{floor, held_rank, is_listed}
-use Rattle.vlm_store.specs.Records.{Records, StoredResource, resource_at, rows_of_locks}
+use Rattle.vlm_store.specs.Records.{Records, resource_at, rows_of_locks}
 use Rattle.vlm_locks.specs.Warning.{SparesOthers}
 
 -- NL keeps nothing out

@@ -62,7 +62,9 @@ impl Lock {
         ensures { result ≡ armed_of which self.now }
     {
         match self.place {
-            Place::Queued(res, Queue::Granted) if which.floor() < self.row.armed_rank() => Some(res),
+            Place::Queued(res, Queue::Granted) if which.floor() < self.row.armed_rank() => Some(
+                res,
+            ),
             _ => None,
         }
     }

@@ -2,7 +2,7 @@
 use Rattle.std.proofs.Common.{◌≡◌, ℕ, List, [], ◌∷◌, map, not, ◌&&◌, ◌||◌, Option, None, Some, refl, sym, ap, ◌∙◌}
 use Rattle.std.specs.List.{list_all, list_any}
 use Rattle.vlm_words.specs.declared.modes.Mode.{Mode}
-use Rattle.vlm_words.specs.Asts.{has_to_warn, is_in_the_way, is_to_warn, keeps_out}
+use Rattle.vlm_words.specs.Asts.{keeps_out}
 use Rattle.vlm_words.specs.Grants.{fits, is_beside}
 use Rattle.vlm_words.specs.declared.locks.Row.{Row}
 use Rattle.vlm_words.specs.declared.resources.Queue.TheVariants.{Granted, Conversion, Waiting}
@@ -12,7 +12,6 @@ use Rattle.vlm_tallies.specs.Tallies.Count.{of_wanted}
 use Rattle.vlm_records.specs.declared.handles.Place.TheVariants.{Queued}
 use Rattle.vlm_records.specs.declared.queues.Queues.{Queues}
 use Rattle.vlm_records.proofs.Fitting.{in_the_way, wanted-rows}
-use Rattle.vlm_store.specs.Plain.{plain_resource}
 use Rattle.vlm_store.specs.Records.{fits_beside, rows_of_locks}
 use Rattle.vlm_records.specs.Shown.{handles_at, handles_but, handles_fit, rows, shares}
 use Rattle.vlm_store.specs.Store.{Layout, under_handle, resource_of}

@@ -1,8 +1,7 @@
-use Rattle.std.proofs.Common.{◌∙◌, None, Some, ap, sym}
-use Rattle.vlm_records.specs.declared.handles.Armed.TheVariants.{AboveNl, AboveCr}
-use Rattle.vlm_records.specs.Shown.{but_in_armed, row_in}
-use Rattle.vlm_records.proofs.Arming.{keeps_twice, same_places, unarmed_left, unarmed_none}
-use Rattle.vlm_records.proofs.Places.{there_through}
+use Rattle.std.proofs.Common.{◌∙◌, ap, sym}
+use Rattle.vlm_records.specs.declared.handles.Armed.TheVariants.{AboveNl}
+use Rattle.vlm_records.specs.Shown.{row_in}
+use Rattle.vlm_records.proofs.Arming.{unarmed_left, unarmed_none}
 use Rattle.vlm_records.proofs.queues.Queues.leave_armed.Goals as goal
 
 -- it is not armed

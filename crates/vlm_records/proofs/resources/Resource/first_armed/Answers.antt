@@ -1,7 +1,6 @@
-use Rattle.std.proofs.Common.{◌≡◌, ◌≢◌, ◌++◌, ◌∷◌, [], ℕ, refl, subst, sym}
-use Rattle.slab.specs.Slab.{get}
-use Rattle.vlm_links.specs.Lists.{IsIn, IsLinked, Lists, first_handle, handle_after, handles_of, without}
-use Rattle.vlm_records.specs.Armed.{armed_links, list_of, with_list}
+use Rattle.std.proofs.Common.{◌≡◌, subst, sym}
+use Rattle.vlm_links.specs.Lists.{IsLinked, first_handle, handles_of}
+use Rattle.vlm_records.specs.Armed.{armed_links, list_of}
 use Rattle.vlm_records.proofs.resources.Resource.first_armed.Goals as goal
 
 -- the locks above NL
