@@ -5,3 +5,4 @@ pub mod HandleLists
 pub mod Rings
 pub mod Walks
 pub mod HandleRows
+pub mod IndexParts

@@ -14,6 +14,6 @@ key_words bytes = (bit_and (from_le_bytes w128 bytes) 0xFFFFFFFFFFFFFFFF, from_l
 unfoldable pub hash_of : HashKeys → List ℕ → ℕ
 hash_of keys words = finished (fold compressed keys.words words)
 
--- four bytes are a number, the low one first, and its hash is a multiple in 64 bits
+-- four bytes are a number, the low one first, and its hash is the upper half of a multiple in 64 bits
 abbrev pub spreading : HashSpread → List ℕ → HashSpread
-spreading h bytes = record { spread = if length bytes == 4 then (from_le_bytes w32 bytes * 0x9E3779B97F4A7C15) % 2 ^ 64 else 0 }
+spreading h bytes = record { spread = if length bytes == 4 then (from_le_bytes w32 bytes * 0x9E3779B97F4A7C15) % 2 ^ 64 / 2 ^ 32 else 0 }

@@ -1,5 +1,6 @@
 pub mod Hashing
 pub mod Links
 pub mod Lists
+pub mod Parts
 pub mod Sip
 pub mod Tables

@@ -71,8 +71,8 @@ impl BuildHasher for HashKeys {
 }
 
 /// The hasher of an index whose keys are numbers of 32 bits: one multiplication spreads them over the table and its
-/// tags. It keeps nobody from choosing numbers that meet, and nobody can: the machine gives identifications in order,
-/// and hashes of keys are keyed already.
+/// tags. The hash is the upper half of the product, where each bit of the number counts. It keeps nobody from choosing
+/// numbers that meet, and nobody can: the machine gives identifications in order, and hashes of keys are keyed already.
 #[derive(Clone, Copy)]
 pub struct HashSpread {
     // the number that was written, spread: 0 before, and after input that is not four bytes long
@@ -99,7 +99,7 @@ impl Hasher for HashSpread {
 
     fn write(&mut self, bytes: &[u8]) {
         self.spread = match <[u8; 4]>::try_from(bytes) {
-            Ok(number) => u64::from(u32::from_le_bytes(number)).wrapping_mul(SPREAD),
+            Ok(number) => u64::from(u32::from_le_bytes(number)).wrapping_mul(SPREAD) >> 32,
             Err(_) => 0,
         };
     }

@@ -1,5 +1,5 @@
-//! The records of a slab: their handles, doubly linked lists that run through them, room for one more, the hashers
-//! of the indexes that find them, and the table that finds some of them by number.
+//! The records of a slab: their handles, doubly linked lists that run through them, room for one more, the index that
+//! finds them by number, the hashers, and the table that finds some of them by number without a hash.
 //!
 //! A list is a chain of handles, the keys of a slab. Its links stand in the records themselves, so that a record joins at
 //! the end and leaves from anywhere in constant time, and neither wants memory. A record may stand in
@@ -22,6 +22,7 @@ mod handles;
 mod hashing;
 mod link;
 mod lists;
+mod parted;
 mod sip;
 mod tables;
 
@@ -30,4 +31,5 @@ pub use handles::{At, MaybeAt};
 pub use hashing::{HashKeys, HashSpread};
 pub use link::{LAST_HANDLE, Links};
 pub use lists::{Linked, LinkedList};
+pub use parted::PartedIndex;
 pub use tables::HandleTable;

@@ -102,7 +102,7 @@ on_ok_of (Ok x) f a b c = f a b c
 on_ok_of (Err e) f a b c = tt
 
 -- room is made, and then the ASTs are owed
-pub made_ready : {T E : Type 0} (r : Result T E) (e : Entry) (s mid o : Records) → IsUnchanged s mid → HasRoomForLock mid → (e.res ≡ None → HasRoomForResource mid) → IsProcess e.owner e.pid mid
+pub made_ready : {T E : Type 0} (r : Result T E) (e : Entry) (s mid o : Records) → IsUnchanged s mid → HasRoomForLock e.lkid mid → (e.res ≡ None → HasRoomForResource e.hash mid) → IsProcess e.owner e.pid mid
     → OnOk r (plain_processes o ≡ plain_processes mid)
     → OnOk r ((pid : ℕ) → IsProcess e.owner pid mid → DueChanges pid (λ due. due + routines_of (Some e.asked)) mid o)
     → OnOk r (SameButNotices mid o) → OnOk r (IsReady e s o)
@@ -112,8 +112,8 @@ made_ready r e s mid o unchanged lock resource lives =
       processes = same.processes ∙ ap (λ (x : Records). map but_notices x.processes) unchanged.same;
       keys = same.keys ∙ ap (λ (x : Records). x.keys) unchanged.same;
       statuses = statuses ∙ ap plain_processes unchanged.same;
-      lock = subst (λ (room : Rooms). HasRoom room.locks) (sym same.room) lock;
-      resource = λ none. subst (λ (room : Rooms). HasRoom room.resources) (sym same.room) (resource none);
+      lock = subst (λ (room : Rooms). HasRoom e.lkid room.locks) (sym same.room) lock;
+      resource = λ none. subst (λ (room : Rooms). HasRoom e.hash room.resources) (sym same.room) (resource none);
       owed = λ pid.
           owed e.pid lives pid
           ∙ ap (λ (due : ℕ). cond (pid == e.pid) (due + routines_of (Some e.asked)) due) (ap (due_of pid) unchanged.same);

@@ -50,8 +50,8 @@ pub record MayEnter (e : Entry) (s : Records) : Type 0 where
 
 -- there is room for the lock, and for its resource where none is there, and its request names no routine
 pub record HasRoomToEnter (e : Entry) (s : Records) : Type 0 where
-  pub lock : HasRoomForLock s
-  pub resource : e.res ≡ None → HasRoomForResource s
+  pub lock : HasRoomForLock e.lkid s
+  pub resource : e.res ≡ None → HasRoomForResource e.hash s
   pub asts : routines_of (Some e.asked) ≡ 0
 
 -- there is room for the lock, and for its resource where none is there, and its process is owed the ASTs of the routines
@@ -61,8 +61,8 @@ pub record IsReady (e : Entry) (old new : Records) : Type 0 where
   pub processes : map but_notices new.processes ≡ map but_notices old.processes
   pub keys : new.keys ≡ old.keys
   pub statuses : plain_processes new ≡ plain_processes old
-  pub lock : HasRoomForLock new
-  pub resource : e.res ≡ None → HasRoomForResource new
+  pub lock : HasRoomForLock e.lkid new
+  pub resource : e.res ≡ None → HasRoomForResource e.hash new
   pub owed : DueChanges e.pid (λ due. due + routines_of (Some e.asked)) old new
 
 -- more is due, by what is due for a new lock with this row, and what is owed stays

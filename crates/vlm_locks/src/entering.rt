@@ -105,7 +105,7 @@ fn enter_at(store: &mut Store, entry: &Entry, row: &StoredRow, res: ResAt)
     requires may_enter { MayEnter entry.now store.old }
     requires row { row.now ≡ new_row entry.now }
     requires found { FindsResource store.old entry.now.site.key (Some res) }
-    requires room { HasRoomForLock store.old }
+    requires room { HasRoomForLock entry.now.lkid store.old }
     ensures entered { IsEntered entry.now res store.old store.new }
     ensures due { IsDueMore (entered_row entry.now.at_once (new_row entry.now))
         store.old store.new }
@@ -119,10 +119,10 @@ fn enter_at(store: &mut Store, entry: &Entry, row: &StoredRow, res: ResAt)
 fn resource_or_new(store: &mut Store, entry: &Entry) -> ResAt
     requires may_enter { MayEnter entry.now store.old }
     requires found { FindsResource store.old entry.now.site.key entry.now.res }
-    requires room { entry.now.res ≡ None → HasRoomForResource store.old }
+    requires room { entry.now.res ≡ None → HasRoomForResource entry.now.hash store.old }
     ensures may_enter { MayEnter entry.now store.new }
     ensures found { FindsResource store.new entry.now.site.key (Some result) }
-    ensures lock_room { HasRoomForLock store.old → HasRoomForLock store.new }
+    ensures lock_room { HasRoomForLock entry.now.lkid store.old → HasRoomForLock entry.now.lkid store.new }
     ensures entered { (then : Records) → IsEntered entry.now result store.new then
         → IsEntered entry.now result store.old then }
     ensures due { (row : Row) (then : Records) → IsDueMore row store.new then
@@ -139,8 +139,8 @@ fn take_in(store: &mut Store, entry: &Entry, row: &StoredRow) -> ResAt
     requires may_enter { MayEnter entry.now store.old }
     requires row { row.now ≡ new_row entry.now }
     requires found { FindsResource store.old entry.now.site.key entry.now.res }
-    requires room { HasRoomForLock store.old }
-    requires resource_room { entry.now.res ≡ None → HasRoomForResource store.old }
+    requires room { HasRoomForLock entry.now.lkid store.old }
+    requires resource_room { entry.now.res ≡ None → HasRoomForResource entry.now.hash store.old }
     ensures entered { IsEntered entry.now result store.old store.new }
     ensures due { IsDueMore (entered_row entry.now.at_once (new_row entry.now))
         store.old store.new }
@@ -197,14 +197,14 @@ fn accept_entered(store: &mut Store, entry: &Entry, row: &StoredRow, res: ResAt)
 // but that there may be more room.
 fn reserve(store: &mut Store, entry: &Entry) -> Result<(), AllocError>
     ensures unchanged { IsUnchanged store.old store.new }
-    ensures lock { OnOk result (HasRoomForLock store.new) }
-    ensures resource { OnOk result (entry.now.res ≡ None → HasRoomForResource store.new) }
-    ensures succeeds { HasRoomForLock store.old
-        → (entry.now.res ≡ None → HasRoomForResource store.old) → IsOk result }
+    ensures lock { OnOk result (HasRoomForLock entry.now.lkid store.new) }
+    ensures resource { OnOk result (entry.now.res ≡ None → HasRoomForResource entry.now.hash store.new) }
+    ensures succeeds { HasRoomForLock entry.now.lkid store.old
+        → (entry.now.res ≡ None → HasRoomForResource entry.now.hash store.old) → IsOk result }
 {
-    store.reserve_lock()?;
+    store.reserve_lock(entry.lkid)?;
     match entry.res {
-        None => store.reserve_resource(),
+        None => store.reserve_resource(entry.hash),
         Some(_) => Ok(()),
     }
 }
@@ -226,8 +226,8 @@ fn make_ready(store: &mut Store, entry: &Entry) -> Result<(), AllocError>
 fn enter_ready(store: &mut Store, entry: &Entry) -> ResAt
     requires may_enter { MayEnter entry.now store.old }
     requires found { FindsResource store.old entry.now.site.key entry.now.res }
-    requires room { HasRoomForLock store.old }
-    requires resource_room { entry.now.res ≡ None → HasRoomForResource store.old }
+    requires room { HasRoomForLock entry.now.lkid store.old }
+    requires resource_room { entry.now.res ≡ None → HasRoomForResource entry.now.hash store.old }
     requires owed { OwesMore entry.now.pid (routines_of (Some entry.now.asked)) store.old }
     ensures entered { HasEntered entry.now result store.old store.new }
 {

@@ -1,10 +1,9 @@
 -- How the index of resources finds by keys alone, and how it stays so.
-use Rattle.std.proofs.Common.{◌≡◌, ◌≢◌, ◌⊎◌, ℕ, Bool, true, false, Option, None, Some, IsSome, nat_eq, cond, refl, sym, ap, ◌∙◌, inl, inr, subst}
+use Rattle.std.proofs.Common.{◌≡◌, ◌≢◌, ◌⊎◌, ℕ, Bool, true, false, Option, None, Some, IsSome, cond, refl, sym, ap, ◌∙◌, inl, inr, subst}
 use Rattle.std.proofs.lemmas.Bool.{cases_eq}
 use Rattle.std.proofs.lemmas.Option.{none-some, same_Some}
 use Rattle.std.specs.Option.{option_map}
 use Rattle.slab.specs.Slab.{Slab, get, ContainsKey}
-use Rattle.std.specs.Cmp.{unsigned_Decides}
 use Rattle.vlm_store.specs.Index.{hash_key}
 use Rattle.vlm_links.specs.declared.hashing.HashKeys.{HashKeys}
 use Rattle.vlm_words.specs.declared.resources.Key.{Key}
@@ -135,19 +134,9 @@ index_same hash x x' label label' same labels kept = record {
 pub labels_same : (hash : Key → ℕ) (x : KeyIndex) (label label' : ℕ → Option HashedKey) → ((at : ℕ) → label' at ≡ label at) → IsHashed hash x label → IsHashed hash x label'
 labels_same hash x label label' = index_same hash x x label label' (record { last = λ n. refl; other = λ k. refl })
 
-hash_cases : (hash n : ℕ) → (n ≡ hash) ⊎ (nat_eq hash n ≡ false)
-hash_cases hash n = by_test (nat_eq hash n) refl
-  where
-    by_test : (b : Bool) → nat_eq hash n ≡ b → (n ≡ hash) ⊎ (nat_eq hash n ≡ false)
-    by_test true is = inl (sym ((unsigned_Decides hash n).0 is))
-    by_test false is = inr is
-
 -- what the tests tell apart differs
 differ : true ≡ false → ⊥
 differ e = cc
-
-hashes_differ : (hash n : ℕ) → nat_eq hash n ≡ false → n ≢ hash
-hashes_differ hash n apart same = differ (sym ((unsigned_Decides hash n).1 (sym same)) ∙ apart)
 
 keys_differ : (k j : HashedKey) → is_same_hashed k j ≡ false → j ≢ k
 keys_differ k j apart same = differ (sym ((is_same_hashed-Decides k j).1 (sym same)) ∙ apart)
@@ -208,41 +197,41 @@ module _ (hash : Key → ℕ) (x x' : KeyIndex) (label label' : ℕ → Option H
     pub hashed_added : label' at ≡ Some k → ((b : ℕ) → label b ≢ Some k) → k.hash ≡ hash k.key → IsHashed hash x' label'
     hashed_added is fresh hash_is = record {
       indexed = record {
-        last_is = λ n b told. elim (hash_cases k.hash n) [
+        last_is = λ n b told. elim (cases_eq n k.hash) [
           | inl same ↦
-              let b_is : at ≡ b = same_Some at b (sym enters.last.1 ∙ ap (last_of x') (sym same) ∙ told) in
+              let b_is : at ≡ b = same_Some at b (sym enters.last.this ∙ ap (last_of x') (sym same) ∙ told) in
               (k, (ap label' (sym b_is) ∙ is, sym same))
           | inr apart ↦
-              let old = kept.indexed.last_is n b (sym (enters.last.2 n apart) ∙ told) in
+              let old = kept.indexed.last_is n b (sym (enters.last.others n apart) ∙ told) in
               (old.0, (rest b (differs label b old.0 was old.1.0) ∙ old.1.0, old.1.1))
         ];
         other_is = λ j b told.
             let here : label b ≡ Some j = elim (is_moved.from j b told) [ inl old ↦ (kept.indexed.other_is j b old).0 | inr moved ↦ moved.1 ] in
             let b_other = differs label b j was here in (
               rest b b_other ∙ here,
-              λ last. elim (hash_cases k.hash j.hash) [
-                | inl same ↦ b_other (same_Some b at (sym last ∙ ap (last_of x') same ∙ enters.last.1))
+              λ last. elim (cases_eq j.hash k.hash) [
+                | inl same ↦ b_other (same_Some b at (sym last ∙ ap (last_of x') same ∙ enters.last.this))
                 | inr apart ↦
-                    let old_last = sym (enters.last.2 j.hash apart) ∙ last in
+                    let old_last = sym (enters.last.others j.hash apart) ∙ last in
                     elim (is_moved.from j b told) [
                       | inl old ↦ (kept.indexed.other_is j b old).1 old_last
                       | inr moved ↦
                           let named = kept.indexed.last_is k.hash b moved.0 in
                           let j_is : named.0 ≡ j = same_Some named.0 j (sym named.1.0 ∙ here) in
-                          hashes_differ k.hash j.hash apart (ap (λ (h : HashedKey). h.hash) (sym j_is) ∙ named.1.1)
+                          apart (ap (λ (h : HashedKey). h.hash) (sym j_is) ∙ named.1.1)
                     ]
               ],
             );
         listed = λ b j told. elim (cases_eq b at) [
           | inl same ↦
               let j_is : k ≡ j = same_Some k j (sym is ∙ ap label' (sym same) ∙ told) in
-              inl (ap (λ (h : HashedKey). last_of x' h.hash) (sym j_is) ∙ enters.last.1 ∙ ap Some (sym same))
+              inl (ap (λ (h : HashedKey). last_of x' h.hash) (sym j_is) ∙ enters.last.this ∙ ap Some (sym same))
           | inr apart ↦
               let here = sym (rest b apart) ∙ told in
               elim (kept.indexed.listed b j here) [
-                | inl last ↦ elim (hash_cases k.hash j.hash) [
+                | inl last ↦ elim (cases_eq j.hash k.hash) [
                   | inl same ↦ inr (is_moved.moved j b here (ap (last_of x) (sym same) ∙ last))
-                  | inr other ↦ inl (enters.last.2 j.hash other ∙ last)
+                  | inr other ↦ inl (enters.last.others j.hash other ∙ last)
                 ]
                 | inr other ↦ inr (is_moved.stays j b other)
               ]
@@ -286,30 +275,30 @@ module _ (hash : Key → ℕ) (x x' : KeyIndex) (label label' : ℕ → Option H
 
         of_other : (other : Option ℕ) → other_of x k ≡ other → LeavesBy other k x x' → IsIndexed x' label'
         of_other None none left = record {
-          last_is = λ n b told. elim (hash_cases k.hash n) [
-            | inl same ↦ absurd (none-some b (sym left.1.1 ∙ ap (last_of x') (sym same) ∙ told))
+          last_is = λ n b told. elim (cases_eq n k.hash) [
+            | inl same ↦ absurd (none-some b (sym left.1.this ∙ ap (last_of x') (sym same) ∙ told))
             | inr apart ↦
-                let old = kept.indexed.last_is n b (sym (left.1.2 n apart) ∙ told) in
-                (old.0, (rest b (other_one b old.0 old.1.0 (λ same. hashes_differ k.hash n apart (sym old.1.1 ∙ ap (λ (h : HashedKey). h.hash) same))) ∙ old.1.0, old.1.1))
+                let old = kept.indexed.last_is n b (sym (left.1.others n apart) ∙ told) in
+                (old.0, (rest b (other_one b old.0 old.1.0 (λ same. apart (sym old.1.1 ∙ ap (λ (h : HashedKey). h.hash) same))) ∙ old.1.0, old.1.1))
           ];
           other_is = λ j b told.
               let was_other = sym (left.0 j) ∙ told in
               let old = kept.indexed.other_is j b was_other in (
                 rest b (other_one b j old.0 (λ same. none-some b (sym none ∙ ap (other_of x) (sym same) ∙ was_other))) ∙ old.0,
-                λ last. elim (hash_cases k.hash j.hash) [
-                  | inl same ↦ none-some b (sym left.1.1 ∙ ap (last_of x') (sym same) ∙ last)
-                  | inr apart ↦ old.1 (sym (left.1.2 j.hash apart) ∙ last)
+                λ last. elim (cases_eq j.hash k.hash) [
+                  | inl same ↦ none-some b (sym left.1.this ∙ ap (last_of x') (sym same) ∙ last)
+                  | inr apart ↦ old.1 (sym (left.1.others j.hash apart) ∙ last)
                 ],
               );
           listed = λ b j told.
               let b_other = differs label' b j gone told in
               elim (kept.indexed.listed b j (sym (rest b b_other) ∙ told)) [
-                | inl last ↦ elim (hash_cases k.hash j.hash) [
+                | inl last ↦ elim (cases_eq j.hash k.hash) [
                   | inl same ↦ elim (kept.indexed.listed at k was) [
                     | inl mine ↦ absurd (b_other (same_Some b at (sym last ∙ ap (last_of x) same ∙ mine)))
                     | inr mine ↦ absurd (none-some at (sym none ∙ mine))
                   ]
-                  | inr apart ↦ inl (left.1.2 j.hash apart ∙ last)
+                  | inr apart ↦ inl (left.1.others j.hash apart ∙ last)
                 ]
                 | inr other ↦ inr (left.0 j ∙ other)
               ];

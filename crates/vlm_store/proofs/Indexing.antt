@@ -4,7 +4,7 @@ use Rattle.std.specs.Bool.{Decides}
 use Rattle.std.specs.Cmp.{unsigned_Decides}
 use Rattle.std.proofs.lemmas.Bool.{cases_eq}
 use Rattle.std.proofs.lemmas.Option.{none-some, same_Some}
-use Rattle.indexmap.specs.IndexMap.{IndexMap, get, Updates}
+use Rattle.vlm_links.specs.Parts.{Parts, Writes as PartsWrites, handle_in}
 use Rattle.vlm_links.specs.Tables.{Grows, HasRoomFor, Writes, handle_of}
 use Rattle.vlm_store.specs.Index.{Indexes, IsTable}
 
@@ -74,15 +74,24 @@ module _ {K : Type 0} (eq : K → K → Bool) (decides : (a b : K) → Decides (
       true_false : true ≡ false → ⊥
       true_false e = cc
 
--- in a map
-module _ {K S : Type 0} (eq : K → K → Bool) (decides : (a b : K) → Decides (eq a b) (a ≡ b)) (m m' : IndexMap K ℕ S) (key : K) (label label' : ℕ → Option K) (at : ℕ) where
-  pub Indexes-added : Updates eq m m' key (Some at) → label at ≡ None → label' at ≡ Some key → ((other : ℕ) → other ≢ at → label' other ≡ label other) → get eq m key ≡ None
-      → Indexes (get eq m) label → Indexes (get eq m') label'
-  Indexes-added updates was is others = found_added eq decides (get eq m) (get eq m') key label label' at updates.2 others updates.1 was is
+-- what is found of the other numbers, by the test that tells them apart
+others_apart : (found found' : ℕ → Option ℕ) (number : ℕ) → ((other : ℕ) → ¬ (other ≡ number) → found' other ≡ found other) → (k : ℕ) → nat_eq number k ≡ false → found' k ≡ found k
+others_apart found found' number others k differs = others k (λ same. true_false (sym ((unsigned_Decides number k).1 (sym same)) ∙ differs))
+  where
+    true_false : true ≡ false → ⊥
+    true_false e = cc
 
-  pub Indexes-removed : Updates eq m m' key None → label at ≡ Some key → label' at ≡ None → ((other : ℕ) → other ≢ at → label' other ≡ label other)
-      → Indexes (get eq m) label → Indexes (get eq m') label'
-  Indexes-removed updates was is others = found_removed eq decides (get eq m) (get eq m') key label label' at updates.2 others updates.1 was is
+-- in an index in parts
+module _ (parts parts' : Parts) (number : ℕ) (label label' : ℕ → Option ℕ) (at : ℕ) where
+  pub Indexes-added : PartsWrites number (Some at) parts parts' → label at ≡ None → label' at ≡ Some number → ((other : ℕ) → other ≢ at → label' other ≡ label other) → handle_in parts number ≡ None
+      → Indexes (handle_in parts) label → Indexes (handle_in parts') label'
+  Indexes-added writes was is others =
+      found_added nat_eq unsigned_Decides (handle_in parts) (handle_in parts') number label label' at (others_apart (handle_in parts) (handle_in parts') number writes.others) others writes.this was is
+
+  pub Indexes-removed : PartsWrites number None parts parts' → label at ≡ Some number → label' at ≡ None → ((other : ℕ) → other ≢ at → label' other ≡ label other)
+      → Indexes (handle_in parts) label → Indexes (handle_in parts') label'
+  Indexes-removed writes was is others =
+      found_removed nat_eq unsigned_Decides (handle_in parts) (handle_in parts') number label label' at (others_apart (handle_in parts) (handle_in parts') number writes.others) others writes.this was is
 
 -- in a table
 pub table_same : (rows : List (List (Option ℕ))) (label label' : ℕ → Option ℕ) → ((at : ℕ) → label' at ≡ label at) → IsTable rows label → IsTable rows label'
@@ -99,10 +108,7 @@ table_grown rows rows' label grows kept = record {
 
 module _ (rows rows' : List (List (Option ℕ))) (number at : ℕ) (label label' : ℕ → Option ℕ) (others : (other : ℕ) → other ≢ at → label' other ≡ label other) (kept : IsTable rows label) where
   rest : (handle : Option ℕ) → Writes number handle rows rows' → (k : ℕ) → nat_eq number k ≡ false → handle_of rows' k ≡ handle_of rows k
-  rest handle writes k differs = writes.others k (λ same. true_false (sym ((unsigned_Decides number k).1 (sym same)) ∙ differs))
-    where
-      true_false : true ≡ false → ⊥
-      true_false e = cc
+  rest handle writes = others_apart (handle_of rows) (handle_of rows') number writes.others
 
   pub table_added : Writes number (Some at) rows rows' → label at ≡ None → label' at ≡ Some number → handle_of rows number ≡ None → HasRoomFor rows number → IsTable rows' label'
   table_added writes was is fresh roomy = record {

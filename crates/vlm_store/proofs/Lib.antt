@@ -23,6 +23,7 @@ pub mod Records
 pub mod Rewriting
 pub mod RoomShown
 pub mod Siblings
+pub mod Spares
 pub mod Totals
 pub mod Undoing
 pub mod Walks

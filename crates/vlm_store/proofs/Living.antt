@@ -1,5 +1,5 @@
 -- What a caller learns of the processes and their locks.
-use Rattle.std.proofs.Common.{◌≡◌, ◌≤◌, ℕ, zero, suc, true, nat_lt, arith, length, List, [], ◌∷◌, map, Option, None, Some, IfSome, IsSome, refl, sym, ap, ◌∙◌, subst, nat_eq}
+use Rattle.std.proofs.Common.{◌≡◌, ◌≤◌, ℕ, zero, suc, true, nat_lt, arith, length, List, [], ◌∷◌, map, Option, None, Some, IfSome, IsSome, refl, sym, ap, ◌∙◌, subst}
 use Rattle.std.proofs.lemmas.Bool.Decides.{nat_tests}
 use Rattle.std.proofs.lemmas.Option.{none-some, same_Some}
 use Rattle.std.specs.Bool.{OnFalse, OnTrue}
@@ -7,6 +7,7 @@ use Rattle.std.specs.Option.{ForSome, option_map, option_map_or}
 use Rattle.slab.specs.Slab.{Slab, get, ContainsKey}
 use Rattle.indexmap.specs.IndexMap.{get as found}
 use Rattle.vlm_links.specs.Tables.{handle_of}
+use Rattle.vlm_links.specs.Parts.{handle_in}
 use Rattle.vlm_store.specs.Index.{hash_key}
 use Rattle.vlm_links.specs.declared.link.TheConstants.{LAST_HANDLE}
 use Rattle.vlm_links.specs.Lists.{IsApart, IsIn, handles_of}
@@ -241,7 +242,7 @@ module _ (s : Inside) (kept : IsKept s) where
   pub is_sound : IsSound (records_shown s)
   is_sound =
       IsSound-records_of (tables s.queues s.order (beside_shown s)) kept.linked.apart (λ p. (kept.placed.linked p).apart) (one_place s.queues None kept.placed)
-      (lkids_apart s.queues s.order (beside_shown s) kept.placed kept.linked kept.ordered (found nat_eq s.lock_index) kept.locks)
+      (lkids_apart s.queues s.order (beside_shown s) kept.placed kept.linked kept.ordered (handle_in s.lock_index) kept.locks)
       (keys_apart s.queues s.order (beside_shown s) kept.placed kept.linked kept.ordered (found_in s) (by_keys (hash_key s.keys) s.resource_index s.queues kept.resources)) are_apart are_owned own_apart
 
   -- the index of processes finds what a caller sees

@@ -1,5 +1,5 @@
 -- A process is rewritten, but for its identification, its locks and its place in the order.
-use Rattle.std.proofs.Common.{◌≡◌, ◌∙◌, ◌+◌, ℕ, Bool, List, Some, ap, sym, refl}
+use Rattle.std.proofs.Common.{◌≡◌, ◌∙◌, ◌+◌, ℕ, Bool, List, [], Some, ap, sym, refl}
 use Rattle.slab.specs.Slab.{get}
 use Rattle.vlm_words.specs.declared.asts.Ast.{Ast}
 use Rattle.vlm_words.specs.State.{Process as PlainProcess}
@@ -87,7 +87,7 @@ module _ (s : Inside) (kept : IsKept s) (at : ℕ) (was now : Process) (here : g
       ∙ ap (λ r. record (records_shown s) { processes = on_stored at change (records_shown s).processes; room = r })
       (room_shown (λ a b. b ≡ a) (tables s.queues s.order (beside_shown s)) (tables s.queues s.order (beside_shown (record s { processes = processes })))
       (ap (λ p. record (rooms_shown s) { processes = p })
-      (room_of_same s.processes processes 1 (room_written s.processes at now (rw here refl)))))
+      (room_of_same s.processes processes [] (room_written s.processes at now (rw here refl)))))
 
 -- the ASTs of the process at a handle are written
 module _ (s : Inside) (kept : IsKept s) (at : ℕ) (was : Process) (asts : Asts) (here : get s.processes at ≡ Some was) where

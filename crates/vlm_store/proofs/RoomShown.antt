@@ -1,12 +1,11 @@
 -- What a caller sees of the room for more records.
 use Rattle.vlm_store.specs.Index.{hash_key}
 use Rattle.vlm_store.proofs.Lined.{line_same}
-use Rattle.std.proofs.Common.{◌≡◌, ℕ, ◌+◌, ◌<◌, ◌≤◌, None, nat_eq, Result, Ok, Err, OnOk, refl, sym, ap, ◌∙◌, subst, arith}
-use Rattle.std.specs.Map.{lookup}
+use Rattle.std.proofs.Common.{◌≡◌, ℕ, ◌+◌, ◌<◌, ◌≤◌, List, [], None, Result, Ok, Err, OnOk, refl, sym, ap, ◌∙◌, subst, arith}
 use Rattle.std.specs.Option.{option_map}
-use Rattle.vlm_store.specs.KeyIndexes.{IsSame, spare_of}
+use Rattle.vlm_store.specs.KeyIndexes.{IsSame, spares_in}
 use Rattle.slab.specs.Slab.{Slab, get, HasRoomFor}
-use Rattle.indexmap.specs.IndexMap.{IndexMap, get as found, spare}
+use Rattle.vlm_links.specs.Parts.{FindsSame, KeepsSpares, Parts, UsesOneSpare, handle_in, spare_for, spares_of}
 use Rattle.vlm_links.specs.declared.link.TheConstants.{LAST_HANDLE}
 use Rattle.vlm_links.proofs.Rings.{same-handles, same-linked}
 use Rattle.vlm_store.specs.declared.key_index.KeyIndex.{KeyIndex}
@@ -17,7 +16,7 @@ use Rattle.vlm_records.specs.declared.processes.Process.{Process}
 use Rattle.vlm_records.specs.declared.queues.Queues.{Queues}
 use Rattle.vlm_records.specs.declared.resources.Resource.{Resource}
 use Rattle.vlm_store.specs.declared.store.Store.TheInside.{Inside}
-use Rattle.vlm_store.specs.Records.{HasRoom, IsGivenBack, IsNoLess, IsTaken, IsUnchanged, Records, Room, Rooms}
+use Rattle.vlm_store.specs.Records.{HasRoom, HasSlot, IsGivenBack, IsNoLess, IsTaken, IsUnchanged, Records, Room, Rooms}
 use Rattle.vlm_records.specs.Armed.{armed_list_in}
 use Rattle.vlm_records.specs.Shown.{but_queued, lkid_of, order_links, room_in, tally_in}
 use Rattle.vlm_records.proofs.Rooms.{room_has, room_handle, room_slot, room_reserved}
@@ -36,17 +35,17 @@ rooms locks resources processes = record { locks = locks; resources = resources;
 
 module _ {T : Type 0} where
   -- what a caller sees of the room of a slab
-  pub room_of_same : (old new : Slab T) (finds : ℕ) → room_in new ≡ room_in old → room_of new finds ≡ room_of old finds
+  pub room_of_same : (old new : Slab T) (finds : List ℕ) → room_in new ≡ room_in old → room_of new finds ≡ room_of old finds
   room_of_same old new finds same = ap (λ (p : ℕ × ℕ). record { slots = p.0; next_handle = p.1; finds = finds }) same
 
-  pub room_of_less : (old new : Slab T) (had finds : ℕ) → new ≡ record old { capacity = new.capacity } → old.capacity ≤ new.capacity → had ≤ finds → IsNoLess (room_of old had) (room_of new finds)
+  pub room_of_less : (old new : Slab T) (had finds : List ℕ) → new ≡ record old { capacity = new.capacity } → old.capacity ≤ new.capacity → KeepsSpares had finds → IsNoLess (room_of old had) (room_of new finds)
   room_of_less old new had finds is more finds_more =
       let made = room_reserved old new is more in
       record { slots = made.0; next_handle = made.1; finds = finds_more }
 
 -- no less than itself
 pub no_less : (room : Room) → IsNoLess room room
-no_less room = record { slots = omega arith; next_handle = refl; finds = omega arith }
+no_less room = record { slots = omega arith; next_handle = refl; finds = λ number. omega arith }
 
 -- each kind has its room
 pub rooms_are : (a b c a' b' c' : Room) → a' ≡ a → b' ≡ b → c' ≡ c → rooms a' b' c' ≡ rooms a b c
@@ -74,62 +73,69 @@ module _ (s : Inside) where
   with_processes room processes = records_of (tables s.queues s.order (record { processes = processes_of (holding processes s.queues.locks s.process_order); room = room; keys = s.keys }))
 
   -- where room is made, a caller sees nothing else
-  pub lock_room_made : (locks : Slab Lock) (finds : ℕ) → locks ≡ record s.queues.locks { capacity = locks.capacity } → s.queues.locks.capacity ≤ locks.capacity → spare s.lock_index ≤ finds
+  pub lock_room_made : (locks : Slab Lock) (finds : List ℕ) → locks ≡ record s.queues.locks { capacity = locks.capacity } → s.queues.locks.capacity ≤ locks.capacity → KeepsSpares (spares_of s.lock_index) finds
       → IsUnchanged (records_shown s) (with_locks (record (rooms_shown s) { locks = room_of locks finds }) locks)
   unfolding records_of
   lock_room_made locks finds is more finds_more = record {
     same = ap (with_locks (record (rooms_shown s) { locks = room_of locks finds })) is;
-    locks = room_of_less s.queues.locks locks (spare s.lock_index) finds is more finds_more;
+    locks = room_of_less s.queues.locks locks (spares_of s.lock_index) finds is more finds_more;
     resources = no_less _;
     processes = no_less _;
   }
 
-  pub resource_room_made : (resources : Slab Resource) (finds : ℕ) → resources ≡ record s.queues.resources { capacity = resources.capacity } → s.queues.resources.capacity ≤ resources.capacity
-      → spare_of s.resource_index ≤ finds → IsUnchanged (records_shown s) (with_resources (record (rooms_shown s) { resources = room_of resources finds }) resources)
+  pub resource_room_made : (resources : Slab Resource) (finds : List ℕ) → resources ≡ record s.queues.resources { capacity = resources.capacity } → s.queues.resources.capacity ≤ resources.capacity
+      → KeepsSpares (spares_in s.resource_index) finds → IsUnchanged (records_shown s) (with_resources (record (rooms_shown s) { resources = room_of resources finds }) resources)
   unfolding records_of
   resource_room_made resources finds is more finds_more = record {
     same = ap (with_resources (record (rooms_shown s) { resources = room_of resources finds })) is;
     locks = no_less _;
-    resources = room_of_less s.queues.resources resources (spare_of s.resource_index) finds is more finds_more;
+    resources = room_of_less s.queues.resources resources (spares_in s.resource_index) finds is more finds_more;
     processes = no_less _;
   }
 
   pub process_room_made : (processes : Slab Process) → processes ≡ record s.processes { capacity = processes.capacity } → s.processes.capacity ≤ processes.capacity
-      → IsUnchanged (records_shown s) (with_processes (record (rooms_shown s) { processes = room_of processes 1 }) processes)
+      → IsUnchanged (records_shown s) (with_processes (record (rooms_shown s) { processes = room_of processes [] }) processes)
   unfolding records_of
   process_room_made processes is more = record {
-    same = ap (with_processes (record (rooms_shown s) { processes = room_of processes 1 })) is;
+    same = ap (with_processes (record (rooms_shown s) { processes = room_of processes [] })) is;
     locks = no_less _;
     resources = no_less _;
-    processes = room_of_less s.processes processes 1 1 is more (omega arith);
+    processes = room_of_less s.processes processes [] [] is more (λ number. omega arith);
   }
 
 -- the room stays where the queues keep it
 pub queues_room : (s : Inside) (q' : Queues) → room_in q'.locks ≡ room_in s.queues.locks → room_in q'.resources ≡ room_in s.queues.resources → rooms_shown (record s { queues = q' }) ≡ rooms_shown s
 queues_room s q' locks resources =
-    rooms_are _ _ _ _ _ _ (room_of_same s.queues.locks q'.locks (spare s.lock_index) locks) (room_of_same s.queues.resources q'.resources (spare_of s.resource_index) resources) refl
+    rooms_are _ _ _ _ _ _ (room_of_same s.queues.locks q'.locks (spares_of s.lock_index) locks) (room_of_same s.queues.resources q'.resources (spares_in s.resource_index) resources) refl
 
 -- a record is taken in where room was made for it
-pub is_taken : {T : Type 0} (old roomy new : Slab T) (had has left : ℕ) → roomy ≡ record old { capacity = roomy.capacity } → old.capacity ≤ roomy.capacity → (room_in new).0 + 1 ≡ (room_in roomy).0
-    → had ≤ has → has ≤ left + 1 → IsTaken (room_of old had) (room_of new left)
-is_taken old roomy new had has left is more taken finds used =
+pub is_taken : {T : Type 0} (old roomy new : Slab T) (had left : List ℕ) → roomy ≡ record old { capacity = roomy.capacity } → old.capacity ≤ roomy.capacity → (room_in new).0 + 1 ≡ (room_in roomy).0
+    → UsesOneSpare had left → IsTaken (room_of old had) (room_of new left)
+is_taken old roomy new had left is more taken used =
     let made = room_reserved old roomy is more in
     let slots = made.0 in
-    record { slots = omega arith; finds = omega arith }
+    record { slots = omega arith; finds = used }
 
 -- a record is removed
-pub is_given_back : {T : Type 0} (old new : Slab T) (handle had has : ℕ) → room_in new ≡ ((room_in old).0 + 1, handle) → handle ≤ LAST_HANDLE → had ≤ has → IsGivenBack (room_of old had) (room_of new has)
+pub is_given_back : {T : Type 0} (old new : Slab T) (handle : ℕ) (had has : List ℕ) → room_in new ≡ ((room_in old).0 + 1, handle) → handle ≤ LAST_HANDLE → KeepsSpares had has → IsGivenBack (room_of old had) (room_of new has)
 is_given_back old new handle had has back low finds =
     record { slots = ap (λ (p : ℕ × ℕ). p.0) back; next_handle = subst (λ k. k ≤ LAST_HANDLE) (sym (ap (λ (p : ℕ × ℕ). p.1) back)) low; finds = finds }
 
 -- there is room in a slab for which a caller sees it
-pub has_room : {T : Type 0} (nodes : Slab T) (finds : ℕ) → HasRoom (room_of nodes finds) → HasRoomFor nodes 1 × (nodes.vacant_key ≤ LAST_HANDLE) × (0 < finds)
-has_room nodes finds room = (room_has nodes room.slot, subst (λ k. k ≤ LAST_HANDLE) (room_handle nodes) room.handle, room.find)
+pub has_slot : {T : Type 0} (nodes : Slab T) (finds : List ℕ) → HasSlot (room_of nodes finds) → HasRoomFor nodes 1 × (nodes.vacant_key ≤ LAST_HANDLE)
+has_slot nodes finds room = (room_has nodes room.slot, subst (λ k. k ≤ LAST_HANDLE) (room_handle nodes) room.handle)
+
+-- and in an index for a number
+pub has_room : {T : Type 0} (nodes : Slab T) (finds : List ℕ) (number : ℕ) → HasRoom number (room_of nodes finds)
+    → HasRoomFor nodes 1 × (nodes.vacant_key ≤ LAST_HANDLE) × (0 < spare_for finds number)
+has_room nodes finds number room =
+    let slot = has_slot nodes finds room.slot in
+    (slot.0, slot.1, room.find)
 
 -- more room for locks leaves all that the fields keep
-pub lock_room_kept : (s : Inside) → IsKept s → (locks : Slab Lock) (index : IndexMap ℕ ℕ _) → locks ≡ record s.queues.locks { capacity = locks.capacity } → index.entries ≡ s.lock_index.entries
+pub lock_room_kept : (s : Inside) → IsKept s → (locks : Slab Lock) (index : Parts) → locks ≡ record s.queues.locks { capacity = locks.capacity } → FindsSame s.lock_index index
     → IsKept (record s { queues = record s.queues { locks = locks }; lock_index = index })
-lock_room_kept s kept locks index is entries =
+lock_room_kept s kept locks index is finds =
     let same : (k : ℕ) → get locks k ≡ get s.queues.locks k = λ k. ap (λ x. get x k) is in
     record {
       placed = reserved_placed s.queues locks same kept.placed;
@@ -138,7 +144,7 @@ lock_room_kept s kept locks index is entries =
       line = line_same s.queues.locks locks s.line same kept.line;
       linked = kept.linked;
       ordered = kept.ordered;
-      locks = Indexes-same (found nat_eq s.lock_index) (found nat_eq index) (lkid_at s.queues) (lkid_at (record s.queues { locks = locks })) (λ k. ap (λ es. lookup (nat_eq k) es) entries)
+      locks = Indexes-same (handle_in s.lock_index) (handle_in index) (lkid_at s.queues) (lkid_at (record s.queues { locks = locks })) finds
           (λ at. ap (option_map lkid_of) (same at)) kept.locks;
       resources = kept.resources;
       owned = queued_owned s.processes s.queues.locks locks (λ k. ap (option_map but_queued) (same k)) None kept.owned;
@@ -178,6 +184,9 @@ resource_room_kept s kept resources index is finds =
     }
 
 -- a caller sees the room that was made
-pub has_reserved : {A E T : Type 0} (r : Result A E) (nodes : Slab T) (finds : ℕ) → OnOk r (HasRoomFor nodes 1) → OnOk r (nodes.vacant_key ≤ LAST_HANDLE) → OnOk r (0 < finds) → OnOk r (HasRoom (room_of nodes finds))
-has_reserved (Ok x) nodes finds slot handle find = record { slot = room_slot nodes slot; handle = subst (λ k. k ≤ LAST_HANDLE) (sym (room_handle nodes)) handle; find = find }
-has_reserved (Err e) nodes finds slot handle find = tt
+pub has_reserved : {A E T : Type 0} (r : Result A E) (nodes : Slab T) (finds : List ℕ) (number : ℕ) → OnOk r (HasRoomFor nodes 1) → OnOk r (nodes.vacant_key ≤ LAST_HANDLE) → OnOk r (0 < spare_for finds number) → OnOk r (HasRoom number (room_of nodes finds))
+has_reserved (Ok x) nodes finds number slot handle find = record {
+  slot = record { slot = room_slot nodes slot; handle = subst (λ k. k ≤ LAST_HANDLE) (sym (room_handle nodes)) handle };
+  find = find;
+}
+has_reserved (Err e) nodes finds number slot handle find = tt

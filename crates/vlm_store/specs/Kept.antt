@@ -1,14 +1,14 @@
 -- What the fields of the store keep, and what they show.
-use Rattle.std.specs.Prelude.{ℕ, nat_eq, List, Option, None}
+use Rattle.std.specs.Prelude.{ℕ, List, [], Option, None}
 use Rattle.slab.specs.Slab.{ContainsKey}
-use Rattle.indexmap.specs.IndexMap.{get, spare}
 use Rattle.vlm_store.specs.Index.{hash_key}
+use Rattle.vlm_links.specs.Parts.{handle_in, spares_of}
 use Rattle.vlm_links.specs.Lists.{IsIn, IsLinked, handles_of}
 use Rattle.vlm_store.specs.declared.store.Store.TheInside.{Inside}
 use Rattle.vlm_records.specs.declared.handles.Armed.{Armed}
 use Rattle.vlm_records.specs.Armed.{IsArmed}
 use Rattle.vlm_store.specs.HashedKeys.{hashed, hashed_at}
-use Rattle.vlm_store.specs.KeyIndexes.{IsHashed, found_by, spare_of}
+use Rattle.vlm_store.specs.KeyIndexes.{IsHashed, found_by, spares_in}
 use Rattle.vlm_store.specs.Index.{Indexes, IsTable}
 use Rattle.vlm_words.specs.declared.resources.Key.{Key}
 use Rattle.vlm_store.specs.Pending.{IsMarked, is_of_nodes, waits_in}
@@ -26,9 +26,9 @@ processes_shown s = processes_of (holding s.processes s.queues.locks s.process_o
 -- the room that the fields show
 abbrev pub rooms_shown : Inside → Rooms
 rooms_shown s = record {
-  locks = room_of s.queues.locks (spare s.lock_index);
-  resources = room_of s.queues.resources (spare_of s.resource_index);
-  processes = room_of s.processes 1;
+  locks = room_of s.queues.locks (spares_of s.lock_index);
+  resources = room_of s.queues.resources (spares_in s.resource_index);
+  processes = room_of s.processes [];
 }
 
 -- the processes, the room, and how a key is hashed
@@ -53,7 +53,7 @@ pub record IsKept (s : Inside) : Type 0 where
   pub line : IsLine s.queues.locks s.line None
   pub linked : IsLinked order_links s.queues.resources s.order
   pub ordered : (res : ℕ) → ContainsKey s.queues.resources res → IsIn res (handles_of order_links s.queues.resources s.order)
-  pub locks : Indexes (get nat_eq s.lock_index) (lkid_at s.queues)
+  pub locks : Indexes (handle_in s.lock_index) (lkid_at s.queues)
   pub resources : IsHashed (hash_key s.keys) s.resource_index (hashed_at s.queues)
   pub owned : IsOwned s.processes s.queues.locks None
   pub below : IsBelow s.queues.locks None

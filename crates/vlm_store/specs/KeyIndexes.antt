@@ -1,8 +1,9 @@
 -- What the index of resources finds, and how it changes.
-use Rattle.std.specs.Prelude.{◌≡◌, ◌⊎◌, ℕ, Bool, false, nat_eq, min, Option, None, Some, if◌then◌else◌}
+use Rattle.std.specs.Prelude.{◌≡◌, ◌⊎◌, ℕ, Bool, false, min, map, List, Option, None, Some, if◌then◌else◌}
 use Rattle.std.specs.Option.{option_map, option_map_or}
 use Rattle.slab.specs.Slab.{Slab, get as slot_of}
 use Rattle.indexmap.specs.IndexMap.{get, spare, Updates}
+use Rattle.vlm_links.specs.Parts.{Writes, handle_in, spares_of}
 use Rattle.vlm_words.specs.declared.resources.Key.{Key}
 use Rattle.vlm_words.specs.Keys.{is_same_key}
 use Rattle.vlm_records.specs.declared.resources.Resource.{Resource}
@@ -12,7 +13,7 @@ use Rattle.vlm_store.specs.HashedKeys.{hashed_in, is_same_hashed}
 
 -- the resource of this hash, of several the one that was made last
 abbrev pub last_of : KeyIndex → ℕ → Option ℕ
-last_of x hash = get nat_eq x.last hash
+last_of x hash = handle_in x.last hash
 
 -- the one of the others with this key and hash
 abbrev pub other_of : KeyIndex → HashedKey → Option ℕ
@@ -32,9 +33,9 @@ if_its resources key (Some at) other = if has_key key (slot_of resources at) the
 abbrev pub found_by : KeyIndex → Slab Resource → HashedKey → Option ℕ
 found_by x resources k = if_its resources k.key (last_of x k.hash) (other_of x k)
 
--- how many more resources the index takes with no allocation
-abbrev pub spare_of : KeyIndex → ℕ
-spare_of x = min (spare x.last) (spare x.others)
+-- how many more resources the index takes with no allocation, for each part of the hashes
+abbrev pub spares_in : KeyIndex → List ℕ
+spares_in x = map (min (spare x.others)) (spares_of x.last)
 
 -- nothing is found
 pub record FindsNothing (x : KeyIndex) : Type 0 where
@@ -54,12 +55,12 @@ Moves resources (Some before) old new =
 
 -- a resource is the last with this hash
 pub record Enters (resources : Slab Resource) (at hash : ℕ) (old new : KeyIndex) : Type 0 where
-  pub last : Updates nat_eq old.last new.last hash (Some at)
+  pub last : Writes hash (Some at) old.last new.last
   pub moves : Moves resources (last_of old hash) old new
 
 -- the resource with this key and hash goes from the others, or else from those that are last
 abbrev pub LeavesBy : Option ℕ → HashedKey → KeyIndex → KeyIndex → Type 0
-LeavesBy None k old new = ((j : HashedKey) → other_of new j ≡ other_of old j) × Updates nat_eq old.last new.last k.hash None
+LeavesBy None k old new = ((j : HashedKey) → other_of new j ≡ other_of old j) × Writes k.hash None old.last new.last
 LeavesBy (Some at) k old new = Updates is_same_hashed old.others new.others k None × ((hash : ℕ) → last_of new hash ≡ last_of old hash)
 
 -- the resource with this key and hash goes

@@ -12,6 +12,7 @@ use Rattle.vlm_words.specs.declared.resources.Queue.TheVariants.{Granted, Conver
 use Rattle.vlm_words.specs.declared.steps.Declaration.{Declaration}
 use Rattle.vlm_links.specs.declared.link.TheConstants.{LAST_HANDLE}
 use Rattle.vlm_links.specs.Lists.{IsIn, without}
+use Rattle.vlm_links.specs.Parts.{KeepsSpares, UsesOneSpare, spare_for}
 use Rattle.vlm_words.specs.Asts.{with_ast}
 use Rattle.vlm_words.specs.Declare.{new_process}
 use Rattle.vlm_words.specs.Grants.{fits}
@@ -55,11 +56,12 @@ pub record StoredProcess : Type 0 where
   pub own : List OwnLock
 
 -- the room for records of one kind: how many more their table takes with no allocation, the handle that the next
--- one gets, and how many more the index takes with no allocation. Of processes that is one: `IsBesideOne` says of which
+-- one gets, and how many more each part of the index takes with no allocation. Processes have no such index:
+-- `IsBesideOne` says of which there is room for one more
 pub record Room : Type 0 where
   pub slots : ℕ
   pub next_handle : ℕ
-  pub finds : ℕ
+  pub finds : List ℕ
 
 -- the room for locks, for resources and for processes
 pub record Rooms : Type 0 where
@@ -77,7 +79,7 @@ pub record Records : Type 0 where
 
 -- no room at all
 abbrev pub no_room : Room
-no_room = record { slots = 0; next_handle = 0; finds = 0 }
+no_room = record { slots = 0; next_handle = 0; finds = [] }
 
 -- nothing is stored
 abbrev pub nothing : HashKeys → Records
@@ -432,18 +434,22 @@ DueChanges pid change old new =
 -- ---- room
 
 -- one more record needs no allocation, and a handle is left for it
-pub record HasRoom (room : Room) : Type 0 where
+pub record HasSlot (room : Room) : Type 0 where
   pub slot : 0 < room.slots
   pub handle : room.next_handle ≤ LAST_HANDLE
-  pub find : 0 < room.finds
 
--- there is room for one more lock
-abbrev pub HasRoomForLock : Records → Type 0
-HasRoomForLock s = HasRoom s.room.locks
+-- nor does the index need one for this number
+pub record HasRoom (number : ℕ) (room : Room) : Type 0 where
+  pub slot : HasSlot room
+  pub find : 0 < spare_for room.finds number
 
--- there is room for one more resource
-abbrev pub HasRoomForResource : Records → Type 0
-HasRoomForResource s = HasRoom s.room.resources
+-- there is room for one more lock, with this identification
+abbrev pub HasRoomForLock : ℕ → Records → Type 0
+HasRoomForLock lkid s = HasRoom lkid s.room.locks
+
+-- there is room for one more resource, whose key has this hash
+abbrev pub HasRoomForResource : ℕ → Records → Type 0
+HasRoomForResource hash s = HasRoom hash s.room.resources
 
 -- a living process of the same node has an ordinal among the same 64, or a later one: so a mark of this one has room
 abbrev pub IsBesideOne : ℕ → Records → Type 0
@@ -452,25 +458,25 @@ IsBesideOne pid s = (p : StoredProcess)
 
 -- there is room for one more process with this identification, but for its status blocks
 pub record HasRoomForProcess (pid : ℕ) (s : Records) : Type 0 where
-  pub record_room : HasRoom s.room.processes
+  pub record_room : HasSlot s.room.processes
   pub mark : IsBesideOne pid s
 
 -- there is as much room as there was, or more
 pub record IsNoLess (old new : Room) : Type 0 where
   pub slots : old.slots ≤ new.slots
   pub next_handle : new.next_handle ≡ old.next_handle
-  pub finds : old.finds ≤ new.finds
+  pub finds : KeepsSpares old.finds new.finds
 
 -- one more record uses up one slot at most
 pub record IsTaken (old new : Room) : Type 0 where
   pub slots : old.slots ≤ new.slots + 1
-  pub finds : old.finds ≤ new.finds + 1
+  pub finds : UsesOneSpare old.finds new.finds
 
 -- a removed record leaves its slot, and so its handle. Of the index no more is known than that it keeps its room
 pub record IsGivenBack (old new : Room) : Type 0 where
   pub slots : new.slots ≡ old.slots + 1
   pub next_handle : new.next_handle ≤ LAST_HANDLE
-  pub finds : old.finds ≤ new.finds
+  pub finds : KeepsSpares old.finds new.finds
 
 -- nothing is changed, but that there may be more room
 pub record IsUnchanged (old new : Records) : Type 0 where

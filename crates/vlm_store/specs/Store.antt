@@ -32,8 +32,8 @@ pub record Beside : Type 0 where
   pub room : Rooms
   pub keys : HashKeys
 
--- the room in a slab, and in an index that takes so many more
-abbrev pub room_of : {T : Type 0} → Slab T → ℕ → Room
+-- the room in a slab, and in an index whose parts take so many more
+abbrev pub room_of : {T : Type 0} → Slab T → List ℕ → Room
 room_of nodes finds = record { slots = (room_in nodes).0; next_handle = (room_in nodes).1; finds = finds }
 
 -- a lock under its handle

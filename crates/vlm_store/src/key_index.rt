@@ -2,15 +2,16 @@
 
 ghost use Rattle.std.specs.Prelude.{◌≡◌, ◌+◌, ◌<◌, ◌≤◌, ℕ, Some, IsOk, OnOk};
 ghost use Rattle.slab.specs.Slab.{ContainsKey, HasRoomFor};
+ghost use Rattle.vlm_links.specs.Parts.{KeepsSpares, UsesOneSpare, spare_for};
 ghost use Rattle.vlm_store.specs.HashedKeys.{hashed_in};
-ghost use Rattle.vlm_store.specs.KeyIndexes.{Enters, FindsNothing, IsSame, Leaves, found_by, last_of, spare_of};
+ghost use Rattle.vlm_store.specs.KeyIndexes.{Enters, FindsNothing, IsSame, Leaves, found_by, last_of, spares_in};
 
 use crate::hashed::HashedKey;
 use indexmap::IndexMap;
 use slab::Slab;
 use std::alloc::{AllocError, Global};
-use vlm_links::{HashSpread, LAST_HANDLE, reserve_slot};
-use vlm_records::{ResAt, Resource};
+use vlm_links::{LAST_HANDLE, PartedIndex, reserve_slot};
+use vlm_records::{ResAt, Resource, ResourceKind};
 use vlm_words::resources::Key;
 
 /// Finds resources by their keys. It has hashes of 32 bits; the keys are in the records. Of several resources with one
@@ -18,7 +19,7 @@ use vlm_words::resources::Key;
 /// choose names with equal hashes.
 pub(crate) struct KeyIndex {
     // the resource of each hash; of several, the last one made
-    last: IndexMap<u32, ResAt, HashSpread>,
+    last: PartedIndex<ResourceKind>,
     // the others, by their keys
     others: IndexMap<HashedKey, ResAt>,
 }
@@ -36,19 +37,19 @@ impl KeyIndex {
         ensures { FindsNothing result }
     {
         KeyIndex {
-            last: IndexMap::with_hasher(alloc, HashSpread::new()),
+            last: PartedIndex::new(alloc),
             others: IndexMap::new(alloc),
         }
     }
 
-    // Makes room for one more resource, where there is none.
-    fn reserve(&mut self) -> Result<(), AllocError>
+    // Makes room for one more resource with this hash, where there is none.
+    fn reserve(&mut self, hash: u32) -> Result<(), AllocError>
         ensures same { IsSame self.old self.new }
-        ensures finds { spare_of self.old ≤ spare_of self.new }
-        ensures find { OnOk result (0 < spare_of self.new) }
-        ensures succeeds { 0 < spare_of self.old → IsOk result }
+        ensures room { KeepsSpares (spares_in self.old) (spares_in self.new) }
+        ensures find { OnOk result (0 < spare_for (spares_in self.new) hash) }
+        ensures succeeds { 0 < spare_for (spares_in self.old) hash → IsOk result }
     {
-        self.last.reserve(1)?;
+        self.last.reserve(hash)?;
         self.others.reserve(1)
     }
 
@@ -57,7 +58,7 @@ impl KeyIndex {
         requires { (at : ℕ) → last_of self.now hash ≡ Some at → ContainsKey resources.now at }
         ensures { result ≡ found_by self.now resources.now (record { key = key.now; hash = hash }) }
     {
-        if let Some(at) = self.last.get(&hash).copied() {
+        if let Some(at) = self.last.get(hash) {
             if resources[at.slot()].key == *key {
                 return Some(at);
             }
@@ -71,13 +72,13 @@ impl KeyIndex {
 
     /// Adds a resource with this hash. If another has the hash, that one moves to the others.
     pub fn insert(&mut self, resources: &Slab<Resource>, at: ResAt, hash: u32)
-        requires room { 0 < spare_of self.old }
+        requires room { 0 < spare_for (spares_in self.old) hash }
         requires there { (before : ℕ) → last_of self.old hash ≡ Some before
             → ContainsKey resources.now before }
         ensures enters { Enters resources.now at hash self.old self.new }
-        ensures taken { spare_of self.old ≤ spare_of self.new + 1 }
+        ensures taken { UsesOneSpare (spares_in self.old) (spares_in self.new) }
     {
-        if let Ok(Some(before)) = self.last.insert(hash, at) {
+        if let Some(before) = self.last.insert(hash, at) {
             let Resource { key, hash, .. } = resources[before.slot()];
             let _ = self.others.insert(HashedKey { key, hash }, before);
         }
@@ -86,7 +87,7 @@ impl KeyIndex {
     /// Takes a resource out.
     pub fn remove(&mut self, resource: &Resource)
         ensures leaves { Leaves (hashed_in resource.now) self.old self.new }
-        ensures finds { spare_of self.old ≤ spare_of self.new }
+        ensures room { KeepsSpares (spares_in self.old) (spares_in self.new) }
     {
         if !self.others.is_empty() {
             let Resource { key, hash, .. } = *resource;
@@ -95,25 +96,27 @@ impl KeyIndex {
                 return;
             }
         }
-        self.last.swap_remove(&resource.hash);
+        self.last.remove(resource.hash);
     }
 }
 
-/// Makes room for one more resource, and for it in the index, where there is none. It is refused as `reserve_slot` is.
+/// Makes room for one more resource, and for its hash in the index, where there is none. It is refused as `reserve_slot`
+/// is.
 pub(crate) fn reserve_keyed(
     resources: &mut Slab<Resource>,
     index: &mut KeyIndex,
+    hash: u32,
 ) -> Result<(), AllocError>
     ensures records { resources.new ≡ record resources.old { capacity = resources.new.capacity } }
     ensures capacity { resources.old.capacity ≤ resources.new.capacity }
     ensures index { IsSame index.old index.new }
-    ensures finds { spare_of index.old ≤ spare_of index.new }
+    ensures room { KeepsSpares (spares_in index.old) (spares_in index.new) }
     ensures slot { OnOk result (HasRoomFor resources.new 1) }
     ensures handle { OnOk result (resources.new.vacant_key ≤ LAST_HANDLE) }
-    ensures find { OnOk result (0 < spare_of index.new) }
+    ensures find { OnOk result (0 < spare_for (spares_in index.new) hash) }
     ensures succeeds { HasRoomFor resources.old 1 → resources.old.vacant_key ≤ LAST_HANDLE
-        → 0 < spare_of index.old → IsOk result }
+        → 0 < spare_for (spares_in index.old) hash → IsOk result }
 {
     reserve_slot(resources)?;
-    index.reserve()
+    index.reserve(hash)
 }

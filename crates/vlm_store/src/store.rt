@@ -13,15 +13,14 @@ ghost use Rattle.vlm_store.specs.Records.{FindsLock, FindsResource, HasNoSublock
 ghost use Rattle.vlm_store.specs.Total.{lock_total};
 
 use crate::key_index::{KeyIndex, reserve_keyed};
-use indexmap::IndexMap;
 use slab::Slab;
 use std::alloc::{AllocError, Global};
 use std::marker::Model;
-use vlm_links::{HandleTable, HashKeys, HashSpread, LinkedList, reserve_one};
+use vlm_links::{HandleTable, HashKeys, LinkedList, PartedIndex, reserve_one};
 use vlm_marks::NodeMarks;
 use vlm_records::{
-    InLine, InOrder, Lock, LockAt, Place, ProcAt, Process, Queues, ResAt, Resource, StoredRow,
-    join_line, join_parent, join_process, leave_line, leave_parent, leave_process,
+    InLine, InOrder, Lock, LockAt, LockKind, Place, ProcAt, Process, Queues, ResAt, Resource,
+    StoredRow, join_line, join_parent, join_process, leave_line, leave_parent, leave_process,
 };
 use vlm_words::modes::Mode;
 use vlm_words::resources::{Key, Queue, Site, ValueBlock};
@@ -41,7 +40,7 @@ pub struct Store {
     // the processes in order of making
     pub(crate) process_order: LinkedList<InOrder>,
     // where the lock of each identification is
-    lock_index: IndexMap<u32, LockAt, HashSpread>,
+    lock_index: PartedIndex<LockKind>,
     // where the resource of each key is, which `keys` hash; others choose the names in it
     resource_index: KeyIndex,
     // where the process of each identification is
@@ -109,7 +108,7 @@ impl Store {
             order: LinkedList::new(),
             processes: Slab::new(alloc),
             process_order: LinkedList::new(),
-            lock_index: IndexMap::with_hasher(alloc, HashSpread::new()),
+            lock_index: PartedIndex::new(alloc),
             resource_index: KeyIndex::new(alloc),
             process_index: HandleTable::new(alloc),
             keys,
@@ -123,7 +122,7 @@ impl Store {
         ensures found { FindsLock self.now lkid result }
         ensures sound { IsSound self.now }
     {
-        self.lock_index.get(&lkid).copied()
+        self.lock_index.get(lkid)
     }
 
     /// How the index hashes a key: who looks a resource up and then adds it asks once.
@@ -158,13 +157,13 @@ impl Store {
         &self.queues.locks[lock.slot()]
     }
 
-    /// Makes room for one more lock, where there is none.
-    pub fn reserve_lock(&mut self) -> Result<(), AllocError>
+    /// Makes room for one more lock, which has this identification, where there is none.
+    pub fn reserve_lock(&mut self, lkid: u32) -> Result<(), AllocError>
         ensures unchanged { IsUnchanged self.old self.new }
-        ensures room { OnOk result (HasRoomForLock self.new) }
-        ensures succeeds { HasRoomForLock self.old → IsOk result }
+        ensures room { OnOk result (HasRoomForLock lkid self.new) }
+        ensures succeeds { HasRoomForLock lkid self.old → IsOk result }
     {
-        reserve_one(&mut self.queues.locks, &mut self.lock_index)
+        reserve_one(&mut self.queues.locks, &mut self.lock_index, lkid)
     }
 
     /// Adds a lock, the last in the list of a place, of its process's locks, and of those below its parent.
@@ -176,7 +175,7 @@ impl Store {
         parent: Option<LockAt>,
         to: Place,
     ) -> LockAt
-        requires room { HasRoomForLock self.old }
+        requires room { HasRoomForLock row.now.lkid self.old }
         requires new { IsNewLock row.now.lkid self.old }
         requires owner { IsProcess owner row.now.pid self.old }
         requires parent { IsParentOf parent row.now self.old }
@@ -197,7 +196,7 @@ impl Store {
         join_process(&mut self.processes, &mut self.queues.locks, slot, owner);
         join_parent(&mut self.queues.locks, slot, parent.get());
         let at = LockAt::of(slot);
-        let _ = self.lock_index.insert(row.lkid(), at);
+        self.lock_index.insert(row.lkid(), at);
         at
     }
 
@@ -245,22 +244,22 @@ impl Store {
         leave_process(&mut self.processes, &mut self.queues.locks, at, owner);
         leave_line(&mut self.queues.locks, &mut self.line, at, &place);
         self.queues.remove(at);
-        self.lock_index.swap_remove(&row.lkid());
+        self.lock_index.remove(row.lkid());
     }
 
-    /// Makes room for one more resource, where there is none.
-    pub fn reserve_resource(&mut self) -> Result<(), AllocError>
+    /// Makes room for one more resource, whose key is hashed so, where there is none.
+    pub fn reserve_resource(&mut self, hash: u32) -> Result<(), AllocError>
         ensures unchanged { IsUnchanged self.old self.new }
-        ensures room { OnOk result (HasRoomForResource self.new) }
-        ensures succeeds { HasRoomForResource self.old → IsOk result }
+        ensures room { OnOk result (HasRoomForResource hash self.new) }
+        ensures succeeds { HasRoomForResource hash self.old → IsOk result }
     {
-        reserve_keyed(&mut self.queues.resources, &mut self.resource_index)
+        reserve_keyed(&mut self.queues.resources, &mut self.resource_index, hash)
     }
 
     /// Adds a resource without locks, whose key is hashed so, the last in order of making, with a valid value block of
     /// zeros. `reserve_resource` made the room.
     pub fn add_resource_reserved(&mut self, serial: u32, site: &Site, hash: u32) -> ResAt
-        requires room { HasRoomForResource self.old }
+        requires room { HasRoomForResource hash self.old }
         requires new { IsNewKey site.now.key self.old }
         requires hash { hash ≡ hash_key self.old.keys site.now.key }
         ensures added { self.new ≡ with_resource_room self.new.room.resources (record self.old {

@@ -27,7 +27,8 @@ fn a_resource_takes_at_most_240_bytes(rt: HostRuntime) {
 }
 
 fn row(lkid: u32, parent: u32) -> Row
-    ensures { result.parent ≡ parent }
+    ensures lkid { result.lkid ≡ lkid }
+    ensures parent { result.parent ≡ parent }
 {
     Row {
         lkid,
@@ -83,7 +84,7 @@ fn a_process_owns_its_locks(rt: HostRuntime) -> Result<(), Fail> {
 fn make_tree(rt: &impl Abort, store: &mut Store, key: &Key) -> Result<(), AllocError> {
     begin(store, key)?;
     stores::add(rt, store, key, row(1, 0))?;
-    store.reserve_lock()?;
+    store.reserve_lock(2)?;
     let parent = stores::lock(rt, store, 1);
     let below = row(2, store.lock_record(parent).row.lkid());
     let spot = Spot {

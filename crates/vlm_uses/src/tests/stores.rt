@@ -63,8 +63,8 @@ pub fn declare(store: &mut Store, pid: u32, declaration: &Declaration) -> Result
 
 /// Adds a resource, unless it is there.
 pub fn open(store: &mut Store, serial: u32, key: &Key) -> Result<(), AllocError> {
-    store.reserve_resource()?;
     let hash = store.hash_of(key);
+    store.reserve_resource(hash)?;
     match store.resource(key, hash) {
         Some(_) => Ok(()),
         None => {
@@ -99,7 +99,7 @@ pub fn place(rt: &impl Abort, store: &Store, key: &Key, row: &Row) -> Place
 pub fn add(rt: &impl Abort, store: &mut Store, key: &Key, row: Row) -> Result<(), AllocError>
     requires { row.parent ≡ 0 }
 {
-    store.reserve_lock()?;
+    store.reserve_lock(row.lkid)?;
     let to = place(rt, store, key, &row);
     add_reserved(rt, store, row, Spot { parent: None, to });
     Ok(())
@@ -107,7 +107,7 @@ pub fn add(rt: &impl Abort, store: &mut Store, key: &Key, row: Row) -> Result<()
 
 /// Adds a lock, unless it is there. There is room for it.
 pub fn add_reserved(rt: &impl Abort, store: &mut Store, row: Row, spot: Spot)
-    requires room { HasRoomForLock store.old }
+    requires room { HasRoomForLock row.lkid store.old }
     requires parent { IsParentOf spot.parent row store.old }
     requires there { HasPlace spot.to store.old }
 {

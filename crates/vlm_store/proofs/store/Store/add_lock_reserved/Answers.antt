@@ -1,14 +1,13 @@
+use Rattle.vlm_links.specs.Parts.{handle_in, spare_for, spares_of}
 use Rattle.vlm_store.specs.declared.store.Store.TheInside.{Inside}
 use Rattle.slab.specs.Slab.{HasRoomFor}
 use Rattle.vlm_links.specs.declared.link.TheConstants.{LAST_HANDLE}
 use Rattle.vlm_store.specs.Index.{hash_key}
 use Rattle.vlm_store.proofs.Lined.{line_added, line_below, line_kin, line_own, line_queued, line_same}
 use Rattle.vlm_store.proofs.RoomShown.{room_shown, shown_room, is_taken, rooms_are, room_of_same, has_room}
-use Rattle.std.proofs.Common.{◌≡◌, ◌<◌, ◌≤◌, ◌≢◌, ◌∙◌, ◌++◌, ◌∷◌, [], ℕ, map, None, Some, IsSome, ap, sym, refl, arith, nat_eq, ◌+◌}
-use Rattle.std.specs.Cmp.{unsigned_Decides}
+use Rattle.std.proofs.Common.{◌≡◌, ◌<◌, ◌≤◌, ◌≢◌, ◌∙◌, ◌++◌, ◌∷◌, [], ℕ, map, None, Some, IsSome, ap, sym, refl, arith, ◌+◌}
 use Rattle.std.specs.Option.{option_map}
 use Rattle.slab.specs.Slab.{get as slot_of}
-use Rattle.indexmap.specs.IndexMap.{get, spare}
 use Rattle.vlm_links.proofs.Keeping.{relinked_same, vacant_unlisted}
 use Rattle.vlm_links.specs.Lists.{IsIn}
 use Rattle.vlm_store.specs.HashedKeys.{hashed_at}
@@ -24,19 +23,19 @@ use Rattle.vlm_records.proofs.Arming.{armed_kin, armed_reserved}
 use Rattle.vlm_records.proofs.Places.{same_then, there_by_part, there_through, through}
 use Rattle.vlm_store.proofs.Indexing.{Indexes-added, Indexes-same, table_same}
 use Rattle.vlm_store.proofs.Joining.{new_lkid, other_lkids, joined_kin, joined_lkids, joined_named, joined_owned, joined_processes, linked_parent_there, new_below, new_owned, owner_was_there}
-use Rattle.vlm_store.proofs.Kept.{faces_same, no_lock, on_ok, place_there, reserved_handles, reserved_placed, stored_there, reserved_tallied}
+use Rattle.vlm_store.proofs.Kept.{faces_same, no_lock, place_there, reserved_handles, reserved_placed, stored_there, reserved_tallied}
 use Rattle.vlm_store.specs.Pending.{is_of_nodes, waits_in}
 use Rattle.vlm_store.proofs.Marked.{nodes-own, own_marked, waits-own}
 use Rattle.vlm_store.proofs.Kinship.{kin_handles, kin_placed, kin_rows, kin_tallied, own_below, own_pids, own_process_linked, own_process_whole, owner-queued, parent-queued, records_processes}
 use Rattle.vlm_store.proofs.Layouts.{joining-under_handle, lists_changed_beside}
-use Rattle.vlm_store.specs.KeyIndexes.{spare_of}
+use Rattle.vlm_store.specs.KeyIndexes.{spares_in}
 use Rattle.vlm_store.proofs.Living.{parent_within}
 use Rattle.vlm_store.proofs.store.Store.add_lock_reserved.Goals as goal
 use Rattle.vlm_store.proofs.Order.{keys_same, order_handles, order_linked, order_whole}
 
 -- there is room in the slab, for a link, and in the index
-has_its_room : (s : Inside) → HasRoom (records_shown s).room.locks → HasRoomFor s.queues.locks 1 × (s.queues.locks.vacant_key ≤ LAST_HANDLE) × (0 < spare s.lock_index)
-has_its_room s has = has_room s.queues.locks (spare s.lock_index) (shown_room (λ r. HasRoom r.locks) (tables s.queues s.order (beside_shown s)) has)
+has_its_room : (s : Inside) (lkid : ℕ) → HasRoom lkid (records_shown s).room.locks → HasRoomFor s.queues.locks 1 × (s.queues.locks.vacant_key ≤ LAST_HANDLE) × (0 < spare_for (spares_of s.lock_index) lkid)
+has_its_room s lkid has = has_room s.queues.locks (spares_of s.lock_index) lkid (shown_room (λ r. HasRoom lkid r.locks) (tables s.queues s.order (beside_shown s)) has)
 
 pub add-slot-requires-clause-parent : goal.add-slot-requires-clause-parent
 add-slot-requires-clause-parent c = parent_within c.self.inside c.self.invariant c.args.parent c.args.row.now (rw (← c.self.view_is) at c.requires.parent)
@@ -164,10 +163,10 @@ invariant_of-self c =
     let q'' = record q' { locks = c.join_parent.new.locks } in
     let kin = same_then but_kin q'.locks locks1 c.join_parent.new.locks (line_kin q'.locks locks1 c.join_line.ensures.rest) (joined_kin s kept c.self.inside.queues.locks locks1 at c.args.row.now c.args.owner c.args.parent same added.fresh lock others owner parent c.join_process.new.processes c.join_process.new.locks c.join_parent.new.locks process.owned process.here process.elsewhere process.relinks process.rest below.here below.elsewhere below.rest) in
     let lkids = joined_lkids s kept c.self.inside.queues.locks locks1 at c.args.row.now c.args.owner c.args.parent same added.fresh lock others owner parent c.join_process.new.processes c.join_process.new.locks c.join_parent.new.locks process.owned process.here process.elsewhere process.relinks process.rest below.here below.elsewhere below.rest in
-    let indexes1 = Indexes-same (get nat_eq s.lock_index) (get nat_eq c.self.inside.lock_index) (lkid_at s.queues) (lkid_at (record s.queues { locks = c.self.inside.queues.locks }))
+    let indexes1 = Indexes-same (handle_in s.lock_index) (handle_in c.self.inside.lock_index) (lkid_at s.queues) (lkid_at (record s.queues { locks = c.self.inside.queues.locks }))
     (λ _. refl) (λ at. ap (option_map lkid_of) (same at)) kept.locks in
-    let fresh : get nat_eq c.self.inside.lock_index c.args.row.now.lkid ≡ None =
-    no_lock s.queues s.order (beside_shown s) kept.placed kept.linked kept.ordered (get nat_eq s.lock_index) kept.locks c.args.row.now.lkid (rw (← c.self.view_is) at c.requires.new) in
+    let fresh : handle_in c.self.inside.lock_index c.args.row.now.lkid ≡ None =
+    no_lock s.queues s.order (beside_shown s) kept.placed kept.linked kept.ordered (handle_in s.lock_index) kept.locks c.args.row.now.lkid (rw (← c.self.view_is) at c.requires.new) in
     record {
       placed = kin_placed q' c.join_parent.new.locks kin added.laid_out.placed;
       tallied = kin_tallied q' c.join_parent.new.locks kin added.laid_out.placed added.laid_out.tallied;
@@ -175,8 +174,8 @@ invariant_of-self c =
       line = line_below c.join_process.new.locks c.join_parent.new.locks c.join_line.new.line below.rest (line_own locks1 c.join_process.new.locks c.join_line.new.line process.relinks c.join_line.ensures.line);
       linked = order_linked but_queues (λ r. refl) s.queues.resources q'.resources rest s.order kept.linked;
       ordered = order_whole but_queues (λ r. refl) s.queues.resources q'.resources rest s.order kept.linked kept.ordered;
-      locks = Indexes-added nat_eq unsigned_Decides c.self.inside.lock_index c.insert.new.self c.args.row.now.lkid (lkid_at (record s.queues { locks = c.self.inside.queues.locks })) (lkid_at q'') at
-          (rw (c.of-at.ensures, c.lkid.ensures) at (on_ok c.insert.result _ (c.insert.ensures.succeeds (omega (arith, (has_its_room s (rw (← c.self.view_is) at c.requires.room)).2))) c.insert.ensures.updates))
+      locks = Indexes-added c.self.inside.lock_index c.insert.new.self c.args.row.now.lkid (lkid_at (record s.queues { locks = c.self.inside.queues.locks })) (lkid_at q'') at
+          (rw (c.of-at.ensures, c.lkid.ensures) at c.insert.ensures.writes)
           (ap (option_map lkid_of) added.fresh) (lkids at ∙ new_lkid s kept c.self.inside.queues.locks locks1 at c.args.row.now c.args.owner c.args.parent same added.fresh lock others owner parent) (λ k differs. lkids k ∙ other_lkids s kept c.self.inside.queues.locks locks1 at c.args.row.now c.args.owner c.args.parent same added.fresh lock others owner parent k differs) fresh indexes1;
       resources = labels_same (hash_key s.keys) s.resource_index (hashed_at s.queues) (hashed_at q'') (keys_same but_queues (λ r. refl) s.queues.resources q'.resources rest) kept.resources;
       owned = joined_owned s kept c.self.inside.queues.locks locks1 at c.args.row.now c.args.owner c.args.parent same added.fresh lock others owner parent c.join_process.new.processes c.join_process.new.locks c.join_parent.new.locks process.owned process.here process.elsewhere process.relinks process.rest below.here below.elsewhere below.rest;
@@ -226,7 +225,7 @@ returns-clause-added c =
     (joined_processes s kept c.self.inside.queues.locks locks1 at c.args.row.now c.args.owner c.args.parent same added.fresh lock others owner parent c.join_process.new.processes c.join_process.new.locks c.join_parent.new.locks process.owned process.here process.elsewhere process.relinks process.rest below.here below.elsewhere below.rest ∙ ap (map (process_with_lock c.args.owner c.args.parent at)) (sym (records_processes old)))
     ∙ ap (λ r. record (with_new_lock at c.args.row.now c.args.owner c.args.parent c.args.to (records_of old)) { room = r })
     (room_shown (λ a b. b ≡ record a { locks = b.locks }) old new
-    (rooms_are _ _ _ _ _ _ refl (room_of_same s.queues.resources q'.resources (spare_of s.resource_index) added.resources_room) (room_of_same s.processes c.join_process.new.processes 1 process.processes_room))))
+    (rooms_are _ _ _ _ _ _ refl (room_of_same s.queues.resources q'.resources (spares_in s.resource_index) added.resources_room) (room_of_same s.processes c.join_process.new.processes [] process.processes_room))))
 
 pub returns-clause-fresh : goal.returns-clause-fresh
 returns-clause-fresh c stored =
@@ -244,8 +243,8 @@ returns-clause-taken c =
     let s' = record s { queues = q''; line = c.join_line.new.line; processes = c.join_process.new.processes; lock_index = c.insert.new.self } in
     rw (← c.self.view_is)
     (room_shown (λ a b. IsTaken a.locks b.locks) (tables s.queues s.order (beside_shown s)) (tables q'' s.order (beside_shown s'))
-    (is_taken s.queues.locks c.self.inside.queues.locks q''.locks (spare s.lock_index) (spare c.self.inside.lock_index) (spare c.insert.new.self) refl (omega arith)
-    (ap (λ (p : ℕ × ℕ). p.0 + 1) (c.join_parent.ensures.locks_room ∙ c.join_process.ensures.locks_room ∙ c.join_line.ensures.room) ∙ c.add-slot.ensures.taken) (omega arith) c.insert.ensures.spare))
+    (is_taken s.queues.locks c.self.inside.queues.locks q''.locks (spares_of s.lock_index) (spares_of c.insert.new.self) refl (omega arith)
+    (ap (λ (p : ℕ × ℕ). p.0 + 1) (c.join_parent.ensures.locks_room ∙ c.join_process.ensures.locks_room ∙ c.join_line.ensures.room) ∙ c.add-slot.ensures.taken) c.insert.ensures.taken))
 
 pub add-slot-requires-clause-laid_out : goal.add-slot-requires-clause-laid_out
 add-slot-requires-clause-laid_out c = record {
@@ -262,7 +261,10 @@ add-slot-requires-clause-laid_out c = record {
 }
 
 pub add-slot-requires-clause-room : goal.add-slot-requires-clause-room
-add-slot-requires-clause-room c = (has_its_room c.self.inside (rw (← c.self.view_is) at c.requires.room)).0
+add-slot-requires-clause-room c = (has_its_room c.self.inside c.args.row.now.lkid (rw (← c.self.view_is) at c.requires.room)).0
 
 pub add-slot-requires-clause-within : goal.add-slot-requires-clause-within
-add-slot-requires-clause-within c = (has_its_room c.self.inside (rw (← c.self.view_is) at c.requires.room)).1
+add-slot-requires-clause-within c = (has_its_room c.self.inside c.args.row.now.lkid (rw (← c.self.view_is) at c.requires.room)).1
+
+pub insert-requires : goal.insert-requires
+insert-requires c = (omega arith, rw c.lkid.ensures (has_its_room c.self.inside c.args.row.now.lkid (rw (← c.self.view_is) at c.requires.room)).2)

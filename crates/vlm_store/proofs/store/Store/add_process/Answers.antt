@@ -1,5 +1,5 @@
 use Rattle.vlm_store.specs.Store.{tables, records_of}
-use Rattle.vlm_store.proofs.RoomShown.{has_room, shown_room, room_shown, is_taken, process_room_made}
+use Rattle.vlm_store.proofs.RoomShown.{has_slot, shown_room, room_shown, is_taken, process_room_made}
 use Rattle.std.proofs.Common.{◌≡◌, ◌≢◌, ◌∙◌, ◌++◌, ◌∷◌, ◌/◌, ℕ, true, List, [], length, map, None, Some, IsSome, ap, sym, refl, arith}
 use Rattle.std.proofs.lemmas.Option.{none-some}
 use Rattle.std.specs.Option.{option_map}
@@ -16,7 +16,7 @@ use Rattle.vlm_records.specs.declared.processes.Process.{Process}
 use Rattle.vlm_records.specs.Kin.{but_order, own_in, own_links, pid_at, pid_of, process_links}
 use Rattle.vlm_store.specs.Holdings.{faced, holding, own_of, process_under}
 use Rattle.vlm_store.specs.Kept.{beside_shown}
-use Rattle.vlm_store.specs.Records.{HasRoom, StoredProcess, new_stored_process, IsTaken}
+use Rattle.vlm_store.specs.Records.{HasSlot, StoredProcess, new_stored_process, IsTaken}
 use Rattle.vlm_store.proofs.Declaring.{names_stay, owner_is_there, owns_stay, more_marks, own_by_order, pid_by_order, face_by_order, process_own_handles, process_owned, roomier}
 use Rattle.vlm_store.proofs.Indexing.{table_added, table_grown}
 use Rattle.vlm_store.proofs.Kept.{on_err}
@@ -136,8 +136,8 @@ returns-clause-taken c =
     let s' = record s { processes = c.put_in-slot.new.processes; process_order = c.put_in-slot.new.order; process_index = c.put.new.self; living = c.mark.new.self; pending = c.make_room-3.new.self } in
     rw (← c.self.view_is)
     (room_shown (λ a b. IsTaken a.processes b.processes) (tables s.queues s.order (beside_shown s)) (tables s.queues s.order (beside_shown s'))
-    (is_taken s.processes c.reserve_slot.new.records c.put_in-slot.new.processes 1 1 1 c.reserve_slot.ensures.records c.reserve_slot.ensures.capacity
-    c.put_in-slot.ensures.taken (omega arith) (omega arith)))
+    (is_taken s.processes c.reserve_slot.new.records c.put_in-slot.new.processes [] [] c.reserve_slot.ensures.records c.reserve_slot.ensures.capacity
+    c.put_in-slot.ensures.taken (λ number. omega arith)))
 
 pub returns-in_err-reserve_slot-clause-err : goal.returns-in_err-reserve_slot-clause-err
 returns-in_err-reserve_slot-clause-err c =
@@ -148,7 +148,7 @@ returns-in_err-reserve_slot-clause-err c =
 pub returns-in_err-reserve_slot-clause-succeeds : goal.returns-in_err-reserve_slot-clause-succeeds
 returns-in_err-reserve_slot-clause-succeeds c has =
     let s = c.self.inside in
-    let room = has_room s.processes 1 (shown_room (λ r. HasRoom r.processes) (tables s.queues s.order (beside_shown s)) (rw (← c.self.view_is) at has.record_room)) in
+    let room = has_slot s.processes [] (shown_room (λ r. HasSlot r.processes) (tables s.queues s.order (beside_shown s)) (rw (← c.self.view_is) at has.record_room)) in
     let never = c.in_err-reserve_slot.ensures.succeeds room.0 room.1 in
     cc
 

@@ -1,3 +1,4 @@
+use Rattle.vlm_links.specs.Parts.{handle_in, spare_for, spares_of}
 use Rattle.vlm_store.specs.declared.store.Store.TheInside.{Inside}
 use Rattle.slab.specs.Slab.{HasRoomFor}
 use Rattle.vlm_links.specs.declared.link.TheConstants.{LAST_HANDLE}
@@ -5,10 +6,9 @@ use Rattle.vlm_links.specs.declared.hashing.HashKeys.{HashKeys}
 use Rattle.vlm_store.specs.Index.{hash_key}
 use Rattle.vlm_store.proofs.Lined.{line_same}
 use Rattle.vlm_store.proofs.RoomShown.{room_shown, shown_room, is_taken, rooms_are, room_of_same, has_room}
-use Rattle.std.proofs.Common.{◌≡◌, ◌<◌, ◌≤◌, arith, ◌∙◌, ◌++◌, ◌∷◌, [], ℕ, None, Some, IsSome, ap, sym, refl, nat_eq, subst}
+use Rattle.std.proofs.Common.{◌≡◌, ◌<◌, ◌≤◌, arith, ◌∙◌, ◌++◌, ◌∷◌, [], ℕ, None, Some, IsSome, ap, sym, refl, subst}
 use Rattle.std.specs.Option.{option_map}
 use Rattle.slab.specs.Slab.{get as slot_of}
-use Rattle.indexmap.specs.IndexMap.{get, spare}
 use Rattle.vlm_links.proofs.Keeping.{vacant_unlisted}
 use Rattle.vlm_links.proofs.Rings.{same-handles, same-linked}
 use Rattle.vlm_words.specs.declared.resources.Queue.TheVariants.{Granted, Conversion, Waiting}
@@ -29,12 +29,12 @@ use Rattle.vlm_records.proofs.Making.{face_by_face, face_is, none_handles, there
 use Rattle.vlm_store.specs.Kept.{records_shown, beside_shown, found_in}
 use Rattle.vlm_store.proofs.Kinship.{records_keys, queued_below, queued_named, queued_owned, queued_processes}
 use Rattle.vlm_records.proofs.Places.{same_eq}
-use Rattle.vlm_store.specs.KeyIndexes.{Enters, spare_of}
+use Rattle.vlm_store.specs.KeyIndexes.{Enters, spares_in}
 use Rattle.vlm_store.proofs.store.Store.add_resource_reserved.Goals as goal
 
 -- there is room in the slab, for a link, and in the index
-has_its_room : (s : Inside) → HasRoom (records_shown s).room.resources → HasRoomFor s.queues.resources 1 × (s.queues.resources.vacant_key ≤ LAST_HANDLE) × (0 < spare_of s.resource_index)
-has_its_room s has = has_room s.queues.resources (spare_of s.resource_index) (shown_room (λ r. HasRoom r.resources) (tables s.queues s.order (beside_shown s)) has)
+has_its_room : (s : Inside) (hash : ℕ) → HasRoom hash (records_shown s).room.resources → HasRoomFor s.queues.resources 1 × (s.queues.resources.vacant_key ≤ LAST_HANDLE) × (0 < spare_for (spares_in s.resource_index) hash)
+has_its_room s hash has = has_room s.queues.resources (spares_in s.resource_index) hash (shown_room (λ r. HasRoom hash r.resources) (tables s.queues s.order (beside_shown s)) has)
 
 pub add_resource-requires-clause-linked : goal.add_resource-requires-clause-linked
 add_resource-requires-clause-linked c =
@@ -67,7 +67,7 @@ invariant_of-self c =
       linked = added.linked;
       ordered = whole_grown order_links c.self.inside.queues.resources q'.resources s.order c.add_resource.new.order at (λ r there. rw handles1 (kept.ordered r (rw (same r) at there))) added.order
           (λ r differs. there_by_face (slot_of q'.resources r) (slot_of c.self.inside.queues.resources r) (added.faces r differs));
-      locks = Indexes-same (get nat_eq s.lock_index) (get nat_eq s.lock_index) (lkid_at s.queues) (lkid_at q') (λ k. refl) (λ x. ap (λ l. option_map lkid_of (slot_of l x)) added.locks) kept.locks;
+      locks = Indexes-same (handle_in s.lock_index) (handle_in s.lock_index) (lkid_at s.queues) (lkid_at q') (λ k. refl) (λ x. ap (λ l. option_map lkid_of (slot_of l x)) added.locks) kept.locks;
       resources = hashed_added (hash_key s.keys) c.self.inside.resource_index c.insert.new.self (hashed_at q1) (hashed_at q') at found
           (λ r differs. hashed_by_face (slot_of q'.resources r) (slot_of c.self.inside.queues.resources r) (added.faces r differs)) indexes1 q'.resources
           (subst (λ (n : ℕ). Enters q'.resources at n c.self.inside.resource_index c.insert.new.self) hash_known (rw c.of-res.ensures at c.insert.ensures.enters))
@@ -112,7 +112,7 @@ returns-clause-added c =
     (queued_processes s.processes s.queues.locks q'.locks (same_eq but_queued s.queues.locks q'.locks added.locks) s.process_order kept.owned kept.below) refl
     ∙ ap (λ r. record (records_of old) { resources = (records_of old).resources ++ new_stored_resource at c.args.serial c.args.site.now ∷ []; room = r })
     (room_shown (λ a b. b ≡ record a { resources = b.resources }) old l'
-    (rooms_are _ _ _ _ _ _ (room_of_same s.queues.locks q'.locks (spare s.lock_index) (ap room_in added.locks)) refl refl)))
+    (rooms_are _ _ _ _ _ _ (room_of_same s.queues.locks q'.locks (spares_of s.lock_index) (ap room_in added.locks)) refl refl)))
 
 pub returns-clause-fresh : goal.returns-clause-fresh
 returns-clause-fresh c has =
@@ -130,8 +130,8 @@ returns-clause-taken c =
     let s' = record s { queues = q'; order = c.add_resource.new.order; resource_index = c.insert.new.self } in
     rw (← c.self.view_is)
     (room_shown (λ a b. IsTaken a.resources b.resources) (tables s.queues s.order (beside_shown s)) (tables q' s'.order (beside_shown s'))
-    (is_taken s.queues.resources c.self.inside.queues.resources q'.resources (spare_of s.resource_index) (spare_of c.self.inside.resource_index) (spare_of c.insert.new.self) refl (omega arith)
-    c.add_resource.ensures.taken (omega arith) c.insert.ensures.taken))
+    (is_taken s.queues.resources c.self.inside.queues.resources q'.resources (spares_in s.resource_index) (spares_in c.insert.new.self) refl (omega arith)
+    c.add_resource.ensures.taken c.insert.ensures.taken))
 
 pub add_resource-requires-clause-laid_out : goal.add_resource-requires-clause-laid_out
 add_resource-requires-clause-laid_out c = record {
@@ -159,10 +159,10 @@ insert-requires-clause-there c before last =
     there_by_face (slot_of roomy before) (slot_of c.add_resource.new.self.resources before) (sym (added.faces before differs)) there
 
 pub add_resource-requires-clause-room : goal.add_resource-requires-clause-room
-add_resource-requires-clause-room c = (has_its_room c.self.inside (rw (← c.self.view_is) at c.requires.room)).0
+add_resource-requires-clause-room c = (has_its_room c.self.inside c.args.hash (rw (← c.self.view_is) at c.requires.room)).0
 
 pub add_resource-requires-clause-within : goal.add_resource-requires-clause-within
-add_resource-requires-clause-within c = (has_its_room c.self.inside (rw (← c.self.view_is) at c.requires.room)).1
+add_resource-requires-clause-within c = (has_its_room c.self.inside c.args.hash (rw (← c.self.view_is) at c.requires.room)).1
 
 pub insert-requires-clause-room : goal.insert-requires-clause-room
-insert-requires-clause-room c = (has_its_room c.self.inside (rw (← c.self.view_is) at c.requires.room)).2
+insert-requires-clause-room c = (has_its_room c.self.inside c.args.hash (rw (← c.self.view_is) at c.requires.room)).2

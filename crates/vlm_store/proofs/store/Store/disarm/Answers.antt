@@ -1,7 +1,7 @@
+use Rattle.vlm_links.specs.Parts.{handle_in}
 use Rattle.vlm_store.specs.Index.{hash_key}
 use Rattle.vlm_store.proofs.Lined.{line_disarmed}
-use Rattle.std.proofs.Common.{None, ◌∙◌, ap, map, refl, nat_eq}
-use Rattle.indexmap.specs.IndexMap.{get}
+use Rattle.std.proofs.Common.{None, ◌∙◌, ap, map, refl}
 use Rattle.vlm_store.specs.HashedKeys.{hashed_at}
 use Rattle.vlm_store.proofs.HashedKeys.{labels_same}
 use Rattle.vlm_store.specs.Kept.{beside_shown}
@@ -35,7 +35,7 @@ invariant_of-self c =
       line = line_disarmed s.queues q' s.line kept.placed c.disarm.ensures.laid_out.placed c.disarm.ensures.line c.disarm.ensures.handles kept.line;
       linked = order_linked but_queues (λ r. refl) s.queues.resources q'.resources rest s.order kept.linked;
       ordered = order_whole but_queues (λ r. refl) s.queues.resources q'.resources rest s.order kept.linked kept.ordered;
-      locks = Indexes-same (get nat_eq s.lock_index) (get nat_eq s.lock_index) (lkid_at s.queues) (lkid_at q') (λ k. refl) (queued_lkids s.processes s.queues.locks q'.locks c.disarm.ensures.kept.kin) kept.locks;
+      locks = Indexes-same (handle_in s.lock_index) (handle_in s.lock_index) (lkid_at s.queues) (lkid_at q') (λ k. refl) (queued_lkids s.processes s.queues.locks q'.locks c.disarm.ensures.kept.kin) kept.locks;
       resources = labels_same (hash_key s.keys) s.resource_index (hashed_at s.queues) (hashed_at q') (keys_same but_queues (λ r. refl) s.queues.resources q'.resources rest) kept.resources;
       owned = queued_owned s.processes s.queues.locks q'.locks c.disarm.ensures.kept.kin None kept.owned;
       below = queued_below s.processes s.queues.locks q'.locks c.disarm.ensures.kept.kin None kept.below;

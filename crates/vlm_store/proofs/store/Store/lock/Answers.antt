@@ -1,7 +1,6 @@
 use Rattle.vlm_store.proofs.Living.{is_sound}
-use Rattle.std.proofs.Common.{nat_eq, ◌∙◌}
-use Rattle.indexmap.specs.IndexMap.{get}
 use Rattle.vlm_store.proofs.Kept.{finds_lock}
+use Rattle.vlm_links.specs.Parts.{handle_in}
 use Rattle.vlm_store.specs.Kept.{beside_shown}
 use Rattle.vlm_store.proofs.store.Store.lock.Goals as goal
 
@@ -9,7 +8,7 @@ pub returns-clause-found : goal.returns-clause-found
 returns-clause-found c =
     let s = c.self.inside in
     let kept = c.self.invariant in
-    rw (← c.self.view_is) (finds_lock s.queues s.order (beside_shown s) kept.placed kept.linked kept.ordered (get nat_eq s.lock_index) kept.locks c.args.lkid c.copied.result (c.copied.ensures ∙ c.get.ensures.value))
+    rw (← c.self.view_is) (finds_lock s.queues s.order (beside_shown s) kept.placed kept.linked kept.ordered (handle_in s.lock_index) kept.locks c.args.lkid c.get.result c.get.ensures)
 
 pub returns-clause-sound : goal.returns-clause-sound
 returns-clause-sound c = rw (← c.self.view_is) (is_sound c.self.inside c.self.invariant)

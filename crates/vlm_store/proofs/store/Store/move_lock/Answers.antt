@@ -1,7 +1,7 @@
+use Rattle.vlm_links.specs.Parts.{handle_in}
 use Rattle.vlm_store.specs.Index.{hash_key}
 use Rattle.vlm_store.proofs.RoomShown.{queues_room}
-use Rattle.std.proofs.Common.{None, ◌∙◌, ◌++◌, ◌∷◌, [], ap, refl, nat_eq}
-use Rattle.indexmap.specs.IndexMap.{get}
+use Rattle.std.proofs.Common.{None, ◌∙◌, ◌++◌, ◌∷◌, [], ap, refl}
 use Rattle.vlm_links.specs.Lists.{without}
 use Rattle.vlm_store.specs.HashedKeys.{hashed_at}
 use Rattle.vlm_store.proofs.HashedKeys.{labels_same}
@@ -96,7 +96,7 @@ invariant_of-self c =
       line = c.join_line.ensures.line;
       linked = order_linked but_queues (λ r. refl) s.queues.resources q3.resources rest s.order kept.linked;
       ordered = order_whole but_queues (λ r. refl) s.queues.resources q3.resources rest s.order kept.linked kept.ordered;
-      locks = Indexes-same (get nat_eq s.lock_index) (get nat_eq s.lock_index) (lkid_at s.queues) (lkid_at q3) (λ k. refl) (queued_lkids s.processes s.queues.locks locks3 queued) kept.locks;
+      locks = Indexes-same (handle_in s.lock_index) (handle_in s.lock_index) (lkid_at s.queues) (lkid_at q3) (λ k. refl) (queued_lkids s.processes s.queues.locks locks3 queued) kept.locks;
       resources = labels_same (hash_key s.keys) s.resource_index (hashed_at s.queues) (hashed_at q3) (keys_same but_queues (λ r. refl) s.queues.resources q3.resources rest) kept.resources;
       owned = queued_owned s.processes s.queues.locks locks3 queued None kept.owned;
       below = queued_below s.processes s.queues.locks locks3 queued None kept.below;

@@ -1,11 +1,10 @@
+use Rattle.vlm_links.specs.Parts.{spares_of}
 use Rattle.vlm_store.specs.Index.{hash_key}
 use Rattle.vlm_store.proofs.Lined.{line_below, line_kin, line_own, line_queued, line_removed}
 use Rattle.vlm_store.proofs.RoomShown.{room_shown, is_given_back, rooms_are, room_of_same}
-use Rattle.std.proofs.Common.{◌≡◌, ◌≢◌, ◌∙◌, [], map, None, ap, sym, refl, nat_eq, ◌+◌, ℕ}
-use Rattle.std.specs.Cmp.{unsigned_Decides}
+use Rattle.std.proofs.Common.{◌≡◌, ◌≢◌, ◌∙◌, [], map, None, ap, sym, refl, ◌+◌, ℕ}
 use Rattle.std.specs.Option.{option_map}
 use Rattle.slab.specs.Slab.{get as slot_of}
-use Rattle.indexmap.specs.IndexMap.{spare}
 use Rattle.vlm_links.specs.Lists.{without}
 use Rattle.vlm_store.specs.HashedKeys.{hashed_at}
 use Rattle.vlm_store.proofs.HashedKeys.{labels_same}
@@ -24,7 +23,7 @@ use Rattle.vlm_store.proofs.Layouts.{leaving-under_handle, lists_changed_beside}
 use Rattle.vlm_store.proofs.Leaving.{left_below, left_kin, left_lkids, left_named, left_owned, left_processes}
 use Rattle.vlm_store.proofs.Living.{childless, lock_there}
 use Rattle.vlm_records.proofs.Places.{same_then, through}
-use Rattle.vlm_store.specs.KeyIndexes.{spare_of}
+use Rattle.vlm_store.specs.KeyIndexes.{spares_in}
 use Rattle.vlm_store.proofs.store.Store.remove_lock.Goals as goal
 use Rattle.vlm_store.proofs.Order.{keys_same, order_handles, order_linked, order_whole}
 
@@ -77,7 +76,7 @@ invariant_of-self c =
       linked = order_linked but_queues (λ r. refl) s.queues.resources q'.resources removed.rest s.order kept.linked;
       ordered = order_whole but_queues (λ r. refl) s.queues.resources q'.resources removed.rest s.order kept.linked kept.ordered;
       locks =
-          Indexes-removed nat_eq unsigned_Decides s.lock_index c.swap_remove.new.self c.index.result.now.row.lkid (lkid_at s.queues) (lkid_at q') c.args.lock (rw c.lkid.ensures at c.swap_remove.ensures.updates)
+          Indexes-removed s.lock_index c.remove-2.new.self c.index.result.now.row.lkid (lkid_at s.queues) (lkid_at q') c.args.lock (rw c.lkid.ensures at c.remove-2.ensures.writes)
           (ap (option_map lkid_of) (rw c.slot-at.ensures at c.index.ensures)) (ap (option_map lkid_of) removed.gone)
           (left_lkids s kept c.args.lock none c.leave_parent.new.locks c.leave_process.new.locks q'.locks c.leave_process.new.processes parent.below parent.handles parent.rest process.owned process.handles process.relinks process.rest removed.gone gone_kin) kept.locks;
       resources = labels_same (hash_key s.keys) s.resource_index (hashed_at s.queues) (hashed_at q') (keys_same but_queues (λ r. refl) s.queues.resources q'.resources removed.rest) kept.resources;
@@ -109,7 +108,7 @@ returns-clause-removed c =
     (left_kin s kept c.args.lock none c.leave_parent.new.locks c.leave_process.new.locks q'.locks c.leave_process.new.processes parent.below parent.handles parent.rest process.owned process.handles process.relinks process.rest removed.gone gone_kin)
     (line_kin c.leave_process.new.locks c.leave_line.new.locks lined.rest) in
     let old = tables s.queues s.order (beside_shown s) in
-    let s' = record s { queues = q'; line = c.leave_line.new.line; processes = c.leave_process.new.processes; lock_index = c.swap_remove.new.self } in
+    let s' = record s { queues = q'; line = c.leave_line.new.line; processes = c.leave_process.new.processes; lock_index = c.remove-2.new.self } in
     let new = tables q' s.order (beside_shown s') in
     rw (← c.self.view_is)
     (lists_changed_beside old new (leaving c.args.lock) (faces_same s.queues.resources q'.resources removed.rest)
@@ -120,7 +119,7 @@ returns-clause-removed c =
     (left_processes s kept c.args.lock none c.leave_parent.new.locks c.leave_process.new.locks q'.locks c.leave_process.new.processes parent.below parent.handles parent.rest process.owned process.handles process.relinks process.rest removed.gone gone_kin ∙ ap (map (process_without_lock c.args.lock)) (sym (records_processes old)))
     ∙ ap (λ r. record (without_stored_lock c.args.lock (records_of old)) { room = r })
     (room_shown (λ a b. b ≡ record a { locks = b.locks }) old new
-    (rooms_are _ _ _ _ _ _ refl (room_of_same s.queues.resources q'.resources (spare_of s.resource_index) removed.resources_room) (room_of_same s.processes c.leave_process.new.processes 1 process.processes_room))))
+    (rooms_are _ _ _ _ _ _ refl (room_of_same s.queues.resources q'.resources (spares_in s.resource_index) removed.resources_room) (room_of_same s.processes c.leave_process.new.processes [] process.processes_room))))
 
 pub returns-clause-given_back : goal.returns-clause-given_back
 returns-clause-given_back c =
@@ -130,13 +129,13 @@ returns-clause-given_back c =
     let lined = rw c.slot-at.ensures at c.leave_line.ensures in
     let removed = rw c.slot-at.ensures at c.remove.ensures in
     let q' = c.remove.new.self in
-    let s' = record s { queues = q'; line = c.leave_line.new.line; processes = c.leave_process.new.processes; lock_index = c.swap_remove.new.self } in
+    let s' = record s { queues = q'; line = c.leave_line.new.line; processes = c.leave_process.new.processes; lock_index = c.remove-2.new.self } in
     let stored = rw (← c.self.view_is) at c.requires.stored in
     rw (← c.self.view_is)
     (room_shown (λ a b. IsGivenBack a.locks b.locks) (tables s.queues s.order (beside_shown s)) (tables q' s.order (beside_shown s'))
-    (is_given_back s.queues.locks q'.locks c.args.lock (spare s.lock_index) (spare c.swap_remove.new.self)
+    (is_given_back s.queues.locks q'.locks c.args.lock (spares_of s.lock_index) (spares_of c.remove-2.new.self)
     (removed.given_back ∙ ap (λ (p : ℕ × ℕ). (p.0 + 1, c.args.lock)) (lined.room ∙ process.locks_room ∙ parent.locks_room))
-    (lock_there s c.self.invariant c.args.lock stored.0 stored.1).1 c.swap_remove.ensures.room.0))
+    (lock_there s c.self.invariant c.args.lock stored.0 stored.1).1 c.remove-2.ensures.room))
 
 pub remove-requires-clause-laid_out : goal.remove-requires-clause-laid_out
 remove-requires-clause-laid_out c = record {

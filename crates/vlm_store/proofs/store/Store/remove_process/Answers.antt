@@ -101,5 +101,5 @@ returns-clause-given_back c =
     let s' = record s { processes = c.take_out.new.processes; process_order = c.take_out.new.order; process_index = c.remove.new.self; living = c.unmark.new.self; pending = c.unmark-2.new.self } in
     rw (← c.self.view_is)
     (room_shown (λ a b. IsGivenBack a.processes b.processes) (tables s.queues s.order (beside_shown s)) (tables s.queues s.order (beside_shown s'))
-    (is_given_back s.processes c.take_out.new.processes c.args.at 1 1 left.given_back
-    (c.self.invariant.processes_linked.within c.args.at (process_listed s c.self.invariant c.args.at (rw (← c.self.view_is) at c.requires.there))) (omega arith)))
+    (is_given_back s.processes c.take_out.new.processes c.args.at [] [] left.given_back
+    (c.self.invariant.processes_linked.within c.args.at (process_listed s c.self.invariant c.args.at (rw (← c.self.view_is) at c.requires.there))) (λ number. omega arith)))

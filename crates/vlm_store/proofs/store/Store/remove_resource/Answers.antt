@@ -1,11 +1,11 @@
+use Rattle.vlm_links.specs.Parts.{handle_in, spares_of}
 use Rattle.vlm_store.specs.Index.{hash_key}
 use Rattle.vlm_store.proofs.Lined.{line_same}
 use Rattle.vlm_store.specs.Records.{IsGivenBack, without_resource}
 use Rattle.vlm_store.proofs.RoomShown.{room_shown, is_given_back, rooms_are, room_of_same}
-use Rattle.std.proofs.Common.{None, ◌∙◌, ap, sym, refl, nat_eq, ◌≡◌}
+use Rattle.std.proofs.Common.{None, ◌∙◌, ap, sym, refl, ◌≡◌}
 use Rattle.std.specs.Option.{option_map}
 use Rattle.slab.specs.Slab.{get as slot_of}
-use Rattle.indexmap.specs.IndexMap.{get, spare}
 use Rattle.vlm_records.specs.declared.handles.Place.TheVariants.{Queued}
 use Rattle.vlm_store.specs.HashedKeys.{hashed_at, hashed_in}
 use Rattle.vlm_store.proofs.HashedKeys.{hashed_by_face, hashed_removed}
@@ -17,7 +17,7 @@ use Rattle.vlm_records.proofs.Making.{face_by_face, map-nil, there_by_face, whol
 use Rattle.vlm_store.specs.Kept.{beside_shown, records_shown}
 use Rattle.vlm_store.proofs.Kinship.{queued_below, queued_named, queued_owned, queued_processes}
 use Rattle.vlm_records.proofs.Places.{same_eq}
-use Rattle.vlm_store.specs.KeyIndexes.{spare_of}
+use Rattle.vlm_store.specs.KeyIndexes.{spares_in}
 use Rattle.vlm_store.proofs.store.Store.remove_resource.Goals as goal
 
 pub index-requires : goal.index-requires
@@ -47,7 +47,7 @@ invariant_of-self c =
       linked = gone.linked;
       ordered = whole_left order_links s.queues.resources q'.resources s.order c.remove_resource.new.order c.args.res kept.ordered gone.order gone.gone
           (λ r differs. there_by_face (slot_of q'.resources r) (slot_of s.queues.resources r) (gone.faces r differs));
-      locks = Indexes-same (get nat_eq s.lock_index) (get nat_eq s.lock_index) (lkid_at s.queues) (lkid_at q') (λ k. refl) (λ x. ap (λ l. option_map lkid_of (slot_of l x)) gone.locks) kept.locks;
+      locks = Indexes-same (handle_in s.lock_index) (handle_in s.lock_index) (lkid_at s.queues) (lkid_at q') (λ k. refl) (λ x. ap (λ l. option_map lkid_of (slot_of l x)) gone.locks) kept.locks;
       resources = hashed_removed (hash_key s.keys) s.resource_index c.remove.new.self (hashed_at s.queues) (hashed_at q') c.args.res (hashed_in c.index.result.now)
           (λ r differs. hashed_by_face (slot_of q'.resources r) (slot_of s.queues.resources r) (gone.faces r differs))
           kept.resources c.remove.ensures.leaves (ap (option_map hashed_in) (rw c.slot.ensures at c.index.ensures)) (ap (option_map hashed_in) gone.gone);
@@ -73,7 +73,7 @@ returns-clause-removed c =
     (queued_processes s.processes s.queues.locks q'.locks (same_eq but_queued s.queues.locks q'.locks gone.locks) s.process_order c.self.invariant.owned c.self.invariant.below) refl
     ∙ ap (λ r. record (records_shown s) { resources = without_resource c.args.res (records_shown s).resources; room = r })
     (room_shown (λ a b. b ≡ record a { resources = b.resources }) (tables s.queues s.order (beside_shown s)) (tables q' s'.order (beside_shown s'))
-    (rooms_are _ _ _ _ _ _ (room_of_same s.queues.locks q'.locks (spare s.lock_index) (ap room_in gone.locks)) refl refl)))
+    (rooms_are _ _ _ _ _ _ (room_of_same s.queues.locks q'.locks (spares_of s.lock_index) (ap room_in gone.locks)) refl refl)))
 
 pub returns-clause-given_back : goal.returns-clause-given_back
 returns-clause-given_back c =
@@ -83,5 +83,5 @@ returns-clause-given_back c =
     let s' = record s { queues = q'; order = c.remove_resource.new.order; resource_index = c.remove.new.self } in
     rw (← c.self.view_is)
     (room_shown (λ a b. IsGivenBack a.resources b.resources) (tables s.queues s.order (beside_shown s)) (tables q' s'.order (beside_shown s'))
-    (is_given_back s.queues.resources q'.resources c.args.res (spare_of s.resource_index) (spare_of c.remove.new.self) gone.given_back
-    (c.self.invariant.linked.within c.args.res (HasResource-order (tables s.queues s.order (beside_shown s)) c.args.res (rw (← c.self.view_is) at c.requires.there))) c.remove.ensures.finds))
+    (is_given_back s.queues.resources q'.resources c.args.res (spares_in s.resource_index) (spares_in c.remove.new.self) gone.given_back
+    (c.self.invariant.linked.within c.args.res (HasResource-order (tables s.queues s.order (beside_shown s)) c.args.res (rw (← c.self.view_is) at c.requires.there))) c.remove.ensures.room))

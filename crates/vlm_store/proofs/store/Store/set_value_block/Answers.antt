@@ -1,10 +1,10 @@
+use Rattle.vlm_links.specs.Parts.{handle_in}
 use Rattle.vlm_store.specs.Index.{hash_key}
 use Rattle.vlm_store.proofs.Lined.{line_same}
 use Rattle.vlm_store.proofs.RoomShown.{queues_room}
-use Rattle.std.proofs.Common.{None, ap, refl, nat_eq}
+use Rattle.std.proofs.Common.{None, ap, refl}
 use Rattle.std.specs.Option.{option_map}
 use Rattle.slab.specs.Slab.{get as slot_of}
-use Rattle.indexmap.specs.IndexMap.{get}
 use Rattle.vlm_words.specs.declared.resources.Queue.TheVariants.{Granted, Conversion, Waiting}
 use Rattle.vlm_records.specs.declared.handles.Place.TheVariants.{Queued}
 use Rattle.vlm_store.specs.HashedKeys.{hashed_at}
@@ -38,7 +38,7 @@ invariant_of-self c =
       line = line_same s.queues.locks q'.locks s.line (λ k. ap (λ l. slot_of l k) set.locks) kept.line;
       linked = order_linked but_value_block (λ r. refl) s.queues.resources q'.resources set.rest s.order kept.linked;
       ordered = order_whole but_value_block (λ r. refl) s.queues.resources q'.resources set.rest s.order kept.linked kept.ordered;
-      locks = Indexes-same (get nat_eq s.lock_index) (get nat_eq s.lock_index) (lkid_at s.queues) (lkid_at q') (λ k. refl) (λ x. ap (λ l. option_map lkid_of (slot_of l x)) set.locks) kept.locks;
+      locks = Indexes-same (handle_in s.lock_index) (handle_in s.lock_index) (lkid_at s.queues) (lkid_at q') (λ k. refl) (λ x. ap (λ l. option_map lkid_of (slot_of l x)) set.locks) kept.locks;
       resources = labels_same (hash_key s.keys) s.resource_index (hashed_at s.queues) (hashed_at q') (keys_same but_value_block (λ r. refl) s.queues.resources q'.resources set.rest) kept.resources;
       owned = queued_owned s.processes s.queues.locks q'.locks (same_eq but_queued s.queues.locks q'.locks set.locks) None kept.owned;
       below = queued_below s.processes s.queues.locks q'.locks (same_eq but_queued s.queues.locks q'.locks set.locks) None kept.below;

@@ -1,13 +1,12 @@
 use Rattle.vlm_store.specs.Index.{hash_key}
 use Rattle.vlm_store.proofs.Lined.{empty_line}
-use Rattle.std.proofs.Common.{◌≡◌, ◌∙◌, ℕ, None, refl, sym, ap, nat_eq}
+use Rattle.std.proofs.Common.{◌≡◌, ◌∙◌, ℕ, None, refl, sym, ap}
 use Rattle.std.proofs.lemmas.Option.{none-some}
 use Rattle.vlm_links.specs.Tables.{handle_of}
 use Rattle.slab.specs.Slab.{get}
 use Rattle.vlm_records.specs.Shown.{lkid_of}
-use Rattle.std.specs.Map.{lookup}
 use Rattle.std.specs.Option.{option_map}
-use Rattle.indexmap.specs.IndexMap.{get as found}
+use Rattle.vlm_links.specs.Parts.{handle_in}
 use Rattle.vlm_records.specs.declared.queues.Queues.{Queues}
 use Rattle.vlm_store.specs.HashedKeys.{hashed_at, hashed_in}
 use Rattle.vlm_store.proofs.HashedKeys.{hashed_empty}
@@ -33,7 +32,7 @@ invariant_of-result c =
       line = empty_line q.locks c.new-3.result c.new-3.ensures no_locks;
       linked = empty_linked q no_locks no_resources c.new-4.result c.new-4.ensures;
       ordered = empty_ordered q no_locks no_resources c.new-4.result c.new-4.ensures;
-      locks = Indexes-empty (found nat_eq c.with_hasher.result) (lkid_at q) (λ k. ap (lookup (nat_eq k)) c.with_hasher.ensures.empty) (λ at. ap (option_map lkid_of) (no_locks at));
+      locks = Indexes-empty (handle_in c.new-7.result) (lkid_at q) c.new-7.ensures (λ at. ap (option_map lkid_of) (no_locks at));
       resources =
           hashed_empty (hash_key c.args.keys) c.new-8.result (hashed_at q) c.new-8.ensures (λ r. ap (option_map hashed_in) (no_resources r));
       owned = empty_owned c.new-5.result q.locks no_processes no_locks;
