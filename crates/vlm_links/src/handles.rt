@@ -44,6 +44,16 @@ impl<Kind> At<Kind> {
     {
         self.at as usize
     }
+
+    /// The same slot, for a list that notes records of several kinds in turn.
+    pub fn in_kind<Other>(self) -> At<Other>
+        ensures { result ≡ self }
+    {
+        At {
+            at: self.at,
+            kind: PhantomData,
+        }
+    }
 }
 
 /// The handle of a record of one kind, or none, in four bytes.

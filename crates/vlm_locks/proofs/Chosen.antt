@@ -1,31 +1,20 @@
--- Locks that are chosen, by their identifications, and walks along the locks of a process.
+-- Locks that are chosen, by their identifications, and walks along handles.
 use Rattle.std.proofs.Common.{◌≡◌, ◌<◌, ℕ, Bool, true, false, List, [], ◌∷◌, ◌++◌, cond, Option, None, Some, refl, sym, ap, ◌∙◌, subst, inl, inr, arith, eq-eqb, ne_eqb}
 use Rattle.std.specs.Prelude.{◌==◌, ◌||◌}
 use Rattle.std.specs.List.{AllByRecursion}
 use Rattle.std.proofs.lemmas.Bool.{eqb-true, or_right}
-use Rattle.std.proofs.lemmas.List.{append_assoc}
 use Rattle.vlm_words.specs.declared.locks.Row.{Row}
-use Rattle.vlm_links.specs.Lists.{IsApart, IsIn, first_handle, last_handle, without}
-use Rattle.vlm_links.proofs.Walks.{last_handle-split}
+use Rattle.vlm_links.specs.Lists.{IsApart, IsIn, first_handle}
 use Rattle.vlm_store.specs.Plain.{plain_resources}
 use Rattle.vlm_store.specs.Records.{Records}
 use Rattle.vlm_locks.specs.declared.giving_up.Choice.{Choice}
 use Rattle.vlm_locks.specs.GivingUp.{AreChosen, Rise, is_chosen}
 use Rattle.vlm_locks.specs.Left.{is_among}
-use Rattle.vlm_locks.proofs.RunsDown.{none_at_all}
 
 -- ---- rising numbers
 
--- a greater one behind all
-pub rise_push : (lkids : List ℕ) (last : ℕ) → Rise lkids → ((n : ℕ) → IsIn n lkids → n < last) → Rise (lkids ++ last ∷ [])
-rise_push [] last rise below = (tt, tt)
-rise_push (n ∷ lkids) last rise below = (all_push lkids rise.0, rise_push lkids last rise.1 (λ m there. below m (inr there)))
-  where
-    all_push : (ns : List ℕ) → AllByRecursion (λ later. n < later) ns → AllByRecursion (λ later. n < later) (ns ++ last ∷ [])
-    all_push [] all = (below n (inl refl), tt)
-    all_push (m ∷ ns) all = (all.0, all_push ns all.1)
-
-above : (n m : ℕ) (ns : List ℕ) → AllByRecursion (λ later. n < later) ns → IsIn m ns → n < m
+-- each behind one is above it
+pub above : (n m : ℕ) (ns : List ℕ) → AllByRecursion (λ later. n < later) ns → IsIn m ns → n < m
 above n m [] all there = absurd there
 above n m (x ∷ ns) all there = elim there [
   | inl here ↦ subst (λ k. n < k) here all.0
@@ -122,12 +111,6 @@ on_from_first (d ∷ done) (at ∷ rest) apart =
     among_parts [] same = inl (sym same)
     among_parts (x ∷ ds) same = inr (among_parts ds same)
 
--- the handles up to a spot
-abbrev pub up_to : Option ℕ → List ℕ → List ℕ
-up_to None handles = []
-up_to (Some at) [] = []
-up_to (Some at) (x ∷ handles) = cond (x == at) (x ∷ []) (x ∷ up_to (Some at) handles)
-
 -- a handle that is listed once is not among those before it
 pub absent_before : (front : List ℕ) (at : ℕ) (rest : List ℕ) → IsApart (front ++ at ∷ rest) → ¬ IsIn at front
 absent_before [] at rest apart there = there
@@ -139,29 +122,3 @@ absent_before (x ∷ front) at rest apart there = elim there [
     listed : (xs : List ℕ) → IsIn at (xs ++ at ∷ rest)
     listed [] = inl refl
     listed (y ∷ xs) = inr (listed xs)
-
-up_to_found : (front : List ℕ) (at : ℕ) (kept : List ℕ) → ¬ IsIn at front → up_to (Some at) (front ++ at ∷ kept) ≡ front ++ at ∷ []
-up_to_found [] at kept absent = rw (eq-eqb at at refl) refl
-up_to_found (x ∷ front) at kept absent =
-    rw (ne_eqb x at (λ same. absent (inl same))) (ap (λ hs. x ∷ hs) (up_to_found front at kept (λ there. absent (inr there))))
-
--- those that a walk back has before it
-pub up_to_last : (front kept : List ℕ) → IsApart (front ++ kept) → up_to (last_handle front) (front ++ kept) ≡ front
-up_to_last front kept apart = of_last (last_handle front) refl
-  where
-    of_last : (last : Option ℕ) → last_handle front ≡ last → up_to last (front ++ kept) ≡ front
-    of_last None none = sym (none_at_all front none)
-    of_last (Some at) is =
-        let split = last_handle-split front at (sym is) in
-        let whole : front ++ kept ≡ split.0 ++ at ∷ kept = ap (λ hs. hs ++ kept) split.1 ∙ append_assoc split.0 (at ∷ []) kept in
-        ap (up_to (Some at)) whole ∙ up_to_found split.0 at kept (absent_before split.0 at kept (subst IsApart whole apart)) ∙ sym split.1
-
--- without a handle the others are left
-pub without_one : (front : List ℕ) (at : ℕ) (rest : List ℕ) → IsApart (front ++ at ∷ rest) → without at (front ++ at ∷ rest) ≡ front ++ rest
-without_one [] at rest apart = rw (eq-eqb at at refl) (none_left rest (λ x there same. apart.0 (subst (λ h. IsIn h rest) same there)))
-  where
-    none_left : (xs : List ℕ) → ((x : ℕ) → IsIn x xs → x ≡ at → ⊥) → without at xs ≡ xs
-    none_left [] none = refl
-    none_left (x ∷ xs) none = rw (ne_eqb x at (none x (inl refl))) (ap (λ hs. x ∷ hs) (none_left xs (λ y there. none y (inr there))))
-without_one (x ∷ front) at rest apart =
-    rw (ne_eqb x at (λ same. absent_before (x ∷ front) at rest apart (inl same))) (ap (λ hs. x ∷ hs) (without_one front at rest apart.1))

@@ -1,53 +1,60 @@
 -- Locks that are given up together go, the last first.
-use Rattle.std.proofs.Common.{◌≡◌, ◌≢◌, ◌<◌, ◌≤◌, ◌+◌, ◌⊎◌, ℕ, Bool, true, false, List, [], ◌∷◌, ◌++◌, length, Option, None, Some, refl, sym, ap, ◌∙◌, subst, inl, inr, arith}
-use Rattle.std.proofs.lemmas.List.{append_assoc, append-nil}
+use Rattle.std.proofs.Common.{◌≡◌, ◌≢◌, ◌<◌, ◌+◌, ℕ, zero, suc, Bool, true, false, List, [], ◌∷◌, ◌++◌, length, get_or, refl, sym, ap, ◌∙◌, subst, inl, inr, arith}
+use Rattle.std.proofs.lemmas.List.{append_assoc, append-nil, length-append, map-append}
 use Rattle.std.proofs.lemmas.Bool.{cases_Bool}
 use Rattle.vlm_words.specs.declared.locks.Row.{Row}
 use Rattle.vlm_words.specs.Withdrawals.{Withdrawal}
-use Rattle.vlm_links.specs.Lists.{IsApart, IsIn, handle_before, last_handle, without}
-use Rattle.vlm_links.proofs.HandleLists.{IsIn-push_kept, IsIn-push_last}
-use Rattle.vlm_links.proofs.Walks.{before_from-among, last_handle-split}
-use Rattle.vlm_store.specs.Plain.{plain_resources}
+use Rattle.vlm_links.specs.Lists.{IsIn}
 use Rattle.vlm_store.specs.Records.{HasNoSublocks, IsProcess, IsSound, IsStored, Records, Stores, locks_at, own_handles_at}
 use Rattle.vlm_locks.specs.declared.finding.Standing.{Standing}
-use Rattle.vlm_locks.specs.declared.giving_up.Choice.{Choice}
-use Rattle.vlm_locks.specs.declared.giving_up.Choice.TheVariants.{All, Below}
-use Rattle.vlm_locks.specs.GivingUp.{AreChosen, AreGone, CanGo, IsPaidBut, is_chosen}
+use Rattle.vlm_locks.specs.declared.touched.Note.{Note}
+use Rattle.vlm_locks.specs.GivingUp.{AreGone, AreOfLocks, CanGo, IsPaidBut, Rise, noted_lkids}
 use Rattle.vlm_locks.specs.Left.{is_among}
 use Rattle.vlm_locks.specs.Owing.{LosesOne}
-use Rattle.vlm_locks.specs.Rising.{IsOlder, StandByIdentification}
 use Rattle.vlm_locks.specs.RunningDown.{CanEndProcesses}
-use Rattle.vlm_locks.specs.Touched.{Touches}
+use Rattle.vlm_locks.specs.Touched.{Touches, touched_handles}
 use Rattle.vlm_locks.specs.Withdrawing.{owned_after}
-use Rattle.vlm_locks.proofs.Chosen.{absent_before, among_in, in_among, one_choice, up_to, up_to_last, without_one}
-use Rattle.vlm_locks.proofs.EndsTogether.{stand_before}
-use Rattle.vlm_locks.proofs.ParentsNamed.{parents_come_first, same_below}
-use Rattle.vlm_locks.proofs.RunsDown.{AreGoing, IsTurn, among_others, handles_apart, next_turn, none_at_all, none_goes, one_were_there, own_left, owned_here, its_handles, stored_here, they_rise}
+use Rattle.vlm_locks.proofs.Chosen.{among_in, in_among}
+use Rattle.vlm_locks.proofs.EndsTogether.{below_later}
+use Rattle.vlm_locks.proofs.RunsDown.{AreGoing, IsTurn, among_others, gone, its_handles, next_turn, none_goes, one_were_there, owned_here}
 use Rattle.vlm_locks.proofs.Staying.{among_without}
 use Rattle.vlm_locks.proofs.Stood.{one_lock}
+use Rattle.vlm_locks.proofs.Sublocks.{in_ahead, in_behind, in_either, in_map}
 use Rattle.vlm_locks.proofs.Unowed.{paid_whole, paid_without}
 
--- the chosen locks behind this spot are gone
-pub record AreLeaving (choice : Choice) (invalidates : Bool) (owner pid : ℕ) (old s : Records) (before touched : Touches) (next : Option ℕ) : Type 0 where
-  pub lkids : List ℕ
-  pub chosen : AreChosen choice pid old lkids
-  pub going : AreGoing (is_among lkids) invalidates owner pid old s before touched
-  pub paid : IsPaidBut lkids s
-  pub front : List ℕ
-  pub kept : List ℕ
-  pub passed : List ℕ
-  pub split : own_handles_at owner s ≡ front ++ kept
-  pub had : own_handles_at owner old ≡ front ++ passed
-  pub at : next ≡ last_handle front
-  pub none_kept : (at : ℕ) → IsIn at kept → (row : Row) → Stores s at row → is_among lkids row ≡ false
-  pub stays : (at : ℕ) (row : Row) → Stores old at row → (is_among lkids row ≡ false) ⊎ IsIn at front → Stores s at row
+-- nothing is noted, in the same room
+abbrev pub no_notes : Touches → Touches
+no_notes before = record { noted = []; room = before.room }
+
+-- the locks are gone but for so many as this, the first, and in the place of each that is gone its resource is noted
+pub record AreLeaving (invalidates : Bool) (owner pid : ℕ) (old s : Records) (before now : Touches) (many : ℕ) : Type 0 where
+  pub front : List Note
+  pub passed : List Note
+  pub resources : List Note
+  pub had : before.noted ≡ front ++ passed
+  pub split : now.noted ≡ front ++ resources
+  pub count : length front ≡ many
+  pub touched : Touches
+  pub going : AreGoing (is_among (noted_lkids before.noted)) invalidates owner pid old s (no_notes before) touched
+  pub same_room : now.room ≡ touched.room
+  pub as_many : length resources ≡ length touched.noted
+  pub each : (t : Note) → IsIn t resources → IsIn t touched.noted
+  pub all : (t : Note) → IsIn t touched.noted → IsIn t resources
+  pub paid : IsPaidBut (noted_lkids before.noted) s
+  pub stay : AreOfLocks front s
+  pub left : (at : ℕ) (row : Row) → Stores s at row → IsIn row.lkid (noted_lkids before.noted) → IsIn row.lkid (noted_lkids front)
 
 -- at first none is
-pub none_is_gone : (choice : Choice) (invalidates : Bool) (owner pid : ℕ) (s : Records) (touched : Touches) (next : Option ℕ) → IsProcess owner pid s → IsSound s
-    → CanGo choice pid touched s → next ≡ last_handle (own_handles_at owner s) → AreLeaving choice invalidates owner pid s s touched touched next
-none_is_gone choice invalidates owner pid s touched next lives sound can_go last = record {
-  lkids = can_go.lkids;
-  chosen = can_go.chosen;
+pub none_is_gone : (invalidates : Bool) (owner pid : ℕ) (s : Records) (before : Touches) → IsProcess owner pid s → IsSound s → CanGo pid before s
+    → AreLeaving invalidates owner pid s s before before (length before.noted)
+none_is_gone invalidates owner pid s before lives sound can_go = record {
+  front = before.noted;
+  passed = [];
+  resources = [];
+  had = sym (append-nil before.noted);
+  split = sym (append-nil before.noted);
+  count = refl;
+  touched = no_notes before;
   going = record {
     resources = refl;
     statuses = refl;
@@ -57,229 +64,144 @@ none_is_gone choice invalidates owner pid s touched next lives sound can_go last
     granted = can_go.granted;
     were_there = λ place k there. there;
     rest = can_go.rest;
-    noted = can_go.noted;
+    noted = λ t there. absurd there;
     only_touched = λ r there untouched. there;
-    room = can_go.room;
+    room = omega (arith, can_go.room);
     kept = λ t there. there;
     same_room = refl;
   };
+  same_room = refl;
+  as_many = refl;
+  each = λ t there. there;
+  all = λ t there. there;
   paid = can_go.paid;
-  front = own_handles_at owner s;
-  kept = [];
-  passed = [];
-  split = sym (append-nil (own_handles_at owner s));
-  had = sym (append-nil (own_handles_at owner s));
-  at = last;
-  none_kept = λ at there. absurd there;
-  stays = λ at row stored _. stored;
+  stay = can_go.locks;
+  left = λ at row stored there. there;
 }
 
--- a listed lock is one of the process
-module _ (choice : Choice) (owner pid : ℕ) (old : Records) (lkids : List ℕ) (chosen : AreChosen choice pid old lkids) (sound : IsSound old) (was : IsProcess owner pid old) where
-  listed_own : (at : ℕ) (row : Row) → Stores old at row → is_among lkids row ≡ true → row.pid ≡ pid
-  listed_own at row stored is =
-      let found = chosen.each row.lkid (among_in row lkids is) in
-      let same : found.0 ≡ at = sound.lkids_apart found.0 at found.1 row found.2.0 stored found.2.1 in
-      ap (λ (x : Row). x.pid) (one_lock old sound at row found.1 stored (subst (λ h. Stores old h found.1) same found.2.0)) ∙ found.2.2
-
-  listed_in : (at : ℕ) (row : Row) → Stores old at row → is_among lkids row ≡ true → IsIn at (own_handles_at owner old)
-  listed_in at row stored is =
-      subst (IsIn at) (sym (its_handles owner pid old sound was)) (owned_here owner pid old sound was at row stored (listed_own at row stored is))
-
-  -- it is listed where it is chosen
-  listed_is : (at : ℕ) (row : Row) → Stores old at row → row.pid ≡ pid → is_among lkids row ≡ is_chosen choice (plain_resources old) row.lkid
-  listed_is at row stored mine = of_tests (is_among lkids row) (is_chosen choice (plain_resources old) row.lkid) refl refl
-    where
-      of_tests : (a b : Bool) → is_among lkids row ≡ a → is_chosen choice (plain_resources old) row.lkid ≡ b → a ≡ b
-      of_tests true true listed is = refl
-      of_tests false false listed is = refl
-      of_tests true false listed is =
-          let so : is_chosen choice (plain_resources old) row.lkid ≡ true = (chosen.each row.lkid (among_in row lkids listed)).2.3 in cc
-      of_tests false true listed is = let so : is_among lkids row ≡ true = in_among row lkids (chosen.all at row stored mine is) in cc
+-- the last of some notes
+last_of : (notes : List Note) (many : ℕ) → length notes ≡ many + 1 → (init : List Note) × (last : Note) × ((notes ≡ init ++ last ∷ []) × (length init ≡ many))
+last_of [] many is = absurd (omega (arith, is))
+last_of (x ∷ []) many is = ([], x, (refl, omega (arith, is)))
+last_of (x ∷ y ∷ notes) zero is = absurd (omega (arith, is))
+last_of (x ∷ y ∷ notes) (suc many) is =
+    let rest = last_of (y ∷ notes) many (omega (arith, is)) in
+    (x ∷ rest.0, rest.1, (ap (λ (ts : List Note). x ∷ ts) rest.2.0, omega (arith, rest.2.1)))
 
 -- ---- a turn
 
-module _ (choice : Choice) (invalidates : Bool) (owner pid : ℕ) (old s : Records) (before touched : Touches) (lock : ℕ)
-    (so_far : AreLeaving choice invalidates owner pid old s before touched (Some lock)) (sound_old : IsSound old) (was : IsProcess owner pid old) (can_go : CanGo choice pid before old) where
-  going : AreGoing (is_among so_far.lkids) invalidates owner pid old s before touched
+module _ (invalidates : Bool) (owner pid : ℕ) (old s : Records) (before now : Touches) (many : ℕ)
+    (so_far : AreLeaving invalidates owner pid old s before now (many + 1)) (can_go : CanGo pid before old) where
+  lkids : List ℕ
+  lkids = noted_lkids before.noted
+
+  going : AreGoing (is_among (noted_lkids before.noted)) invalidates owner pid old s (no_notes before) so_far.touched
   going = so_far.going
 
-  pub parted : (init : List ℕ) × (so_far.front ≡ init ++ lock ∷ [])
-  parted = last_handle-split so_far.front lock so_far.at
+  pub parted : (init : List Note) × (last : Note) × ((so_far.front ≡ init ++ last ∷ []) × (length init ≡ many))
+  parted = last_of so_far.front many so_far.count
 
-  abbrev pub init : List ℕ
+  abbrev pub init : List Note
   init = parted.0
 
-  -- the locks of the process, and this one among them
-  whole : own_handles_at owner s ≡ init ++ lock ∷ so_far.kept
-  whole = so_far.split ∙ ap (λ hs. hs ++ so_far.kept) parted.1 ∙ append_assoc init (lock ∷ []) so_far.kept
+  abbrev pub last : Note
+  last = parted.1
 
-  had_whole : own_handles_at owner old ≡ init ++ lock ∷ so_far.passed
-  had_whole = so_far.had ∙ ap (λ hs. hs ++ so_far.passed) parted.1 ∙ append_assoc init (lock ∷ []) so_far.passed
+  -- the last is noted on this spot
+  pub split_now : now.noted ≡ init ++ last ∷ so_far.resources
+  split_now = so_far.split ∙ ap (λ ts. ts ++ so_far.resources) parted.2.0 ∙ append_assoc init (last ∷ []) so_far.resources
 
-  apart : IsApart (init ++ lock ∷ so_far.kept)
-  apart = subst IsApart whole (handles_apart owner pid s going.sound going.lives)
+  had_whole : before.noted ≡ init ++ last ∷ so_far.passed
+  had_whole = so_far.had ∙ ap (λ ts. ts ++ so_far.passed) parted.2.0 ∙ append_assoc init (last ∷ []) so_far.passed
 
-  absent : ¬ IsIn lock init
-  absent = absent_before init lock so_far.kept apart
+  pub count_now : many ≡ length init
+  count_now = sym parted.2.1
 
-  pub lock_in : IsIn lock (own_handles_at owner s)
-  lock_in = subst (IsIn lock) (sym whole) (listed init)
+  -- it is the note on this spot
+  pub note_is : (t : Note) → t ≡ get_or now.noted many t → t ≡ last
+  note_is t is = is ∙ ap (λ ts. get_or ts many t) split_now ∙ ap (λ n. get_or (init ++ last ∷ so_far.resources) n t) count_now ∙ behind init
     where
-      listed : (xs : List ℕ) → IsIn lock (xs ++ lock ∷ so_far.kept)
-      listed [] = inl refl
-      listed (x ∷ xs) = inr (listed xs)
+      behind : (ts : List Note) → get_or (ts ++ last ∷ so_far.resources) (length ts) t ≡ last
+      behind [] = refl
+      behind (x ∷ ts) = behind ts
 
-  pub lock_stored : IsStored lock s
-  lock_stored = let here = stored_here owner pid s going.sound going.lives lock lock_in in (here.0, here.1.0)
+  last_in : IsIn last so_far.front
+  last_in = subst (IsIn last) (sym parted.2.0) (in_behind last init (last ∷ []) (inl refl))
+
+  pub lock_stored : IsStored last.at s
+  lock_stored = let row = so_far.stay last last_in in (row.0, row.1.0)
+
+  listed_last : IsIn last.number (noted_lkids before.noted)
+  listed_last =
+      subst (λ ts. IsIn last.number (noted_lkids ts)) (sym had_whole)
+      (in_map (λ (t : Note). t.number) last (init ++ last ∷ so_far.passed) (in_behind last init (last ∷ so_far.passed) (inl refl)))
 
   were : (at : ℕ) (row : Row) → Stores s at row → Stores old at row
   were at row stored = (stored.0, going.were_there stored.0 (record { at = at; row = row }) stored.1)
 
-  -- the next is the last of those before
-  pub previous_is : (next : Option ℕ) → ((process : ℕ) → IsIn lock (own_handles_at process s) → next ≡ handle_before lock (own_handles_at process s)) → next ≡ last_handle init
-  previous_is next told = told owner lock_in ∙ ap (handle_before lock) whole ∙ before_from-among None init lock so_far.kept absent
+  -- each before it is below it
+  before_last : (n : ℕ) → IsIn n (noted_lkids init) → n < last.number
+  before_last n there =
+      below_later (noted_lkids init) last.number (noted_lkids so_far.passed)
+      (subst Rise (ap noted_lkids had_whole ∙ map-append (λ (t : Note). t.number) init (last ∷ so_far.passed)) can_go.rise) n there
 
-  -- up to this one
-  all_up_to : up_to (Some lock) (own_handles_at owner s) ≡ init ++ lock ∷ []
-  all_up_to =
-      ap (up_to (Some lock)) so_far.split ∙ ap (λ n. up_to n (so_far.front ++ so_far.kept)) so_far.at
-      ∙ up_to_last so_far.front so_far.kept (subst IsApart so_far.split (handles_apart owner pid s going.sound going.lives)) ∙ parted.1
+  module _ (row : Row) (stored : Stores s last.at row) where
+    named : row.lkid ≡ last.number
+    named =
+        let its = so_far.stay last last_in in
+        ap (λ (x : Row). x.lkid) (one_lock s going.sound last.at row its.0 stored its.1.0) ∙ its.1.1
 
-  -- fewer are left to look at
-  fewer_before : (next : Option ℕ) → next ≡ last_handle init → (handles rest : List ℕ) → handles ≡ init ++ rest → IsApart handles
-      → length (up_to next handles) < length (up_to (Some lock) (own_handles_at owner s))
-  fewer_before next is handles rest split once =
-      omega (
-        arith,
-        ap (λ (hs : List ℕ). length hs)
-            (ap (λ n. up_to n handles) is ∙ ap (up_to (last_handle init)) split ∙ up_to_last init rest (subst IsApart split once)),
-        ap (λ (hs : List ℕ). length hs) all_up_to,
-        longer init,
-      )
-    where
-      longer : (xs : List ℕ) → length (xs ++ lock ∷ []) ≡ length xs + 1
-      longer [] = refl
-      longer (x ∷ xs) = omega (arith, longer xs)
+    listed : IsIn row.lkid (noted_lkids before.noted)
+    listed = subst (λ n. IsIn n (noted_lkids before.noted)) (sym named) listed_last
 
-  pub fewer_left : (next : Option ℕ) → next ≡ last_handle init → length (up_to next (own_handles_at owner s)) < length (up_to (Some lock) (own_handles_at owner s))
-  fewer_left next is =
-      fewer_before next is (own_handles_at owner s) (lock ∷ so_far.kept) whole (handles_apart owner pid s going.sound going.lives)
+    -- it is one of those that go, and of the process
+    pub it_goes : is_among (noted_lkids before.noted) row ≡ true
+    it_goes = in_among row (noted_lkids before.noted) listed
 
-  module _ (row : Row) (stored : Stores s lock row) where
-    mine : row.pid ≡ pid
-    mine =
-        let here = stored_here owner pid s going.sound going.lives lock lock_in in
-        ap (λ (x : Row). x.pid) (one_lock s going.sound lock row here.0 stored here.1.0) ∙ here.1.1
+    pub it_is_own : IsIn last.at (own_handles_at owner s)
+    it_is_own =
+        subst (IsIn last.at) (sym (its_handles owner pid s going.sound going.lives))
+        (owned_here owner pid s going.sound going.lives last.at row stored (can_go.own last.at row (were last.at row stored) listed))
 
-    -- what is above it is there still
-    still_above : (at : ℕ) (up : Row) → Stores old at up → up.lkid ≤ row.lkid → Stores s at up
-    still_above at up there low = elim (cases_Bool (is_among so_far.lkids up)) [
-      | inr other ↦ so_far.stays at up there (inl other)
-      | inl listed ↦ so_far.stays at up there (inr (in_front (elim_in (listed_in choice owner pid old so_far.lkids so_far.chosen sound_old was at up there listed))))
-    ]
-      where
-        two : (xs ys : List ℕ) → IsIn at (xs ++ ys) → IsIn at xs ⊎ IsIn at ys
-        two [] ys some = inr some
-        two (x ∷ xs) ys some = elim some [
-          | inl here ↦ inl (inl here)
-          | inr later ↦ elim (two xs ys later) [ inl first ↦ inl (inr first) | inr second ↦ inr second ]
-        ]
-
-        elim_in : IsIn at (own_handles_at owner old) → IsIn at so_far.front ⊎ IsIn at so_far.passed
-        elim_in some = two so_far.front so_far.passed (subst (IsIn at) so_far.had some)
-
-        in_front : IsIn at so_far.front ⊎ IsIn at so_far.passed → IsIn at so_far.front
-        in_front some = elim some [
-          | inl first ↦ first
-          | inr second ↦
-              (let comes = stand_before old so_far.front so_far.passed (subst (StandByIdentification old) so_far.had (they_rise owner pid old sound_old was can_go.rest)) lock at
-              (subst (IsIn lock) (sym parted.1) (IsIn-push_last lock init)) second row up (were lock row stored) there in
-              absurd (omega (arith, comes, low)))
-        ]
-
-    -- whether it is chosen is asked of what is left as of all
-    chosen_still : is_chosen choice (plain_resources s) row.lkid ≡ is_chosen choice (plain_resources old) row.lkid
-    chosen_still = of_choice choice
-      where
-        of_choice : (c : Choice) → is_chosen c (plain_resources s) row.lkid ≡ is_chosen c (plain_resources old) row.lkid
-        of_choice All = refl
-        of_choice (Below top) =
-            same_below old s sound_old going.sound row.lkid still_above were (parents_come_first old sound_old can_go.rest) 15 top row.lkid (omega arith)
-
-    pub listed_if : is_among so_far.lkids row ≡ is_chosen choice (plain_resources s) row.lkid
-    listed_if = listed_is choice owner pid old so_far.lkids so_far.chosen sound_old was lock row (were lock row stored) mine ∙ sym chosen_still
-
-    -- a chosen lock has no sublocks any more
-    pub no_sublocks : is_chosen choice (plain_resources s) row.lkid ≡ true → HasNoSublocks lock s
-    no_sublocks is q own in_q in_own same = of_sublocks own.sublocks refl
+    -- its sublocks are gone
+    pub no_sublocks : HasNoSublocks last.at s
+    no_sublocks p own in_p in_own same = of_sublocks own.sublocks refl
       where
         none_below : (sub : ℕ) → IsIn sub own.sublocks → ⊥
         none_below sub there =
-            let below = going.sound.owned.below q own sub in_q in_own there in
-            let up_stored : Stores s lock below.0 = subst (λ h. Stores s h below.0) same below.2.0 in
-            let up_is : below.0 ≡ row = one_lock s going.sound lock below.0 row up_stored stored in
-            let own_one : below.1.pid ≡ pid = going.together sub lock below.1 below.0 below.2.1 up_stored below.2.2 ∙ ap (λ (x : Row). x.pid) up_is ∙ mine in
-            let too : is_chosen choice (plain_resources old) below.1.lkid ≡ true =
-            can_go.closed sub lock below.1 row (were sub below.1 below.2.1) (were lock row stored) (below.2.2 ∙ ap (λ (x : Row). x.lkid) up_is) (sym chosen_still ∙ is) in
-            let listed : is_among so_far.lkids below.1 ≡ true =
-            listed_is choice owner pid old so_far.lkids so_far.chosen sound_old was sub below.1 (were sub below.1 below.2.1) own_one ∙ too in
-            let after : IsOlder s lock sub = subst (λ h. IsOlder s h sub) same (((going.rest.rising q in_q).sublocks own in_own).0 sub there) in
-            of_place below.1 below.2.1 listed (after row below.1 stored below.2.1)
-            (two init (lock ∷ so_far.kept) (subst (IsIn sub) whole (subst (IsIn sub) (sym (its_handles owner pid s going.sound going.lives)) (owned_here owner pid s going.sound going.lives sub below.1 below.2.1 own_one))))
-          where
-            two : (xs ys : List ℕ) → IsIn sub (xs ++ ys) → IsIn sub xs ⊎ IsIn sub ys
-            two [] ys some = inr some
-            two (x ∷ xs) ys some = elim some [
-              | inl here ↦ inl (inl here)
-              | inr later ↦ elim (two xs ys later) [ inl first ↦ inl (inr first) | inr second ↦ inr second ]
-            ]
-
-            of_place : (x : Row) → Stores s sub x → is_among so_far.lkids x ≡ true → row.lkid < x.lkid → IsIn sub init ⊎ IsIn sub (lock ∷ so_far.kept) → ⊥
-            of_place x stored_x listed more (inl first) =
-                let comes = stand_before s init (lock ∷ so_far.kept) (subst (StandByIdentification s) whole (they_rise owner pid s going.sound going.lives going.rest)) sub lock first (inl refl) x row stored_x stored in
-                omega (arith, comes, more)
-            of_place x stored_x listed more (inr second) = elim second [
-              | inl here ↦ omega (arith, more, ap (λ (y : Row). y.lkid) (one_lock s going.sound sub x row stored_x (subst (λ h. Stores s h row) here stored)))
-              | inr later ↦ (let never : true ≡ false = sym listed ∙ so_far.none_kept sub later x stored_x in cc)
+            let below = going.sound.owned.below p own sub in_p in_own there in
+            let up : Row = below.0 in
+            let its : Row = below.1 in
+            let above : Stores s last.at up = subst (λ h. Stores s h up) same below.2.0 in
+            let is : up.lkid ≡ row.lkid = ap (λ (x : Row). x.lkid) (one_lock s going.sound last.at up row above stored) in
+            let older = ((going.rest.rising p in_p).sublocks own in_own).0 sub there up its below.2.0 below.2.1 in
+            let goes : IsIn its.lkid (noted_lkids so_far.front) =
+            so_far.left sub its below.2.1
+            (can_go.closed sub last.at its up (were sub its below.2.1) (were last.at up above) below.2.2
+            (subst (λ n. IsIn n (noted_lkids before.noted)) (sym is) listed)) in
+            elim (in_either its.lkid (noted_lkids init) (last.number ∷ [])
+            (subst (IsIn its.lkid) (ap noted_lkids parted.2.0 ∙ map-append (λ (t : Note). t.number) init (last ∷ [])) goes)) [
+              | inl earlier ↦ omega (arith, before_last its.lkid earlier, older, is, named)
+              | inr later ↦ elim later [
+                | inl here ↦ omega (arith, here, older, is, named)
+                | inr none ↦ none
+              ]
             ]
 
         of_sublocks : (subs : List ℕ) → own.sublocks ≡ subs → own.sublocks ≡ []
-        of_sublocks [] none = none
-        of_sublocks (sub ∷ subs) some = absurd (none_below sub (subst (IsIn sub) (sym some) (inl refl)))
+        of_sublocks [] is = is
+        of_sublocks (sub ∷ subs) is = absurd (none_below sub (subst (IsIn sub) (sym is) (inl refl)))
 
-    -- a lock that is not chosen stays
-    pub stayed : is_chosen choice (plain_resources s) row.lkid ≡ false → (next : Option ℕ) → next ≡ last_handle init → AreLeaving choice invalidates owner pid old s before touched next
-    stayed other next is = record {
-      lkids = so_far.lkids;
-      chosen = so_far.chosen;
-      going = going;
-      paid = so_far.paid;
-      front = init;
-      kept = lock ∷ so_far.kept;
-      passed = lock ∷ so_far.passed;
-      split = whole;
-      had = had_whole;
-      at = is;
-      none_kept = λ at there x stored_x. elim there [
-        | inl here ↦
-            ap (is_among so_far.lkids) (one_lock s going.sound at x row stored_x (subst (λ h. Stores s h row) here stored)) ∙ listed_if ∙ other
-        | inr later ↦ so_far.none_kept at later x stored_x
-      ];
-      stays = λ at x there why. elim why [
-        | inl unlisted ↦ so_far.stays at x there (inl unlisted)
-        | inr first ↦ so_far.stays at x there (inr (subst (IsIn at) (sym parted.1) (IsIn-push_kept lock at init first)))
-      ];
-    }
-
-    -- one that is goes
-    module _ (new : Records) (noted : Touches) (f : Standing) (w : Withdrawal) (turn : IsTurn (is_among so_far.lkids) invalidates owner s new touched noted f w)
-        (same : f.lock ≡ lock) (its : f.row ≡ row) (own : new.processes ≡ owned_after true f.lock s.processes) (loses : LosesOne (record { at = f.lock; row = f.row }) s new) where
+    -- it goes
+    module _ (new : Records) (noted : Touches) (then : Touches) (f : Standing) (w : Withdrawal)
+        (turn : IsTurn (is_among (noted_lkids before.noted)) invalidates owner s new so_far.touched noted f w)
+        (same : f.lock ≡ last.at) (its : f.row ≡ row) (own : new.processes ≡ owned_after true f.lock s.processes) (loses : LosesOne (record { at = f.lock; row = f.row }) s new)
+        (touch : Note) (as_noted : noted.noted ≡ so_far.touched.noted ++ touch ∷ []) (put : then.noted ≡ init ++ touch ∷ so_far.resources) (room : then.room ≡ now.room) where
       was_there : (at : ℕ) (x : Row) → Stores new at x → Stores s at x
       was_there at x there =
           (there.0, one_were_there s new going.sound turn.sound f turn.standing turn.beside turn.own_locks there.0 (record { at = at; row = x }) there.1)
 
-      others_stay : (at : ℕ) (x : Row) → at ≢ lock → Stores s at x → Stores new at x
+      others_stay : (at : ℕ) (x : Row) → at ≢ last.at → Stores s at x → Stores new at x
       others_stay at x differs there = (
         there.0,
         among_without f.lock (record { at = at; row = x }) (locks_at there.0 new)
@@ -287,79 +209,106 @@ module _ (choice : Choice) (invalidates : Bool) (owner pid : ℕ) (old s : Recor
             (among_others f.lock (record { at = at; row = x }) (locks_at there.0 s) (λ e. differs (e ∙ same)) there.1)),
       )
 
-      own_new : own_handles_at owner new ≡ init ++ so_far.kept
-      own_new =
-          own_left (is_among so_far.lkids) invalidates owner pid old s new before touched noted f w going turn
-          ∙ ap (λ h. without h (own_handles_at owner s)) same ∙ ap (without lock) whole ∙ without_one init lock so_far.kept apart
-
-      pub fewer_then : (next : Option ℕ) → next ≡ last_handle init → length (up_to next (own_handles_at owner new)) < length (up_to (Some lock) (own_handles_at owner s))
-      fewer_then next is =
-          fewer_before next is (own_handles_at owner new) so_far.kept own_new
-          (handles_apart owner pid new turn.sound (next_turn (is_among so_far.lkids) invalidates owner pid old s new before touched noted f w going turn).lives)
-
-      pub went : (next : Option ℕ) → next ≡ last_handle init → AreLeaving choice invalidates owner pid old new before noted next
-      went next is = record {
-        lkids = so_far.lkids;
-        chosen = so_far.chosen;
-        going = next_turn (is_among so_far.lkids) invalidates owner pid old s new before touched noted f w going turn;
-        paid = paid_without so_far.lkids s new f.lock f.row turn.its loses own so_far.paid;
+      pub went : AreLeaving invalidates owner pid old new before then many
+      went = record {
         front = init;
-        kept = so_far.kept;
-        passed = lock ∷ so_far.passed;
-        split = own_new;
+        passed = last ∷ so_far.passed;
+        resources = touch ∷ so_far.resources;
         had = had_whole;
-        at = is;
-        none_kept = λ at there x stored_x. so_far.none_kept at there x (was_there at x stored_x);
-        stays = λ at x there why. elim why [
-          | inl unlisted ↦
-              others_stay at x
-              (λ e.
-              let here : x ≡ row = one_lock s going.sound at x row (so_far.stays at x there (inl unlisted)) (subst (λ h. Stores s h row) (sym e) stored) in
-              let never : true ≡ false = sym turn.its ∙ ap (is_among so_far.lkids) (its ∙ sym here) ∙ unlisted in
-              cc)
-              (so_far.stays at x there (inl unlisted))
-          | inr first ↦
-              others_stay at x (λ e. absent (subst (λ h. IsIn h init) e first))
-              (so_far.stays at x there (inr (subst (IsIn at) (sym parted.1) (IsIn-push_kept lock at init first))))
+        split = put;
+        count = parted.2.1;
+        touched = noted;
+        going = next_turn (is_among (noted_lkids before.noted)) invalidates owner pid old s new (no_notes before) so_far.touched noted f w going turn;
+        same_room = room ∙ so_far.same_room ∙ sym turn.room;
+        as_many =
+            omega (
+              arith,
+              so_far.as_many,
+              ap (λ (ts : List Note). length ts) as_noted,
+              length-append so_far.touched.noted (touch ∷ []),
+            );
+        each = λ t there. subst (IsIn t) (sym as_noted)
+            (elim there [
+              | inl here ↦ in_behind t so_far.touched.noted (touch ∷ []) (inl here)
+              | inr later ↦ in_ahead t so_far.touched.noted (touch ∷ []) (so_far.each t later)
+            ]);
+        all = λ t there. elim (in_either t so_far.touched.noted (touch ∷ []) (subst (IsIn t) as_noted there)) [
+          | inl earlier ↦ inr (so_far.all t earlier)
+          | inr here ↦ elim here [ inl is ↦ inl is | inr none ↦ absurd none ]
         ];
+        paid = paid_without (noted_lkids before.noted) s new f.lock f.row turn.its loses own so_far.paid;
+        stay = λ t there.
+            let was = so_far.stay t (subst (IsIn t) (sym parted.2.0) (in_ahead t init (last ∷ []) there)) in
+            let lower = before_last t.number (in_map (λ (x : Note). x.number) t init there) in (
+              was.0,
+              (
+                others_stay t.at was.0
+                    (λ e. let here : was.0 ≡ row = one_lock s going.sound last.at was.0 row (subst (λ h. Stores s h was.0) e was.1.0) stored in
+                    omega (arith, lower, was.1.1, ap (λ (x : Row). x.lkid) here, named))
+                    was.1.0,
+                was.1.1,
+              ),
+            );
+        left = λ at x there listed_x.
+            elim (in_either x.lkid (noted_lkids init) (last.number ∷ [])
+            (subst (IsIn x.lkid) (ap noted_lkids parted.2.0 ∙ map-append (λ (t : Note). t.number) init (last ∷ [])) (so_far.left at x (was_there at x there) listed_x))) [
+              | inl earlier ↦ earlier
+              | inr later ↦ elim later [
+                | inr none ↦ absurd none
+                | inl here ↦
+                    (let handle : at ≡ f.lock = going.sound.lkids_apart at last.at x row (was_there at x there) stored (sym here ∙ sym named) ∙ sym same in
+                    absurd (gone s new going.sound turn.sound f turn.standing turn.beside turn.own_locks x (subst (λ h. Stores new h x) handle there)))
+              ]
+            ];
       }
 
 -- ---- at the end
 
-module _ (choice : Choice) (invalidates : Bool) (owner pid : ℕ) (old s : Records) (before touched : Touches) (next : Option ℕ) (sound_old : IsSound old) (was : IsProcess owner pid old)
-    (so_far : AreLeaving choice invalidates owner pid old s before touched next) (none : next ≡ None) where
-  none_listed : (at : ℕ) (row : Row) → Stores s at row → is_among so_far.lkids row ≡ false
-  none_listed at row stored = elim (cases_Bool (is_among so_far.lkids row)) [
+module _ (invalidates : Bool) (owner pid : ℕ) (old s : Records) (before now : Touches) (many : ℕ) (so_far : AreLeaving invalidates owner pid old s before now many) (over : many ≡ 0) where
+  none_in_front : so_far.front ≡ []
+  none_in_front = none so_far.front (omega (arith, so_far.count, over))
+    where
+      none : (ts : List Note) → length ts ≡ 0 → ts ≡ []
+      none [] is = refl
+      none (t ∷ ts) is = absurd (omega (arith, is))
+
+  none_listed : (at : ℕ) (row : Row) → Stores s at row → is_among (noted_lkids before.noted) row ≡ false
+  none_listed at row stored = elim (cases_Bool (is_among (noted_lkids before.noted) row)) [
     | inr other ↦ other
     | inl listed ↦
-        (let stored_old : Stores old at row = (stored.0, so_far.going.were_there stored.0 (record { at = at; row = row }) stored.1) in
-        so_far.none_kept at
-        (subst (IsIn at) (so_far.split ∙ ap (λ hs. hs ++ so_far.kept) (none_at_all so_far.front (sym so_far.at ∙ none)))
-        (subst (IsIn at) (sym (its_handles owner pid s so_far.going.sound so_far.going.lives))
-        (owned_here owner pid s so_far.going.sound so_far.going.lives at row stored (listed_own choice owner pid old so_far.lkids so_far.chosen sound_old was at row stored_old listed))))
-        row stored)
+        absurd (subst (λ ts. IsIn row.lkid (noted_lkids ts)) none_in_front (so_far.left at row stored (among_in row (noted_lkids before.noted) listed)))
+  ]
+
+  resources_alone : now.noted ≡ so_far.resources
+  resources_alone = so_far.split ∙ ap (λ ts. ts ++ so_far.resources) none_in_front
+
+  handle_kept : (at : ℕ) (xs ys : List Note) → ((t : Note) → IsIn t xs → IsIn t ys) → IsIn at (touched_handles xs) → IsIn at (touched_handles ys)
+  handle_kept at [] ys within there = absurd there
+  handle_kept at (x ∷ xs) ys within there = elim there [
+    | inl here ↦ subst (λ h. IsIn h (touched_handles ys)) here (in_map (λ (t : Note). t.at) x ys (within x (inl refl)))
+    | inr later ↦ handle_kept at xs ys (λ t later_t. within t (inr later_t)) later
   ]
 
   -- all of them are gone
-  pub all_gone : (lkids : List ℕ) → AreChosen choice pid old lkids → AreGone lkids invalidates old s before touched
-  all_gone lkids chosen =
-      subst (λ ns. AreGone ns invalidates old s before touched) (one_choice choice pid old so_far.lkids lkids so_far.chosen chosen)
-      (record {
-        left = record {
-          resources = sym (none_goes s so_far.going.sound (is_among so_far.lkids) invalidates none_listed) ∙ so_far.going.resources;
-          kept = so_far.going.kept;
-          only_touched = so_far.going.only_touched;
-          same_room = so_far.going.same_room;
-        };
-        statuses = so_far.going.statuses;
-      })
+  pub all_gone : AreGone (noted_lkids before.noted) invalidates old s (no_notes before) now
+  all_gone = record {
+    left = record {
+      resources = sym (none_goes s so_far.going.sound (is_among (noted_lkids before.noted)) invalidates none_listed) ∙ so_far.going.resources;
+      kept = λ t there. absurd there;
+      only_touched = λ r there untouched.
+          so_far.going.only_touched r there
+          (λ noted. untouched (subst (λ ts. IsIn r.at (touched_handles ts)) (sym resources_alone) (handle_kept r.at so_far.touched.noted so_far.resources so_far.all noted)));
+      same_room = so_far.same_room ∙ so_far.going.same_room;
+    };
+    statuses = so_far.going.statuses;
+  }
 
-  pub can_end_still : CanEndProcesses touched s
+  pub can_end_still : CanEndProcesses now s
   can_end_still = record {
     rest = so_far.going.rest;
     together = so_far.going.together;
     granted = so_far.going.granted;
-    paid = paid_whole so_far.lkids s so_far.going.sound none_listed so_far.paid;
-    noted = so_far.going.noted;
-    room = so_far.going.room;
+    paid = paid_whole (noted_lkids before.noted) s so_far.going.sound none_listed so_far.paid;
+    noted = λ t there. so_far.going.noted t (so_far.each t (subst (IsIn t) resources_alone there));
+    room = omega (arith, so_far.going.room, so_far.same_room, so_far.as_many, ap (λ (ts : List Note). length ts) resources_alone);
   }

@@ -34,6 +34,10 @@ pub mod TogetherDown
 pub mod RunsDown
 pub mod Chosen
 pub mod Unowed
+pub mod Sublocks
+pub mod Notes
+pub mod Noting
+pub mod Gathered
 pub mod EndsTogether
 pub mod GoTogether
 pub mod GivenUp

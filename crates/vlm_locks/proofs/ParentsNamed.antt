@@ -1,5 +1,5 @@
 -- The parent lock of a stored lock is the one that its row names, and so are those above it.
-use Rattle.std.proofs.Common.{◌≡◌, ◌≢◌, ◌≤◌, ◌<◌, ◌⊎◌, ℕ, zero, suc, false, List, [], ◌∷◌, ◌++◌, map, refl, sym, ap, ◌∙◌, subst, inl, inr, eq-eqb, ne_eqb, arith}
+use Rattle.std.proofs.Common.{◌≡◌, ◌≢◌, ◌<◌, ◌⊎◌, ℕ, zero, suc, false, List, [], ◌∷◌, ◌++◌, map, refl, sym, ap, ◌∙◌, subst, inl, inr, eq-eqb, ne_eqb}
 use Rattle.std.specs.Prelude.{◌==◌, ◌||◌, slice_get}
 use Rattle.std.specs.Option.{option_map_or}
 use Rattle.std.proofs.lemmas.Bool.{cases_eq}
@@ -249,42 +249,3 @@ parents_come_first s sound rest at other sub up stored stored_up has is =
     let same : parent.1.at ≡ other = sound.lkids_apart parent.1.at other parent.2 up parent.3.3 stored_up (parent.3.4 ∙ is) in
     let up_there : Stores s parent.1.at up = subst (λ h. Stores s h up) (sym same) stored_up in
     ((rest.rising parent.0 parent.3.0).sublocks parent.1 parent.3.1).0 at parent.3.2 up sub up_there stored
-
--- ---- records that keep the locks up to one
-
-module _ (s t : Records) (sound : IsSound s) (sound_t : IsSound t) (last : ℕ)
-    (kept : (at : ℕ) (up : Row) → Stores s at up → up.lkid ≤ last → Stores t at up)
-    (were : (at : ℕ) (up : Row) → Stores t at up → Stores s at up)
-    (first : ParentsComeFirst s) where
-  -- up to there each lock has the parent lock that it had
-  same_parent : (lkid : ℕ) → lkid ≤ last → parent_of lkid (plain_resources t) ≡ parent_of lkid (plain_resources s)
-  same_parent lkid within =
-      elim (somewhere_or_not s sound lkid) [
-        | inl there ↦ (let at : ℕ = there.0 in
-            let row : Row = there.1 in
-            let still : Stores t at row = kept at row there.2.0 (omega (arith, there.2.1, within)) in
-            ap (λ n. parent_of n (plain_resources t)) (sym there.2.1) ∙ parent_named t sound_t at row still
-            ∙ sym (parent_named s sound at row there.2.0) ∙ ap (λ n. parent_of n (plain_resources s)) there.2.1)
-        | inr none ↦ parent_nowhere t sound_t lkid (λ at row stored. none at row (were at row stored)) ∙ sym (parent_nowhere s sound lkid none)
-      ]
-
-  -- and a parent lock is up to there too
-  parent_within : (lkid : ℕ) → lkid ≤ last → parent_of lkid (plain_resources s) ≤ last
-  parent_within lkid within =
-      elim (somewhere_or_not s sound lkid) [
-        | inl there ↦ (let is : parent_of lkid (plain_resources s) ≡ there.1.parent =
-            ap (λ n. parent_of n (plain_resources s)) (sym there.2.1) ∙ parent_named s sound there.0 there.1 there.2.0 in
-            elim (cases_eq there.1.parent 0) [
-              | inl root ↦ omega (arith, is, root)
-              | inr has ↦ (let parent = sound.owned.named there.0 there.1 there.2.0 has in
-                  omega (arith, is, parent.3.4, there.2.1, within, first there.0 parent.1.at there.1 parent.2 there.2.0 parent.3.3 has (sym parent.3.4)))
-            ])
-        | inr none ↦ omega (arith, parent_nowhere s sound lkid none)
-      ]
-
-  -- so it stands below the same locks
-  pub same_below : (levels top lkid : ℕ) → lkid ≤ last → is_below levels top (plain_resources t) lkid ≡ is_below levels top (plain_resources s) lkid
-  same_below zero top lkid within = refl
-  same_below (suc levels) top lkid within =
-      ap (λ up. (up == top) || is_below levels top (plain_resources t) up) (same_parent lkid within)
-      ∙ ap (λ b. (parent_of lkid (plain_resources s) == top) || b) (same_below levels top (parent_of lkid (plain_resources s)) (parent_within lkid within))

@@ -25,7 +25,7 @@ use Rattle.vlm_locks.proofs.Stood.{one_lock, queued_stored, only, own_among, res
 use Rattle.vlm_links.proofs.HandleLists.{IsIn-without, length-without}
 use Rattle.vlm_records.specs.declared.handles.Place.TheVariants.{Queued}
 use Rattle.vlm_locks.specs.declared.finding.Standing.{Standing}
-use Rattle.vlm_locks.specs.declared.touched.Touch.{Touch}
+use Rattle.vlm_locks.specs.declared.touched.Note.{Note}
 use Rattle.vlm_locks.specs.Standing.{IsStanding}
 use Rattle.vlm_locks.proofs.Rising.{handles_without, same_own, was_process}
 use Rattle.vlm_locks.proofs.Staying.{among_without}
@@ -322,7 +322,7 @@ mapped_in f x (y ∷ ps) there = elim there [
 module _ (s new : Records) (sound : IsSound s) (sound_new : IsSound new) (f : Standing) (standing : IsStanding f s) (beside : LeavesOthers f.res f.lock s new)
     (own_locks : map but_notices new.processes ≡ map but_notices (map (process_without_lock f.lock) s.processes)) where
   -- the lock is gone
-  gone : (row : Row) → Stores new f.lock row → ⊥
+  pub gone : (row : Row) → Stores new f.lock row → ⊥
   gone row stored =
       let owned = sound_new.owned.owned f.lock row stored in
       let was = same_own (map (process_without_lock f.lock) s.processes) new.processes own_locks owned.0 owned.2.0 in
@@ -364,18 +364,18 @@ module _ (s new : Records) (sound : IsSound s) (sound_new : IsSound new) (f : St
         ∙ ap (without f.lock) (sym (its_handles owner pid s sound lives))
 
   -- what was not touched is as it was
-  pub one_only_touched : (touches : List Touch) (serial : ℕ) (old : Records) → OnlyTouched touches old s
-      → OnlyTouched (touches ++ record { serial = serial; res = f.res } ∷ []) old new
+  pub one_only_touched : (touches : List Note) (serial : ℕ) (old : Records) → OnlyTouched touches old s
+      → OnlyTouched (touches ++ record { number = serial; at = f.res } ∷ []) old new
   one_only_touched touches serial old only r there untouched =
       only r
-      (of_others f.res r s.resources (subst (IsIn r) beside.others (other_resource f.res r new.resources (λ same. untouched (subst (λ h. IsIn h (touched_handles (touches ++ record { serial = serial; res = f.res } ∷ []))) (sym same) (last_touched touches))) there)))
+      (of_others f.res r s.resources (subst (IsIn r) beside.others (other_resource f.res r new.resources (λ same. untouched (subst (λ h. IsIn h (touched_handles (touches ++ record { number = serial; at = f.res } ∷ []))) (sym same) (last_touched touches))) there)))
       (λ touched. untouched (more_touched touches touched))
     where
-      last_touched : (ts : List Touch) → IsIn f.res (touched_handles (ts ++ record { serial = serial; res = f.res } ∷ []))
+      last_touched : (ts : List Note) → IsIn f.res (touched_handles (ts ++ record { number = serial; at = f.res } ∷ []))
       last_touched [] = inl refl
       last_touched (t ∷ ts) = inr (last_touched ts)
 
-      more_touched : (ts : List Touch) → IsIn r.at (touched_handles ts) → IsIn r.at (touched_handles (ts ++ record { serial = serial; res = f.res } ∷ []))
+      more_touched : (ts : List Note) → IsIn r.at (touched_handles ts) → IsIn r.at (touched_handles (ts ++ record { number = serial; at = f.res } ∷ []))
       more_touched [] touched = absurd touched
       more_touched (t ∷ ts) touched = elim touched [
         | inl here ↦ inl here
@@ -606,11 +606,11 @@ module _ (s new : Records) (sound : IsSound s) (sound_new : IsSound new) (f : St
       )
 
   -- what was touched is there still, and so is the lock's resource
-  pub still_there : (touches : List Touch) (serial : ℕ) → AreThere touches s → IfSome (resource_at f.res new.resources) (λ r. serial ≡ r.serial)
-      → AreThere (touches ++ record { serial = serial; res = f.res } ∷ []) new
+  pub still_there : (touches : List Note) (serial : ℕ) → AreThere touches s → IfSome (resource_at f.res new.resources) (λ r. serial ≡ r.serial)
+      → AreThere (touches ++ record { number = serial; at = f.res } ∷ []) new
   still_there touches serial there its t among = elim (was_or_last touches among) [
     | inl was ↦ of_old t (there t was)
-    | inr last ↦ (let r = now_at in (r.0, (r.1.0, r.1.1 ∙ ap (λ (x : Touch). x.res) last, sym (subst (λ (o : Option StoredResource). IfSome o (λ x. serial ≡ x.serial)) r.1.2 its) ∙ ap (λ (x : Touch). x.serial) last)))
+    | inr last ↦ (let r = now_at in (r.0, (r.1.0, r.1.1 ∙ ap (λ (x : Note). x.at) last, sym (subst (λ (o : Option StoredResource). IfSome o (λ x. serial ≡ x.serial)) r.1.2 its) ∙ ap (λ (x : Note). x.number) last)))
   ]
     where
       now_at : (r : StoredResource) × (IsIn r new.resources × (r.at ≡ f.res) × (resource_at f.res new.resources ≡ Some r))
@@ -621,8 +621,8 @@ module _ (s new : Records) (sound : IsSound s) (sound_new : IsSound new) (f : St
           of_found None is some = cc
           of_found (Some r) is some = (r, (resource_among f.res new.resources r is, resource_at-at f.res new.resources r is, is))
 
-      of_old : (x : Touch) → (r : StoredResource) × (IsIn r s.resources × (r.at ≡ x.res) × (r.serial ≡ x.serial))
-          → (r : StoredResource) × (IsIn r new.resources × (r.at ≡ x.res) × (r.serial ≡ x.serial))
+      of_old : (x : Note) → (r : StoredResource) × (IsIn r s.resources × (r.at ≡ x.at) × (r.serial ≡ x.number))
+          → (r : StoredResource) × (IsIn r new.resources × (r.at ≡ x.at) × (r.serial ≡ x.number))
       of_old x old = elim (cases_eq old.0.at f.res) [
         | inl same ↦
             (let r = now_at in (
@@ -638,7 +638,7 @@ module _ (s new : Records) (sound : IsSound s) (sound_new : IsSound new) (f : St
             (old.0, (of_others f.res old.0 new.resources (subst (IsIn old.0) (sym beside.others) (other_resource f.res old.0 s.resources differs old.1.0)), old.1.1, old.1.2))
       ]
 
-      was_or_last : (ts : List Touch) → IsIn t (ts ++ record { serial = serial; res = f.res } ∷ []) → IsIn t ts ⊎ (record { serial = serial; res = f.res } ≡ t)
+      was_or_last : (ts : List Note) → IsIn t (ts ++ record { number = serial; at = f.res } ∷ []) → IsIn t ts ⊎ (record { number = serial; at = f.res } ≡ t)
       was_or_last [] here = elim here [ inl is ↦ inr is | inr none ↦ absurd none ]
       was_or_last (x ∷ ts) here = elim here [
         | inl is ↦ inl (inl is)
@@ -649,7 +649,7 @@ module _ (s new : Records) (sound : IsSound s) (sound_new : IsSound new) (f : St
       ]
 
 -- what was noted is noted with another behind it
-noted_before : (t : Touch) (touches : List Touch) (last : Touch) → IsIn t touches → IsIn t (touches ++ last ∷ [])
+noted_before : (t : Note) (touches : List Note) (last : Note) → IsIn t touches → IsIn t (touches ++ last ∷ [])
 noted_before t [] last none = absurd none
 noted_before t (x ∷ touches) last there = elim there [
   | inl here ↦ inl here
@@ -673,7 +673,7 @@ pub record IsTurn (goes : Row → Bool) (invalidates : Bool) (owner : ℕ) (s ne
   pub own_locks : map but_notices new.processes ≡ map but_notices (map (process_without_lock f.lock) s.processes)
   pub serial : ℕ
   pub its_serial : IfSome (resource_at f.res new.resources) (λ r. serial ≡ r.serial)
-  pub notes : noted.noted ≡ touched.noted ++ record { serial = serial; res = f.res } ∷ []
+  pub notes : noted.noted ≡ touched.noted ++ record { number = serial; at = f.res } ∷ []
   pub room : noted.room ≡ touched.room
 
 -- a lock of the process is a row of it
@@ -685,7 +685,7 @@ its_row owner pid s sound lives f standing there =
 
 module _ (goes : Row → Bool) (invalidates : Bool) (owner pid : ℕ) (old s new : Records) (before touched noted : Touches) (f : Standing) (w : Withdrawal)
     (so_far : AreGoing goes invalidates owner pid old s before touched) (turn : IsTurn goes invalidates owner s new touched noted f w) where
-  pub own_left : own_handles_at owner new ≡ without f.lock (own_handles_at owner s)
+  own_left : own_handles_at owner new ≡ without f.lock (own_handles_at owner s)
   own_left = handles_left s new so_far.sound turn.sound f turn.standing turn.beside turn.own_locks owner pid so_far.lives
 
   pub own_apart : IsApart (own_handles_at owner s)
@@ -707,23 +707,23 @@ module _ (goes : Row → Bool) (invalidates : Bool) (owner pid : ℕ) (old s new
         so_far.were_there place k (one_were_there s new so_far.sound turn.sound f turn.standing turn.beside turn.own_locks place k there);
     rest = turn.beside.rest;
     noted =
-        subst (λ (touches : List Touch). AreThere touches new) (sym turn.notes)
+        subst (λ (touches : List Note). AreThere touches new) (sym turn.notes)
         (still_there s new so_far.sound turn.sound f turn.standing turn.beside w turn.resources touched.noted turn.serial so_far.noted turn.its_serial);
     only_touched =
-        subst (λ (touches : List Touch). OnlyTouched touches old new) (sym turn.notes)
+        subst (λ (touches : List Note). OnlyTouched touches old new) (sym turn.notes)
         (one_only_touched s new so_far.sound turn.sound f turn.standing turn.beside turn.own_locks touched.noted turn.serial old so_far.only_touched);
     room =
         omega (
           arith,
           so_far.room,
           one_less s new so_far.sound f turn.standing so_far.rest turn.beside.rest turn.waiting turn.converting invalidates w turn.withdrawal turn.resources,
-          ap (λ (touches : List Touch). length touches) turn.notes,
-          length-append touched.noted (record { serial = turn.serial; res = f.res } ∷ []),
+          ap (λ (touches : List Note). length touches) turn.notes,
+          length-append touched.noted (record { number = turn.serial; at = f.res } ∷ []),
           turn.room,
         );
     kept = λ t there.
-        subst (λ (touches : List Touch). IsIn t touches) (sym turn.notes)
-        (noted_before t touched.noted (record { serial = turn.serial; res = f.res }) (so_far.kept t there));
+        subst (λ (touches : List Note). IsIn t touches) (sym turn.notes)
+        (noted_before t touched.noted (record { number = turn.serial; at = f.res }) (so_far.kept t there));
     same_room = turn.room ∙ so_far.same_room;
   }
 

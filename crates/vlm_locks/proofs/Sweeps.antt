@@ -14,7 +14,7 @@ use Rattle.vlm_store.specs.Records.{IsSound, Records, StoredResource, but_notice
 use Rattle.vlm_locks.specs.Rest.{IsAtRest}
 use Rattle.vlm_locks.specs.Sweeping.{AreSettledBut, IsSwept, Parted, StandInOrder, but_touched}
 use Rattle.vlm_locks.specs.Staying.{LocksStayAmong}
-use Rattle.vlm_locks.specs.declared.touched.Touch.{Touch}
+use Rattle.vlm_locks.specs.declared.touched.Note.{Note}
 use Rattle.vlm_locks.specs.Touched.{touched_handles}
 use Rattle.vlm_locks.proofs.Rising.{all_rise_still, none_joined}
 use Rattle.vlm_locks.proofs.Staying.{stay_all_among, stay_parts, stay_twice_among}
@@ -180,9 +180,9 @@ module _ (touched : List ℕ) (old s : Records) (so_far : IsSweeping touched [] 
   swept_statuses = sym (done (plain_processes s) (plain_resources s) so_far.left).statuses ∙ so_far.statuses
 
 -- the next of the touched, by its handle
-pub handle_at : (touches : List Touch) (i : ℕ) (t : Touch) → i < length touches → t ≡ get_or touches i t
-    → (i < length (touched_handles touches)) × (t.res ≡ get_or (touched_handles touches) i t.res)
+pub handle_at : (touches : List Note) (i : ℕ) (t : Note) → i < length touches → t ≡ get_or touches i t
+    → (i < length (touched_handles touches)) × (t.at ≡ get_or (touched_handles touches) i t.at)
 handle_at touches i t within here = (
-  omega (arith, within, length-map touches (λ (x : Touch). x.res)),
-  ap (λ (x : Touch). x.res) here ∙ sym (get_or-map (λ (x : Touch). x.res) touches i t t.res within),
+  omega (arith, within, length-map touches (λ (x : Note). x.at)),
+  ap (λ (x : Note). x.at) here ∙ sym (get_or-map (λ (x : Note). x.at) touches i t t.at within),
 )

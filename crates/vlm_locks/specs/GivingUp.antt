@@ -1,5 +1,5 @@
 -- Locks of a process that are given up together.
-use Rattle.std.specs.Prelude.{◌≡◌, ◌≤◌, ◌<◌, ⊤, ◌+◌, ℕ, Bool, true, List, [], ◌∷◌, length, map, if◌then◌else◌}
+use Rattle.std.specs.Prelude.{◌≡◌, ◌≢◌, ◌≤◌, ◌<◌, ⊤, ℕ, Bool, true, List, [], ◌∷◌, map, if◌then◌else◌}
 use Rattle.std.specs.List.{AllByRecursion}
 use Rattle.vlm_words.specs.declared.locks.Row.{Row}
 use Rattle.vlm_words.specs.Dues.{due_to}
@@ -13,11 +13,12 @@ use Rattle.vlm_store.specs.Records.{Records, SameButNotices, StoredLock, Stores,
 use Rattle.vlm_store.specs.Total.{lock_total}
 use Rattle.vlm_locks.specs.declared.giving_up.Choice.{Choice}
 use Rattle.vlm_locks.specs.declared.giving_up.Choice.TheVariants.{All, Below}
+use Rattle.vlm_locks.specs.declared.touched.Note.{Note}
 use Rattle.vlm_locks.specs.Left.{giving_up, is_among, resource_left}
 use Rattle.vlm_locks.specs.Owing.{total_weight}
 use Rattle.vlm_locks.specs.Rest.{IsAtRest}
 use Rattle.vlm_locks.specs.RunningDown.{GrantedWantNothing, SublocksAreOwn}
-use Rattle.vlm_locks.specs.Touched.{AreStillNoted, AreThere, OnlyTouched, Touches}
+use Rattle.vlm_locks.specs.Touched.{AreStillNoted, OnlyTouched, Touches}
 
 -- ---- which locks
 
@@ -38,10 +39,26 @@ pub record AreChosen (choice : Choice) (pid : ℕ) (s : Records) (lkids : List �
       → (at : ℕ) × (row : Row) × (Stores s at row × (row.lkid ≡ lkid) × (row.pid ≡ pid) × (is_chosen choice (plain_resources s) lkid ≡ true))
   pub all : (at : ℕ) (row : Row) → Stores s at row → row.pid ≡ pid → is_chosen choice (plain_resources s) row.lkid ≡ true → IsIn row.lkid lkids
 
+-- where locks below one are chosen, that one is a stored lock of the process; and none has the identification 0, which
+-- the row of a lock without a parent names
+abbrev pub IsOwnChoice : Choice → ℕ → Records → Type 0
+IsOwnChoice All pid s = ⊤
+IsOwnChoice (Below top) pid s = (top ≢ 0) × (at : ℕ) × (row : Row) × (Stores s at row × (row.lkid ≡ top) × (row.pid ≡ pid))
+
 -- with a chosen lock its sublocks are chosen
 abbrev pub SublocksGoToo : Choice → Records → Type 0
 SublocksGoToo choice s = (at other : ℕ) (row up : Row) → Stores s at row → Stores s other up → row.parent ≡ up.lkid
     → is_chosen choice (plain_resources s) up.lkid ≡ true → is_chosen choice (plain_resources s) row.lkid ≡ true
+
+-- ---- how they are noted
+
+-- the identifications of noted locks
+abbrev pub noted_lkids : List Note → List ℕ
+noted_lkids notes = map (λ t. t.number) notes
+
+-- each note is of a stored lock: it has its handle and its identification
+abbrev pub AreOfLocks : List Note → Records → Type 0
+AreOfLocks notes s = (t : Note) → IsIn t notes → (row : Row) × (Stores s t.at row × (row.lkid ≡ t.number))
 
 -- ---- what is owed on the way
 
@@ -61,25 +78,25 @@ RequestsHaveEnded lkids invalidates old new =
     plain_processes new
     ≡ processes_after (withdrawn_endings (map (giving_up by_abort by_abort invalidates) lkids) (plain_resources old)) (plain_processes old)
 
--- the requests of the chosen locks have ended, by rising identification, and nothing is owed for these locks
-pub record HaveEnded (choice : Choice) (invalidates : Bool) (pid : ℕ) (old new : Records) : Type 0 where
-  pub lkids : List ℕ
-  pub chosen : AreChosen choice pid old lkids
+-- the requests of these locks have ended, and nothing is owed for these locks
+pub record HaveEnded (lkids : List ℕ) (invalidates : Bool) (old new : Records) : Type 0 where
   pub statuses : RequestsHaveEnded lkids invalidates old new
   pub only_notices : SameButNotices old new
   pub paid : IsPaidBut lkids new
 
--- the chosen locks can go: their requests have ended, their sublocks go too, and there is room to note the resource of each lock
-pub record CanGo (choice : Choice) (pid : ℕ) (touched : Touches) (s : Records) : Type 0 where
-  pub lkids : List ℕ
-  pub chosen : AreChosen choice pid s lkids
-  pub paid : IsPaidBut lkids s
-  pub closed : SublocksGoToo choice s
+-- the noted locks can go: they are locks of the process, their requests have ended, their sublocks go too, and there is
+-- room to note the resource of each lock
+pub record CanGo (pid : ℕ) (touched : Touches) (s : Records) : Type 0 where
+  pub rise : Rise (noted_lkids touched.noted)
+  pub locks : AreOfLocks touched.noted s
+  pub own : (at : ℕ) (row : Row) → Stores s at row → IsIn row.lkid (noted_lkids touched.noted) → row.pid ≡ pid
+  pub closed : (at other : ℕ) (row up : Row) → Stores s at row → Stores s other up → row.parent ≡ up.lkid
+      → IsIn up.lkid (noted_lkids touched.noted) → IsIn row.lkid (noted_lkids touched.noted)
+  pub paid : IsPaidBut (noted_lkids touched.noted) s
   pub rest : IsAtRest s
   pub together : SublocksAreOwn s
   pub granted : GrantedWantNothing s
-  pub noted : AreThere touched.noted s
-  pub room : length touched.noted + lock_total s ≤ touched.room
+  pub room : lock_total s ≤ touched.room
 
 -- these locks have left their resources, and each resource that is not as it was is noted
 pub record HaveLeft (lkids : List ℕ) (invalidates : Bool) (old new : Records) (before after : Touches) : Type 0 where

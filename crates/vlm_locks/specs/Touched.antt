@@ -1,43 +1,43 @@
--- The resources that a step touches.
+-- What a step notes: the resources that it touches, and before that locks that it is to give up.
 use Rattle.std.specs.Prelude.{◌≡◌, ◌<◌, ⊤, ℕ, List, [], ◌∷◌, map}
 use Rattle.std.specs.List.{AllByRecursion}
 use Rattle.vlm_links.specs.Lists.{IsIn}
 use Rattle.vlm_store.specs.Records.{Records, StoredResource}
-use Rattle.vlm_locks.specs.declared.touched.Touch.{Touch}
+use Rattle.vlm_locks.specs.declared.touched.Note.{Note}
 
--- the touched resources, in the order in which a step came to them, and how many there is room for
+-- the notes, in the order in which a step made them, and how many there is room for
 pub record Touches : Type 0 where
-  pub noted : List Touch
+  pub noted : List Note
   pub room : ℕ
 
--- the handles of the touched resources
-abbrev pub touched_handles : List Touch → List ℕ
-touched_handles touches = map (λ t. t.res) touches
+-- the handles of what is noted, resources or locks
+abbrev pub touched_handles : List Note → List ℕ
+touched_handles touches = map (λ t. t.at) touches
 
 -- each touched resource is among these, with its serial
-abbrev pub AreAmong : List Touch → List StoredResource → Type 0
-AreAmong touches resources = (t : Touch) → IsIn t touches
-    → (r : StoredResource) × (IsIn r resources × (r.at ≡ t.res) × (r.serial ≡ t.serial))
+abbrev pub AreAmong : List Note → List StoredResource → Type 0
+AreAmong touches resources = (t : Note) → IsIn t touches
+    → (r : StoredResource) × (IsIn r resources × (r.at ≡ t.at) × (r.serial ≡ t.number))
 
 -- each touched resource is there
-abbrev pub AreThere : List Touch → Records → Type 0
+abbrev pub AreThere : List Note → Records → Type 0
 AreThere touches s = AreAmong touches s.resources
 
--- each stands behind those of lower serials alone, so each serial is there once
-abbrev pub RiseBySerial : List Touch → Type 0
-RiseBySerial [] = ⊤
-RiseBySerial (t ∷ touches) = AllByRecursion (λ later. t.serial < later.serial) touches × RiseBySerial touches
+-- each stands behind those of lower numbers alone, so each number is there once
+abbrev pub RiseByNumber : List Note → Type 0
+RiseByNumber [] = ⊤
+RiseByNumber (t ∷ touches) = AllByRecursion (λ later. t.number < later.number) touches × RiseByNumber touches
 
 -- what was noted is noted still
-abbrev pub AreStillNoted : List Touch → List Touch → Type 0
-AreStillNoted old new = (t : Touch) → IsIn t old → IsIn t new
+abbrev pub AreStillNoted : List Note → List Note → Type 0
+AreStillNoted old new = (t : Note) → IsIn t old → IsIn t new
 
--- a resource of this serial is noted
-abbrev pub IsNoted : ℕ → List Touch → Type 0
-IsNoted serial touches = (t : Touch) × (IsIn t touches × (t.serial ≡ serial))
+-- what has this number is noted
+abbrev pub IsNoted : ℕ → List Note → Type 0
+IsNoted number touches = (t : Note) × (IsIn t touches × (t.number ≡ number))
 
 -- each resource that is not touched is as it was
-abbrev pub OnlyTouched : List Touch → Records → Records → Type 0
+abbrev pub OnlyTouched : List Note → Records → Records → Type 0
 OnlyTouched touches old new = (r : StoredResource) → IsIn r new.resources → (IsIn r.at (touched_handles touches) → ⊥) → IsIn r old.resources
 
 -- resources stand by rising serial

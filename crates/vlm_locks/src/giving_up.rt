@@ -1,16 +1,16 @@
 //! Locks of a process that are given up together.
 
-ghost use Rattle.std.specs.Prelude.{◌≡◌, ℕ, List};
-ghost use Rattle.vlm_store.specs.Plain.{plain_resources};
+ghost use Rattle.std.specs.Prelude.{◌≡◌, ◌≤◌, []};
 ghost use Rattle.vlm_store.specs.Records.{IsProcess};
-ghost use Rattle.vlm_locks.specs.GivingUp.{AreChosen, AreGivenUp, AreGone, CanGo, HaveEnded, SublocksGoToo, is_chosen};
+ghost use Rattle.vlm_store.specs.Total.{lock_total};
+ghost use Rattle.vlm_locks.specs.GivingUp.{AreChosen, AreGivenUp, AreGone, AreOfLocks, CanGo, HaveEnded, IsOwnChoice, Rise, SublocksGoToo, noted_lkids};
 ghost use Rattle.vlm_locks.specs.Owing.{IsPaid};
 ghost use Rattle.vlm_locks.specs.Rest.{IsAtRest};
-ghost use Rattle.vlm_locks.specs.RunningDown.{CanEndProcesses, GrantedWantNothing};
+ghost use Rattle.vlm_locks.specs.RunningDown.{CanEndProcesses, GrantedWantNothing, SublocksAreOwn};
 
-use crate::below::is_below;
+use crate::choosing::{note_below, note_own};
 use crate::finding::standing_of;
-use crate::touched::{Touch, Touched};
+use crate::touched::{Note, Touched};
 use crate::withdrawals::Withdrawal;
 use crate::withdrawing::{end_notices, give_up};
 use vlm_store::laws::law_records_are_sound;
@@ -25,74 +25,76 @@ pub enum Choice {
     Below(u32),
 }
 
-// Whether the lock of this identification is one of those.
-fn is_chosen(store: &Store, lkid: u32, choice: Choice) -> bool
+// Notes the chosen locks, by rising identification.
+fn note_chosen(store: &Store, touched: &mut Touched, owner: ProcAt, pid: u32, choice: Choice)
     requires rest { IsAtRest store.now }
-    ensures chosen { result ≡ is_chosen choice (plain_resources store.now) lkid }
+    requires owner { IsProcess owner pid store.now }
+    requires own { IsOwnChoice choice pid store.now }
+    requires together { SublocksAreOwn store.now }
+    requires closed { SublocksGoToo choice store.now }
+    requires none { touched.old.noted ≡ [] }
+    requires room { lock_total store.now ≤ touched.old.room }
+    ensures chosen { AreChosen choice pid store.now (noted_lkids touched.new.noted) }
+    ensures locks { AreOfLocks touched.new.noted store.now }
+    ensures room { touched.new.room ≡ touched.old.room }
 {
+    law_records_are_sound(store);
     match choice {
-        Choice::All => true,
-        Choice::Below(top) => is_below(store, lkid, top),
+        Choice::All => note_own(store, touched, owner, pid),
+        Choice::Below(top) => note_below(store, touched, pid, top),
     }
 }
 
-// The requests of the chosen locks end, the first that was made first. The locks stand as before.
-fn end_chosen(store: &mut Store, owner: ProcAt, pid: u32, choice: Choice, invalidates: bool)
-    requires owner { IsProcess owner pid store.old }
+// The requests of the noted locks end, the first that was made first. The locks stand as before.
+fn end_noted(store: &mut Store, notes: &[Note], invalidates: bool)
+    requires rise { Rise (noted_lkids notes.now) }
+    requires locks { AreOfLocks notes.now store.old }
     requires rest { IsAtRest store.old }
     requires granted { GrantedWantNothing store.old }
     requires paid { IsPaid store.old }
-    ensures ended { HaveEnded choice invalidates pid store.old store.new }
+    ensures ended { HaveEnded (noted_lkids notes.now) invalidates store.old store.new }
 {
     law_records_are_sound(store);
-    let mut next = store.first_own(owner);
-    while let Some(lock) = next {
-        let standing = standing_of(store, lock);
+    for note in notes {
+        let standing = standing_of(store, note.lock());
+        let withdrawal = Withdrawal::together(standing.row.lkid(), invalidates);
+        end_notices(store, &standing, &withdrawal);
         law_records_are_sound(store);
-        if is_chosen(store, standing.row.lkid(), choice) {
-            let withdrawal = Withdrawal::together(standing.row.lkid(), invalidates);
-            end_notices(store, &standing, &withdrawal);
-        }
-        law_records_are_sound(store);
-        next = store.next_own(lock);
     }
 }
 
-// The chosen locks go, whose requests have ended, the last that was made first: so sublocks go before their parents. What
-// that touches is noted.
-fn remove_chosen(
+// The noted locks go, whose requests have ended, the last that was made first: so sublocks go before their parents. In the
+// place of each its resource is noted.
+fn remove_noted(
     store: &mut Store,
     touched: &mut Touched,
     owner: ProcAt,
     pid: u32,
-    choice: Choice,
     invalidates: bool,
 )
     requires owner { IsProcess owner pid store.old }
-    requires can_go { CanGo choice pid touched.old store.old }
-    ensures gone { (lkids : List ℕ) → AreChosen choice pid store.old lkids
-        → AreGone lkids invalidates store.old store.new touched.old touched.new }
+    requires can_go { CanGo pid touched.old store.old }
+    ensures gone { AreGone (noted_lkids touched.old.noted) invalidates store.old store.new
+        (record { noted = []; room = touched.old.room }) touched.new }
     ensures can_end { CanEndProcesses touched.new store.new }
 {
     law_records_are_sound(store);
-    let mut next = store.last_own(owner);
-    while let Some(lock) = next {
-        let standing = standing_of(store, lock);
+    let mut left = touched.notes().len();
+    while left > 0 {
+        left -= 1;
+        let standing = standing_of(store, touched.notes()[left].lock());
         law_records_are_sound(store);
-        next = store.previous_own(lock);
-        if is_chosen(store, standing.row.lkid(), choice) {
-            let withdrawal = Withdrawal::together(standing.row.lkid(), invalidates);
-            give_up(store, &standing, &withdrawal);
-            law_records_are_sound(store);
-            touched.note(Touch::of(store, standing.res));
-        }
+        let withdrawal = Withdrawal::together(standing.row.lkid(), invalidates);
+        give_up(store, &standing, &withdrawal);
+        law_records_are_sound(store);
+        touched.replace(left, Note::of_resource(store, standing.res));
     }
 }
 
 /// Gives up locks of a process together: the chosen ones. First their requests end with ABORT, and their completion ASTs
 /// are queued, by rising identification; then all of them go, and a resource on which one of them held PW or EX, granted
 /// or converting, may have its value block marked invalid. What they touched is noted, and nothing is granted. The cost
-/// grows with the locks that the process has.
+/// grows with the locks that go.
 pub fn give_up_together(
     store: &mut Store,
     touched: &mut Touched,
@@ -102,14 +104,17 @@ pub fn give_up_together(
     invalidates: bool,
 )
     requires owner { IsProcess owner pid store.old }
+    requires own { IsOwnChoice choice pid store.old }
     requires can_end { CanEndProcesses touched.old store.old }
     requires closed { SublocksGoToo choice store.old }
+    requires none { touched.old.noted ≡ [] }
     ensures given_up { AreGivenUp choice invalidates pid store.old store.new
         touched.old touched.new }
     ensures can_end { CanEndProcesses touched.new store.new }
 {
     law_records_are_sound(store);
-    end_chosen(store, owner, pid, choice, invalidates);
+    note_chosen(store, touched, owner, pid, choice);
+    end_noted(store, touched.notes(), invalidates);
     law_records_are_sound(store);
-    remove_chosen(store, touched, owner, pid, choice, invalidates);
+    remove_noted(store, touched, owner, pid, invalidates);
 }

@@ -5,7 +5,7 @@
 //! names a routine: before anything is changed.
 #![tactic(auto)]
 
-mod below;
+mod choosing;
 mod converting;
 mod endings;
 mod entering;
@@ -20,13 +20,12 @@ mod warning;
 mod withdrawals;
 mod withdrawing;
 
-pub use below::is_below;
 pub use converting::{convert, converts_at_once};
 pub use entering::{Entry, enter, enters_at_once};
 pub use finding::{Standing, find_lock, standing_of};
 pub use giving_up::{Choice, give_up_together};
 pub use running_down::{end_process, end_processes_of};
 pub use sweeping::{sweep, sweep_resource};
-pub use touched::{Touch, Touched};
+pub use touched::{Note, Touched};
 pub use withdrawals::{End, Withdrawal};
 pub use withdrawing::withdraw;

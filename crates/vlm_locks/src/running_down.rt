@@ -11,7 +11,7 @@ ghost use Rattle.vlm_locks.specs.RunningDown.{AreEnded, CanEndProcesses, Granted
 ghost use Rattle.vlm_locks.specs.Touched.{AreStillNoted, AreThere, OnlyTouched};
 
 use crate::finding::standing_of;
-use crate::touched::{Touch, Touched};
+use crate::touched::{Note, Touched};
 use crate::withdrawals::Withdrawal;
 use crate::withdrawing::withdraw;
 use vlm_store::laws::law_records_are_sound;
@@ -50,7 +50,7 @@ fn run_down(store: &mut Store, touched: &mut Touched, owner: ProcAt, pid: u32)
         law_records_are_sound(store);
         withdraw(store, &standing, &Withdrawal::rundown(standing.row.lkid()));
         law_records_are_sound(store);
-        touched.note(Touch::of(store, standing.res));
+        touched.note(Note::of_resource(store, standing.res));
     }
 }
 

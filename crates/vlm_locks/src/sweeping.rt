@@ -11,7 +11,7 @@ ghost use Rattle.vlm_locks.specs.Sweeping.{AreSettledBut, IsSwept, Parted, Stand
 ghost use Rattle.vlm_locks.specs.Touched.{touched_handles};
 
 use crate::serving::serve;
-use crate::touched::Touch;
+use crate::touched::Note;
 use vlm_queue::is_idle;
 use vlm_store::laws::law_records_are_sound;
 use vlm_store::{ResAt, Store};
@@ -56,7 +56,7 @@ pub fn sweep_resource(store: &mut Store, res: ResAt)
 /// Ends a step that touched these resources, in the order of their making: what is queued on each is granted as
 /// far as it can be, who is in the way of the rest is warned, and it goes if no lock is left on it. On the others
 /// nothing is to be done. The cost grows with what is touched and granted.
-pub fn sweep(store: &mut Store, touches: &[Touch])
+pub fn sweep(store: &mut Store, touches: &[Note])
     requires rest { IsAtRest store.old }
     requires in_order { StandInOrder (touched_handles touches.now) store.old.resources }
     requires settled { AreSettledBut (touched_handles touches.now) store.old.resources }
@@ -76,6 +76,6 @@ pub fn sweep(store: &mut Store, touches: &[Touch])
     law_a_sweep_touches_only_what_is_not_settled();
     law_records_are_sound(store);
     for touch in touches {
-        sweep_one(store, touch.res);
+        sweep_one(store, touch.res());
     }
 }

@@ -1,44 +1,75 @@
-//! The resources that a step touches, for its sweep.
+//! What a step notes on its way: the resources that it touches, for its sweep; and in the same room the locks that it is to
+//! give up together, until they are gone.
 
-ghost use Rattle.std.specs.Prelude.{◌≡◌, ◌<◌, ◌≤◌, [], ◌∷◌, ◌++◌, length, vec_capacity, IfSome, OnErr, OnOk};
+ghost use Rattle.std.specs.Prelude.{◌≡◌, ◌<◌, ◌≤◌, List, [], ◌∷◌, ◌++◌, length, vec_capacity, IfSome, OnErr, OnOk};
+ghost use Rattle.vlm_words.specs.declared.locks.Row.{Row};
 ghost use Rattle.vlm_links.specs.Lists.{IsIn};
-ghost use Rattle.vlm_store.specs.Records.{HasResource, resource_at};
-ghost use Rattle.vlm_locks.specs.Touched.{IsNoted, RiseBySerial};
-ghost use Rattle.vlm_locks.specs.declared.touched.Touch.{Touch};
+ghost use Rattle.vlm_store.specs.Records.{HasResource, IsStored, Stores, resource_at};
+ghost use Rattle.vlm_locks.specs.Touched.{IsNoted, RiseByNumber};
+ghost use Rattle.vlm_locks.specs.declared.touched.Note.{Note};
 
 use std::alloc::{AllocError, Global};
 use std::marker::Model;
-use vlm_store::{ResAt, Store};
+use vlm_links::At;
+use vlm_store::{LockAt, ResAt, Store};
 
-/// A resource that a step has touched.
+/// The kind of a handle in a note: of a resource, or of a lock.
+pub struct NotedKind;
+
+/// A note of a resource that a step has touched, or of a lock that it is to give up. Who made the note knows which.
 #[derive(Clone, Copy)]
-pub struct Touch {
-    /// Its serial, by which resources stand in the order of their making.
-    pub serial: u32,
-    /// Its handle.
-    pub res: ResAt,
+pub struct Note {
+    // by which notes stand in the order of making: of a resource its serial, of a lock its identification
+    number: u32,
+    at: At<NotedKind>,
 }
 
-impl Touch {
+impl Note {
     /// That of a resource.
-    pub fn of(store: &Store, res: ResAt) -> Touch
+    pub fn of_resource(store: &Store, res: ResAt) -> Note
         requires { HasResource res store.now }
-        ensures res { result.res ≡ res }
+        ensures res { result.at ≡ res }
         ensures serial { IfSome (resource_at res store.now.resources)
-            (λ r. result.serial ≡ r.serial) }
+            (λ r. result.number ≡ r.serial) }
     {
-        Touch {
-            serial: store.resource_record(res).serial,
-            res,
+        Note {
+            number: store.resource_record(res).serial,
+            at: res.in_kind(),
         }
+    }
+
+    /// That of a lock.
+    pub fn of_lock(store: &Store, lock: LockAt) -> Note
+        requires { IsStored lock store.now }
+        ensures lock { result.at ≡ lock }
+        ensures lkid { (row : Row) → Stores store.now lock row → row.lkid ≡ result.number }
+    {
+        Note {
+            number: store.lock_record(lock).row.lkid(),
+            at: lock.in_kind(),
+        }
+    }
+
+    /// The handle of the resource.
+    pub fn res(&self) -> ResAt
+        ensures { result ≡ self.now.at }
+    {
+        self.at.in_kind()
+    }
+
+    /// The handle of the lock.
+    pub fn lock(&self) -> LockAt
+        ensures { result ≡ self.now.at }
+    {
+        self.at.in_kind()
     }
 }
 
-/// The resources that a step has touched, in the order in which it came to them, with room for more.
+/// What a step has noted, in the order in which it came to it, with room for more.
 #[derive(Drop)]
 pub struct Touched {
-    // each as often as it was touched
-    touches: Vec<Touch>,
+    // a resource as often as it was touched
+    notes: Vec<Note>,
 }
 
 impl Model for Touched {
@@ -48,7 +79,7 @@ impl Model for Touched {
 
     ghost use Rattle.std.specs.Prelude.{vec_capacity};
 
-    ghost view = { λ t. record { noted = t.touches.items; room = vec_capacity t.touches } };
+    ghost view = { λ t. record { noted = t.notes.items; room = vec_capacity t.notes } };
 }
 
 impl Touched {
@@ -57,7 +88,7 @@ impl Touched {
         ensures { result.noted ≡ [] }
     {
         Touched {
-            touches: Vec::new(alloc),
+            notes: Vec::new(alloc),
         }
     }
 
@@ -71,36 +102,47 @@ impl Touched {
         ensures refused { OnErr result (self.new.room ≡ self.old.room) }
     {
         match count.checked_add(1) {
-            Some(more) => self.touches.reserve(more),
+            Some(more) => self.notes.reserve(more),
             None => Err(AllocError),
         }
     }
 
-    /// Notes a resource. There is room for it.
-    pub fn note(&mut self, touch: Touch)
+    /// Notes a resource or a lock. There is room for it.
+    pub fn note(&mut self, note: Note)
         requires { length self.old.noted < self.old.room }
-        ensures noted { self.new.noted ≡ self.old.noted ++ touch ∷ [] }
+        ensures noted { self.new.noted ≡ self.old.noted ++ note ∷ [] }
         ensures room { self.new.room ≡ self.old.room }
     {
-        self.touches.push_reserved(touch);
+        self.notes.push_reserved(note);
     }
 
-    /// Brings them in the order of their making, each resource once. It takes no memory.
+    /// Puts a note in the place of another.
+    pub fn replace(&mut self, index: usize, note: Note)
+        requires { index < length self.old.noted }
+        ensures noted { (before after : List Note) (was : Note)
+            → self.old.noted ≡ before ++ was ∷ after → index ≡ length before
+            → self.new.noted ≡ before ++ note ∷ after }
+        ensures room { self.new.room ≡ self.old.room }
+    {
+        self.notes[index] = note;
+    }
+
+    /// Brings what is noted in the order of making, each once. It takes no memory.
     pub fn in_order(&mut self)
-        ensures rising { RiseBySerial self.new.noted }
-        ensures within { (t : Touch) → IsIn t self.new.noted → IsIn t self.old.noted }
-        ensures each { (t : Touch) → IsIn t self.old.noted → IsNoted t.serial self.new.noted }
+        ensures rising { RiseByNumber self.new.noted }
+        ensures within { (t : Note) → IsIn t self.new.noted → IsIn t self.old.noted }
+        ensures each { (t : Note) → IsIn t self.old.noted → IsNoted t.number self.new.noted }
         ensures room { self.new.room ≡ self.old.room }
     {
-        self.touches.sort_unstable_by_key(|touch| touch.serial);
-        self.touches.dedup_by_key(|touch| touch.serial);
+        self.notes.sort_unstable_by_key(|note| note.number);
+        self.notes.dedup_by_key(|note| note.number);
     }
 
-    /// Those that are noted.
-    pub fn touches(&self) -> &[Touch]
+    /// What is noted.
+    pub fn notes(&self) -> &[Note]
         ensures { result.now ≡ self.now.noted }
     {
-        &self.touches
+        &self.notes
     }
 
     /// Forgets all, and keeps the room.
@@ -108,6 +150,6 @@ impl Touched {
         ensures none { self.new.noted ≡ [] }
         ensures room { self.new.room ≡ self.old.room }
     {
-        self.touches.clear();
+        self.notes.clear();
     }
 }

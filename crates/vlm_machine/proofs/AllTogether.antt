@@ -1,7 +1,7 @@
 -- A dequeue with DEQALL: the locks that it takes are those that are chosen among the records, and where they are given up
 -- together the plain machine has made its step.
-use Rattle.std.proofs.Common.{◌≡◌, ◌≢◌, ◌<◌, ◌≤◌, ◌+◌, ◌-◌, ℕ, Bool, zero, suc, true, false, not, ◌&&◌, ◌||◌, cond, List, [], ◌∷◌, map, filter, None, refl, sym, ap, ◌∙◌, subst, inl, inr, arith, eq-eqb, ne_eqb}
-use Rattle.std.specs.Prelude.{◌==◌, ⊤}
+use Rattle.std.proofs.Common.{◌≡◌, ◌<◌, ◌≤◌, ◌+◌, ◌-◌, ℕ, Bool, zero, suc, true, false, not, ◌&&◌, ◌||◌, cond, List, [], ◌∷◌, map, filter, None, refl, sym, ap, ◌∙◌, subst, inl, inr, arith, eq-eqb, ne_eqb}
+use Rattle.std.specs.Prelude.{◌==◌}
 use Rattle.std.specs.List.{list_any, range_with_len}
 use Rattle.std.proofs.lemmas.Bool.{and_parts, cond_both, eqb-true, or_cases, or_right}
 use Rattle.vlm_words.specs.declared.locks.Row.{Row}
@@ -22,7 +22,7 @@ use Rattle.vlm_store.specs.Plain.{plain_processes, plain_resource, plain_resourc
 use Rattle.vlm_store.specs.Records.{IsSound, Records, StoredLock, StoredResource, Stores, queued, rows_of_locks}
 use Rattle.vlm_locks.specs.declared.giving_up.Choice.{Choice}
 use Rattle.vlm_locks.specs.declared.giving_up.Choice.TheVariants.{All, Below}
-use Rattle.vlm_locks.specs.GivingUp.{AreChosen, AreGivenUp, Rise, SublocksGoToo, is_chosen}
+use Rattle.vlm_locks.specs.GivingUp.{AreChosen, AreGivenUp, IsOwnChoice, Rise, SublocksGoToo, is_chosen}
 use Rattle.vlm_locks.specs.Left.{giving_up, is_among, resource_left}
 use Rattle.vlm_locks.specs.Rest.{IsAtRest}
 use Rattle.vlm_locks.specs.RunningDown.{CanEndProcesses}
@@ -48,16 +48,6 @@ abbrev pub gives_up : Dequeue → ℕ → Withdrawal
 gives_up d = giving_up by_abort by_abort (has_flag d.flags invvalblk)
 
 -- ---- the choice
-
--- locks below one are chosen by a lock that is there: none has identification 0
-abbrev pub NamesNot0 : Choice → Type 0
-NamesNot0 All = ⊤
-NamesNot0 (Below top) = top ≢ 0
-
--- so it is with the choice of a dequeue
-pub names_not_0 : (lkid : ℕ) → NamesNot0 (choice_of lkid)
-names_not_0 zero = tt
-names_not_0 (suc n) = λ none. cc
 
 -- the choice takes what the dequeue takes
 chosen_is : (top lkid : ℕ) (resources : List Resource) → is_chosen (choice_of top) resources lkid ≡ ((top == 0) || is_below 15 top resources lkid)
@@ -227,12 +217,12 @@ module _ (m : MachineState) (d : Dequeue) (all : has_flag d.flags deqall ≡ tru
 
 module _ (m : MachineState) (sound : IsSound m.records) (rest : IsAtRest m.records) (between : IsBetweenSteps (plain_state m)) where
   -- with a chosen lock its sublocks are chosen, since no lock is more than 15 levels below another
-  pub sublocks_go_too : (choice : Choice) → NamesNot0 choice → SublocksGoToo choice m.records
-  sublocks_go_too All some at other row up stored stored_up names chosen = refl
-  sublocks_go_too (Below top) some at other row up stored stored_up names chosen =
+  pub sublocks_go_too : (choice : Choice) (pid : ℕ) → IsOwnChoice choice pid m.records → SublocksGoToo choice m.records
+  sublocks_go_too All pid own at other row up stored stored_up names chosen = refl
+  sublocks_go_too (Below top) pid own at other row up stored stored_up names chosen =
       let resources : List Resource = plain_resources m.records in
       let parent : parent_of row.lkid resources ≡ up.lkid = parent_named m.records sound at row stored ∙ names in
-      between.chains top 16 row.lkid some
+      between.chains top 16 row.lkid own.0
       (or_right (parent_of row.lkid resources == top) (is_below 15 top resources (parent_of row.lkid resources))
       (ap (is_below 15 top resources) parent ∙ chosen))
 
@@ -281,10 +271,6 @@ module _ (m : MachineState) (sound : IsSound m.records) (rest : IsAtRest m.recor
         same lkid =
             ap (λ (c : Choice). is_chosen c (plain_resources m.records) lkid) is
             ∙ chosen_is (dequeue_lkid (plain_state m) d) lkid (plain_resources m.records)
-
-    -- with each of them its sublocks go
-    pub dequeued_with_sublocks : (choice : Choice) → choice ≡ choice_of (dequeue_lkid (plain_state m) d) → SublocksGoToo choice m.records
-    dequeued_with_sublocks choice is = sublocks_go_too choice (subst NamesNot0 (sym is) (names_not_0 (dequeue_lkid (plain_state m) d)))
 
     -- where they are given up together, the plain machine has made the change of the dequeue
     pub state_given_up : has_flag d.flags deqall ≡ true → has_flag d.flags cancel ≡ false → d.value ≡ None → d.tail ≡ None

@@ -14,7 +14,7 @@ use Rattle.vlm_locks.specs.Left.{resource_left}
 use Rattle.vlm_locks.specs.Owing.{IsPaid}
 use Rattle.vlm_locks.specs.Rest.{IsAtRest}
 use Rattle.vlm_locks.specs.RunningDown.{AreEnded, CanEndProcesses}
-use Rattle.vlm_locks.specs.declared.touched.Touch.{Touch}
+use Rattle.vlm_locks.specs.declared.touched.Note.{Note}
 use Rattle.vlm_locks.specs.Touched.{AreThere, OnlyTouched, StandBySerial, Touches}
 use Rattle.vlm_locks.proofs.TogetherDown.{rundown_by_rows}
 use Rattle.vlm_machine.specs.Between.{IsBetweenSteps}
@@ -36,7 +36,7 @@ can_end m touched sound rest paid between notes = record {
   granted = granted_want_nothing m.records between.rows_fit;
   paid = paid;
   noted = λ t there. absurd (subst (IsIn t) notes.none there);
-  room = omega (arith, notes.room, as_many_stored m.records, ap (λ (touches : List Touch). length touches) notes.none);
+  room = omega (arith, notes.room, as_many_stored m.records, ap (λ (touches : List Note). length touches) notes.none);
 }
 
 -- ---- after

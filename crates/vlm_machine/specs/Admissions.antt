@@ -20,6 +20,7 @@ use Rattle.vlm_locks.specs.declared.giving_up.Choice.{Choice}
 use Rattle.vlm_locks.specs.declared.giving_up.Choice.TheVariants.{All, Below}
 use Rattle.vlm_locks.specs.Converting.{admission_on}
 use Rattle.vlm_locks.specs.Entering.{new_row}
+use Rattle.vlm_locks.specs.GivingUp.{IsOwnChoice}
 use Rattle.vlm_locks.specs.Standing.{IsStanding, IsStandingOf}
 use Rattle.vlm_locks.specs.Withdrawing.{goes}
 use Rattle.vlm_machine.specs.declared.dequeuing.AdmittedDequeueOfAll.{AdmittedDequeueOfAll}
@@ -103,11 +104,12 @@ choice_of zero = All
 choice_of (suc n) = Below (suc n)
 
 -- the dequeue with DEQALL is admitted so: it is this caller's, and which of the caller's locks go, and whether they
--- invalidate; it cancels nothing and gives no value and no tail
+-- invalidate; the lock that it names is one of the caller's; it cancels nothing and gives no value and no tail
 pub record IsAdmittedDequeueOfAll (m : MachineState) (d : Dequeue) (a : AdmittedDequeueOfAll) : Type 0 where
   pub caller : IsCaller a.caller m.records
   pub pid : a.caller.pid ≡ d.pid
   pub choice : a.choice ≡ choice_of (dequeue_lkid (plain_state m) d)
+  pub own : IsOwnChoice a.choice a.caller.pid m.records
   pub invalidates : a.invalidates ≡ has_flag d.flags invvalblk
   pub goes : has_flag d.flags cancel ≡ false
   pub plain : d.value ≡ None

@@ -8,6 +8,7 @@ ghost use Rattle.vlm_words.specs.Flags.{cancel, deq_flag_bits, deqall, has_flag,
 ghost use Rattle.vlm_words.specs.Endings.How.{by_abort};
 ghost use Rattle.vlm_words.specs.Stepped.{Outcome};
 ghost use Rattle.vlm_store.specs.Records.{HasNoSublocks, HasResource, IsStored};
+ghost use Rattle.vlm_locks.specs.GivingUp.{IsOwnChoice};
 ghost use Rattle.vlm_locks.specs.Rest.{OthersStay};
 ghost use Rattle.vlm_locks.specs.declared.finding.Standing.{Standing};
 ghost use Rattle.vlm_locks.specs.Standing.{IsLockOf, IsStanding};
@@ -139,6 +140,7 @@ impl Machine {
         ensures refusal { result_err result ≡ (if lkid == 0 then None
             else lock_refusal (plain_state self.now) caller.now.pid lkid) }
         ensures choice { IfOk result (λ choice. choice ≡ choice_of lkid) }
+        ensures own { IfOk result (λ choice. IsOwnChoice choice caller.now.pid self.now.records) }
     {
         if lkid == 0 {
             return Ok(Choice::All);

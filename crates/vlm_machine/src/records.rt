@@ -97,7 +97,7 @@ impl Machine {
         ensures room { touched.new.room ≡ touched.old.room }
     {
         touched.in_order();
-        sweep(&mut self.store, touched.touches());
+        sweep(&mut self.store, touched.notes());
         touched.clear();
     }
 }

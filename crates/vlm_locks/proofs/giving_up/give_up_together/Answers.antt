@@ -1,17 +1,24 @@
+use Rattle.std.proofs.Common.{List, subst}
+use Rattle.vlm_locks.specs.declared.touched.Note.{Note}
+use Rattle.vlm_locks.specs.GivingUp.{HaveEnded, noted_lkids}
 use Rattle.vlm_locks.proofs.Found.{process_still}
 use Rattle.vlm_locks.proofs.GivenUp.{can_go, given_up}
 use Rattle.vlm_locks.proofs.giving_up.give_up_together.Goals as goal
 
-pub remove_chosen-requires-clause-owner : goal.remove_chosen-requires-clause-owner
-remove_chosen-requires-clause-owner c =
-    process_still c.args.store.now c.end_chosen.new.store c.args.owner c.args.pid c.end_chosen.ensures.ended.only_notices c.requires.owner
+pub remove_noted-requires-clause-owner : goal.remove_noted-requires-clause-owner
+remove_noted-requires-clause-owner c =
+    process_still c.args.store.now c.end_noted.new.store c.args.owner c.args.pid c.end_noted.ensures.ended.only_notices c.requires.owner
 
-pub remove_chosen-requires-clause-can_go : goal.remove_chosen-requires-clause-can_go
-remove_chosen-requires-clause-can_go c =
-    can_go c.args.choice c.args.pid c.args.store.now c.end_chosen.new.store c.end_chosen.ensures.ended.only_notices c.args.invalidates c.args.touched.now c.end_chosen.ensures.ended
-    c.requires.can_end c.requires.closed
+pub remove_noted-requires-clause-can_go : goal.remove_noted-requires-clause-can_go
+remove_noted-requires-clause-can_go c =
+    let ended : HaveEnded (noted_lkids c.note_chosen.new.touched.noted) c.args.invalidates c.args.store.now c.end_noted.new.store =
+    subst (λ (ts : List Note). HaveEnded (noted_lkids ts) c.args.invalidates c.args.store.now c.end_noted.new.store) c.notes.ensures c.end_noted.ensures.ended in
+    can_go c.args.choice c.args.pid c.args.store.now c.end_noted.new.store c.law_records_are_sound.ensures ended.only_notices c.args.touched.now c.args.invalidates
+    c.note_chosen.new.touched c.note_chosen.ensures.chosen c.note_chosen.ensures.locks ended c.requires.can_end c.note_chosen.ensures.room c.requires.closed
 
 pub returns-clause-given_up : goal.returns-clause-given_up
 returns-clause-given_up c =
-    given_up c.args.choice c.args.pid c.args.store.now c.end_chosen.new.store c.end_chosen.ensures.ended.only_notices c.args.invalidates c.remove_chosen.new.store c.args.touched.now
-    c.remove_chosen.new.touched c.end_chosen.ensures.ended c.remove_chosen.ensures.gone
+    let ended : HaveEnded (noted_lkids c.note_chosen.new.touched.noted) c.args.invalidates c.args.store.now c.end_noted.new.store =
+    subst (λ (ts : List Note). HaveEnded (noted_lkids ts) c.args.invalidates c.args.store.now c.end_noted.new.store) c.notes.ensures c.end_noted.ensures.ended in
+    given_up c.args.choice c.args.pid c.args.store.now c.end_noted.new.store c.law_records_are_sound.ensures ended.only_notices c.args.touched.now c.args.invalidates
+    c.note_chosen.new.touched c.remove_noted.new.store c.remove_noted.new.touched c.requires.none c.note_chosen.ensures.room c.note_chosen.ensures.chosen ended c.remove_noted.ensures.gone

@@ -66,11 +66,11 @@ loop-lock-smaller c =
       own_locks =
           c.withdraw.ensures.own_locks
           ∙ ap (λ stays. map but_notices (owned_after (goes stays f.queue) f.lock s.processes)) (ap (λ (w : Withdrawal). w.stays) (rundown_is c));
-      serial = c.of.result.serial;
-      its_serial = c.of.ensures.serial;
+      serial = c.of_resource.result.number;
+      its_serial = c.of_resource.ensures.serial;
       notes =
           c.note.ensures.noted
-          ∙ ap (λ (res : ℕ). c.loop-lock.touched.noted ++ record { serial = c.of.result.serial; res = res } ∷ []) c.of.ensures.res;
+          ∙ ap (λ (res : ℕ). c.loop-lock.touched.noted ++ record { number = c.of_resource.result.number; at = res } ∷ []) c.of_resource.ensures.res;
       room = c.note.ensures.room;
     } in
     omega (arith, fewer_own (is_row_of c.args.pid) true c.args.owner c.args.pid c.args.store.now s c.withdraw.new.store c.args.touched.now c.loop-lock.touched c.note.new.self f (plain_withdrawal c.rundown.result) so_far turn)
@@ -97,11 +97,11 @@ loop-lock-preserved c =
       own_locks =
           c.withdraw.ensures.own_locks
           ∙ ap (λ stays. map but_notices (owned_after (goes stays f.queue) f.lock s.processes)) (ap (λ (w : Withdrawal). w.stays) (rundown_is c));
-      serial = c.of.result.serial;
-      its_serial = c.of.ensures.serial;
+      serial = c.of_resource.result.number;
+      its_serial = c.of_resource.ensures.serial;
       notes =
           c.note.ensures.noted
-          ∙ ap (λ (res : ℕ). c.loop-lock.touched.noted ++ record { serial = c.of.result.serial; res = res } ∷ []) c.of.ensures.res;
+          ∙ ap (λ (res : ℕ). c.loop-lock.touched.noted ++ record { number = c.of_resource.result.number; at = res } ∷ []) c.of_resource.ensures.res;
       room = c.note.ensures.room;
     } in
     record {

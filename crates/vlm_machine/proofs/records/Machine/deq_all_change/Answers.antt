@@ -3,7 +3,7 @@ use Rattle.vlm_words.specs.Flags.{has_flag, invvalblk}
 use Rattle.vlm_locks.specs.GivingUp.{AreGivenUp, SublocksGoToo}
 use Rattle.vlm_locks.specs.RunningDown.{CanEndProcesses}
 use Rattle.vlm_machine.specs.Machine.{MachineState, kept, plain_state}
-use Rattle.vlm_machine.proofs.AllTogether.{dequeued_with_sublocks, state_given_up, to_sweep_given_up}
+use Rattle.vlm_machine.proofs.AllTogether.{sublocks_go_too, state_given_up, to_sweep_given_up}
 use Rattle.vlm_machine.proofs.EndOfProcess.{can_end}
 use Rattle.vlm_machine.proofs.records.Machine.deq_all_change.Goals as goal
 
@@ -17,8 +17,8 @@ give_up_together-requires-clause-can_end c =
 pub give_up_together-requires-clause-closed : goal.give_up_together-requires-clause-closed
 give_up_together-requires-clause-closed c =
     subst (λ (m : MachineState). SublocksGoToo c.args.admitted.now.choice m.records) (sym c.self.view_is)
-    (dequeued_with_sublocks c.args.self.now (rw (← c.self.view_is) c.law_records_are_sound.ensures) (rw (← c.self.view_is) c.self.invariant.rest) c.requires.between c.args.dequeue.now
-    c.args.admitted.now.choice c.requires.admitted.choice)
+    (sublocks_go_too c.args.self.now (rw (← c.self.view_is) c.law_records_are_sound.ensures) (rw (← c.self.view_is) c.self.invariant.rest) c.requires.between
+    c.args.admitted.now.choice c.args.admitted.now.caller.pid c.requires.admitted.own)
 
 pub returns-clause-change : goal.returns-clause-change
 returns-clause-change c =
