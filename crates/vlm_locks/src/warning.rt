@@ -96,8 +96,8 @@ fn warn_armed(store: &mut Store, res: ResAt, which: Armed)
 }
 
 /// Warns the granted locks of a resource that are armed and in the way of a queued request, in their order: the
-/// blocking AST of each is queued, and it is armed no more. CR is in the way of EX alone, and EX has each armed lock in
-/// its way that holds more than NL. So after a grant as far as possible, each lock that is looked at is warned.
+/// blocking AST of each is queued, and it is armed no more. The cost grows with the locks that are warned: after all
+/// grants, each lock of the chosen list is in somebody's way (see [`Armed`]).
 #[inline(never)]
 pub(crate) fn warn(store: &mut Store, res: ResAt)
     requires there { HasResource res store.old }

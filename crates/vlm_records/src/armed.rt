@@ -13,7 +13,7 @@ use vlm_links::LAST_HANDLE;
 
 impl Queues {
     // Takes a lock off a list of armed locks, if it is in it.
-    // Kept out of line, as the other two are: few locks are armed.
+    // Kept out of line: few locks are armed.
     #[inline(never)]
     fn leave_list(&mut self, which: Armed, at: usize)
         requires placed { IsPlaced self.old None }
@@ -32,6 +32,7 @@ impl Queues {
     }
 
     // Puts a lock that stands last in its queue at the end of a list of armed locks, if it belongs there.
+    // Kept out of line, as `leave_list` is.
     #[inline(never)]
     fn join_list(&mut self, which: Armed, at: usize)
         requires placed { IsPlaced self.old None }

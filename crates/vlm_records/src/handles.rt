@@ -25,9 +25,8 @@ pub type ResAt = At<ResourceKind>;
 /// The handle of a process record.
 pub type ProcAt = At<ProcessKind>;
 
-/// A list of armed locks of a resource. A request that CR is in the way of is an EX, and that has each armed lock in its
-/// way that holds more than NL. Any other request has only those in its way that hold more than CR. Nothing has NL in
-/// its way.
+/// A list of armed locks of a resource. NL is in nobody's way. CR is only in the way of EX, and then so is each armed lock
+/// above NL. Otherwise only armed locks above CR can be in the way.
 #[derive(Clone, Copy)]
 pub enum Armed {
     /// Those that hold more than NL.

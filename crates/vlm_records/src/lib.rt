@@ -7,8 +7,8 @@
 //!
 //! A lock names its queue (`place`), its process (`owner`) and its parent, if it has one. It is in a list of each, by a
 //! pair of links of its own. The ends of these lists are in the other records: three queues in a resource, own locks in
-//! a process, sublocks in a lock. Two more lists have only some locks: the armed locks of a resource, in the order of
-//! its granted queue, and the line, which has the queued locks of all resources. Resources and processes are linked in
+//! a process, sublocks in a lock. Three more lists have only some locks: the armed locks of a resource above NL and above CR, in
+//! the order of its granted queue, and the line, which has the queued locks of all resources. Resources and processes are linked in
 //! order of making.
 //!
 //! A resource counts its locks in a tally. A lock that moves leaves the armed locks, is counted out, is linked anew, is
