@@ -27,7 +27,7 @@ abbrev pub onto : ℕ → List (List ℕ) → List (List ℕ)
 onto byte [] = (byte ∷ []) ∷ []
 onto byte (piece ∷ pieces) = (byte ∷ piece) ∷ pieces
 
--- what each separator ends, and what follows the last one if anything does
+-- the piece before each separator, and the piece after the last one if it has any bytes
 abbrev pub pieces : (ℕ → Bool) → List ℕ → List (List ℕ)
 pieces ends [] = []
 pieces ends (byte ∷ bytes) = if ends byte then [] ∷ pieces ends bytes else onto byte (pieces ends bytes)
@@ -40,7 +40,7 @@ is_line_feed byte = byte == 10
 abbrev pub lines_of : List ℕ → List (List ℕ)
 lines_of bytes = pieces is_line_feed bytes
 
--- space, tab and carriage return part words
+-- space, tab and carriage return separate words
 abbrev pub is_blank : ℕ → Bool
 is_blank byte = (byte == 32) || (byte == 9) || (byte == 13)
 
@@ -49,7 +49,7 @@ abbrev pub is_nothing : List ℕ → Bool
 is_nothing [] = true
 is_nothing (byte ∷ bytes) = false
 
--- the words of a line: the longest runs of bytes that are no blanks
+-- the words of a line: its longest runs of bytes that are not blank
 abbrev pub words_of : List ℕ → List (List ℕ)
 words_of bytes = filter (λ word. not (is_nothing word)) (pieces is_blank bytes)
 
@@ -57,13 +57,13 @@ words_of bytes = filter (λ word. not (is_nothing word)) (pieces is_blank bytes)
 abbrev pub is_text : List ℕ → List ℕ → Bool
 is_text a b = pointwise ◌==◌ a b
 
--- a reading goes on with what was read, or ends at its first fault
+-- reading goes on with the value read, or ends at the first fault
 infixl 10 ◌>>=◌
 abbrev pub ◌>>=◌ : {A B : Type 0} → Result A LineFault → (A → Result B LineFault) → Result B LineFault
 (Ok x) >>= f = f x
 (Err fault) >>= f = Err fault
 
--- the number that decimal digits stand for
+-- the number of these decimal digits
 abbrev pub decimal_value : List ℕ → ℕ
 decimal_value digits = fold (λ n digit. 10 * n + (digit - 48)) 0 digits
 
@@ -84,7 +84,7 @@ number_within limit word =
 abbrev pub is_name_byte : ℕ → Bool
 is_name_byte byte = is_ascii_alphanumeric byte || (byte == 95)
 
--- it begins with a letter
+-- the word begins with a letter
 abbrev pub begins_with_letter : List ℕ → Bool
 begins_with_letter [] = false
 begins_with_letter (byte ∷ bytes) = is_ascii_alphabetic byte
@@ -94,7 +94,7 @@ unfoldable pub process_name : List ℕ → Result (List ℕ) LineFault
 process_name word =
     if begins_with_letter word && nat_le (length word) 15 && list_all is_name_byte word then Ok word else Err WrongWord
 
--- the word for a mode
+-- the word of a mode
 unfoldable pub mode_of : List ℕ → Result Mode LineFault
 mode_of word =
     if is_text word (codes "NL") then Ok Nl
@@ -105,45 +105,44 @@ mode_of word =
     else if is_text word (codes "EX") then Ok Ex
     else Err WrongWord
 
--- the word has this key in front
+-- the word begins with this key
 abbrev pub has_key : List ℕ → List ℕ → Bool
 has_key key word = starts_with ◌==◌ word key
 
--- what stands behind the key
+-- the part of the word after the key
 abbrev pub behind : List ℕ → List ℕ → List ℕ
 behind key word = drop (length key) word
 
--- what a word gives, where none before it gave it
+-- the value of a word, if no word before it had the same key
 abbrev pub once : {A : Type 0} → Option A → Result A LineFault → Result (Option A) LineFault
 once None read = read >>= λ value. Ok (Some value)
 once (Some earlier) read = Err WrongWord
 
--- what the words give, each after those before it
+-- the values of the words, from left to right
 abbrev pub all_words : {A : Type 0} → (A → List ℕ → Result A LineFault) → A → List (List ℕ) → Result A LineFault
 all_words with_word given [] = Ok given
 all_words with_word given (word ∷ words) = with_word given word >>= λ more. all_words with_word more words
 
--- the number that a hexadecimal digit of either case stands for
+-- the number of a hexadecimal digit of either case
 abbrev pub digit_value : ℕ → ℕ
 digit_value digit = if nat_le digit 57 then digit - 48 else if nat_le digit 70 then digit - 55 else digit - 87
 
--- the byte that each two hexadecimal digits stand for
+-- the byte of each two hexadecimal digits
 unfoldable pub hex_value : List ℕ → List ℕ
 hex_value [] = []
 hex_value (digit ∷ []) = []
 hex_value (high ∷ low ∷ digits) = (digit_value high * 16 + digit_value low) ∷ hex_value digits
 
--- the name that hexadecimal digits stand for, of at most the 32 bytes that count: none where they are odd in number, or
--- one is no digit
+-- the name whose bytes these hexadecimal digits are, cut to 32 bytes; None if their number is odd or one is not a digit
 unfoldable pub hex_name : List ℕ → Option (List ℕ)
 hex_name digits =
     if (length digits % 2 == 0) && list_all is_ascii_hexdigit digits then Some (take 32 (hex_value digits)) else None
 
--- a resource's name as a script has it, of at most the 32 bytes that count: hexadecimal behind `x:`, else its bytes
+-- a resource's name as a script writes it, cut to 32 bytes: `x:` and hexadecimal digits, or the bytes of the name
 unfoldable pub name_read : List ℕ → Option (List ℕ)
 name_read bytes = if has_key (codes "x:") bytes then hex_name (behind (codes "x:") bytes) else Some (take 32 bytes)
 
--- so many bytes: exactly two hexadecimal digits for each
+-- N bytes, written in exactly two hexadecimal digits each
 unfoldable pub bytes_of : ℕ → List ℕ → Result (List ℕ) LineFault
 bytes_of count word =
     if (length word == 2 * count) && list_all is_ascii_hexdigit word then Ok (hex_value word) else Err WrongWord
@@ -156,21 +155,21 @@ value_of word = bytes_of 16 word
 abbrev pub tail_of : List ℕ → Result (List ℕ) LineFault
 tail_of word = bytes_of 48 word
 
--- a lock: `@N` is the one whose identification stands in status block N, a number is its identification
+-- a lock: `@N` is the lock in status block N, and a number is the identification of the lock
 unfoldable pub lock_named : List ℕ → Result Which LineFault
 lock_named word =
     if has_key (codes "@") word then number_within 255 (behind (codes "@") word) >>= (λ n. Ok (Block n))
     else number_within 4294967295 word >>= (λ lkid. Ok (Id lkid))
 
--- the identification that no process has: a line names its process
+-- an identification that no process has: a line names its process instead
 abbrev pub unnamed_process : ℕ
 unnamed_process = 0
 
--- nothing of a declare line's keyed words is read yet
+-- a declare line before its keyed words
 abbrev pub no_declare_words : DeclareWords
 no_declare_words = record { node = None; group = None; quota = None; blocks = None; syslck = false }
 
--- one more keyed word of a declare line
+-- adds one keyed word of a declare line
 unfoldable pub declare_word : DeclareWords → List ℕ → Result DeclareWords LineFault
 declare_word d word =
     if has_key (codes "node=") word then
@@ -184,7 +183,7 @@ declare_word d word =
     else if is_text word (codes "syslck") && not d.syslck then Ok (record d { syslck = true })
     else Err WrongWord
 
--- a needed word
+-- a word that must be there
 abbrev pub given : {A : Type 0} → Option A → Result A LineFault
 given None = Err WrongWord
 given (Some value) = Ok value
@@ -217,7 +216,7 @@ declare_line words =
     declaration_of d >>= λ declaration.
     Ok (Declare name declaration)
 
--- the flag that a word of an enq or cvt line stands for
+-- the flag of a word of an enq or cvt line
 unfoldable pub enq_flag : List ℕ → Option ℕ
 enq_flag word =
     if is_text word (codes "valblk") then Some valblk
@@ -231,7 +230,7 @@ enq_flag word =
     else if is_text word (codes "wide") then Some wide
     else None
 
--- the flag that a word of a deq line stands for
+-- the flag of a word of a deq line
 unfoldable pub deq_flag : List ℕ → Option ℕ
 deq_flag word =
     if is_text word (codes "deqall") then Some deqall
@@ -239,31 +238,31 @@ deq_flag word =
     else if is_text word (codes "invvalblk") then Some invvalblk
     else None
 
--- the flag joins those before it, and is given once; another word is wrong
+-- adds a flag to those before it; a flag that came before, or a word that is no flag, is a fault
 unfoldable pub flag_once : ℕ → Option ℕ → Result ℕ LineFault
 flag_once flags None = Err WrongWord
 flag_once flags (Some flag) = if has_flag flags flag then Err WrongWord else Ok (bit_or flags flag)
 
--- no flag word and no bits are read yet
+-- before any flag word and any bits
 abbrev pub no_flag_words : FlagWords
 no_flag_words = record { words = 0; bits = None }
 
--- one more flag word, or the bits of flags as a number
+-- adds one flag word, or the bits of flags as a number
 unfoldable pub flag_word : FlagWords → List ℕ → Option ℕ → Result FlagWords LineFault
 flag_word f word flag =
     if has_key (codes "bits=") word then
     once f.bits (number_within 65535 (behind (codes "bits=") word)) >>= (λ n. Ok (record f { bits = n }))
     else flag_once f.words flag >>= (λ words. Ok (record f { words = words }))
 
--- the flags of a step: those of the words, and the bits
+-- the flags of a step: those of its words, and the bits
 unfoldable pub flags_of : FlagWords → ℕ
 flags_of f = bit_or f.words (unwrap_or f.bits 0)
 
--- nothing of the keyed words is read yet that an enq and a cvt line share
+-- before the keyed words that an enq and a cvt line share
 abbrev pub no_request_words : RequestWords
 no_request_words = record { block = None; ast = None; bast = None; param = None; flags = no_flag_words }
 
--- one more keyed word or flag that an enq and a cvt line share
+-- adds one keyed word or flag that an enq and a cvt line share
 unfoldable pub request_word : RequestWords → List ℕ → Result RequestWords LineFault
 request_word r word =
     if has_key (codes "block=") word then
@@ -280,11 +279,11 @@ request_word r word =
 abbrev pub param_of : RequestWords → ℕ
 param_of r = unwrap_or r.param 0
 
--- nothing of an enq line's keyed words is read yet
+-- an enq line before its keyed words
 abbrev pub no_enq_words : EnqWords
 no_enq_words = record { resource = None; parent = None; request = no_request_words }
 
--- one more keyed word or flag of an enq line
+-- adds one keyed word or flag of an enq line
 unfoldable pub enq_word : EnqWords → List ℕ → Result EnqWords LineFault
 enq_word e word =
     if has_key (codes "name=") word then
@@ -341,11 +340,11 @@ cvt_line words =
       param = param_of r;
     }))
 
--- nothing of a deq line's keyed words is read yet
+-- a deq line before its keyed words
 abbrev pub no_deq_words : DeqWords
 no_deq_words = record { value = None; tail = None; flags = no_flag_words }
 
--- one more keyed word or flag of a deq line
+-- adds one keyed word or flag of a deq line
 unfoldable pub deq_word : DeqWords → List ℕ → Result DeqWords LineFault
 deq_word d word =
     if has_key (codes "value=") word then
@@ -370,11 +369,11 @@ deq_line words =
       flags = flags_of d.flags;
     }))
 
--- nothing of a set line's keyed words is read yet
+-- a set line before its keyed words
 abbrev pub no_set_words : SetWords
 no_set_words = record { block = None; value = None; tail = None }
 
--- one more keyed word of a set line
+-- adds one keyed word of a set line
 unfoldable pub set_word : SetWords → List ℕ → Result SetWords LineFault
 set_word s word =
     if has_key (codes "block=") word then
@@ -402,11 +401,11 @@ end_line words =
     process_name first.0 >>= λ name.
     no_more (End name) first.1
 
--- nothing of a leave or search line's keyed word is read yet
+-- a leave or search line before its keyed word
 abbrev pub no_node_words : NodeWords
 no_node_words = record { node = None }
 
--- one more keyed word of a leave or search line
+-- adds the keyed word of a leave or search line
 unfoldable pub node_word : NodeWords → List ℕ → Result NodeWords LineFault
 node_word w word =
     if has_key (codes "node=") word then
@@ -438,7 +437,7 @@ ast_line words =
     process_name first.0 >>= λ name.
     no_more (Ast name) first.1
 
--- NAME N and no other word: a process and the number of a status block of it
+-- NAME N and no other word: a process, and the number of one of its status blocks
 unfoldable pub block_alone : List (List ℕ) → Result (List ℕ × ℕ) LineFault
 block_alone words =
     next_word words >>= λ first.
@@ -477,11 +476,11 @@ command_line command words =
     else if is_text command (codes "tails") then no_more Tails words
     else Err UnknownCommand
 
--- a line without words, or whose first word begins with `#`, does nothing
+-- a blank line, or a comment: its first word begins with `#`
 unfoldable pub line_of : List (List ℕ) → Result Line LineFault
 line_of [] = Ok Empty
 line_of (word ∷ words) = if has_key (codes "#") word then Ok Empty else command_line word words
 
--- a line as it is read: its length first, then the command, then the words from left to right
+-- the reading of a line: its length first, then the command, then the words from left to right
 unfoldable pub line_read : List ℕ → Result Line LineFault
 line_read bytes = if nat_le (length bytes) 255 then line_of (words_of bytes) else Err TooLong

@@ -1,10 +1,10 @@
-//! A line cut into words.
+//! Cuts a line into words.
 
 ghost use Rattle.std.specs.Prelude.{◌≡◌, ◌<◌, ◌≤◌, ◌+◌, [], ◌∷◌, not, length, take, drop, IfSome, MatchOption};
 ghost use Rattle.std.specs.List.{position_or_len};
 ghost use Rattle.vlm_lines.specs.Lines.{words_of, is_blank};
 
-/// The first word, and the bytes behind it.
+/// The first word, and the bytes after it.
 pub(crate) fn next_word(bytes: &[u8]) -> Option<(&[u8], &[u8])>
     ensures words { MatchOption result (words_of bytes.now ≡ [])
         (λ p. words_of bytes.now ≡ p.0.now ∷ words_of p.1.now) }

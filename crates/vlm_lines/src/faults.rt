@@ -1,22 +1,22 @@
-//! What may be wrong with a line of a script.
+//! The faults of a line of a script.
 
 ghost use Rattle.std.specs.Prelude.{◌≡◌};
 ghost use Rattle.vlm_lines.specs.Faults.{fault_text};
 
-/// What is wrong with a line of a script.
+/// A fault of a line of a script.
 #[derive(Clone, Copy, Debug)]
 pub enum LineFault {
     /// More than 255 bytes.
     TooLong,
     /// The first word is no command.
     UnknownCommand,
-    /// A word not of the form of its place, given twice, too many, or missing.
+    /// A word has the wrong form for its place, comes twice, is one too many, or is missing.
     WrongWord,
-    /// A number of more than 10 digits or outside its range.
+    /// A number has more than 10 digits or is outside its range.
     NumberOutOfRange,
-    /// A name that is not bound to a process.
+    /// A name is not bound to a process.
     UnknownName,
-    /// A declared name that is bound already.
+    /// A declare line names a process whose name is bound already.
     NameUsed,
 }
 

@@ -1,4 +1,4 @@
-//! Words that stand for flags.
+//! The words of flags.
 
 ghost use Rattle.std.specs.Prelude.{◌≡◌};
 ghost use Rattle.vlm_lines.specs.Lines.{deq_flag, enq_flag, flag_once, flag_word, flags_of, no_flag_words};
@@ -13,9 +13,9 @@ use vlm_words::flags::{DeqFlags, EnqFlags};
 /// The flags that a line has given so far.
 #[derive(Clone, Copy)]
 pub(crate) struct FlagWords {
-    // the bits of those that are given by words
+    // the bits of the flags that came as words
     pub(crate) words: u16,
-    // bits that are given as a number
+    // the bits that came as a number
     pub(crate) bits: Option<u16>,
 }
 
@@ -29,7 +29,7 @@ impl FlagWords {
         }
     }
 
-    /// With one more word: `bits=`, or this flag.
+    /// Adds one more word: `bits=`, or this flag.
     #[tactic(auto, unfolding(crate::specs::Lines::flag_word))]
     pub(crate) fn with(self, word: &[u8], flag: Option<u16>) -> Result<Self, LineFault>
         ensures { result ≡ flag_word self word.now flag }
@@ -52,7 +52,7 @@ impl FlagWords {
     }
 }
 
-/// The flag that a word of an enq or cvt line stands for.
+/// The flag of a word of an enq or cvt line.
 #[tactic(auto, unfolding(crate::specs::Lines::enq_flag))]
 pub(crate) fn enq_flag(word: &[u8]) -> Option<u16>
     ensures { result ≡ enq_flag word.now }
@@ -80,7 +80,7 @@ pub(crate) fn enq_flag(word: &[u8]) -> Option<u16>
     }
 }
 
-/// The flag that a word of a deq line stands for.
+/// The flag of a word of a deq line.
 #[tactic(auto, unfolding(crate::specs::Lines::deq_flag))]
 pub(crate) fn deq_flag(word: &[u8]) -> Option<u16>
     ensures { result ≡ deq_flag word.now }
@@ -96,7 +96,7 @@ pub(crate) fn deq_flag(word: &[u8]) -> Option<u16>
     }
 }
 
-// The flag joins those before it. It is given once, and another word is wrong.
+// Adds a flag to those before it. A flag that came before, or a word that is no flag, is a fault.
 #[tactic(auto, unfolding(crate::specs::Lines::flag_once, vlm_words::specs::Flags::has_flag))]
 fn flag_once(flags: u16, flag: Option<u16>) -> Result<u16, LineFault>
     ensures { result ≡ flag_once flags flag }

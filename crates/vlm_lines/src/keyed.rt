@@ -1,4 +1,4 @@
-//! The keyed words and flags behind the places of a line.
+//! The keyed words and flags that follow the places of a line.
 
 ghost use Rattle.std.specs.Prelude.{◌≡◌};
 ghost use Rattle.vlm_lines.specs.Lines.{all_words, declare_word, deq_word, enq_word, no_declare_words, no_deq_words, no_enq_words, no_node_words, no_request_words, no_set_words, node_word, once, request_word, set_word, words_of};
@@ -14,18 +14,18 @@ use crate::words::{behind_key, is_text};
 use vlm_words::names::NameArg;
 use vlm_words::steps::Which;
 
-/// What keyed words and flags have given so far. They may stand in any order, each once.
+/// The values of the keyed words and flags so far. They come in any order, each once.
 pub(crate) trait Keyed: Copy {
     ghost use Rattle.std.specs.Prelude.{ℕ, List, Result};
     ghost use Rattle.vlm_lines.specs.declared.faults.LineFault.{LineFault};
 
     ghost with_word: { Self → List ℕ → Result Self LineFault };
 
-    /// With what one more word gives.
+    /// Adds one more word.
     fn with_word(self, word: &[u8]) -> Result<Self, LineFault>
         ensures { result ≡ with_word self word.now };
 
-    /// With what each word gives.
+    /// Adds each word.
     final fn with_words(self, words: &[u8]) -> Result<Self, LineFault>
         ensures { result ≡ all_words with_word self (words_of words.now) }
     {
@@ -92,7 +92,7 @@ impl Keyed for DeclareWords {
     }
 }
 
-/// The keyed words and flags of a cvt line, which an enq line may have too.
+/// The keyed words and flags of a cvt line. An enq line may have them too.
 #[derive(Clone, Copy)]
 pub(crate) struct RequestWords {
     // the number of the status block
@@ -147,11 +147,11 @@ impl Keyed for RequestWords {
 /// The keyed words and flags of an enq line.
 #[derive(Clone, Copy)]
 pub(crate) struct EnqWords {
-    // the name of the resource, not checked yet
+    // the name of the resource, before its check
     pub(crate) resource: Option<NameArg>,
-    // the lock of the parent resource
+    // the parent lock
     pub(crate) parent: Option<Which>,
-    // those that a cvt line has too
+    // the words that a cvt line has too
     pub(crate) request: RequestWords,
 }
 
@@ -188,9 +188,9 @@ impl Keyed for EnqWords {
 /// The keyed words and flags of a deq line.
 #[derive(Clone, Copy)]
 pub(crate) struct DeqWords {
-    // what is to be written to the value block
+    // written to the value block
     pub(crate) value: Option<[u8; 16]>,
-    // what is to be written to its tail
+    // written to the tail of the value block
     pub(crate) tail: Option<[u8; 48]>,
     pub(crate) flags: FlagWords,
 }
@@ -230,9 +230,9 @@ impl Keyed for DeqWords {
 pub(crate) struct SetWords {
     // the number of the status block
     pub(crate) block: Option<u8>,
-    // what its value part is to hold
+    // written to its value part
     pub(crate) value: Option<[u8; 16]>,
-    // what its tail is to hold
+    // written to its tail
     pub(crate) tail: Option<[u8; 48]>,
 }
 
@@ -297,7 +297,7 @@ impl Keyed for NodeWords {
     }
 }
 
-/// What a word gives where none before it gave it.
+/// The value of a word, if no word before it had the same key.
 pub(crate) fn once<T: Copy>(
     earlier: Option<T>,
     read: Result<T, LineFault>,

@@ -1,6 +1,6 @@
-//! A line of a script, read.
+//! Reads one line of a script: its command, its words, and the first fault.
 //!
-//! Nothing here takes memory.
+//! It knows no machine and no process, and takes no memory.
 #![tactic(auto)]
 
 mod cuts;

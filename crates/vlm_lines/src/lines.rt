@@ -1,4 +1,4 @@
-//! A line of a script that was read without a fault.
+//! The lines that a script may have.
 
 use vlm_words::steps::{Conversion, Declaration, Dequeue, NewRequest, ValueSetting};
 use vlm_words::texts::Text;
@@ -6,39 +6,39 @@ use vlm_words::texts::Text;
 /// A script's name for a process: 1 to 15 bytes.
 pub type ProcessName = Text<15>;
 
-/// The identification that no process has: who makes the step of a line, until the run puts that in.
+/// An identification that no process has. A step has it until the run knows which process makes the step.
 pub const NO_PROCESS: u32 = 0;
 
-/// A line with its words as they were read. The step of a line says who makes it by a name: as its
-/// process it has [`NO_PROCESS`], until the run puts in the one that the name is bound to.
+/// A line without a fault. A line names its process, so its step has [`NO_PROCESS`] until the run puts in the process of
+/// that name.
 #[derive(Clone, Copy)]
 pub enum Line {
     /// No word, or a comment.
     Empty,
-    /// A process is declared under a name.
+    /// Declares a process under a name.
     Declare(ProcessName, Declaration),
-    /// The value part of a status block is set, or its tail with it.
+    /// Sets the value part of a status block, or its tail with it.
     Set(ProcessName, ValueSetting),
-    /// A new lock is asked for.
+    /// Asks for a new lock.
     Enq(ProcessName, NewRequest),
-    /// Another mode of a lock is asked for.
+    /// Asks for another mode of a lock.
     Cvt(ProcessName, Conversion),
-    /// A lock is given up, or its request is cancelled.
+    /// Gives a lock up, or cancels its request.
     Deq(ProcessName, Dequeue),
-    /// The process ends, with all that it has.
+    /// Ends a process with its locks.
     End(ProcessName),
-    /// The node departs, with all its processes.
+    /// Lets a node depart with its processes.
     Leave(u8),
-    /// A deadlock is searched for, by a node.
+    /// Searches for a deadlock.
     Search(u8),
-    /// The AST that has been pending longest is taken.
+    /// Takes the oldest pending AST.
     Ast(ProcessName),
-    /// The status block of this number is printed.
+    /// Prints the status block of this number.
     Block(ProcessName, u8),
-    /// Its tail is printed.
+    /// Prints the tail of the status block of this number.
     Tail(ProcessName, u8),
-    /// Every resource is printed with its queues.
+    /// Prints every resource with its queues.
     Show,
-    /// Of every resource the tail of its value block is printed.
+    /// Prints the tail of the value block of every resource.
     Tails,
 }

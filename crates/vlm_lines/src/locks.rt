@@ -1,4 +1,4 @@
-//! Words that stand for locks.
+//! The words of locks.
 
 ghost use Rattle.std.specs.Prelude.{◌≡◌};
 ghost use Rattle.vlm_lines.specs.Lines.{lock_named};
@@ -8,8 +8,7 @@ use crate::numbers::{byte, long};
 use crate::words::behind_key;
 use vlm_words::steps::Which;
 
-/// A lock: `@N` is the one whose identification stands in status block N, a number is its
-/// identification.
+/// A lock: `@N` is the lock in status block N, and a number is the identification of the lock.
 #[tactic(auto, unfolding(crate::specs::Lines::lock_named))]
 pub(crate) fn lock(word: &[u8]) -> Result<Which, LineFault>
     ensures { result ≡ lock_named word.now }

@@ -9,11 +9,11 @@ use crate::words::behind_key;
 use hex::decode_to_slice;
 use vlm_words::names::NameArg;
 
-// Of a longer name the first so many bytes count, which no name has.
+// A name has at most 31 bytes. Of a longer one 32 are read, which is enough to refuse it.
 const LONGEST: usize = 32;
 
-/// A resource's name as a script has it: behind `x:` an even number of hexadecimal digits of either case, whose bytes are
-/// the name; else its bytes. Either may be none. None where behind `x:` stands anything else. It takes no memory.
+/// A resource's name as a script writes it: `x:` and an even number of hexadecimal digits of either case, or the bytes of
+/// the name. Both may be empty. `None` if anything else follows `x:`. It takes no memory.
 #[tactic(auto, unfolding(crate::specs::Lines::name_read))]
 pub fn read_res(bytes: &[u8]) -> Option<NameArg>
     ensures { result ≡ name_read bytes.now }
@@ -24,7 +24,7 @@ pub fn read_res(bytes: &[u8]) -> Option<NameArg>
     }
 }
 
-// The name that hexadecimal digits stand for.
+// The name whose bytes these digits are.
 #[tactic(auto, unfolding(crate::specs::Lines::hex_name))]
 fn hex_name(digits: &[u8]) -> Option<NameArg>
     ensures { result ≡ hex_name digits.now }
@@ -38,7 +38,7 @@ fn hex_name(digits: &[u8]) -> Option<NameArg>
     Some(NameArg::of(&name[..count]))
 }
 
-// Writes the bytes that digits stand for, two for each.
+// Writes a byte for each two digits.
 fn read_pairs(digits: &[u8], bytes: &mut [u8])
     requires digits { list_all is_ascii_hexdigit digits.now ≡ true }
     requires twice { length digits.now ≡ 2 * length bytes.old }

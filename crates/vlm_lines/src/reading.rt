@@ -1,4 +1,4 @@
-//! Lines by their commands.
+//! Reads a line by its command.
 
 ghost use Rattle.std.specs.Prelude.{◌≡◌, MatchResult};
 ghost use Rattle.vlm_lines.specs.Lines.{ast_line, block_alone, block_command, line_read, line_of, command_line, declare_line, enq_line, cvt_line, deq_line, set_line, end_line, leave_line, node_alone, search_line, tail_command, declaration_of, words_of, next_word, no_more};
@@ -15,13 +15,11 @@ use vlm_words::steps::{Conversion, Declaration, Dequeue, NewRequest, ValueSettin
 // The longest line, in bytes.
 const LONGEST: usize = 255;
 
-/// Reads a line of a script, without its line feed; the language is this project's own. It takes no
-/// memory.
+/// Reads a line of a script, without its line feed. The language is this project's own. It takes no memory.
 ///
-/// The faults in the order of their checks: `TooLong` above 255 bytes; `UnknownCommand`; then the
-/// first faulty word from left to right, `WrongWord` where its form is not that of its place or it
-/// is given twice, else `NumberOutOfRange`; last `WrongWord` where a needed word is missing. The
-/// two faults of names are not found here.
+/// The checks come in this order. `TooLong`: the line has more than 255 bytes. `UnknownCommand`. Then the first faulty
+/// word from left to right: `WrongWord` if it has the wrong form for its place or comes twice, else `NumberOutOfRange`.
+/// Last `WrongWord`, if a word is missing. The run finds the two faults of names.
 #[tactic(auto, unfolding(crate::specs::Lines::line_read))]
 pub fn read_line(bytes: &[u8]) -> Result<Line, LineFault>
     ensures { result ≡ line_read bytes.now }
@@ -32,7 +30,7 @@ pub fn read_line(bytes: &[u8]) -> Result<Line, LineFault>
     line_of(bytes)
 }
 
-// A line without words, or whose first word begins with `#`, does nothing.
+// A blank line, or a comment: its first word begins with `#`.
 #[tactic(auto, unfolding(crate::specs::Lines::line_of))]
 fn line_of(line: &[u8]) -> Result<Line, LineFault>
     ensures { result ≡ line_of (words_of line.now) }
@@ -93,7 +91,6 @@ fn declare_line(line: &[u8]) -> Result<Line, LineFault>
     Ok(Line::Declare(name, declaration))
 }
 
-// A declare line needs all four numbers.
 #[tactic(auto, unfolding(crate::specs::Lines::declaration_of))]
 fn declaration_of(words: DeclareWords) -> Result<Declaration, LineFault>
     ensures { result ≡ declaration_of words }
@@ -111,8 +108,7 @@ fn declaration_of(words: DeclareWords) -> Result<Declaration, LineFault>
     })
 }
 
-// The words of an enq line: NAME MODE name=RES block=N [parent=LOCK] [ast=N] [bast=N] [param=N] and
-// flags.
+// The words of an enq line: NAME MODE name=RES block=N [parent=LOCK] [ast=N] [bast=N] [param=N], and flags.
 #[tactic(auto, unfolding(crate::specs::Lines::enq_line))]
 fn enq_line(line: &[u8]) -> Result<Line, LineFault>
     ensures { result ≡ enq_line (words_of line.now) }
@@ -139,7 +135,7 @@ fn enq_line(line: &[u8]) -> Result<Line, LineFault>
     Ok(Line::Enq(name, request))
 }
 
-// The words of a cvt line: NAME LOCK MODE block=N [ast=N] [bast=N] [param=N] and flags.
+// The words of a cvt line: NAME LOCK MODE block=N [ast=N] [bast=N] [param=N], and flags.
 #[tactic(auto, unfolding(crate::specs::Lines::cvt_line))]
 fn cvt_line(line: &[u8]) -> Result<Line, LineFault>
     ensures { result ≡ cvt_line (words_of line.now) }
@@ -165,7 +161,7 @@ fn cvt_line(line: &[u8]) -> Result<Line, LineFault>
     Ok(Line::Cvt(name, conversion))
 }
 
-// The words of a deq line: NAME LOCK [value=HEX] [tail=HEX] and flags.
+// The words of a deq line: NAME LOCK [value=HEX] [tail=HEX], and flags.
 #[tactic(auto, unfolding(crate::specs::Lines::deq_line))]
 fn deq_line(line: &[u8]) -> Result<Line, LineFault>
     ensures { result ≡ deq_line (words_of line.now) }
@@ -214,7 +210,7 @@ fn end_line(line: &[u8]) -> Result<Line, LineFault>
     no_more(Line::End(name), rest)
 }
 
-// The word of a line of a node: node=N.
+// The word of a leave or search line: node=N.
 #[tactic(auto, unfolding(crate::specs::Lines::node_alone))]
 fn node_alone(line: &[u8]) -> Result<u8, LineFault>
     ensures { result ≡ node_alone (words_of line.now) }
@@ -223,7 +219,6 @@ fn node_alone(line: &[u8]) -> Result<u8, LineFault>
     words.node.ok_or(LineFault::WrongWord)
 }
 
-// A leave line.
 #[tactic(auto, unfolding(crate::specs::Lines::leave_line))]
 fn leave_line(line: &[u8]) -> Result<Line, LineFault>
     ensures { result ≡ leave_line (words_of line.now) }
@@ -232,7 +227,6 @@ fn leave_line(line: &[u8]) -> Result<Line, LineFault>
     Ok(Line::Leave(node))
 }
 
-// A search line.
 #[tactic(auto, unfolding(crate::specs::Lines::search_line))]
 fn search_line(line: &[u8]) -> Result<Line, LineFault>
     ensures { result ≡ search_line (words_of line.now) }
@@ -251,7 +245,7 @@ fn ast_line(line: &[u8]) -> Result<Line, LineFault>
     no_more(Line::Ast(name), rest)
 }
 
-// The words of a line of a status block: NAME N.
+// The words of a block or tail line: NAME N.
 #[tactic(auto, unfolding(crate::specs::Lines::block_alone))]
 fn block_alone(line: &[u8]) -> Result<(ProcessName, u8), LineFault>
     ensures { result ≡ block_alone (words_of line.now) }
@@ -263,7 +257,6 @@ fn block_alone(line: &[u8]) -> Result<(ProcessName, u8), LineFault>
     no_more((name, number), rest)
 }
 
-// A block line.
 #[tactic(auto, unfolding(crate::specs::Lines::block_command))]
 fn block_line(line: &[u8]) -> Result<Line, LineFault>
     ensures { result ≡ block_command (words_of line.now) }
@@ -272,7 +265,6 @@ fn block_line(line: &[u8]) -> Result<Line, LineFault>
     Ok(Line::Block(name, number))
 }
 
-// A tail line.
 #[tactic(auto, unfolding(crate::specs::Lines::tail_command))]
 fn tail_line(line: &[u8]) -> Result<Line, LineFault>
     ensures { result ≡ tail_command (words_of line.now) }
@@ -289,7 +281,7 @@ fn needed_word(line: &[u8]) -> Result<(&[u8], &[u8]), LineFault>
     cuts::next_word(line).ok_or(LineFault::WrongWord)
 }
 
-// What was read, which no word may follow.
+// The value read, if no word follows it.
 fn no_more<T: Copy>(read: T, rest: &[u8]) -> Result<T, LineFault>
     ensures { result ≡ no_more read (words_of rest.now) }
 {

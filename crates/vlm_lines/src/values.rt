@@ -1,4 +1,4 @@
-//! Value blocks and their tails in hexadecimal digits.
+//! Value blocks and their tails, written in hexadecimal digits.
 
 ghost use Rattle.std.specs.Prelude.{◌≡◌};
 ghost use Rattle.vlm_lines.specs.Lines.{bytes_of, tail_of, value_of};
@@ -20,7 +20,7 @@ pub(crate) fn tail_of(word: &[u8]) -> Result<[u8; 48], LineFault>
     bytes_of(word)
 }
 
-// So many bytes: exactly two hexadecimal digits for each.
+// N bytes, written in exactly two hexadecimal digits each.
 #[tactic(auto, using(crate::proofs::Hexadecimal::bytes_read))]
 fn bytes_of<const N: usize>(word: &[u8]) -> Result<[u8; N], LineFault>
     ensures { result ≡ bytes_of N word.now }

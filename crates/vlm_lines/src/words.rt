@@ -1,4 +1,4 @@
-//! Words that stand for names of processes and modes.
+//! The words of processes and of modes.
 
 ghost use Rattle.std.specs.Prelude.{◌≡◌, MatchOption, true, false};
 ghost use Rattle.std.specs.List.{list_all};
@@ -48,7 +48,7 @@ pub(crate) fn is_text(word: &[u8], text: &[u8]) -> bool
     word == text
 }
 
-/// The mode that the word stands for.
+/// The mode of this name.
 #[tactic(auto, unfolding(crate::specs::Lines::mode_of))]
 pub(crate) fn mode(word: &[u8]) -> Result<Mode, LineFault>
     ensures { result ≡ mode_of word.now }
@@ -70,7 +70,7 @@ pub(crate) fn mode(word: &[u8]) -> Result<Mode, LineFault>
     }
 }
 
-/// What stands behind the key, if the word has it in front.
+/// The part of the word after this key, if the word begins with it.
 pub(crate) fn behind_key<'a>(key: &[u8], word: &'a [u8]) -> Option<&'a [u8]>
     ensures { MatchOption result (has_key key.now word.now ≡ false)
         (λ rest. (has_key key.now word.now ≡ true) × (rest.now ≡ behind key.now word.now)) }
