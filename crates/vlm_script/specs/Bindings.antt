@@ -1,4 +1,4 @@
--- What a map of bound names shows.
+-- The value of a map of bound names.
 use Rattle.std.specs.Prelude.{ℕ, List, map}
 use Rattle.indexmap.specs.IndexMap.{IndexMap}
 use Rattle.vlm_script.specs.Scripts.{Binding}

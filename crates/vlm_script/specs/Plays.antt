@@ -1,18 +1,18 @@
--- What a script's run comes to, and what it has then read and written.
+-- The result of a script's run, and the bytes that it has read and written.
 use Rattle.std.specs.Prelude.{◌≡◌, ◌<◌, ◌≤◌, ℕ, List, [], ◌++◌, length, take, ◌⊎◌, Option, Result, Ok, Err}
 use Rattle.std.specs.Io.KnownBytes.{Appends, Consumes, IsAtEnd}
 use Rattle.vlm_script.specs.Scripts.{IsText, IsTextOfFirst, HasFault}
 use Rattle.vlm_script.specs.declared.faults.PlayFault.{PlayFault}
 use Rattle.vlm_script.specs.declared.faults.PlayFault.TheVariants.{Line, Memory, Read, Write, Long}
 
--- what was written is the first part of the text that some first lines print, and not the whole
+-- the written bytes are a first part of the text of some first lines, and not the whole
 pub record IsPartOfText (input written : List ℕ) : Type 0 where
   pub count : ℕ
   pub rest : List ℕ
   pub missing : 0 < length rest
   pub text : IsTextOfFirst count input (written ++ rest)
 
--- a fault of the program, and what it has written by then
+-- a fault of the program, and the bytes written before it
 abbrev pub StopsAt : List ℕ → PlayFault → List ℕ → Type 0
 StopsAt input (Line number fault) written = HasFault input number fault written
 StopsAt input Memory written = (count : ℕ) × IsTextOfFirst count input written
@@ -25,17 +25,17 @@ abbrev pub Plays : List ℕ → Result (Unit {0}) PlayFault → List ℕ → Typ
 Plays input (Ok done) written = IsText input written
 Plays input (Err fault) written = StopsAt input fault written
 
--- some bytes were put behind what the writer had, and this holds of them
+-- some bytes were appended to the writer's, and this holds of them
 abbrev pub Wrote : Option (List ℕ) → Option (List ℕ) → (List ℕ → Type 0) → Type 0
 Wrote old new P = (written : List ℕ) × Appends old new written × P written
 
--- some first part of what waited is written, and the others wait
+-- a first part of the waiting bytes is written, and the others still wait
 pub record Passes (old new : Option (List ℕ)) (waiting left : List ℕ) : Type 0 where
   pub part : List ℕ
   pub wrote : Appends old new part
   pub split : waiting ≡ part ++ left
 
--- some first part of what waited is written, and not the whole
+-- a first part of the waiting bytes is written, and not the whole
 abbrev pub PassesPart : Option (List ℕ) → Option (List ℕ) → List ℕ → Type 0
 PassesPart old new waiting = (n : ℕ) × (n < length waiting) × Appends old new (take n waiting)
 
@@ -43,12 +43,12 @@ PassesPart old new waiting = (n : ℕ) × (n < length waiting) × Appends old ne
 abbrev pub ConsumesAtMost : ℕ → Option (List ℕ) → Option (List ℕ) → Type 0
 ConsumesAtMost most old new = (bytes : List ℕ) × (length bytes ≤ most) × Consumes old new bytes
 
--- a script within the limit was read to its end
+-- a script within the limit is read to its end
 pub record ReadsScript (old new : Option (List ℕ)) : Type 0 where
   pub within : ConsumesAtMost 16777216 old new
   pub end : IsAtEnd new
 
--- reading came first: a run that ends so has read the whole script, or has written nothing
+-- reading comes first: a run that ends so has read the whole script, or has written nothing
 abbrev pub ReadsFirst : Result (Unit {0}) PlayFault → (WholeRead NoneWritten : Type 0) → Type 0
 ReadsFirst (Ok done) WholeRead NoneWritten = WholeRead
 ReadsFirst (Err (Line number fault)) WholeRead NoneWritten = WholeRead
@@ -57,7 +57,7 @@ ReadsFirst (Err Read) WholeRead NoneWritten = NoneWritten
 ReadsFirst (Err Write) WholeRead NoneWritten = WholeRead
 ReadsFirst (Err Long) WholeRead NoneWritten = NoneWritten
 
--- a fault that can end the run of lines that were read
+-- a fault that can end a run after the script is read
 abbrev pub EndsLines : PlayFault → Type 0
 EndsLines (Line number fault) = Unit {0}
 EndsLines Memory = Unit {0}

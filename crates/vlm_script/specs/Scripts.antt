@@ -1,4 +1,4 @@
--- The run of a script: which line prints what, and which fault is the first.
+-- The run of a script: what each line prints, and which fault is the first.
 use Rattle.std.specs.Prelude.{◌≡◌, ℕ, ◌+◌, List, [], ◌∷◌, ◌++◌, codes, take, drop, find, Option, None, Some, Result, Ok, Err}
 use Rattle.std.specs.Option.{option_map}
 use Rattle.vlm_lines.specs.declared.lines.Line.TheVariants.{Empty, Declare, Set, Enq, Cvt, Deq, End, Leave, Search, Ast, Block, Tail, Show, Tails}
@@ -16,12 +16,12 @@ use Rattle.vlm_words.specs.Stepped.{Outcome}
 use Rattle.vlm_lines.specs.Lines.{is_text, line_read, lines_of, unnamed_process}
 use Rattle.vlm_script.specs.Texts.{answer_line, node_line, resources_text, status_block_line, status_tail_line, tails_text}
 
--- a name of the script, and the process that it is bound to
+-- a name of the script, and its process
 pub record Binding : Type 0 where
   pub name : List ℕ
   pub pid : ℕ
 
--- what the lines so far have left: the bound names, and the machine
+-- a session: the bound names, and the machine
 pub record Session : Type 0 where
   pub names : List Binding
   pub state : State
@@ -30,11 +30,11 @@ pub record Session : Type 0 where
 abbrev pub opening : Session
 opening = record { names = []; state = start }
 
--- the process that a name is bound to
+-- the process of a name, if the name is bound
 abbrev pub bound_to : List Binding → List ℕ → Option ℕ
 bound_to names name = option_map (λ b. b.pid) (find (λ b. is_text b.name name) names)
 
--- the fault of an accepted line: its name is bound already, or not yet
+-- the fault of a line's name: it is bound already, or not yet
 abbrev pub used_fault : Option ℕ → Option LineFault
 used_fault None = None
 used_fault (Some pid) = Some NameUsed
@@ -59,7 +59,7 @@ name_fault names (Tail name number) = unknown_fault (bound_to names name)
 name_fault names Show = None
 name_fault names Tails = None
 
--- the step, made by this process; some steps are of none
+-- the step, made by this process; a step of a node has no process
 abbrev pub of_process : ℕ → Step → Step
 of_process pid (declare_step declaration) = declare_step declaration
 of_process pid (set_step setting) = set_step (record setting { pid = pid })
@@ -71,7 +71,7 @@ of_process pid (leave_step node) = leave_step node
 of_process pid (search_step node) = search_step node
 of_process pid (Take none) = Take pid
 
--- a name is bound where its declaration is accepted
+-- a name is bound if its process is declared
 abbrev pub bound_by : List Binding → List ℕ → Answer → List Binding
 bound_by names name (process_answer pid) = names ++ record { name = name; pid = pid } ∷ []
 bound_by names name (Lock cond lkid) = names
@@ -86,7 +86,7 @@ pub record Declares (old : Session) (name : List ℕ) (declaration : Declaration
   pub names : new.names ≡ bound_by old.names name answer
   pub printed : text ≡ answer_line name answer
 
--- another line with a name makes its step, by the process that the name is bound to, and prints the answer
+-- any other line with a name makes a step of the process of that name, and prints the answer
 pub record Makes (old : Session) (name : List ℕ) (step : Step) (text : List ℕ) (new : Session) : Type 0 where
   pub pid : ℕ
   pub bound : bound_to old.names name ≡ Some pid
@@ -95,26 +95,26 @@ pub record Makes (old : Session) (name : List ℕ) (step : Step) (text : List �
   pub names : new.names ≡ old.names
   pub printed : text ≡ answer_line name answer
 
--- a line of a node makes its step, and tells the answer so
+-- a line of a node makes its step, and prints the answer so
 pub record Steps (old : Session) (step : Step) (told : Answer → List ℕ) (text : List ℕ) (new : Session) : Type 0 where
   pub answer : Answer
   pub outcome : Outcome old.state step new.state answer
   pub names : new.names ≡ old.names
   pub printed : text ≡ told answer
 
--- a line with a name that makes no step prints something of the process that the name is bound to, and changes nothing
+-- a line with a name and without a step prints something of the process of that name, and changes nothing
 pub record Shows (old : Session) (name : List ℕ) (shown : ℕ → List ℕ) (text : List ℕ) (new : Session) : Type 0 where
   pub pid : ℕ
   pub bound : bound_to old.names name ≡ Some pid
   pub same : new ≡ old
   pub printed : text ≡ shown pid
 
--- a line that makes no step prints this and changes nothing
+-- a line without a step prints this and changes nothing
 pub record Prints (old : Session) (shown text : List ℕ) (new : Session) : Type 0 where
   pub same : new ≡ old
   pub printed : text ≡ shown
 
--- what a line without a fault does in a session, and prints
+-- the session after a line without a fault, and the line's text
 abbrev pub Runs : Session → Line → List ℕ → Session → Type 0
 Runs old Empty text new = Prints old [] text new
 Runs old (Declare name declaration) text new = Declares old name declaration text new
@@ -141,7 +141,7 @@ fault_among names (Ok line) = name_fault names line
 abbrev pub fault_of : List Binding → List ℕ → Option LineFault
 fault_of names bytes = fault_among names (line_read bytes)
 
--- the lines are run in order from the opening, none has a fault, and they print this text
+-- the lines run in order from a new session, none has a fault, and they print this text
 pub data Played : List (List ℕ) → List ℕ → Session → Type 0 where
   opened : Played [] [] opening
   more : {lines : List (List ℕ)} {text : List ℕ} {old : Session} (bytes : List ℕ) (line : Line) (printed : List ℕ) {new : Session}
@@ -156,7 +156,7 @@ IsTextOfFirst count input text = (last : Session) × Played (take count (lines_o
 abbrev pub IsText : List ℕ → List ℕ → Type 0
 IsText input text = (last : Session) × Played (lines_of input) text last
 
--- the line of this number, from 1, is the first that has a fault, and the lines before it print the text
+-- the line of this number, from 1, is the first with a fault, and the lines before it print the text
 pub record HasFault (input : List ℕ) (number : ℕ) (fault : LineFault) (text : List ℕ) : Type 0 where
   pub before : ℕ
   pub counted : number ≡ before + 1

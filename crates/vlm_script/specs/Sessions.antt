@@ -1,4 +1,4 @@
--- What a line of a script does in a session of the program, and how far a script has come.
+-- The lines of a script in a session of the program.
 use Rattle.std.specs.Prelude.{◌≡◌, ℕ, List, ◌++◌, None, Some, Ok}
 use Rattle.vlm_lines.specs.declared.lines.Line.{Line}
 use Rattle.vlm_lines.specs.Lines.{line_read}
@@ -9,7 +9,7 @@ use Rattle.vlm_script.specs.declared.faults.PlayFault.TheVariants.{Line as line_
 use Rattle.vlm_script.specs.declared.stops.Stop.{Stop}
 use Rattle.vlm_script.specs.declared.stops.Stop.TheVariants.{Fault, Memory}
 
--- a line without a fault has run, and what it prints is put at the end of the text before it
+-- a line without a fault has run, and its text is appended to the text before it
 pub record IsRun (old : Session) (line : Line) (new : Session) (before after : List ℕ)
     : Type 0 where
   pub text : List ℕ
@@ -17,7 +17,7 @@ pub record IsRun (old : Session) (line : Line) (new : Session) (before after : L
   pub runs : Runs old line text new
   pub printed : after ≡ before ++ text
 
--- a step is made by the process that the name is bound to, and its answer is put at the end of the text before it
+-- a step is made by the process of the name, and its answer is appended to the text before it
 pub record RunsStep (old : Session) (name : List ℕ) (step : Step) (new : Session) (before after : List ℕ) : Type 0 where
   pub text : List ℕ
   pub faultless : unknown_fault (bound_to old.names name) ≡ None
@@ -31,22 +31,22 @@ pub record IsPrinted (old : Session) (bytes : List ℕ) (new : Session) (before 
   pub read : line_read bytes ≡ Ok line
   pub run : IsRun old line new before after
 
--- a line stops the run by its name's fault, or for want of memory
+-- a line stops the run by its name's fault, or because memory is refused
 abbrev pub StopsLine : List Binding → Line → Stop → Type 0
 StopsLine names line (Fault fault) = name_fault names line ≡ Some fault
 StopsLine names line Memory = Unit {0}
 
--- a name stops the run where it is bound to no process, or memory is wanting
+-- a name stops the run if it is not bound, or because memory is refused
 abbrev pub StopsName : List Binding → List ℕ → Stop → Type 0
 StopsName names name (Fault fault) = unknown_fault (bound_to names name) ≡ Some fault
 StopsName names name Memory = Unit {0}
 
--- bytes stop the run by their fault, or for want of memory
+-- bytes stop the run by their fault, or because memory is refused
 abbrev pub StopsBytes : List Binding → List ℕ → Stop → Type 0
 StopsBytes names bytes (Fault fault) = fault_of names bytes ≡ Some fault
 StopsBytes names bytes Memory = Unit {0}
 
--- the fault of the whole run, where the line that stops it has this number
+-- the fault of the whole run, which the line of this number stops
 abbrev pub stopped_at : ℕ → Stop → PlayFault
 stopped_at number (Fault fault) = line_fault number fault
 stopped_at number Memory = memory_fault

@@ -1,4 +1,4 @@
--- A script for several nodes: which steps go to the list of which node, and which fault is the first.
+-- A script for several nodes: the steps of each node's list, and which fault is the first.
 use Rattle.std.specs.Prelude.{◌≡◌, ℕ, ◌+◌, ◌-◌, ◌*◌, ◌<◌, Bool, true, false, ◌&&◌, nat_le, nat_lt, List, [], ◌∷◌, ◌++◌, length, replicate, slice_index, slice_index_or, slice_set, Option, None, Some, Result, Ok, Err, if◌then◌else◌}
 use Rattle.std.specs.List.{All}
 use Rattle.vlm_lines.specs.declared.lines.Line.TheVariants.{Empty, Declare, Set, Enq, Cvt, Deq, End, Leave, Search, Ast, Block, Tail, Show, Tails}
@@ -14,17 +14,17 @@ use Rattle.vlm_script.specs.Scripts.{Binding, bound_to, of_process, unknown_faul
 use Rattle.vlm_script.specs.declared.faults.PlayFault.{PlayFault}
 use Rattle.vlm_script.specs.declared.faults.PlayFault.TheVariants.{Line as line_fault, Memory, Read, Write, Long}
 
--- what the lines so far have left: the bound names, how many declare lines each node has, and each node's steps, node 1 first
+-- the shares of the lines so far: the bound names, how many declare lines each node has, and each node's steps, node 1 first
 pub record Shares : Type 0 where
   pub names : List Binding
   pub declared : List ℕ
   pub lists : List (List Step)
 
--- no line has come yet
+-- before the first line
 abbrev pub no_shares : ℕ → Shares
 no_shares nodes = record { names = []; declared = replicate nodes 0; lists = replicate nodes [] }
 
--- the number is that of a node
+-- there is a node of this number
 abbrev pub has_node : ℕ → ℕ → Bool
 has_node nodes node = nat_le 1 node && nat_le node nodes
 
@@ -41,11 +41,11 @@ abbrev pub declare_fault : ℕ → Shares → List ℕ → ℕ → Option LineFa
 declare_fault nodes s name node =
     if can_declare nodes s node then used_fault (bound_to s.names name) else Some NumberOutOfRange
 
--- a leave or search line names a node
+-- a leave or search line names a node that there is
 abbrev pub node_fault : ℕ → ℕ → Option LineFault
 node_fault nodes node = if has_node nodes node then None else Some NumberOutOfRange
 
--- the fault of a line that was read: of its node, of its name, or that it is no step of a node's list
+-- the fault of a line among the nodes: of its node, of its name, or that it is not a step of a list
 abbrev pub share_fault : ℕ → Shares → Line → Option LineFault
 share_fault nodes s Empty = None
 share_fault nodes s (Declare name declaration) = declare_fault nodes s name declaration.node
@@ -62,7 +62,7 @@ share_fault nodes s (Tail name number) = Some UnknownCommand
 share_fault nodes s Show = Some UnknownCommand
 share_fault nodes s Tails = Some UnknownCommand
 
--- the step at the end of the node's list
+-- the step is appended to the node's list
 unfoldable pub with_step : List (List Step) → ℕ → Step → List (List Step)
 with_step lists node step =
     slice_set lists (node - 1) (slice_index_or lists (node - 1) [] ++ step ∷ [])
@@ -83,12 +83,12 @@ share_declaration s name declaration = record {
 abbrev pub share_step : Shares → ℕ → Step → Shares
 share_step s node step = record s { lists = with_step s.lists node step }
 
--- a step of the process that the name is bound to goes to the list of the process's node
+-- a step of the process of a name goes to the list of the process's node
 abbrev pub share_named : Shares → Option ℕ → Step → Shares
 share_named s None step = s
 share_named s (Some pid) step = share_step s (node_of_pid pid) (of_process pid step)
 
--- a line that has no fault is shared
+-- a line without a fault is shared
 abbrev pub share_line : Shares → Line → Shares
 share_line s Empty = s
 share_line s (Declare name declaration) = share_declaration s name declaration
@@ -105,22 +105,22 @@ share_line s (Tail name number) = s
 share_line s Show = s
 share_line s Tails = s
 
--- what is shared by then, unless the line has a fault
+-- the shares after the line, unless it has a fault
 abbrev pub unless_fault : Option LineFault → Shares → Result Shares LineFault
 unless_fault None s = Ok s
 unless_fault (Some fault) s = Err fault
 
--- a line as it is read, shared, or its fault: of its bytes, or among the nodes
+-- the shares after a line, or its fault: of its bytes, or among the nodes
 abbrev pub line_shared : ℕ → Shares → Result Line LineFault → Result Shares LineFault
 line_shared nodes s (Err fault) = Err fault
 line_shared nodes s (Ok line) = unless_fault (share_fault nodes s line) (share_line s line)
 
--- the lines behind a line of this number, or the line's fault
+-- the shares after a line and the lines that follow it, or the line's fault
 abbrev pub then_shares : {T : Type 0} → Result Shares LineFault → ℕ → (Shares → Result T (ℕ × LineFault)) → Result T (ℕ × LineFault)
 then_shares (Ok s) number rest = rest s
 then_shares (Err fault) number rest = Err (number, fault)
 
--- the lines behind the first `count`, shared in order, or the first fault with its line's number from 1
+-- the shares of the lines after the first `count`, in order, or the first fault with its line's number from 1
 abbrev pub shared_out : ℕ → Shares → ℕ → List (List ℕ) → Result Shares (ℕ × LineFault)
 shared_out nodes s count [] = Ok s
 shared_out nodes s count (bytes ∷ lines) =
@@ -138,16 +138,16 @@ is_taking (Rundown pid) = false
 is_taking (leave_step node) = false
 is_taking (search_step node) = false
 
--- the step may stand in the list of this node: it is of the node, and takes no AST
+-- the step may be in the list of this node: it is a step of the node, and takes no AST
 pub record IsListed (node : ℕ) (step : Step) : Type 0 where
   pub of_node : node_of step ≡ node
   pub untaken : is_taking step ≡ false
 
--- each list holds steps of its node alone, node 1 first
+-- each list has only steps of its node, node 1 first
 abbrev pub AreListed : List (List Step) → Type 0
 AreListed lists = (k : ℕ) → k < length lists → All (IsListed (k + 1)) (slice_index_or lists k [])
 
--- why nothing came of a script: its first line with a fault, want of memory, a failed read, or too many bytes
+-- why a script gives no lists: its first line with a fault, refused memory, a failed read, or too many bytes
 abbrev pub StopsShares : {T : Type 0} → List ℕ → Result T (ℕ × LineFault) → PlayFault → Type 0
 StopsShares input shared (line_fault number fault) = shared ≡ Err (number, fault)
 StopsShares input shared Memory = Unit {0}

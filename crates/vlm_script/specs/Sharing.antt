@@ -1,4 +1,4 @@
--- What a line of a script for several nodes does to what is shared by then, and what always holds of that.
+-- How a line of a script for several nodes changes the shares, and what always holds of them.
 use Rattle.std.specs.Prelude.{◌≡◌, ℕ, ◌<◌, ◌≤◌, List, [], ◌∷◌, length, None, Some, Result, Err}
 use Rattle.vlm_lines.specs.declared.lines.Line.{Line}
 use Rattle.vlm_lines.specs.declared.faults.LineFault.{LineFault}
@@ -12,7 +12,7 @@ use Rattle.vlm_script.specs.declared.faults.PlayFault.TheVariants.{Line as line_
 use Rattle.vlm_script.specs.declared.stops.Stop.{Stop}
 use Rattle.vlm_script.specs.declared.stops.Stop.TheVariants.{Fault, Memory}
 
--- the number is that of one of so many nodes
+-- there is a node of this number among so many nodes
 pub record IsOneOfNodes (nodes node : ℕ) : Type 0 where
   pub above : 0 < node
   pub within : node ≤ nodes
@@ -33,7 +33,7 @@ pub record IsShared (old : Shares) (line : Line) (new : Shares) : Type 0 where
   pub faultless : share_fault (length old.lists) old line ≡ None
   pub becomes : new ≡ share_line old line
 
--- a step goes to the list of the node of the process that the name is bound to
+-- a step goes to the list of the node of the name's process
 pub record IsSharedByName (old : Shares) (name : List ℕ) (step : Step) (new : Shares) : Type 0 where
   pub pid : ℕ
   pub bound : bound_to old.names name ≡ Some pid
@@ -44,22 +44,22 @@ pub record IsPut (old : Shares) (node : ℕ) (step : Step) (new : Shares) : Type
   pub faultless : node_fault (length old.lists) node ≡ None
   pub becomes : new ≡ share_step old node step
 
--- a node stops the sharing where there is no such node, or memory is wanting
+-- a node stops the sharing if there is no such node, or because memory is refused
 abbrev pub StopsNode : ℕ → ℕ → Stop → Type 0
 StopsNode nodes node (Fault fault) = node_fault nodes node ≡ Some fault
 StopsNode nodes node Memory = Unit {0}
 
--- a line stops the sharing by its fault, or for want of memory
+-- a line stops the sharing by its fault, or because memory is refused
 abbrev pub StopsShare : Shares → Line → Stop → Type 0
 StopsShare s line (Fault fault) = share_fault (length s.lists) s line ≡ Some fault
 StopsShare s line Memory = Unit {0}
 
--- bytes stop the sharing by their fault, or for want of memory
+-- bytes stop the sharing by their fault, or because memory is refused
 abbrev pub StopsShareBytes : Shares → List ℕ → Stop → Type 0
 StopsShareBytes s bytes (Fault fault) = line_shared (length s.lists) s (line_read bytes) ≡ Err fault
 StopsShareBytes s bytes Memory = Unit {0}
 
--- lines stop the sharing by their first fault, or for want of memory
+-- lines stop the sharing by their first fault, or because memory is refused
 abbrev pub StopsShareLines : {T : Type 0} → Result T (ℕ × LineFault) → PlayFault → Type 0
 StopsShareLines shared (line_fault number fault) = shared ≡ Err (number, fault)
 StopsShareLines shared memory_fault = Unit {0}

@@ -12,12 +12,12 @@ use Rattle.vlm_script.specs.Shares.{IsListed, Shares, line_shared, then_shares}
 use Rattle.vlm_script.specs.Sharing.{IsOneOfNodes}
 use Rattle.vlm_script.specs.declared.steps.ScriptStep.{ScriptStep}
 
--- the step, made by the process that the name is bound to
+-- the step, made by the process of the name
 abbrev pub named_step : Option ℕ → Step → Option Step
 named_step None step = None
 named_step (Some pid) step = Some (of_process pid step)
 
--- the step that a line without a fault asks for
+-- the step of a line without a fault
 abbrev pub line_step : Shares → Line → Option Step
 line_step s Empty = None
 line_step s (Declare name declaration) = Some (declare_step declaration)
@@ -34,7 +34,7 @@ line_step s (Tail name number) = None
 line_step s Show = None
 line_step s Tails = None
 
--- the step of a line as it is read
+-- the step of a line, or its fault
 abbrev pub read_step : Shares → Result Line LineFault → Option Step
 read_step s (Err fault) = None
 read_step s (Ok line) = line_step s line
@@ -44,19 +44,19 @@ abbrev pub numbered : ℕ → Option Step → List ScriptStep
 numbered number None = []
 numbered number (Some step) = record { line = number; step = step } ∷ []
 
--- steps in front of those of the lines behind, unless one of these has a fault
+-- these steps and those of the lines that follow, unless one of the lines has a fault
 abbrev pub in_front : List ScriptStep → Result (List ScriptStep) (ℕ × LineFault) → Result (List ScriptStep) (ℕ × LineFault)
 in_front steps (Ok more) = Ok (steps ++ more)
 in_front steps (Err fault) = Err fault
 
--- the steps of the lines behind the first `count`, in order, or the first fault with its line's number from 1
+-- the steps of the lines after the first `count`, in order, or the first fault with its line's number from 1
 abbrev pub steps_out : ℕ → Shares → ℕ → List (List ℕ) → Result (List ScriptStep) (ℕ × LineFault)
 steps_out nodes s count [] = Ok []
 steps_out nodes s count (bytes ∷ lines) =
     then_shares (line_shared nodes s (line_read bytes)) (count + 1)
     (λ more. in_front (numbered (count + 1) (read_step s (line_read bytes))) (steps_out nodes more (count + 1) lines))
 
--- the step may be posted by its node: it takes no AST, and the node is one of so many
+-- the step may be posted by its node: it takes no AST, and the node is among so many
 pub record IsPostable (nodes : ℕ) (step : Step) : Type 0 where
   pub listed : IsListed (node_of step) step
   pub of_nodes : IsOneOfNodes nodes (node_of step)

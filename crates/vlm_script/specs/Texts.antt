@@ -1,4 +1,4 @@
--- What a script's run prints.
+-- The texts that a script's run prints.
 use Rattle.std.specs.Prelude.{ℕ, Bool, true, false, not, ◌&&◌, ◌+◌, ◌/◌, ◌%◌, nat_lt, nat_le, List, [], ◌∷◌, ◌++◌, codes, decimal, flat_map, Option, None, Some, if◌then◌else◌}
 use Rattle.std.specs.List.{list_all}
 use Rattle.vlm_words.specs.declared.asts.Ast.{Ast}
@@ -53,7 +53,7 @@ ast_text ast Completion =
 ast_text ast Blocking =
     codes "blocking " ++ decimal ast.routine ++ codes " param " ++ decimal ast.param ++ codes " lock " ++ decimal ast.lkid
 
--- an answer without the name in front of it
+-- an answer without the name before it
 unfoldable pub answer_text : Answer → List ℕ
 answer_text (process_answer pid) = codes "process " ++ decimal pid
 answer_text (Lock cond lkid) = condition_name cond ++ codes " lock " ++ decimal lkid
@@ -63,32 +63,32 @@ answer_text (Taken None) = codes "none"
 answer_text (Taken (Some ast)) = ast_text ast ast.kind
 answer_text (Plain cond) = condition_name cond
 
--- the line that tells a process's answer under its name
+-- the line of an answer to a process, under its name
 unfoldable pub answer_line : List ℕ → Answer → List ℕ
 answer_line name answer = name ++ codes ": " ++ answer_text answer ++ line_feed
 
--- the line that tells a node's answer under its number
+-- the line of an answer to a node, under its number
 unfoldable pub node_line : ℕ → Answer → List ℕ
 node_line node answer = codes "node " ++ decimal node ++ codes ": " ++ answer_text answer ++ line_feed
 
--- an item's line begins so: its node, and its number among the node's items
+-- the beginning of an item's line: its node, and its number among the node's items
 unfoldable pub item_text : ℕ → ℕ → List ℕ
 item_text node number = codes "node " ++ decimal node ++ codes " item " ++ decimal number ++ codes ": "
 
--- the line that tells an answer as an item
+-- the line of an item that is an answer
 unfoldable pub answer_item_line : ℕ → ℕ → Answer → List ℕ
 answer_item_line node number answer = item_text node number ++ answer_text answer ++ line_feed
 
--- the line that tells an AST as an item, with its process
+-- the line of an item that is an AST, with its process
 unfoldable pub ast_item_line : ℕ → ℕ → ℕ → Ast → List ℕ
 ast_item_line node number pid ast =
     item_text node number ++ ast_text ast ast.kind ++ codes " process " ++ decimal pid ++ line_feed
 
--- the line that tells how many entries a journal has
+-- the line of the number of entries of a journal
 unfoldable pub journal_line : ℕ → List ℕ
 journal_line entries = codes "journal " ++ decimal entries ++ line_feed
 
--- a status block under its process's name: what stands in it, or that the process has no such block
+-- a status block under its process's name: its contents, or that the process has no such block
 unfoldable pub status_block_line : List ℕ → ℕ → Option Block → List ℕ
 status_block_line name number None = name ++ codes ": block " ++ decimal number ++ codes " none" ++ line_feed
 status_block_line name number (Some block) =
@@ -101,11 +101,11 @@ status_tail_line name number None = name ++ codes ": tail " ++ decimal number ++
 status_tail_line name number (Some block) =
     name ++ codes ": tail " ++ decimal number ++ codes " " ++ hex_text block.tail ++ line_feed
 
--- every byte can be read, and the name does not look like a hexadecimal one
+-- every byte is readable, and the name does not look like hexadecimal digits
 abbrev pub is_readable : List ℕ → Bool
 is_readable name = list_all (λ byte. nat_le 33 byte && nat_le byte 126) name && not (has_key (codes "x:") name)
 
--- a resource's name as a script has it
+-- a resource's name as a script writes it
 unfoldable pub name_text : List ℕ → List ℕ
 name_text name = if is_readable name then name else codes "x:" ++ hex_text name
 
@@ -125,12 +125,12 @@ resource_line r =
     codes "resource " ++ decimal r.serial ++ codes " in " ++ decimal r.parent ++ codes " " ++ domain_text r.domain
     ++ codes " name " ++ name_text r.name ++ codes " value " ++ hex_text r.value ++ codes " " ++ validity r.valid ++ line_feed
 
--- the mode of a request, or nothing where there is no request
+-- the mode of a request, or nothing if there is no request
 abbrev pub mode_text : Option Mode → List ℕ
 mode_text None = []
 mode_text (Some mode) = mode_name mode
 
--- a lock's line begins so
+-- the beginning of a lock's line
 unfoldable pub lock_text : List ℕ → RowView → List ℕ
 lock_text queue row = codes "  " ++ queue ++ codes " " ++ decimal row.lkid ++ codes " process " ++ decimal row.pid ++ codes " "
 
@@ -167,16 +167,16 @@ unfoldable pub tail_line : ResourceView → List ℕ
 tail_line r =
     codes "tail " ++ decimal r.serial ++ codes " value " ++ hex_text r.tail ++ codes " " ++ validity r.tail_valid ++ line_feed
 
--- the text that tells this part of a resource
+-- the text of this part of a resource
 abbrev pub part_text : Part → Resource → List ℕ
 part_text Queues r = resource_text r
 part_text Tail r = tail_line (resource_view r)
 
--- the line that tells that there is no resource
+-- the line that says that there is no resource
 abbrev pub no_resources_line : List ℕ
 no_resources_line = codes "no resources" ++ line_feed
 
--- the part of all resources by rising serial, or that there is none
+-- this part of all resources by rising serial, or that there is none
 unfoldable pub parts_text : Part → List Resource → List ℕ
 parts_text part [] = no_resources_line
 parts_text part (r ∷ rest) = part_text part r ++ flat_map (part_text part) rest
@@ -189,12 +189,12 @@ resources_text resources = parts_text Queues resources
 abbrev pub tails_text : List Resource → List ℕ
 tails_text resources = parts_text Tail resources
 
--- counts, each behind a space
+-- the counts, each after a space
 abbrev pub counts_text : List ℕ → List ℕ
 counts_text [] = []
 counts_text (count ∷ counts) = codes " " ++ decimal count ++ counts_text counts
 
--- the line that tells of a resource that is watched how it stands behind a line of the script
+-- the line of a watched resource after a line of the script
 unfoldable pub watch_line : ℕ → WatchedRow → List ℕ
 watch_line line row =
     codes "line " ++ decimal line ++ codes " held" ++ counts_text row.held ++ codes " conversions " ++ decimal row.conversions

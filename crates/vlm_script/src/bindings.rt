@@ -1,4 +1,4 @@
-//! The names that a script has bound.
+//! The names that a script has bound to processes.
 
 ghost use Rattle.std.specs.Prelude.{◌≡◌, ◌<◌, [], ◌∷◌, ◌++◌, None, Some, MatchResult};
 ghost use Rattle.indexmap.specs.IndexMap.{spare};
@@ -13,14 +13,14 @@ use vlm_lines::{LineFault, ProcessName};
 /// The names of the script, each with its process, in the order of their declarations.
 pub(crate) type Bindings = IndexMap<ProcessName, u32, HashKeys>;
 
-/// The process that the name is bound to.
+/// The process of this name, if it is bound.
 pub(crate) fn bound_to(names: &Bindings, name: &ProcessName) -> Option<u32>
     ensures { result ≡ bound_to (bindings_of names.now) name.now }
 {
     names.get(name).copied()
 }
 
-/// The process that a line's name is bound to, or the fault that it is bound to none.
+/// The process of a line's name, or the fault that the name is not bound.
 pub(crate) fn process_of(names: &Bindings, name: &ProcessName) -> Result<u32, Stop>
     ensures { MatchResult result
         (λ pid. bound_to (bindings_of names.now) name.now ≡ Some pid)
@@ -30,7 +30,7 @@ pub(crate) fn process_of(names: &Bindings, name: &ProcessName) -> Result<u32, St
     bound_to(names, name).ok_or(Stop::Fault(LineFault::UnknownName))
 }
 
-/// Binds a new name to a process, in room that is there.
+/// Binds a new name to a process. There is room for it.
 pub(crate) fn bind_reserved(names: &mut Bindings, name: ProcessName, pid: u32)
     requires room { 0 < spare names.old }
     requires unbound { bound_to (bindings_of names.old) name ≡ None }

@@ -1,11 +1,11 @@
-//! A script cut into its lines.
+//! Cuts a script into lines.
 
 ghost use Rattle.std.specs.Prelude.{◌≡◌, ◌<◌, ◌≤◌, ◌↔◌, [], ◌∷◌, length, IsNone, IfSome};
 ghost use Rattle.std.specs.List.{position_or_len};
 ghost use Rattle.vlm_lines.specs.Lines.{lines_of, is_line_feed};
 
-/// The first line without its line feed, and the bytes behind it. None where there are no bytes. A
-/// line ends at its line feed, and the last one at the end of the bytes.
+/// The first line without its line feed, and the bytes after it; `None` if there are no bytes. A line ends at its line
+/// feed, and the last one at the end of the bytes.
 pub(crate) fn next_line(bytes: &[u8]) -> Option<(&[u8], &[u8])>
     ensures none { IsNone result ↔ (bytes.now ≡ []) }
     ensures some { IfSome result (λ p. lines_of bytes.now ≡ p.0.now ∷ lines_of p.1.now) }
@@ -21,7 +21,7 @@ pub(crate) fn next_line(bytes: &[u8]) -> Option<(&[u8], &[u8])>
     }
 }
 
-// How many bytes stand before the first line feed.
+// How many bytes come before the first line feed.
 fn line_len(bytes: &[u8]) -> usize
     ensures value { result ≡ position_or_len is_line_feed bytes.now }
     ensures within { result ≤ length bytes.now }

@@ -13,8 +13,8 @@ use std::io::Write;
 use vlm_lines::LineFault;
 
 impl PlayFault {
-    /// Writes the fault's text and a line feed. Where a write fails or takes no byte, some first
-    /// part of them is written and `Write` is the fault of it. It takes no memory.
+    /// Writes the fault's text and a line feed. If a write fails or takes no byte, only a first part of them is
+    /// written, and the fault is `Write`. It takes no memory.
     pub fn write_line<W: Write>(&self, writer: &mut W) -> Result<(), PlayFault>
         ensures whole { OnOk result
             (Appends (W.contents writer.old) (W.contents writer.new) (fault_line self.now)) }

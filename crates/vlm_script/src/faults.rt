@@ -1,13 +1,13 @@
-//! What ends the run of a script.
+//! The faults that end the run of a script.
 
 use std::alloc::AllocError;
 use thiserror::Error;
 use vlm_lines::LineFault;
 
-/// Why a script was not run to its end.
+/// A fault that ended the run of a script.
 #[derive(Debug, Drop, Error)]
 pub enum PlayFault {
-    /// A line, by its number from 1, and what is wrong with it.
+    /// The number of a line, from 1, and its fault.
     #[error("line {0}: {text}", text = .1.text())]
     Line(usize, LineFault),
     /// Memory ran out.
@@ -30,7 +30,7 @@ impl From<AllocError> for PlayFault {
 
     ghost from_gives = { λ _ fault. fault ≡ Memory };
 
-    /// Want of memory ends the run.
+    /// A refused allocation ends the run.
     fn from(_refused: AllocError) -> PlayFault {
         PlayFault::Memory
     }

@@ -1,7 +1,7 @@
-//! Runs a script of lock requests, and prints what the lock manager answers.
+//! Runs a script of lock requests, and prints the answers.
 //!
-//! A script is read whole. Its lines are run in order in a session, which is the machine and the
-//! names that are bound to its processes. What they print waits, and is written a piece at a time.
+//! A script is read whole. Then its lines run in order in a session: a machine, and the names of its processes. The
+//! printed text waits in a buffer, and is written in pieces.
 #![tactic(auto)]
 
 mod bindings;

@@ -1,6 +1,6 @@
-//! What a script's run prints, put behind the bytes that are printed already.
+//! The printed text of a script's run. Each call appends to the bytes that it is given.
 //!
-//! Where memory runs out, some part of the text may stand there.
+//! If memory is refused, a part of the text may be appended.
 
 pub(crate) use answers::{answer_line, node_line};
 pub use items::{answer_item_line, ast_item_line, journal_line};

@@ -1,4 +1,4 @@
-//! A script's run, from the reader's bytes to the writer's.
+//! Runs a script, from the reader's bytes to the writer's.
 
 ghost use Rattle.std.specs.Prelude.{◌≡◌, IfSome, IfErr, OnOk, OnErr, MatchResult};
 ghost use Rattle.vlm_script.specs.Plays.{EndsLines, Passes, PassesPart, Plays, ConsumesAtMost, ReadsFirst, ReadsScript, Wrote};
@@ -14,29 +14,29 @@ use std::alloc::Global;
 use std::io::{Read, Write};
 use vlm_core::HashKeys;
 
-// How many printed bytes wait at most before they are written, but for a line's last ones.
+// Once so many printed bytes wait, they are written. One line may add to them before that.
 const WAITING: usize = 65_536;
 
 /// Reads a script whole, runs its lines in order, and writes what they print.
 ///
-/// The script has at most 16,777,216 bytes: past that the fault is `Long`, once one byte more is
-/// read. With `Read`, `Long`, or `Memory` while reading, nothing is written. A line with a fault
-/// ends the run with `Line`, once the text of the lines before it is written; a refused growth ends
-/// it with `Memory` in the same way; a write that fails or takes no byte ends it with `Write`. A
-/// step that answers INSFMEM is printed like any other. Memory grows with the script and with the
-/// state of the machine; the time beyond the steps' own grows with the script's bytes. No script is slow by
-/// its names where nobody could foresee the keys.
+/// A script has at most 16,777,216 bytes. The fault is `Long` as soon as one more byte is read. With `Read`, `Long`, or
+/// `Memory` while it reads, nothing is written. A line with a fault ends the run with `Line`, after the text of the
+/// lines before it is written. A refused allocation ends it in the same way with `Memory`. A write that fails or takes
+/// no byte ends it with `Write`. A step that answers INSFMEM is printed like any other.
+///
+/// Memory grows with the script and with the state of the machine. Besides the steps, time grows with the bytes of the
+/// script. Names that somebody chooses make no script slow if nobody can foresee the keys.
 pub fn play<R: Read, W: Write>(
     alloc: Global,
     keys: HashKeys,
     reader: &mut R,
     writer: &mut W,
 ) -> Result<(), PlayFault>
-    // What was written, where the reader tells its bytes.
+    // If the bytes of the reader are known, so are the written bytes and the result.
     ensures played { IfSome (R.remaining reader.old) (λ input.
         Wrote (W.contents writer.old) (W.contents writer.new) (Plays input result)) }
 
-    // No more is read, whatever comes.
+    // It never reads more than this.
     ensures reads { ConsumesAtMost 16777217 (R.remaining reader.old) (R.remaining reader.new) }
 
     // The script is read to its end, within the limit, before anything is written.
@@ -63,7 +63,7 @@ fn run_script<W: Write>(
     run_lines(alloc, &mut session, input, writer)
 }
 
-// Runs the lines of a script in a session in which nothing has happened, and writes what they print.
+// Runs the lines of a script in a new session, and writes what they print.
 fn run_lines<W: Write>(
     alloc: Global,
     session: &mut Session,
@@ -91,7 +91,7 @@ fn run_lines<W: Write>(
     write_whole(writer, &out)
 }
 
-// Writes what waits once it is much. Then nothing waits.
+// Writes the waiting bytes once they are many. Then none wait.
 fn write_when_full<W: Write>(out: &mut Vec<u8>, writer: &mut W) -> Result<(), PlayFault>
     ensures passed { OnOk result
         (Passes (W.contents writer.old) (W.contents writer.new) out.old.items out.new.items) }
@@ -106,8 +106,8 @@ fn write_when_full<W: Write>(out: &mut Vec<u8>, writer: &mut W) -> Result<(), Pl
     Ok(())
 }
 
-// Runs a line, and puts what it prints at the end of `out`. Where the line stops the run, `out` is
-// as it was: what the line has printed by then stands in `printed` alone, whose room serves line after line.
+// Runs a line, and appends its text to `out`. If the line stops the run, `out` stays as it was: the text is first in
+// `printed`, a buffer that all lines use.
 fn run_line(
     session: &mut Session,
     line: &[u8],

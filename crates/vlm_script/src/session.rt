@@ -1,4 +1,4 @@
-//! A session: the machine, and the names that the script has bound.
+//! A session: a machine, and the names that a script has bound.
 
 ghost use Rattle.std.specs.Prelude.{◌≡◌, ◌++◌, MatchResult};
 ghost use Rattle.vlm_script.specs.Scripts.{of_process, opening};
@@ -33,7 +33,7 @@ impl Model for Session {
 }
 
 impl Session {
-    /// A session in which nothing has happened, whose indexes hash by these keys.
+    /// A new session. Its indexes hash by these keys.
     pub(crate) fn new(alloc: Global, keys: HashKeys) -> Self
         ensures { result ≡ opening }
     {
@@ -43,8 +43,8 @@ impl Session {
         }
     }
 
-    /// Runs a line of a script, and prints its text at the end of `out`. Where memory is
-    /// refused the line may have run without its print.
+    /// Runs a line of a script, and appends its text to `out`. If memory is refused, the line may have run and printed
+    /// nothing.
     pub(crate) fn run(&mut self, bytes: &[u8], out: &mut Vec<u8>) -> Result<(), Stop>
         ensures { MatchResult result
             (λ _. IsPrinted self.old bytes.now self.new out.old.items out.new.items)
@@ -54,7 +54,7 @@ impl Session {
         self.run_line(line, out)
     }
 
-    // Runs a line that was read.
+    // Runs a line without a fault.
     fn run_line(&mut self, line: Line, out: &mut Vec<u8>) -> Result<(), Stop>
         ensures { MatchResult result
             (λ _. IsRun self.old line self.new out.old.items out.new.items)
@@ -78,7 +78,7 @@ impl Session {
         }
     }
 
-    // Declares a process, prints the answer, and binds the name where it is accepted.
+    // Declares a process, prints the answer, and binds the name if the process is declared.
     fn declare(
         &mut self,
         name: ProcessName,
@@ -101,7 +101,7 @@ impl Session {
         print_answer(name, answer, out)
     }
 
-    // Makes a step by the process that the name is bound to, and prints the answer.
+    // Makes a step of the process of this name, and prints the answer.
     fn make(&mut self, name: ProcessName, step: Step, out: &mut Vec<u8>) -> Result<(), Stop>
         ensures { MatchResult result
             (λ _. RunsStep self.old name step self.new out.old.items out.new.items)
@@ -134,7 +134,7 @@ impl Session {
         Ok(())
     }
 
-    // Prints a status block of the process that the name is bound to.
+    // Prints a status block of the process of this name.
     fn show_status_block(
         &self,
         name: ProcessName,
@@ -151,7 +151,7 @@ impl Session {
         Ok(())
     }
 
-    // Prints the tail of a status block of the process that the name is bound to.
+    // Prints the tail of a status block of the process of this name.
     fn show_status_tail(&self, name: ProcessName, number: u8, out: &mut Vec<u8>) -> Result<(), Stop>
         ensures { MatchResult result
             (λ _. IsRun self.now (Line.Tail name number) self.now out.old.items out.new.items)
@@ -174,7 +174,7 @@ fn print_answer(name: ProcessName, answer: Answer, out: &mut Vec<u8>) -> Result<
     Ok(())
 }
 
-/// The step, made by this process. Some steps are of none.
+/// The step, made by this process. A step of a node has no process.
 pub(crate) fn of_process(pid: u32, step: Step) -> Step
     ensures { result ≡ of_process pid step }
 {

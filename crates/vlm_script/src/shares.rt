@@ -1,4 +1,4 @@
-//! A script for several nodes, whose steps are shared out to lists, one for each node.
+//! Reads a script for several nodes into a list of steps for each node.
 
 ghost use Rattle.std.specs.Prelude.{◌≡◌, ◌<◌, ◌≤◌, length, map, IfErr, IfOk, IfSome, IsOkAnd, MatchResult, Ok};
 ghost use Rattle.vlm_lines.specs.Lines.{lines_of};
@@ -15,26 +15,23 @@ use std::io::Read;
 use vlm_core::HashKeys;
 use vlm_words::steps::Step;
 
-/// Reads a script for the nodes 1 to `nodes` whole, and shares its steps out to lists, one for
-/// each node, node 1 first. Each list has the node's steps in the script's order.
+/// Reads a script for the nodes 1 to `nodes` whole, and shares its steps out to lists, one for each node, node 1 first.
+/// Each list has the node's steps in the script's order.
 ///
-/// A declare line is a step of the node that it names. It binds its name to the process whose
-/// identification is 65,536 times the node, and the line's number among the node's declare lines,
-/// from 1, whether or not the declaration will be accepted. A set, enq, cvt, deq or end line is a
-/// step of that process, in the list of the process's node. A leave or search line is a step of
-/// the node that it names.
+/// A declare line is a step of its node. It binds its name to a process, whether or not the declaration will be accepted:
+/// the identification is 65,536 times the node plus the number of the line among the node's declare lines, from 1. A
+/// set, enq, cvt, deq or end line is a step of the process of its name, in the list of that process's node. A leave or
+/// search line is a step of its node.
 ///
-/// The script has at most 16,777,216 bytes: past that the fault is `Long`, once one byte more is
-/// read. A read that fails is `Read`. A refused growth is `Memory`, here and below. Only once the
-/// script is read whole, its lines are gone through in order, and the first that has a fault ends
-/// this with `Line` and its number, from 1. A fault of the line's bytes comes first. Then it is
-/// `NumberOutOfRange` where a declare, leave or search line names a node that there is not, or a
-/// declare line one that has 65,535 declare lines already; after that `NameUsed` where a declare
-/// line's name is bound. It is `UnknownName` where the name of a set, enq, cvt, deq or end line is
-/// not bound, and `UnknownCommand` for an ast, block, tail, show or tails line, whatever its name.
-/// Nothing is written, so `Write` never comes.
+/// A script has at most 16,777,216 bytes. The fault is `Long` as soon as one more byte is read, `Read` if a read fails,
+/// and `Memory` if memory is refused, while it reads and later. After the whole script is read, its lines are checked in
+/// order. The first line with a fault ends the call with `Line` and its number, from 1. The faults of its bytes come
+/// first. The next is `NumberOutOfRange`: a declare, leave or search line names a node that does not exist, or a declare
+/// line names a node with 65,535 declare lines. Then comes `NameUsed`: the name of a declare line is bound. A set, enq,
+/// cvt, deq or end line whose name is not bound is `UnknownName`. An ast, block, tail, show or tails line is
+/// `UnknownCommand`, whatever its name. Nothing is written, so `Write` never comes.
 ///
-/// Memory and time grow with the script's bytes. No script is slow by its names where nobody could
+/// Memory and time grow with the bytes of the script. Names that somebody chooses make no script slow if nobody can
 /// foresee the keys.
 pub fn read_lists<R: Read>(
     alloc: Global,
@@ -44,14 +41,14 @@ pub fn read_lists<R: Read>(
 ) -> Result<Vec<Vec<Step>>, PlayFault>
     requires { (0 < nodes) × (nodes ≤ 8) }
 
-    // What comes of the script, where the reader tells its bytes.
+    // If the bytes of the reader are known, so is the result.
     ensures shared { IfSome (R.remaining reader.old) (λ input.
         let shared = shared_out nodes (no_shares nodes) 0 (lines_of input) in
         MatchResult result
         (λ lists. IsOkAnd shared (λ s. s.lists ≡ map (λ l. l.items) lists.items))
         (λ fault. StopsShares input shared fault)) }
 
-    // Whatever the reader tells.
+    // Whatever the reader gives:
     ensures count { IfOk result (λ lists. length lists.items ≡ nodes) }
     ensures listed { IfOk result (λ lists. AreListed (map (λ l. l.items) lists.items)) }
     ensures no_write { IfErr result (λ fault. ¬ (fault ≡ PlayFault.Write)) }
@@ -80,7 +77,7 @@ fn share_script(
     Ok(sharing.into_lists())
 }
 
-// Shares out the lines of a script, behind what is shared already.
+// Shares out the lines of a script, after those that are shared already.
 fn share_lines(sharing: &mut Sharing, input: &[u8]) -> Result<(), PlayFault>
     ensures shared { let nodes = length sharing.old.lists in
         let shared = shared_out nodes sharing.old 0 (lines_of input.now) in

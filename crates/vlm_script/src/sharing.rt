@@ -1,4 +1,4 @@
-//! What is shared out of a script for several nodes: its names, and the steps of each node.
+//! Shares the steps of a script out to several nodes.
 
 ghost use Rattle.std.specs.Prelude.{◌≡◌, ◌<◌, ◌+◌, ◌-◌, ◌*◌, ℕ, [], length, map, replicate, slice_index, slice_set, vec_len, IfOk, IfSome, MatchResult, OnErr, OnOk, Ok, Some};
 ghost use Rattle.vlm_lines.specs.Lines.{line_read};
@@ -14,10 +14,10 @@ use vlm_core::HashKeys;
 use vlm_lines::{Line, LineFault, NO_PROCESS, ProcessName, read_line};
 use vlm_words::steps::{Declaration, Step};
 
-// How many identifications each node has for its processes.
+// How many processes each node can have.
 const PROCESSES: u32 = 65_536;
 
-/// What the lines so far have shared out.
+/// The names and the steps of the lines so far.
 #[derive(Drop)]
 pub(crate) struct Sharing {
     // in the order of their declarations
@@ -54,7 +54,7 @@ impl Sharing {
     ghost use Rattle.vlm_script.specs.Sharing.{IsSharedByName, IsPut, IsShared, StopsNode, StopsShare, StopsShareBytes};
     ghost use Rattle.vlm_script.specs.Steps.{IsPostable, line_step, named_step, read_step};
 
-    /// Nothing is shared, and each node has its list.
+    /// No names, and an empty list for each node.
     pub(crate) fn new(alloc: Global, keys: HashKeys, nodes: u8) -> Result<Self, AllocError>
         ensures { IfOk result (λ s. s ≡ no_shares nodes) }
     {
@@ -73,7 +73,7 @@ impl Sharing {
         self.lists
     }
 
-    /// Shares out a line of the script, and answers its step. An empty line has none.
+    /// Shares out a line of the script, and answers its step. A blank line has none.
     pub(crate) fn share(&mut self, bytes: &[u8]) -> Result<Option<Step>, Stop>
         ensures shared { MatchResult result
             (λ _. line_shared (length self.old.lists) self.old (line_read bytes.now) ≡ Ok self.new)
@@ -87,7 +87,7 @@ impl Sharing {
         self.share_line(line)
     }
 
-    // Shares out a line that was read, and answers its step.
+    // Shares out a line without a fault, and answers its step.
     fn share_line(&mut self, line: Line) -> Result<Option<Step>, Stop>
         ensures shared { MatchResult result
             (λ _. IsShared self.old line self.new)
@@ -113,7 +113,7 @@ impl Sharing {
         }
     }
 
-    // Shares out a declare line, its name bound to the node's next process, and answers its step.
+    // Shares out a declare line, binds its name to the node's next process, and answers its step.
     fn declare(&mut self, name: ProcessName, declaration: Declaration) -> Result<Option<Step>, Stop>
         ensures shared { MatchResult result
             (λ _. IsShared self.old (Line.Declare name declaration) self.new)
@@ -141,8 +141,7 @@ impl Sharing {
         Ok(Some(Step::Declare(declaration)))
     }
 
-    // Puts a step into the list of its process's node, and answers it: the process is the one that
-    // the name is bound to.
+    // Puts a step of the process of this name into the list of the process's node, and answers it.
     fn put_named(&mut self, name: ProcessName, step: Step) -> Result<Option<Step>, Stop>
         requires { (pid : ℕ) → IsListed (node_of_pid pid) (of_process pid step) }
         ensures shared { MatchResult result
@@ -186,7 +185,7 @@ impl Sharing {
         self.has_node(node) && self.declared[usize::from(node) - 1] < u16::MAX
     }
 
-    // Whether the number is that of a node.
+    // Whether there is a node of this number.
     fn has_node(&self, node: u8) -> bool
         ensures { result ≡ has_node (length self.now.lists) node }
     {
@@ -224,7 +223,7 @@ fn add_step(lists: &mut Vec<Vec<Step>>, node: usize, step: &Step) -> Result<(), 
     Ok(())
 }
 
-// Counts one more declare line of a node, and gives the process of it.
+// Counts one more declare line of a node, and answers its process.
 fn next_process(declared: &mut Vec<u16>, node: u8) -> u32
     requires node { IsOneOfNodes (vec_len declared.old) node }
     requires room { slice_index declared.old.items (node - 1) < 65535 }

@@ -1,4 +1,4 @@
-//! All resources with their queues or their tails, as the core has them.
+//! Prints all resources of a core, with their queues or with their tails.
 
 ghost use Rattle.std.specs.Prelude.{◌≡◌, ◌++◌, IfSome, OnOk, flat_map};
 ghost use Rattle.vlm_queue.specs.Views.{resource_view};
@@ -13,7 +13,7 @@ use vlm_core::{Core, RowView};
 use vlm_queue::{ResAt, Store, first_resource, head, next, next_resource, resource_view, row_view};
 use vlm_words::resources::Queue;
 
-/// What is shown of a resource.
+/// The part of a resource to print.
 #[derive(Clone, Copy)]
 pub(crate) enum Part {
     /// The resource with its queues.
@@ -22,7 +22,7 @@ pub(crate) enum Part {
     Tail,
 }
 
-/// Prints this part of every resource by rising serial, or that there is none.
+/// Prints this part of every resource by rising serial, or the line that there is no resource.
 pub(crate) fn show(core: &Core, part: Part, out: &mut Vec<u8>) -> Result<(), AllocError>
     ensures { OnOk result (out.new.items
         ≡ out.old.items ++ parts_text part core.now.resources) }
@@ -87,7 +87,7 @@ fn show_queue(store: &Store, res: ResAt, queue: Queue, out: &mut Vec<u8>) -> Res
     Ok(())
 }
 
-// Prints a lock as it stands in a queue.
+// Prints a lock in the form of its queue.
 fn show_row(queue: Queue, row: &RowView, out: &mut Vec<u8>) -> Result<(), AllocError>
     ensures { OnOk result (out.new.items ≡ out.old.items ++ row_line queue row.now) }
 {

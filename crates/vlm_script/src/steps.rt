@@ -1,4 +1,4 @@
-//! A script for several nodes, whose steps are given in the script's order.
+//! Reads a script for several nodes into its steps, in the script's order.
 
 ghost use Rattle.std.specs.Prelude.{◌≡◌, ◌<◌, ◌≤◌, ◌++◌, length, IfErr, IfOk, IfSome, MatchResult, OnOk, Ok};
 ghost use Rattle.std.specs.List.{All};
@@ -18,7 +18,7 @@ use std::io::Read;
 use vlm_core::HashKeys;
 use vlm_words::steps::Step;
 
-/// A step of a script, and the line that asks for it.
+/// A step of a script, and its line.
 #[derive(Clone, Copy)]
 pub struct ScriptStep {
     /// The line's number, from 1.
@@ -27,14 +27,13 @@ pub struct ScriptStep {
     pub step: Step,
 }
 
-/// Reads a script for the nodes 1 to `nodes` whole, and gives its steps in the script's order, each
-/// with its line's number. A line that asks for no step gives none.
+/// Reads a script for the nodes 1 to `nodes` whole, and gives its steps in the script's order, each with the number of
+/// its line. A blank line or a comment gives none.
 ///
-/// The lines are gone through by the rules of `read_lists`, and the faults are those that it has,
-/// in the same order: what a line asks for is the step that `read_lists` puts at the end of its
-/// node's list. Nothing is written, so `Write` never comes.
+/// The steps and the faults are those of `read_lists`, by the same rules and in the same order. Nothing is written, so
+/// `Write` never comes.
 ///
-/// Memory and time grow with the script's bytes. No script is slow by its names where nobody could
+/// Memory and time grow with the bytes of the script. Names that somebody chooses make no script slow if nobody can
 /// foresee the keys.
 pub fn read_steps<R: Read>(
     alloc: Global,
@@ -44,14 +43,14 @@ pub fn read_steps<R: Read>(
 ) -> Result<Vec<ScriptStep>, PlayFault>
     requires { (0 < nodes) × (nodes ≤ 8) }
 
-    // What comes of the script, where the reader tells its bytes.
+    // If the bytes of the reader are known, so is the result.
     ensures steps { IfSome (R.remaining reader.old) (λ input.
         let steps = steps_out nodes (no_shares nodes) 0 (lines_of input) in
         MatchResult result
         (λ got. steps ≡ Ok got.items)
         (λ fault. StopsShares input steps fault)) }
 
-    // Whatever the reader tells.
+    // Whatever the reader gives:
     ensures postable { IfOk result (λ got. All (λ s. IsPostable nodes s.step) got.items) }
     ensures no_write { IfErr result (λ fault. ¬ (fault ≡ PlayFault.Write)) }
     ensures reads { ConsumesAtMost 16777217 (R.remaining reader.old) (R.remaining reader.new) }
@@ -77,7 +76,7 @@ fn script_steps(
     collect_steps(alloc, &mut sharing, input)
 }
 
-// Shares out the lines of a script, behind what is shared already, and collects their steps.
+// Shares out the lines of a script, after those that are shared already, and collects their steps.
 fn collect_steps(
     alloc: Global,
     sharing: &mut Sharing,
@@ -104,7 +103,7 @@ fn collect_steps(
     Ok(steps)
 }
 
-// Shares out the line of this number, and puts its step, if it has one, behind those before it.
+// Shares out the line of this number, and appends its step, if it has one.
 fn collect_step(
     sharing: &mut Sharing,
     line: &[u8],

@@ -22,7 +22,7 @@ impl From<AllocError> for Stop {
 
     ghost from_gives = { λ _ stop. stop ≡ Memory };
 
-    /// Want of memory ends the run.
+    /// A refused allocation ends the run.
     fn from(_refused: AllocError) -> Stop {
         Stop::Memory
     }
@@ -41,7 +41,7 @@ impl From<LineFault> for Stop {
 }
 
 impl Stop {
-    /// The fault of the whole run, where the line has this number.
+    /// The fault of the whole run, for the line of this number.
     pub(crate) fn at(self, number: usize) -> PlayFault
         ensures { result ≡ stopped_at number self }
     {

@@ -1,4 +1,4 @@
-//! A script read whole, and what it prints written whole.
+//! Reads a script whole, and writes its printed text whole.
 
 pub(crate) use readers::read_whole;
 pub use writers::write_whole;

@@ -1,4 +1,4 @@
-//! Answers under the names of their processes, and under the numbers of their nodes.
+//! Prints answers, under the names of processes or the numbers of nodes.
 
 ghost use Rattle.std.specs.Prelude.{◌≡◌, ◌++◌, codes, decimal, OnOk};
 ghost use Rattle.vlm_script.specs.Texts.{answer_line, answer_text, ast_text, node_line};
@@ -8,7 +8,7 @@ use std::alloc::AllocError;
 use vlm_words::asts::{Ast, AstKind};
 use vlm_words::steps::Answer;
 
-/// The line that tells a process's answer under its name.
+/// The line of an answer to a process, under its name.
 #[tactic(auto, unfolding(crate::specs::Texts::answer_line))]
 pub(crate) fn answer_line(out: &mut Vec<u8>, name: &[u8], answer: Answer) -> Result<(), AllocError>
     ensures { OnOk result (out.new.items ≡ out.old.items ++ answer_line name.now answer) }
@@ -19,7 +19,7 @@ pub(crate) fn answer_line(out: &mut Vec<u8>, name: &[u8], answer: Answer) -> Res
     text(out, b"\n")
 }
 
-/// The line that tells a node's answer under its number.
+/// The line of an answer to a node, under its number.
 #[tactic(auto, unfolding(crate::specs::Texts::node_line))]
 pub(crate) fn node_line(out: &mut Vec<u8>, node: u8, answer: Answer) -> Result<(), AllocError>
     ensures { OnOk result (out.new.items ≡ out.old.items ++ node_line node answer) }
@@ -31,7 +31,7 @@ pub(crate) fn node_line(out: &mut Vec<u8>, node: u8, answer: Answer) -> Result<(
     text(out, b"\n")
 }
 
-/// An answer without the name in front of it.
+/// An answer without the name before it.
 #[tactic(auto, unfolding(crate::specs::Texts::answer_text))]
 pub(super) fn answer_text(out: &mut Vec<u8>, answer: Answer) -> Result<(), AllocError>
     ensures { OnOk result (out.new.items ≡ out.old.items ++ answer_text answer) }

@@ -1,4 +1,4 @@
-//! Items of nodes: what each node's list has come to, item by item.
+//! Prints the items of nodes: the answers and ASTs that each node got.
 
 ghost use Rattle.std.specs.Prelude.{◌≡◌, ◌++◌, OnOk};
 ghost use Rattle.vlm_script.specs.Texts.{answer_item_line, ast_item_line, item_text, journal_line};
@@ -9,8 +9,8 @@ use std::alloc::AllocError;
 use vlm_words::asts::Ast;
 use vlm_words::steps::Answer;
 
-/// Puts the line `node K item J: TEXT` at the end of `out`: an answer, as a node's item of this
-/// number. It is refused for want of memory alone, and then some part of the line may stand there.
+/// Appends the line `node K item J: TEXT` to `out`: item J of node K is an answer. Only a refused allocation is an error,
+/// and then a part of the line may be in `out`.
 #[tactic(auto, unfolding(crate::specs::Texts::answer_item_line))]
 pub fn answer_item_line(
     out: &mut Vec<u8>,
@@ -25,9 +25,8 @@ pub fn answer_item_line(
     text(out, b"\n")
 }
 
-/// Puts the line `node K item J: TEXT process P` at the end of `out`: an AST of this process, as a
-/// node's item of this number. It is refused for want of memory alone, and then some part of the
-/// line may stand there.
+/// Appends the line `node K item J: TEXT process P` to `out`: item J of node K is an AST of process P. Only a refused
+/// allocation is an error, and then a part of the line may be in `out`.
 #[tactic(auto, unfolding(crate::specs::Texts::ast_item_line))]
 pub fn ast_item_line(
     out: &mut Vec<u8>,
@@ -45,8 +44,8 @@ pub fn ast_item_line(
     text(out, b"\n")
 }
 
-/// Puts the line `journal M` at the end of `out`: how many entries a journal has. It is refused for
-/// want of memory alone, and then some part of the line may stand there.
+/// Appends the line `journal M` to `out`: a journal has M entries. Only a refused allocation is an error, and then a part
+/// of the line may be in `out`.
 #[tactic(auto, unfolding(crate::specs::Texts::journal_line))]
 pub fn journal_line(out: &mut Vec<u8>, entries: usize) -> Result<(), AllocError>
     ensures { OnOk result (out.new.items ≡ out.old.items ++ journal_line entries) }

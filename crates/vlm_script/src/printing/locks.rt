@@ -1,4 +1,4 @@
-//! Locks in the queues of a resource.
+//! Prints the locks in the queues of a resource.
 
 ghost use Rattle.std.specs.Prelude.{◌≡◌, ◌++◌, OnOk};
 ghost use Rattle.vlm_script.specs.Texts.{lock_text, granted_line, converting_line, waiting_line, mode_text, mode_name};
@@ -54,7 +54,7 @@ fn lock_text(out: &mut Vec<u8>, queue: &[u8], row: &RowView) -> Result<(), Alloc
     text(out, b" ")
 }
 
-// The mode of a request, or nothing where there is no request.
+// The mode of a request, or nothing if there is no request.
 fn mode_text(out: &mut Vec<u8>, mode: Option<Mode>) -> Result<(), AllocError>
     ensures { OnOk result (out.new.items ≡ out.old.items ++ mode_text mode) }
 {

@@ -1,4 +1,4 @@
-//! Resources without their queues.
+//! Prints resources without their queues.
 
 ghost use Rattle.std.specs.Prelude.{◌≡◌, ◌++◌, ◌&&◌, nat_le, [], OnOk};
 ghost use Rattle.std.specs.List.{list_all};
@@ -43,7 +43,7 @@ pub(crate) fn tail_line(out: &mut Vec<u8>, view: &ResourceView) -> Result<(), Al
     text(out, b"\n")
 }
 
-/// The line that tells that there is no resource.
+/// The line that says that there is no resource.
 pub(crate) fn no_resources(out: &mut Vec<u8>) -> Result<(), AllocError>
     ensures { OnOk result (out.new.items ≡ out.old.items ++ no_resources_line) }
 {
@@ -73,14 +73,14 @@ fn name_text(out: &mut Vec<u8>, name: &[u8]) -> Result<(), AllocError>
     hexadecimal(out, name)
 }
 
-// Whether every byte can be read, and the name does not look like a hexadecimal one.
+// Whether every byte is readable, and the name does not look like hexadecimal digits.
 fn is_readable(name: &[u8]) -> bool
     ensures { result ≡ is_readable name.now }
 {
     all_visible(name) && !name.starts_with(b"x:")
 }
 
-// Whether every byte is an ASCII character that shows.
+// Whether every byte is a visible ASCII character.
 fn all_visible(name: &[u8]) -> bool
     ensures { result ≡ list_all (λ byte. nat_le 33 byte && nat_le byte 126) name.now }
 {

@@ -1,4 +1,4 @@
-//! Resources that are watched.
+//! Prints a watched resource.
 
 ghost use Rattle.std.specs.Prelude.{◌≡◌, ◌++◌, OnOk};
 ghost use Rattle.vlm_script.specs.Texts.{counts_text, watch_line};
@@ -7,7 +7,7 @@ use super::resources::validity;
 use super::texts::{decimal, decimal_usize, hexadecimal, text};
 use std::alloc::AllocError;
 
-/// What is printed of a resource that is watched.
+/// The printed part of a watched resource.
 #[derive(Clone, Copy)]
 pub struct WatchedRow {
     /// How many locks hold each mode, NL, CR, CW, PR, PW and EX.
@@ -22,9 +22,8 @@ pub struct WatchedRow {
     pub valid: bool,
 }
 
-/// Puts the line `line N held A B C D E F conversions X waiters Y value HEX VALID` at the end of
-/// `out`: a resource that is watched, as it stands behind the line of this number. It is refused
-/// for want of memory alone, and then some part of the line may stand there.
+/// Appends the line `line N held A B C D E F conversions X waiters Y value HEX VALID` to `out`: a watched resource after
+/// script line N. Only a refused allocation is an error, and then a part of the line may be in `out`.
 #[tactic(auto, unfolding(crate::specs::Texts::watch_line))]
 pub fn watch_line(out: &mut Vec<u8>, line: usize, row: &WatchedRow) -> Result<(), AllocError>
     ensures { OnOk result (out.new.items ≡ out.old.items ++ watch_line line row.now) }
@@ -44,7 +43,7 @@ pub fn watch_line(out: &mut Vec<u8>, line: usize, row: &WatchedRow) -> Result<()
     text(out, b"\n")
 }
 
-// Counts, each behind a space.
+// The counts, each after a space.
 fn counts_text(out: &mut Vec<u8>, counts: &[u32]) -> Result<(), AllocError>
     ensures { OnOk result (out.new.items ≡ out.old.items ++ counts_text counts.now) }
 {

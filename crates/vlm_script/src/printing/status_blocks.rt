@@ -1,4 +1,4 @@
-//! Status blocks.
+//! Prints status blocks.
 
 ghost use Rattle.std.specs.Prelude.{◌≡◌, ◌++◌, codes, decimal, OnOk};
 ghost use Rattle.vlm_script.specs.Texts.{status_block_line, status_tail_line, hex_text, line_feed};
@@ -7,8 +7,7 @@ use super::texts::{decimal, hexadecimal, text};
 use std::alloc::AllocError;
 use vlm_words::blocks::Block;
 
-/// A status block under its process's name: what stands in it, or that the process has no such
-/// block.
+/// A status block under its process's name: its contents, or that the process has no such block.
 #[tactic(auto, unfolding(crate::specs::Texts::status_block_line))]
 pub(crate) fn status_block_line(
     out: &mut Vec<u8>,

@@ -1,4 +1,4 @@
-//! Texts, numbers and bytes.
+//! Prints texts, numbers and bytes.
 
 ghost use Rattle.std.specs.Prelude.{◌≡◌, ◌++◌, decimal, OnOk};
 ghost use Rattle.vlm_script.specs.Texts.{hex_text};

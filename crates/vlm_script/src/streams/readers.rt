@@ -1,4 +1,4 @@
-//! A reader read to its end.
+//! Reads a reader to its end.
 
 ghost use Rattle.std.specs.Prelude.{◌≡◌, ◌≤◌, ◌+◌, ◌^◌, ℕ, List, ◌++◌, ◌⊎◌, length, vec_len, IfOk, OnOk, IfErr, OnErr, IfSome, IsErrOf};
 ghost use Rattle.std.specs.Io.KnownBytes.{Consumes, IsAtEnd};
@@ -11,11 +11,11 @@ use std::io::Read;
 // How many bytes a script has at most.
 const LIMIT: usize = 16_777_216;
 
-// How many bytes are asked for at once, at most.
+// The most bytes that one read asks for.
 const PIECE: usize = 8192;
 
-/// All the bytes that are left. Of more than the limit, one byte more than that is read, and `Long`
-/// is the fault.
+/// All the bytes of the reader. If they are more than the limit, one byte more than that is read, and the fault is
+/// `Long`.
 pub(crate) fn read_whole<R: Read>(alloc: Global, reader: &mut R) -> Result<Vec<u8>, PlayFault>
     ensures whole { IfOk result (λ bytes.
         IfSome (R.remaining reader.old) (λ input. bytes.items ≡ input)) }
@@ -24,7 +24,7 @@ pub(crate) fn read_whole<R: Read>(alloc: Global, reader: &mut R) -> Result<Vec<u
         × (length bytes ≡ 2 ^ 24 + 1)
         × Consumes (R.remaining reader.old) (R.remaining reader.new) bytes }
 
-    // Whatever the fault, no more than that is read.
+    // It never reads more than this.
     ensures part { OnErr result
         (ConsumesAtMost 16777217 (R.remaining reader.old) (R.remaining reader.new)) }
     ensures faults { IfErr result (λ fault.
@@ -40,7 +40,7 @@ pub(crate) fn read_whole<R: Read>(alloc: Global, reader: &mut R) -> Result<Vec<u
     Err(PlayFault::Long)
 }
 
-// One read of at most what the limit and one byte leave, put behind the input.
+// Appends one read to the input, which then has at most one byte more than the limit.
 fn read_on<R: Read>(reader: &mut R, input: &mut Vec<u8>) -> Result<usize, PlayFault>
     requires { vec_len input.old ≤ 2 ^ 24 }
     ensures read { IfOk result (λ count. (bytes : List ℕ)

@@ -1,4 +1,4 @@
-//! Bytes written to their end.
+//! Writes bytes to the last one.
 
 ghost use Rattle.std.specs.Prelude.{◌≡◌, OnOk, IfErr, OnErr};
 ghost use Rattle.std.specs.Io.KnownBytes.{Appends};
@@ -7,8 +7,8 @@ ghost use Rattle.vlm_script.specs.Plays.{PassesPart};
 use crate::faults::PlayFault;
 use std::io::Write;
 
-/// Writes all the bytes, or only a first part of them where a write fails or takes none: `Write` is
-/// then the fault. It takes no memory.
+/// Writes all the bytes. If a write fails or takes no byte, only a first part is written, and the fault is `Write`. It
+/// takes no memory.
 pub fn write_whole<W: Write>(writer: &mut W, bytes: &[u8]) -> Result<(), PlayFault>
     ensures whole { OnOk result
         (Appends (W.contents writer.old) (W.contents writer.new) bytes.now) }
