@@ -1,4 +1,4 @@
--- What a script comes to that is served by several nodes, and what is printed of it.
+-- The result of a script that several nodes serve, and its printed text.
 use Rattle.std.specs.Prelude.{◌≡◌, ◌+◌, ℕ, List, [], ◌∷◌, ◌++◌, Option, Result, Ok, Err, IfSome, IsOkAnd, length, map}
 use Rattle.vlm_lines.specs.Lines.{lines_of}
 use Rattle.vlm_journal.specs.declared.entries.Item.{Item}
@@ -17,19 +17,19 @@ abbrev pub item_line : ℕ → ℕ → Item → List ℕ
 item_line node number (Answer answer) = answer_item_line node number answer
 item_line node number (Ast pid ast) = ast_item_line node number pid ast
 
--- the lines of a node's items behind the first `count`
+-- the lines of a node's items after the first `count`
 abbrev pub items_text : ℕ → ℕ → List Item → List ℕ
 items_text node count [] = []
 items_text node count (item ∷ items) =
     item_line node (count + 1) item ++ items_text node (count + 1) items
 
--- the lines of the nodes behind the first `count`
+-- the lines of the nodes after the first `count`
 abbrev pub nodes_text : ℕ → List Items → List ℕ
 nodes_text count [] = []
 nodes_text count (items ∷ nodes) =
     items_text (count + 1) 0 items.items ++ nodes_text (count + 1) nodes
 
--- what is printed of a report: what each node was told, node 1 first, and how many entries the journal has
+-- the printed text of a report: what each node was told, node 1 first, and how many entries the journal has
 abbrev pub report_text : Report → List ℕ
 report_text r = nodes_text 0 r.items.items ++ journal_line (length (entries_of r))
 
@@ -58,7 +58,7 @@ pub record StopsCluster (nodes : ℕ) (script : Option (List ℕ)) (fault : Play
       (λ input. StopsShares input (shared_out nodes (no_shares nodes) 0 (lines_of input)) fault)
   pub no_write : ¬ (fault ≡ Write)
 
--- nothing was written, since this fault came first
+-- nothing was written: this fault came first
 abbrev pub PrintsNothing : ℕ → Option (List ℕ) → PlayFault → Option (List ℕ) → Option (List ℕ)
     → Type 0
 PrintsNothing nodes script fault old new = StopsCluster nodes script fault × (new ≡ old)

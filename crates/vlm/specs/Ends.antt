@@ -1,4 +1,4 @@
--- What a call of the program comes to: its exit status, and what it has then read and written.
+-- The end of a call of the program: its exit status, and the bytes that it has read and written.
 use Rattle.std.specs.Prelude.{◌≡◌, ◌≢◌, ℕ, List, [], ◌⊎◌, Option, None, Some, Result, Ok, Err, IfSome, codes}
 use Rattle.std.specs.Io.KnownBytes.{Appends}
 use Rattle.clap.specs.Words.{Text}
@@ -18,7 +18,7 @@ use Rattle.vlm_script.specs.declared.faults.PlayFault.TheVariants.{Line, Memory,
 use Rattle.vlm_script.specs.Faults.{fault_line}
 use Rattle.vlm_script.specs.Plays.{PassesPart, Plays, ConsumesAtMost, ReadsFirst, ReadsScript, Wrote}
 
--- what the two writers hold, that of the text and that of the faults, where each tells it
+-- the bytes of the two writers, of the text and of the faults, if they are known
 pub record Output : Type 0 where
   pub printed : Option (List ℕ)
   pub faults : Option (List ℕ)
@@ -27,7 +27,7 @@ pub record Output : Type 0 where
 abbrev pub output_of : Option (List ℕ) → Option (List ℕ) → Output
 output_of printed faults = record { printed = printed; faults = faults }
 
--- the exit status of a run: 0 where it is done, 1 for a line with a fault, 3 for any other fault
+-- the exit status of a run: 0 if it is done, 1 for a line with a fault, 3 for any other fault
 abbrev pub status_of : Result (Unit {0}) PlayFault → ℕ
 status_of (Ok done) = 0
 status_of (Err (Line number fault)) = 1
@@ -36,15 +36,15 @@ status_of (Err Read) = 3
 status_of (Err Write) = 3
 status_of (Err Long) = 3
 
--- this line is printed, or where a write fails only a first part of it
+-- this line is printed, or only a first part of it if a write fails
 abbrev pub PrintsLine : List ℕ → Option (List ℕ) → Option (List ℕ) → Type 0
 PrintsLine line old new = Appends old new line ⊎ PassesPart old new line
 
--- a fault's line is printed, or where a write fails only a first part of it
+-- a fault's line is printed, or only a first part of it if a write fails
 abbrev pub PrintsFault : PlayFault → Option (List ℕ) → Option (List ℕ) → Type 0
 PrintsFault fault old new = PrintsLine (fault_line fault) old new
 
--- what a run's end puts on standard error: nothing, or its fault
+-- the text of a run's end on standard error: nothing, or its fault
 abbrev pub PrintsEnd : Result (Unit {0}) PlayFault → Option (List ℕ) → Option (List ℕ) → Type 0
 PrintsEnd (Ok done) old new = new ≡ old
 PrintsEnd (Err fault) old new = PrintsFault fault old new
@@ -58,11 +58,11 @@ pub record RunsScript (script left : Option (List ℕ)) (old new : Output) (stat
   pub ended : status ≡ status_of end
   pub faults : PrintsEnd end old.faults new.faults
 
--- the line of want of random bytes
+-- the line that there are no random bytes
 abbrev pub random_bytes_line : List ℕ
 random_bytes_line = codes "no random bytes\n"
 
--- that line is printed, or where a write fails only a first part of it
+-- that line is printed, or only a first part of it if a write fails
 abbrev pub PrintsNoRandomBytes : Option (List ℕ) → Option (List ℕ) → Type 0
 PrintsNoRandomBytes old new = PrintsLine random_bytes_line old new
 
@@ -92,25 +92,25 @@ StartsCluster nodes script left old new status =
     RunsCluster nodes script left old new status
     ⊎ ((left ≡ script) × WantsRandomBytes old new status)
 
--- the line of what ended a watch
+-- the line that says why a watch ended
 abbrev pub watch_fault_line : WatchFault → List ℕ
 watch_fault_line (Play fault) = fault_line fault
 watch_fault_line NoSeat = codes "no seat\n"
 watch_fault_line NoAnswer = codes "no answer\n"
 
--- the exit status of a watch: that of a run where it ended as one, and else 3
+-- the exit status of a watch: that of a run if it ended as a run does, else 3
 abbrev pub watch_status_of : Result (Unit {0}) WatchFault → ℕ
 watch_status_of (Ok done) = 0
 watch_status_of (Err (Play fault)) = status_of (Err fault)
 watch_status_of (Err NoSeat) = 3
 watch_status_of (Err NoAnswer) = 3
 
--- what a watch's end puts on standard error: nothing, or its line
+-- the text of a watch's end on standard error: nothing, or its line
 abbrev pub PrintsWatchEnd : Result (Unit {0}) WatchFault → Option (List ℕ) → Option (List ℕ) → Type 0
 PrintsWatchEnd (Ok done) old new = new ≡ old
 PrintsWatchEnd (Err fault) old new = PrintsLine (watch_fault_line fault) old new
 
--- the resource under the key was watched by a script: the status and the line on standard error are those of its end
+-- the resource under the key was watched while a script ran: the status and the line on standard error are of its end
 pub record RunsWatch (key : RootKey) (script left : Option (List ℕ)) (old new : Output) (status : ℕ) : Type 0 where
   pub end : Result (Unit {0}) WatchFault
   pub printed : PrintsWatch key script end old.printed new.printed
@@ -118,13 +118,13 @@ pub record RunsWatch (key : RootKey) (script left : Option (List ℕ)) (old new 
   pub ended : status ≡ watch_status_of end
   pub faults : PrintsWatchEnd end old.faults new.faults
 
--- no resource has the name that the words give
+-- no resource can have the name in the words
 pub record RefusesName (old new : Output) (status : ℕ) : Type 0 where
   pub printed : new.printed ≡ old.printed
   pub faults : PrintsLine (codes "wrong name\n") old.faults new.faults
   pub ended : status ≡ 2
 
--- the resource under the key was watched by a script, or the system gave no random bytes, and nothing was read
+-- the resource under the key was watched while a script ran, or the system gave no random bytes and nothing was read
 abbrev pub StartsNamedWatch : RootKey → Option (List ℕ) → Option (List ℕ) → Output → Output → ℕ → Type 0
 StartsNamedWatch key script left old new status =
     RunsWatch key script left old new status
@@ -147,27 +147,27 @@ StartsTask words script left old new status =
     ⊎ ((subject : Subject) × AskForWatch words subject
     × StartsWatch subject.domain subject.name script left old new status)
 
--- the help that was asked for stands on standard output
+-- the help that was asked for is on standard output
 pub record GivesHelp (old new : Output) (status : ℕ) : Type 0 where
   pub help : List ℕ
   pub printed : Appends old.printed new.printed help
   pub faults : new.faults ≡ old.faults
   pub ended : status ≡ 0
 
--- the words are refused, and some text on them stands on standard error
+-- the words are refused, and some text about them is on standard error
 pub record RefusesWords (old new : Output) (status : ℕ) : Type 0 where
   pub text : List ℕ
   pub printed : new.printed ≡ old.printed
   pub faults : Appends old.faults new.faults text
   pub ended : status ≡ 2
 
--- memory ran out over the words
+-- memory was refused while the words were read
 pub record WantsMemory (old new : Output) (status : ℕ) : Type 0 where
   pub printed : new.printed ≡ old.printed
   pub faults : PrintsFault Memory old.faults new.faults
   pub ended : status ≡ 3
 
--- a write of the help failed, and only a first part of it stands on standard output
+-- a write of the help failed, and only a first part of it is on standard output
 pub record FailsHelp (old new : Output) (status : ℕ) : Type 0 where
   pub help : List ℕ
   pub printed : PassesPart old.printed new.printed help

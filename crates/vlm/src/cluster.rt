@@ -1,4 +1,4 @@
-//! A script that is served by several nodes.
+//! Serves a script by several nodes.
 
 ghost use Rattle.std.specs.Prelude.{◌≡◌, ◌<◌, ◌≤◌, IfOk, MatchResult, map, vec_len};
 ghost use Rattle.vlm_script.specs.Plays.{ConsumesAtMost};
@@ -20,10 +20,10 @@ use vlm_journal::entries::Item;
 use vlm_script::{HashKeys, PlayFault, read_lists, write_whole};
 use vlm_words::steps::Step;
 
-// How many entries of the journal are cut off at once, at least.
+// The journal is cut once it has so many entries.
 const PART: usize = 65_536;
 
-/// Serves the script by so many nodes, where the system gives the bytes by which the indexes hash.
+/// Serves the script by so many nodes, if the system gives the bytes by which the indexes hash.
 pub(crate) fn start_cluster<R: Read, W: Write, F: Write>(
     rt: &(impl AllocGlobal + RandomSource + Threads + Wait + Clock + Copy + Send + 'static),
     nodes: u8,
@@ -62,8 +62,8 @@ fn run_cluster<R: Read, W: Write, F: Write>(
     }
 }
 
-// Serves the script, and writes what each node was told once all is told. Memory grows with the
-// script and with what its steps need.
+// Serves the script, and then writes what each node was told. Memory grows with the script and with the state of the
+// machine.
 fn serve_script<R: Read, W: Write>(
     rt: &(impl AllocGlobal + Threads + Wait + Clock + Copy + Send + 'static),
     keys: HashKeys,
@@ -99,7 +99,7 @@ fn cluster_text<R: Read>(
     Ok(report_text(alloc, &report)?)
 }
 
-// Serves each node's list, all of it.
+// Serves the whole list of each node.
 fn serve_lists(
     rt: &(impl AllocGlobal + Threads + Wait + Clock + Copy + Send + 'static),
     keys: HashKeys,

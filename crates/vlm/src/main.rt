@@ -1,4 +1,4 @@
-//! Runs scripts of lock requests, and prints what the lock manager answers.
+//! Runs scripts of lock requests, and prints the answers.
 #![tactic(auto)]
 
 mod cluster;
@@ -25,7 +25,7 @@ fn main(rt: HostRuntime) -> ExitCode {
     ExitCode::from(status)
 }
 
-// The words that the program was given, its own name first.
+// The words of the command line, the program's name first.
 fn words_of(rt: &HostRuntime) -> io::Result<Vec<String>> {
     Ok(env::args(rt)?.collect(rt.alloc())?)
 }

@@ -1,4 +1,4 @@
-//! The program by its words.
+//! Runs the program by the words of its command line.
 
 ghost use Rattle.std.specs.Prelude.{◌≡◌, ◌⊎◌, ◌≤◌, ℕ, List, [], ◌∷◌, Err, codes, map};
 ghost use Rattle.clap.specs.Words.{kind_of};
@@ -25,13 +25,13 @@ pub(crate) const DONE: u8 = 0;
 const SCRIPT_FAULT: u8 = 1;
 // The command line is refused.
 pub(crate) const REFUSED: u8 = 2;
-// Memory, random bytes, a stream, the script's length or the hub did not serve.
+// The run failed for memory, random bytes, a stream, the script's length, or the hub.
 pub(crate) const FAILED: u8 = 3;
 
-/// Runs the program on its words, the first of which is its name, and answers its exit status: 0
-/// where it is done, or help was asked for and printed; 1 for a fault of the script; 2 where the
-/// command line is refused; 3 for want of memory, of random bytes, of a watcher's seat or of an answer,
-/// a failed read or write, or a script that is too long. What is wrong is printed on `faults`; where that fails, the status stays.
+/// Runs the program on its words, its own name first, and answers its exit status. 0: it is done, or has printed the help
+/// that was asked for. 1: the script has a fault. 2: the command line is refused. 3: memory was refused, there were no
+/// random bytes, no seat for a watcher or no answer, a read or write failed, or the script is too long. It prints the
+/// fault on `faults`; if that fails, the status stays.
 pub fn run_words<S: AsStr, R: Read, W: Write, F: Write>(
     rt: &(impl AllocGlobal + RandomSource + Threads + Wait + Clock + Copy + Send + 'static),
     words: &[S],
@@ -44,20 +44,20 @@ pub fn run_words<S: AsStr, R: Read, W: Write, F: Write>(
         (output_of (W.contents writer.old) (F.contents faults.old))
         (output_of (W.contents writer.new) (F.contents faults.new)) result }
 
-    // The words `NAME play` run the script.
+    // `NAME play` runs the script.
     ensures play { (name : List ℕ) → map S.text words.now ≡ name ∷ codes "play" ∷ []
         → RunsOrWantsMemory (R.remaining reader.old) (R.remaining reader.new)
         (output_of (W.contents writer.old) (F.contents faults.old))
         (output_of (W.contents writer.new) (F.contents faults.new)) result }
 
-    // The words `NAME cluster --nodes N` serve it by so many nodes, and `NAME cluster` by two.
+    // `NAME cluster --nodes N` serves it by N nodes, and `NAME cluster` by two.
     ensures cluster { (name : List ℕ) (nodes : ℕ) → 1 ≤ nodes → nodes ≤ 8
         → AreClusterWords name nodes (map S.text words.now)
         → ClustersOrWantsMemory nodes (R.remaining reader.old) (R.remaining reader.new)
         (output_of (W.contents writer.old) (F.contents faults.old))
         (output_of (W.contents writer.new) (F.contents faults.new)) result }
 
-    // The words `NAME watch --name=RES` have the resource watched whose name RES gives, if it gives one.
+    // `NAME watch --name=RES` watches the resource of the name RES, if a resource can have that name.
     ensures watch { (name res : List ℕ) → AreWatchWords name res (map S.text words.now)
         → WatchesOrWantsMemory (name_given res) (R.remaining reader.old) (R.remaining reader.new)
         (output_of (W.contents writer.old) (F.contents faults.old))
@@ -72,7 +72,7 @@ pub fn run_words<S: AsStr, R: Read, W: Write, F: Write>(
     }
 }
 
-// Runs the script, where the system gives the bytes by which the indexes hash.
+// Runs the script, if the system gives the bytes by which the indexes hash.
 fn start_run<R: Read, W: Write, F: Write>(
     rt: &(impl AllocGlobal + RandomSource),
     reader: &mut R,
@@ -89,7 +89,7 @@ fn start_run<R: Read, W: Write, F: Write>(
     }
 }
 
-/// Keys of an index, where the system gives random bytes.
+/// The keys of the indexes, if the system gives random bytes.
 pub(crate) fn random_keys(rt: &impl RandomSource) -> Option<HashKeys> {
     let mut bytes = [0; 16];
     match rt.fill_bytes(&mut bytes) {
@@ -146,7 +146,7 @@ pub(crate) fn failed<F: Write>(fault: &PlayFault, faults: &mut F) -> u8
     }
 }
 
-// Prints the help that was asked for, or why the words are refused.
+// Prints the help, or why the words are refused.
 fn refused<W: Write, F: Write>(alloc: Global, error: &Error, writer: &mut W, faults: &mut F) -> u8
     ensures { EndsByError (kind_of error.now)
         (output_of (W.contents writer.old) (F.contents faults.old))

@@ -1,4 +1,4 @@
-//! What each node was told, line by line.
+//! Prints what each node was told, line by line.
 
 ghost use Rattle.std.specs.Prelude.{◌≡◌, ◌≤◌, ◌++◌, IfOk, IfSome, OnOk, length, vec_len};
 ghost use Rattle.vlm_cluster.specs.Reports.{entries_of};
@@ -9,7 +9,7 @@ use vlm_cluster::Report;
 use vlm_journal::entries::Item;
 use vlm_script::{answer_item_line, ast_item_line, journal_line};
 
-/// What is printed of a report. A journal of more entries than `usize` counts is want of memory.
+/// The printed text of a report. A journal with more entries than `usize` can count is refused as `Memory`.
 pub(crate) fn report_text(alloc: Global, report: &Report) -> Result<Vec<u8>, AllocError>
     requires { vec_len report.now.items ≤ 8 }
     ensures { IfOk result (λ text. text.items ≡ report_text report.now) }
@@ -23,7 +23,7 @@ pub(crate) fn report_text(alloc: Global, report: &Report) -> Result<Vec<u8>, All
     Ok(text)
 }
 
-// How many entries the journal has, unless they are more than `usize` counts.
+// How many entries the journal has, unless they are more than `usize` can count.
 fn entry_count(report: &Report) -> Option<usize>
     ensures { IfSome result (λ count. count ≡ length (entries_of report.now)) }
 {

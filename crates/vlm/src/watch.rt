@@ -1,4 +1,4 @@
-//! A resource that is watched while the steps of a script are made.
+//! Watches a resource while a script runs.
 
 ghost use Rattle.std.specs.Prelude.{◌≡◌, Err};
 ghost use Rattle.vlm.specs.Ends.{PrintsLine, RunsWatch, StartsNamedWatch, StartsWatch, output_of, watch_fault_line, watch_status_of};
@@ -12,7 +12,7 @@ use vlm_monitor::{WatchFault, watch_script};
 use vlm_ports::RootKey;
 use vlm_script::HashKeys;
 
-/// Watches a resource by a script, where it has a name.
+/// Watches a resource while a script runs, if its name is one that a resource can have.
 pub(crate) fn start_watch<R: Read, W: Write, F: Write>(
     rt: &(impl AllocGlobal + RandomSource + Wait),
     subject: Subject,
@@ -31,8 +31,7 @@ pub(crate) fn start_watch<R: Read, W: Write, F: Write>(
     }
 }
 
-// Watches the resource under this key by a script, where the system gives the bytes by which the
-// indexes hash.
+// Watches the resource under this key while a script runs, if the system gives the bytes by which the indexes hash.
 fn start_named<R: Read, W: Write, F: Write>(
     rt: &(impl AllocGlobal + RandomSource + Wait),
     key: RootKey,
@@ -50,7 +49,7 @@ fn start_named<R: Read, W: Write, F: Write>(
     }
 }
 
-// Watches the resource under this key by a script, and prints the fault that ended it.
+// Watches the resource under this key while a script runs, and prints the fault that ended it.
 fn run_watch<R: Read, W: Write, F: Write>(
     rt: &(impl AllocGlobal + Wait),
     keys: HashKeys,
@@ -69,7 +68,7 @@ fn run_watch<R: Read, W: Write, F: Write>(
     }
 }
 
-// Prints the line of what ended a watch, and answers the exit status. A line that can't be printed changes no status.
+// Prints why a watch ended, and answers the exit status. A line that can't be printed changes no status.
 fn tell<F: Write>(fault: &WatchFault, faults: &mut F) -> u8
     ensures status { result ≡ watch_status_of (Err fault.now) }
     ensures faults { PrintsLine (watch_fault_line fault.now)

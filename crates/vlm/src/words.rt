@@ -1,4 +1,4 @@
-//! The words that the program takes, and what they ask for.
+//! The words of the command line.
 
 ghost use Rattle.std.specs.Prelude.{◌≡◌, ◌≤◌, ℕ, IfOk, None, Some, codes, decimal, false, map, option_and_then};
 ghost use Rattle.clap.specs.Words.{FailsBy, Text, app_of, first_value, found_of, new_app, one_text, rule_of};
@@ -15,7 +15,7 @@ use vlm_words::resources::Domain;
 const ABOUT: &str =
     "The lock manager of OpenVMS: lock modes, queues, value blocks, run from a script";
 
-// What `vlm --version` tells behind the name, and a package that is installed.
+// The version that `vlm --version` and an installed package tell.
 const VERSION: &str = "0.1.0";
 
 const PLAY_ABOUT: &str =
@@ -120,27 +120,27 @@ prints
   line 4 held 0 0 0 0 0 1 conversions 0 waiters 1 value 00000000000000000000000000000000 valid
   line 5 held 0 0 0 0 0 1 conversions 0 waiters 0 value 00000000000000000000000000000000 valid";
 
-/// What is watched: a root resource.
+/// The root resource to watch.
 #[derive(Clone, Copy)]
 pub(crate) struct Subject {
-    /// The space of names that it is in.
+    /// Its domain.
     pub(crate) domain: Domain,
-    /// Its name, unless the words give one that no resource has.
+    /// Its name; `None` if no resource can have the name in the words.
     pub(crate) name: Option<Name>,
 }
 
-/// What the words ask for.
+/// The task that the words ask for.
 #[derive(Clone, Copy)]
 pub(crate) enum Task {
-    /// A script is run.
+    /// Run a script.
     Play,
-    /// A script is served by so many nodes.
+    /// Serve a script by so many nodes.
     Cluster(u8),
-    /// A resource is watched while a script is served.
+    /// Watch a resource while a script runs.
     Watch(Subject),
 }
 
-/// What the words ask for, or why they are refused.
+/// The task that the words ask for, or why they are refused.
 pub(crate) fn chosen<S: AsStr>(alloc: Global, words: &[S]) -> Result<Task, Error>
     ensures fails { FailsBy (word_errors (map S.text words.now)) result }
     ensures asked { IfOk result (AskFor (map S.text words.now)) }
@@ -156,7 +156,7 @@ pub(crate) fn chosen<S: AsStr>(alloc: Global, words: &[S]) -> Result<Task, Error
     }
 }
 
-// How many nodes a cluster is to have.
+// The number of nodes of a cluster.
 fn nodes_of(options: &ArgMatches<'_>) -> u8
     ensures within { (1 ≤ result) × (result ≤ 8) }
     ensures number { (n : ℕ) → 1 ≤ n → n ≤ 8
@@ -164,11 +164,11 @@ fn nodes_of(options: &ArgMatches<'_>) -> u8
     ensures spelled { (text : Text) (n : ℕ) → Spells text n → 1 ≤ n → n ≤ 8
         → one_text (found_of options.now) (codes "nodes") ≡ Some text → result ≡ n }
 {
-    // The parse has refused any other number, so what this bounds is never out of bounds.
+    // The parser refuses any other number, so these bounds change nothing.
     options.get_one::<u8>("nodes").unwrap_or(2).clamp(1, 8)
 }
 
-// What is to be watched.
+// The resource to watch.
 fn subject_of(options: &ArgMatches<'_>) -> Subject
     ensures name { result.name
         ≡ option_and_then name_given (first_value (found_of options.now) (codes "name")) }
@@ -186,7 +186,7 @@ fn subject_of(options: &ArgMatches<'_>) -> Subject
     }
 }
 
-// In which domain it is.
+// Its domain.
 fn domain_of(options: &ArgMatches<'_>) -> Domain
     ensures group { (n : ℕ) → n ≤ 65535
         → one_text (found_of options.now) (codes "group") ≡ Some (decimal n)
@@ -202,7 +202,7 @@ fn domain_of(options: &ArgMatches<'_>) -> Domain
     }
 }
 
-// Under which name it is.
+// Its name.
 fn name_of(options: &ArgMatches<'_>) -> Option<Name>
     ensures { result
         ≡ option_and_then name_given (first_value (found_of options.now) (codes "name")) }
@@ -213,7 +213,7 @@ fn name_of(options: &ArgMatches<'_>) -> Option<Name>
     }
 }
 
-// The name that the text gives as in a script, if a resource has such a one.
+// The name that this text has in a script, if a resource can have it.
 fn name_given(text: &str) -> Option<Name>
     ensures { result ≡ name_given text.now }
 {

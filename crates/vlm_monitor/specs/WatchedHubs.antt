@@ -1,4 +1,4 @@
--- What was posted at the ports of a hub that is watched.
+-- The steps that were posted at the ports of a watched hub.
 use Rattle.std.specs.Prelude.{ℕ, List, map}
 use Rattle.std.specs.List.{HoldsAt}
 use Rattle.vlm_words.specs.declared.steps.Step.{Step}
@@ -8,11 +8,10 @@ use Rattle.vlm_watch.specs.declared.rows.RootKey.{RootKey}
 use Rattle.vlm_monitor.specs.declared.watched.WatchedHub.{WatchedHub}
 use Rattle.vlm_monitor.specs.WatchedPorts.{HasLeft, Posts, posts_of}
 
--- what neither turns nor settlings change: the key, what was posted at each port, and what each node had asked for before
--- the last cut
+-- turns and settlings change neither the key, nor the posts of each port, nor the steps of each node before the last cut
 abbrev pub standing : WatchedHub → RootKey × List Posts × List Base
 standing w = (w.key, map posts_of w.ports.items, bases w.hub)
 
--- the hub has made all that was posted at the port at a place, except these steps at its end
+-- the hub has made all posts of the port at a place, except these last ones
 abbrev pub HasLeftAt : WatchedHub → ℕ → List Step → Type 0
 HasLeftAt w place steps = HoldsAt (HasLeft w.hub steps) w.ports.items place

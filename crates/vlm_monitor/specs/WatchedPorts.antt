@@ -1,4 +1,4 @@
--- What was posted at a port, and what its hub has made of it.
+-- The steps that were posted at a port, and those that its hub has made.
 use Rattle.std.specs.Prelude.{◌≡◌, ◌++◌, ℕ, List}
 use Rattle.vlm_words.specs.declared.steps.Step.{Step}
 use Rattle.vlm_journal.specs.Told.{asked}
@@ -8,22 +8,22 @@ use Rattle.vlm_ports.specs.Hubs.{HubGrew, asked_before, journal}
 use Rattle.vlm_ports.specs.Ports.{identity, posted}
 use Rattle.vlm_ports.specs.Rings.{RingName}
 
--- what tells a port from any other: its node and its rings
+-- the node and the rings of a port, which no other port has
 abbrev pub Name : Type 0
 Name = ℕ × RingName × RingName
 
--- a port, and all that was posted at it
+-- a port, and all its posts
 abbrev pub Posts : Type 0
 Posts = Name × List Step
 
 abbrev pub posts_of : Port → Posts
 posts_of port = (identity port, posted port)
 
--- the hub has made all that was posted at the port, except these steps at its end
+-- the hub has made all posts of the port, except these last ones
 abbrev pub HasLeft : Hub → List Step → Port → Type 0
 HasLeft hub steps port =
     posted port ≡ (asked_before hub port.node ++ asked port.node (journal hub)) ++ steps
 
--- the hub has put entries at the end of its journal
+-- the hub has appended entries to its journal
 abbrev pub HasGrown : Hub → Hub → Type 0
 HasGrown old new = (count : ℕ) × HubGrew count old new

@@ -1,4 +1,4 @@
--- What a script comes to by which a resource is watched, and what is printed of it.
+-- The result of a script during which a resource is watched, and its printed text.
 use Rattle.std.specs.Prelude.{◌≡◌, ◌==◌, ◌+◌, ◌⊎◌, ℕ, List, [], ◌∷◌, ◌++◌, Option, Result, Ok, Err, IfSome, if◌then◌else◌, length, take}
 use Rattle.vlm_words.specs.declared.steps.Step.{Step}
 use Rattle.vlm_words.specs.State.{State, start}
@@ -25,13 +25,13 @@ use Rattle.vlm_monitor.specs.declared.ends.WatchFault.TheVariants.{NoAnswer, NoS
 abbrev pub steps_of : List ℕ → Result (List ScriptStep) (ℕ × LineFault)
 steps_of input = steps_out 8 (no_shares 8) 0 (lines_of input)
 
--- the lines of the first steps, in order, as far as there are rows for them
+-- the lines of the first steps, in order, as far as there are rows
 abbrev pub watch_text : List ScriptStep → List WatchedRow → List ℕ
 watch_text [] rows = []
 watch_text (step ∷ steps) [] = []
 watch_text (step ∷ steps) (row ∷ rows) = watch_line step.line row ++ watch_text steps rows
 
--- what is printed of a row: all of it except the number of entries
+-- the printed part of a row: all of it except the number of entries
 abbrev pub printed_row : Row → WatchedRow
 printed_row row = record {
   held = row.held;
@@ -41,7 +41,7 @@ printed_row row = record {
   valid = row.valid;
 }
 
--- what is printed of the root resource under the key in a state
+-- the printed part of the root resource under the key in a state
 abbrev pub row_at : State → RootKey → WatchedRow
 row_at state key = printed_row (row_of (record { entries = []; state = state; base = 0; room = 0 }) key)
 
@@ -51,7 +51,7 @@ steps_asked [] = []
 steps_asked (entry ∷ entries) =
     if entry.sender == 0 then steps_asked entries else entry.step ∷ steps_asked entries
 
--- a hub goes from one state to another: the nodes ask for this step alone, and by itself the hub takes ASTs alone
+-- a hub goes from one state to another: the nodes ask only for this step, and the hub itself only takes ASTs
 pub record Makes (step : Step) (old new : State) : Type 0 where
   pub entries : List Entry
   pub legal : JournalFrom old entries new
@@ -75,13 +75,13 @@ pub record AreWatched (key : RootKey) (steps : List ScriptStep) (left : ℕ) (te
   pub seen : AreSeen key (take (length rows) steps) rows state
   pub printed : text ≡ watch_text steps rows
 
--- the text of a script by which a resource is watched: the lines of its steps, except the last so many
+-- the text of a script during which a resource is watched: the lines of its steps, except the last so many
 pub record IsWatchText (key : RootKey) (script : Option (List ℕ)) (left : ℕ) (text : List ℕ) : Type 0 where
   pub steps : List ScriptStep
   pub read : IfSome script (λ input. steps_of input ≡ Ok steps)
   pub watched : AreWatched key steps left text
 
--- what can end the steps of a script before the last
+-- the reasons that end a watch before the last step
 abbrev pub EndsSteps : WatchFault → Type 0
 EndsSteps (Play Memory) = Unit {0}
 EndsSteps NoSeat = Unit {0}
@@ -91,12 +91,12 @@ EndsSteps (Play Read) = ⊥
 EndsSteps (Play Write) = ⊥
 EndsSteps (Play Long) = ⊥
 
--- the text of steps of which all were made, or those before what ended them
+-- the text of the steps that were made: all of them, or those before the watch ended
 abbrev pub EndsWatched : RootKey → List ScriptStep → Result (Unit {0}) WatchFault → List ℕ → Type 0
 EndsWatched key steps (Ok done) text = AreWatched key steps 0 text
 EndsWatched key steps (Err fault) text = EndsSteps fault × ((left : ℕ) × AreWatched key steps left text)
 
--- nothing was written, since this fault came before any step
+-- nothing was written: this fault came before any step
 abbrev pub StopsWatch : Option (List ℕ) → PlayFault → Option (List ℕ) → Option (List ℕ) → Type 0
 StopsWatch script fault old new =
     IfSome script (λ input. StopsShares input (steps_of input) fault) × (new ≡ old)

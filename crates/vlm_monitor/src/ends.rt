@@ -1,13 +1,13 @@
-//! What ends a watch.
+//! The reasons that end a watch.
 
 use std::alloc::AllocError;
 use vlm_ports::BoardFault;
 use vlm_script::PlayFault;
 
-/// What ends a watch before the last step of its script.
+/// Why a watch ended before the last step of its script.
 #[derive(Drop)]
 pub enum WatchFault {
-    /// What ends a script's run, too.
+    /// A fault that also ends a script's run.
     Play(PlayFault),
     /// There is no seat for the watcher, or it sees nothing.
     NoSeat,
@@ -21,7 +21,7 @@ impl From<PlayFault> for WatchFault {
 
     ghost from_gives = { λ fault ended. ended ≡ Play fault };
 
-    /// What ends a run ends a watch.
+    /// A fault of a run ends a watch.
     fn from(fault: PlayFault) -> WatchFault {
         WatchFault::Play(fault)
     }
@@ -34,7 +34,7 @@ impl From<AllocError> for WatchFault {
 
     ghost from_gives = { λ _ ended. ended ≡ Play Memory };
 
-    /// Want of memory ends a watch.
+    /// A refused allocation ends a watch.
     fn from(_refused: AllocError) -> WatchFault {
         WatchFault::Play(PlayFault::Memory)
     }

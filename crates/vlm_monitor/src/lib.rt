@@ -1,4 +1,4 @@
-//! A resource that is watched while the steps of a script are made: after each step its row is printed.
+//! Makes the steps of a script, and prints the row of a watched resource after each.
 #![tactic(auto)]
 
 mod ends;

@@ -1,4 +1,4 @@
-//! A hub that is watched, with its ports and its watcher in one hand.
+//! A watched hub with its ports and its watcher, all in one thread.
 
 ghost use Rattle.std.specs.Prelude.{◌≡◌, ◌++◌, ◌∷◌, ◌<◌, [], All, IfErr, IfOk, OnErr, OnOk, length, map};
 ghost use Rattle.vlm_words.specs.State.{start};
@@ -20,11 +20,10 @@ use vlm_words::steps::Step;
 /// How many nodes the hub serves.
 pub(crate) const NODES: u8 = 8;
 
-// How many turns in a row may bring a port nothing while it waits.
+// A port waits for at most so many turns in a row that bring it nothing.
 const TURNS: usize = 10;
 
-/// A hub of eight nodes that is watched, with their ports and a watcher of one resource. End it by
-/// [`WatchedHub::finish`].
+/// A watched hub of eight nodes, with their ports and a watcher of one resource. End it by [`WatchedHub::finish`].
 pub(crate) struct WatchedHub {
     hub: Hub,
     ports: Vec<Port>,
@@ -37,20 +36,20 @@ pub(crate) struct WatchedHub {
     ghost linked: { All (IsPortOf hub) ports.items },
 }
 
-// What came to a port.
+// The items that came to a port.
 #[derive(Clone, Copy, PartialEq, Eq)]
 enum Came {
     Nothing,
-    // ASTs alone
+    // only ASTs
     Asts,
-    // an answer, too
+    // an answer, and perhaps ASTs
     Answer,
 }
 
 impl WatchedHub {
     ghost use Rattle.vlm_monitor.specs.WatchedHubs.{HasLeftAt, standing};
 
-    /// A hub with nothing posted, and a watcher of the resource under this key. Refused, there is neither.
+    /// A hub with nothing posted, and a watcher of the resource under this key. If it is refused, there is neither.
     pub(crate) fn open<R: Wait>(
         rt: &R,
         alloc: Global,
@@ -83,8 +82,8 @@ impl WatchedHub {
         })
     }
 
-    /// Makes steps in order, and puts the line of what is seen behind each into the text. Its cost for
-    /// a step beyond the step's own does not grow with what is held.
+    /// Makes steps in order, and after each appends the line of the watched row to the text. Besides the step itself, its
+    /// cost does not grow with what is held.
     pub(crate) fn make_all<R: Wait>(
         &mut self,
         rt: &R,
@@ -106,9 +105,8 @@ impl WatchedHub {
         Ok(())
     }
 
-    // Makes a step, and puts the line of what is then seen at the end of the text. Where it ends here,
-    // the text is as it was: what of the line was made stands in `line` alone, whose room serves line
-    // after line.
+    // Makes a step, and appends the line of the watched row to the text. If the watch ends here, the text stays as it
+    // was: the line is first in `line`, a buffer that all lines use.
     fn make_step<R: Wait>(
         &mut self,
         rt: &R,
@@ -150,8 +148,8 @@ impl WatchedHub {
         }
     }
 
-    // Posts a step at the port of its node, and says at which place that port is. Refused where the
-    // hub has not made all that was posted there.
+    // Posts a step at the port of its node, and answers the place of that port. Refused if the hub has not made all steps
+    // that were posted there.
     fn post(&mut self, step: Step) -> Result<usize, WatchFault>
         ensures key { self.new.key ≡ self.old.key }
         ensures written { IsAsWritten self.old.hub self.new.hub }
@@ -174,7 +172,7 @@ impl WatchedHub {
         }
     }
 
-    // Settles the port at a place. Refused where the hub has not made all that was posted there.
+    // Settles the port at a place. Refused if the hub has not made all steps that were posted there.
     fn settle(&mut self, place: usize) -> Result<(), WatchFault>
         requires within { place < length self.old.ports.items }
         ensures standing { standing self.new ≡ standing self.old }
@@ -191,7 +189,7 @@ impl WatchedHub {
         }
     }
 
-    // Has the hub make turns until the port at a place has an answer.
+    // Makes turns of the hub until the port at a place has an answer.
     fn turn_until_answered(&mut self, place: usize) -> Result<(), WatchFault>
         ensures standing { standing self.new ≡ standing self.old }
         ensures grown { HasGrown self.old.hub self.new.hub }
@@ -205,7 +203,7 @@ impl WatchedHub {
         Err(WatchFault::NoAnswer)
     }
 
-    // Has the hub make turns until something comes to the port at a place.
+    // Makes turns of the hub until an item comes to the port at a place.
     fn turn_until_told(&mut self, place: usize) -> Result<Came, WatchFault>
         ensures standing { standing self.new ≡ standing self.old }
         ensures grown { HasGrown self.old.hub self.new.hub }
@@ -220,7 +218,7 @@ impl WatchedHub {
         Err(WatchFault::NoAnswer)
     }
 
-    // Has the hub make a turn, and says what came to the port at a place.
+    // Makes a turn of the hub, and says what came to the port at a place.
     fn turn(&mut self, place: usize) -> Result<Came, WatchFault>
         ensures standing { standing self.new ≡ standing self.old }
         ensures grown { HasGrown self.old.hub self.new.hub }
@@ -232,8 +230,8 @@ impl WatchedHub {
         }
     }
 
-    // Publishes how the resource is used, and answers what the watcher sees of it then: just that, since nobody else
-    // has published.
+    // Publishes how the resource is used, and answers what the watcher then sees. It sees just that, since nobody else
+    // publishes.
     fn publish<R: Wait>(&mut self, rt: &R) -> Result<Row, WatchFault>
         ensures key { self.new.key ≡ self.old.key }
         ensures state { state self.new.hub ≡ state self.old.hub }
@@ -252,7 +250,7 @@ impl WatchedHub {
         }
     }
 
-    /// Ends it.
+    /// Ends the hub.
     pub(crate) fn finish<R: Wait>(self, rt: &R) {
         let WatchedHub {
             hub,
@@ -264,7 +262,7 @@ impl WatchedHub {
     }
 }
 
-// How many of these steps nodes asked for.
+// How many of these entries are steps of nodes.
 fn asked_count(entries: &[Entry]) -> usize
     ensures { result ≡ length (steps_asked entries.now) }
 {
@@ -277,7 +275,7 @@ fn asked_count(entries: &[Entry]) -> usize
     count
 }
 
-// Takes all that waits at each port, and says what came to the one at a place.
+// Takes all items that wait at each port, and says what came to the port at a place.
 fn take_all(ports: &mut [Port], place: usize) -> Came
     ensures { map posts_of ports.new ≡ map posts_of ports.old }
 {
@@ -292,7 +290,7 @@ fn take_all(ports: &mut [Port], place: usize) -> Came
     came
 }
 
-// Takes all that waits at a port.
+// Takes all items that wait at a port.
 fn take_items(port: &mut Port) -> Came
     ensures { posts_of port.new ≡ posts_of port.old }
 {
@@ -311,7 +309,7 @@ fn take_items(port: &mut Port) -> Came
     came
 }
 
-// What is printed of a row.
+// The printed part of a row.
 fn watched_row(row: &Row) -> WatchedRow
     ensures { result ≡ printed_row row.now }
 {

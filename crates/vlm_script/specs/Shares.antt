@@ -14,7 +14,7 @@ use Rattle.vlm_script.specs.Scripts.{Binding, bound_to, of_process, unknown_faul
 use Rattle.vlm_script.specs.declared.faults.PlayFault.{PlayFault}
 use Rattle.vlm_script.specs.declared.faults.PlayFault.TheVariants.{Line as line_fault, Memory, Read, Write, Long}
 
--- the shares of the lines so far: the bound names, how many declare lines each node has, and each node's steps, node 1 first
+-- the shares of the lines so far: the bound names, the number of declare lines of each node, and its steps, node 1 first
 pub record Shares : Type 0 where
   pub names : List Binding
   pub declared : List ℕ
