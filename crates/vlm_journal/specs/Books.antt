@@ -1,18 +1,18 @@
--- What a book holds: the entries since its last cut, and what stands behind them.
+-- A book: the entries since its last cut, and the journal before them.
 use Rattle.std.specs.Prelude.{◌≡◌, ◌+◌, ◌-◌, ◌^◌, ℕ, List, length, min}
 use Rattle.vlm_words.specs.State.{State}
 use Rattle.vlm_journal.specs.declared.entries.Entry.{Entry}
 use Rattle.vlm_journal.specs.Journals.{Journal, JournalFrom}
 
--- the entries since the last cut, the machine's state behind them, how many entries were handed out before them, and for
--- how many more there is room
+-- the entries since the last cut, the machine's state after them, the number of entries before them, and the room for
+-- more
 pub record Account : Type 0 where
   pub entries : List Entry
   pub state : State
   pub base : ℕ
   pub room : ℕ
 
--- how many entries were made, those that were handed out too, or 2 ^ 64 - 1 where there were more
+-- how many entries were made, with those that were handed out; 2 ^ 64 - 1 if that is less than their number
 abbrev pub made : Account → ℕ
 made a = min (a.base + length a.entries) (2 ^ 64 - 1)
 

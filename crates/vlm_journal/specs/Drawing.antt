@@ -1,4 +1,4 @@
--- What a take that the hub makes is answered.
+-- The answer to a take of the hub.
 use Rattle.std.specs.Prelude.{◌≡◌, ◌/◌, ℕ, Some}
 use Rattle.vlm_words.specs.declared.asts.Ast.{Ast}
 use Rattle.vlm_words.specs.declared.steps.Answer.TheVariants.{Taken}

@@ -1,4 +1,4 @@
--- Which lists of entries a hub may write.
+-- The lists of entries that a hub may write.
 use Rattle.std.specs.Prelude.{◌≡◌, ◌⊎◌, ◌<◌, ◌≤◌, ℕ, List, [], ◌∷◌, ◌++◌, Option, None, Some, map}
 use Rattle.vlm_words.specs.declared.asts.Ast.{Ast}
 use Rattle.vlm_words.specs.declared.steps.Answer.TheVariants.{Taken}
@@ -15,16 +15,16 @@ abbrev pub taker : Step → Option ℕ
 taker (Take pid) = Some pid
 taker step = None
 
--- a node may post the step: it is of that node, and no take
+-- a node may post the step: it is a step of that node, and not a take
 abbrev pub IsPostOf : ℕ → Step → Type 0
 IsPostOf node step = (node_of step ≡ node) × (taker step ≡ None)
 
--- a hub may make the step by itself, if this is its answer: the departure of a node, or a take that takes an AST
+-- the hub itself may make the step, if this is its answer: the departure of a node, or a take that gets an AST
 pub data IsHubs : Step → Answer → Type 0 where
   leaves : (node : ℕ) (answer : Answer) → IsHubs (Leave node) answer
   takes : (pid : ℕ) (ast : Ast) → IsHubs (Take pid) (Taken (Some ast))
 
--- a hub may make the entry: by itself, or for one of the eight nodes, which posted its step
+-- a hub may make the entry: for itself, or for one of the eight nodes, which posted the step
 abbrev pub IsAllowed : Entry → Type 0
 IsAllowed entry =
     ((entry.sender ≡ 0) × IsHubs entry.step entry.answer)

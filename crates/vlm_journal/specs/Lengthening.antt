@@ -1,4 +1,4 @@
--- What one entry more changes.
+-- The change by one more entry.
 use Rattle.std.specs.Prelude.{◌≡◌, ◌≢◌, ◌<◌, ◌≤◌, ◌/◌, ℕ, List, [], ◌∷◌, ◌++◌, Some, length}
 use Rattle.vlm_words.specs.declared.asts.Ast.{Ast}
 use Rattle.vlm_words.specs.declared.steps.Answer.TheVariants.{Taken}
@@ -8,7 +8,7 @@ use Rattle.vlm_journal.specs.declared.entries.Item.TheVariants.{Answer as answer
 use Rattle.vlm_journal.specs.declared.entries.Item.{Item}
 use Rattle.vlm_journal.specs.Told.{asked, told}
 
--- nobody has asked for anything, and none is told anything
+-- no node has requests, and no node has items
 abbrev pub IsSilent : List Entry → Type 0
 IsSilent entries = (node : ℕ) → (asked node entries ≡ []) × (told node entries ≡ [])
 

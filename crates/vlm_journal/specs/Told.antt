@@ -1,4 +1,4 @@
--- What each node asked for, and what it is told.
+-- The requests of each node, and its items.
 use Rattle.std.specs.Prelude.{ℕ, ◌==◌, List, [], ◌∷◌, ◌++◌, Option, None, Some, if◌then◌else◌}
 use Rattle.vlm_words.specs.declared.asts.Ast.{Ast}
 use Rattle.vlm_words.specs.declared.steps.Answer.TheVariants.{Taken}
@@ -16,23 +16,23 @@ asked sender [] = []
 asked sender (entry ∷ entries) =
     if entry.sender == sender then entry.step ∷ asked sender entries else asked sender entries
 
--- the AST that an answer gives, if it gives one
+-- the AST in an answer, if there is one
 abbrev pub given_ast : Answer → Option Ast
 given_ast (Taken ast) = ast
 given_ast answer = None
 
--- the AST that is taken, if it is of a process of the node
+-- the taken AST, if its process is one of the node
 abbrev pub ast_told : ℕ → Option ℕ → Option Ast → List Item
 ast_told node (Some pid) (Some ast) = if node_of_pid pid == node then ast_item pid ast ∷ [] else []
 ast_told node pid ast = []
 
--- what an entry tells a node: the answer where it asked, and the AST that is taken of a process of it
+-- the items of an entry for a node: the answer if the node asked, and the AST that is taken of one of its processes
 abbrev pub items_told : ℕ → Entry → List Item
 items_told node entry =
     (if entry.sender == node then answer_item entry.answer ∷ [] else [])
     ++ ast_told node (taker entry.step) (given_ast entry.answer)
 
--- what a node is told, in order
+-- the items of a node, in order
 abbrev pub told : ℕ → List Entry → List Item
 told node [] = []
 told node (entry ∷ entries) = items_told node entry ++ told node entries

@@ -1,4 +1,4 @@
--- Worlds: a journal, and for each node what goes between the hub and its port.
+-- Worlds: a journal, and for each node the posts and items between the hub and its port.
 use Rattle.std.specs.Prelude.{◌≡◌, ◌==◌, ◌+◌, ◌<◌, ◌≤◌, ℕ, List, [], ◌∷◌, ◌++◌, Some, length, if◌then◌else◌}
 use mathlib.Core.List.{IsPrefix}
 use Rattle.vlm_words.specs.declared.asts.Ast.{Ast}
@@ -13,7 +13,7 @@ use Rattle.vlm_journal.specs.declared.entries.Item.{Item}
 use Rattle.vlm_journal.specs.Journals.{IsPostOf, Journal}
 use Rattle.vlm_journal.specs.Told.{asked, told}
 
--- what a node has posted, what of it is served, what is sent to the node, and what of it the node has received
+-- the posts of a node, those that were served, the items sent to the node, and those that it has received
 pub record Lists : Type 0 where
   pub posted : List Step
   pub served : List Step
@@ -34,11 +34,11 @@ no_lists = record { posted = []; served = []; sent = []; received = [] }
 abbrev pub first_world : World
 first_world = record { journal = []; state = start; lists = λ node. no_lists }
 
--- the lists of one node are others
+-- other lists of one node
 abbrev pub with_lists_of : (ℕ → Lists) → ℕ → Lists → ℕ → Lists
 with_lists_of lists node own other = if other == node then own else lists other
 
--- the world with an entry more
+-- the world with one more entry
 abbrev pub with_entry : World → Entry → State → (ℕ → Lists) → World
 with_entry w entry state lists = record { journal = w.journal ++ entry ∷ []; state = state; lists = lists }
 
@@ -55,22 +55,22 @@ pub data Event : Type 0 where
   send : ℕ → Event
   take : ℕ → Event
 
--- the next of all, behind those that have come
+-- the next of the list, after those that came already
 abbrev pub IsNext : {X : Type 0} → X → List X → List X → Type 0
 IsNext {X} x come all = (rest : List X) × (all ≡ come ++ x ∷ rest)
 
--- the node is one of so many, from 1
+-- the node is among so many, from 1
 abbrev pub IsNode : ℕ → ℕ → Type 0
 IsNode nodes node = (0 < node) × (node ≤ nodes)
 
--- a node posts a step of its own, where fewer than 64 of its posts are not served
+-- a node posts a step of its own, if fewer than 64 of its posts are not yet served
 pub record Posts (nodes : ℕ) (w : World) (node : ℕ) (step : Step) (v : World) : Type 0 where
   pub node_is : IsNode nodes node
   pub post : IsPostOf node step
   pub place : length (w.lists node).posted < length (w.lists node).served + 64
   pub becomes : v ≡ with_node w node (record (w.lists node) { posted = (w.lists node).posted ++ step ∷ [] })
 
--- the hub makes the next of the steps that a node has posted, and writes it down
+-- the hub serves the oldest post of a node, and writes an entry
 pub record Serves (nodes : ℕ) (w : World) (node : ℕ) (v : World) : Type 0 where
   pub node_is : IsNode nodes node
   pub step : Step
@@ -81,21 +81,21 @@ pub record Serves (nodes : ℕ) (w : World) (node : ℕ) (v : World) : Type 0 wh
   pub becomes : v ≡ with_entry w (record { sender = node; step = step; answer = answer }) state
       (with_lists_of w.lists node (record (w.lists node) { served = (w.lists node).served ++ step ∷ [] }))
 
--- the hub takes an AST of a process, and writes it down
+-- the hub takes an AST of a process, and writes an entry
 pub record Draws (w : World) (pid : ℕ) (v : World) : Type 0 where
   pub ast : Ast
   pub state : State
   pub outcome : Outcome w.state (Take pid) state (Taken (Some ast))
   pub becomes : v ≡ with_entry w (record { sender = 0; step = Take pid; answer = Taken (Some ast) }) state w.lists
 
--- a node is lost: the hub makes its departure, and writes it down
+-- the hub makes the departure of a lost node, and writes an entry
 pub record Loses (w : World) (node : ℕ) (v : World) : Type 0 where
   pub answer : Answer
   pub state : State
   pub outcome : Outcome w.state (Leave node) state answer
   pub becomes : v ≡ with_entry w (record { sender = 0; step = Leave node; answer = answer }) state w.lists
 
--- the hub sends a node the next that the journal tells it, where fewer than 64 items are on their way to it
+-- the hub sends a node its next item in the journal, if fewer than 64 items are on their way to it
 pub record Sends (nodes : ℕ) (w : World) (node : ℕ) (v : World) : Type 0 where
   pub node_is : IsNode nodes node
   pub item : Item
@@ -119,7 +119,7 @@ Happens nodes w (lose node) v = Loses w node v
 Happens nodes w (send node) v = Sends nodes w node v
 Happens nodes w (take node) v = Takes nodes w node v
 
--- what the hub asks for by itself at an event: the take of a draw, and the departure of a node that is lost
+-- the step that the hub itself asks for at an event: the take of a draw, or the departure of a lost node
 abbrev pub own_step : Event → List Step
 own_step (draw pid) = Take pid ∷ []
 own_step (lose node) = Leave node ∷ []
@@ -128,7 +128,7 @@ own_step (serve node) = []
 own_step (send node) = []
 own_step (take node) = []
 
--- what the hub asks for by itself, in order
+-- the steps that the hub itself asks for, in order
 abbrev pub own_steps : List Event → List Step
 own_steps [] = []
 own_steps (event ∷ events) = own_step event ++ own_steps events

@@ -1,4 +1,4 @@
-//! The core with its journal: each step that is made is written down.
+//! A core that writes a journal: an entry for each step.
 
 ghost use Rattle.std.specs.Prelude.{◌≡◌, ◌⊎◌, ◌∷◌, ◌+◌, ◌++◌, ◌-◌, ◌^◌, ◌/◌, ◌<◌, ◌≤◌, ℕ, [], OnErr, OnOk, Some, length, min};
 ghost use Rattle.vlm_words.specs.declared.conditions.Cond.TheVariants.{Departed, Normal};
@@ -25,13 +25,13 @@ use vlm_words::names::Name;
 use vlm_words::resources::Domain;
 use vlm_words::steps::{Answer, Step};
 
-/// A core with its journal: the entries since the last cut, and how many were handed out before them. All entries, from
-/// the first, are a legal journal that leads to the core's state (this project's own).
+/// A core with its journal: the entries since the last cut, and the number of entries before them. All entries, from the
+/// first, are a legal journal that leads to the core's state (this project's own).
 #[derive(Drop)]
 pub struct Book {
     core: Core,
     entries: Vec<Entry>,
-    // how many entries were handed out, or `u64::MAX` where there were more
+    // how many entries were handed out; `u64::MAX` if that is less than their number
     base: u64,
     alloc: Global,
 }
@@ -53,7 +53,7 @@ impl Model for Book {
 }
 
 impl Book {
-    /// A book of a core at its start. It takes no memory.
+    /// A book with a new core and an empty journal. It takes no memory.
     pub fn new(core: Core, alloc: Global) -> Book
         requires start { core ≡ start }
         ensures entries { result.entries ≡ [] }
@@ -68,7 +68,7 @@ impl Book {
         }
     }
 
-    /// Makes room for one more entry, where there is none. Refused, nothing is changed.
+    /// Makes room for one more entry, if there is none. If it is refused, nothing is changed.
     pub fn reserve(&mut self) -> Result<(), AllocError>
         ensures entries { self.new.entries ≡ self.old.entries }
         ensures state { self.new.state ≡ self.old.state }
@@ -79,8 +79,8 @@ impl Book {
         self.entries.reserve(1)
     }
 
-    /// Makes a step that a node has posted, and writes it down with its answer. It takes no memory for its entry; the step
-    /// may want some, and is answered INSFMEM where that is refused. It costs what the step does.
+    /// Makes a step that a node has posted, and writes an entry with its answer. The entry takes no memory. The step
+    /// may need some, and is answered INSFMEM if that is refused. The cost is that of the step.
     pub fn serve(&mut self, sender: u8, step: Step) -> Answer
         requires room { 0 < self.old.room }
         requires sender { (0 < sender) × (sender ≤ 8) }
@@ -105,16 +105,16 @@ impl Book {
         answer
     }
 
-    /// The first living process of a node, in order of making, that has an AST pending. None where none of the node
-    /// has one. It takes constant time.
+    /// The first living process of a node, in order of making, that has an AST pending; `None` if no process of the
+    /// node has one. It takes constant time.
     pub fn pending_of(&self, node: u8) -> Option<u32>
         ensures { result ≡ first_pending node self.now.state.processes }
     {
         self.core.pending_of(node)
     }
 
-    /// Takes the oldest AST of the process that [`Book::pending_of`] answers for a node, for the hub, and writes that
-    /// down. It takes no memory.
+    /// Takes the oldest AST of the process that [`Book::pending_of`] answers for a node, and writes an entry of the
+    /// hub. It takes no memory.
     pub fn draw(&mut self, node: u8, pid: u32) -> Ast
         requires room { 0 < self.old.room }
         requires pending { first_pending node self.old.state.processes ≡ Some pid }
@@ -147,8 +147,8 @@ impl Book {
         ast
     }
 
-    /// A node is lost: the hub makes its departure, and writes it down. It takes no memory, and answers NORMAL, BADPARAM
-    /// where the node is not 1 to 8, or DEPARTED where it has departed before.
+    /// Makes the departure of a lost node, and writes an entry of the hub. It takes no memory. It answers NORMAL,
+    /// BADPARAM if the node is not 1 to 8, or DEPARTED if the node has departed before.
     pub fn lose(&mut self, node: u8) -> Answer
         requires room { 0 < self.old.room }
         ensures outcome { Outcome self.old.state (Step.Leave node) self.new.state result }
@@ -180,14 +180,14 @@ impl Book {
         self.core.usage(domain, name)
     }
 
-    /// How many entries were made, those that were handed out too; `u64::MAX` where there were more.
+    /// How many entries were made, with those that were handed out; `u64::MAX` if that is less than their number.
     pub fn made(&self) -> u64
         ensures { result ≡ made self.now }
     {
         self.base.saturating_add(self.entries.len() as u64)
     }
 
-    /// The entries since the last cut, or all where there was none.
+    /// The entries since the last cut, or all if there was no cut.
     pub fn entries(&self) -> &[Entry]
         ensures same { result.now ≡ self.now.entries }
         ensures legal { GoesOn self.now.base self.now.entries self.now.state }
@@ -195,8 +195,8 @@ impl Book {
         self.entries.as_slice()
     }
 
-    /// Hands out the entries since the last cut, and begins anew behind them: the parts of all cuts, one behind another,
-    /// and then what is left, are the journal. It takes no memory.
+    /// Hands out the entries since the last cut, and begins a new part. The parts of all cuts in order, and then the
+    /// entries since the last cut, are the journal. It takes no memory.
     pub fn cut(&mut self) -> Part
         ensures entries { result.entries.items ≡ self.old.entries }
         ensures base { result.base ≡ self.old.base }
@@ -227,7 +227,7 @@ impl Book {
     }
 }
 
-// An entry of these.
+// Makes an entry of these.
 fn entry(sender: u8, step: Step, answer: Answer) -> Entry
     ensures { result ≡ record { sender = sender; step = step; answer = answer } }
 {
@@ -238,7 +238,7 @@ fn entry(sender: u8, step: Step, answer: Answer) -> Entry
     }
 }
 
-// The AST that a take was answered.
+// The AST in the answer to a take.
 fn ast_of(answer: Answer) -> Ast
     requires { (ast : Ast) × (answer ≡ Answer.Taken (Some ast)) }
     ensures { answer ≡ Answer.Taken (Some result) }

@@ -1,4 +1,4 @@
-//! What a hub writes down, and what it tells a node.
+//! Entries of a journal, and items for a node.
 
 use vlm_words::asts::Ast;
 use vlm_words::steps::{Answer, Step};
@@ -8,25 +8,25 @@ use vlm_words::steps::{Answer, Step};
 pub struct Entry {
     /// Who asked for it: a node, 1 to 8, or 0 for the hub itself.
     pub sender: u8,
-    /// What was asked for.
+    /// The step.
     pub step: Step,
-    /// What it was answered.
+    /// Its answer.
     pub answer: Answer,
 }
 
-/// What a node is told.
+/// An item that a hub sends to a node.
 #[derive(Clone, Copy)]
 pub enum Item {
-    /// The answer to the first of its requests that is not yet answered.
+    /// The answer to the node's oldest step that has no answer yet.
     Answer(Answer),
-    /// An AST of a process of the node, with the identification of that process.
+    /// An AST of one of the node's processes, with the identification of the process.
     Ast(u32, Ast),
 }
 
 /// A part of a journal, from one cut to the next.
 #[derive(Drop)]
 pub struct Part {
-    /// How many entries were handed out before it, or `u64::MAX` where there were more.
+    /// How many entries came before it; `u64::MAX` if that is less than their number.
     pub base: u64,
     /// Its entries, in order.
     pub entries: Vec<Entry>,

@@ -1,5 +1,5 @@
-//! What holds of every journal. The functions do nothing, but that some call a law that they rest on: their contracts are
-//! the laws.
+//! The laws of every journal. A law is the contract of a function that does nothing, except that some call a law that
+//! they rest on.
 
 ghost use Rattle.std.specs.Prelude.{◌≡◌, ◌↔◌, ◌∷◌, ◌++◌, ◌<◌, ◌≤◌, ℕ, All, List, [], Some};
 ghost use Rattle.vlm_words.specs.declared.steps.Answer.{Answer};
@@ -23,35 +23,35 @@ use vlm_laws::laws::{
 };
 use vlm_words::laws::law_identifications_of_processes_rise;
 
-/// The steps and answers of a legal journal are a legal run of the machine, and each of its entries is one that a hub may
-/// make; and what is so is a legal journal. So every law of such runs holds of what a hub does.
+/// A journal is legal exactly if its steps and answers are a legal run of the machine, and a hub may make each of its
+/// entries. So every law of such runs holds of a hub.
 pub fn law_journal()
     ensures { (first last : State) (entries : List Entry)
         → JournalFrom first entries last
         ↔ (Legal first (steps_of entries) (answers_of entries) last × All IsAllowed entries) }
 {}
 
-/// A journal in parts: a list of entries and another behind it are legal exactly where the first is, and the second is
-/// from a state to which the first leads. The state to which it leads is then that of both.
+/// A journal in parts: two lists of entries, one after the other, are legal exactly if the first is legal, and the second
+/// is legal from a state to which the first leads. They lead to the state to which the second leads.
 pub fn law_join()
     ensures { (first last : State) (before behind : List Entry)
         → JournalFrom first (before ++ behind) last
         ↔ ((between : State) × JournalFrom first before between × JournalFrom between behind last) }
 {}
 
-/// What is asked for and told grows with the journal. In an empty one nobody has asked for anything, and none is told
-/// anything. With one entry more, that a hub may make, its sender has asked for its step more, and nobody else for
-/// anything. At most one node is told more: a sender its answer, and the node of a process of which the hub took an AST
-/// that AST.
+/// How an entry adds to the requests and the items of the nodes. In an empty journal there are none. An entry that a hub
+/// may make adds its step to the requests of its sender, and to no others. It adds an item to at most one node: the
+/// answer to its sender, or the AST that the hub took to the node of the process.
 pub fn law_entry()
     ensures first { IsSilent [] }
     ensures more { (entries : List Entry) (entry : Entry) → IsAllowed entry
         → LengthensLittle entries entry }
 {}
 
-/// Once the departure of a node is accepted, whether the node asked for it or the hub, each entry of the node is answered
-/// DEPARTED. An entry by which a node departs, or is told that it has, leads to a state in which it has departed; from
-/// such a state on, cut or not, each entry of the node is answered DEPARTED, and it has departed still.
+/// After the departure of a node is accepted, whether the node or the hub asked for it, each entry of the node is
+/// answered DEPARTED. An entry by which a node departs, or is answered that it has departed, leads to a state in which
+/// it has departed. From such a state on, with cuts or without, each entry of the node is answered DEPARTED, and the
+/// node stays departed.
 pub fn law_departed()
     ensures answered { (entries : List Entry) (last : State) → Journal entries last
         → (node : ℕ) → 0 < node → IsAnsweredDeparted node entries }
@@ -65,8 +65,8 @@ pub fn law_departed()
     law_a_departed_node_is_answered_departed();
 }
 
-/// A take that the hub makes takes an AST where one is pending: after every run, a take of the first process of a node that
-/// has an AST pending is answered an AST, and that process is one of the node.
+/// A take of the hub finds an AST: after every run, a take of the first process of a node with a pending AST is answered
+/// an AST, and that process is one of the node.
 pub fn law_draw()
     ensures { (history : History) (last : State) → Run history last
         → (node pid : ℕ) → first_pending node last.processes ≡ Some pid
@@ -78,11 +78,11 @@ pub fn law_draw()
     law_identifications_of_processes_rise();
 }
 
-/// After whatever has happened between a hub and its nodes, of which there are up to 8, the journal is legal. What is
-/// served of a node's posts is what the node asked for by the journal, and it is the first of what it posted. What is
-/// sent to it is the first of what the journal tells it, and what it has received is the first of that. No more than 64
-/// of its posts are not served, and no more than 64 items that are sent are not received. By itself the hub has taken the
-/// ASTs that it drew and has departed the nodes that were lost, in that order, and nothing else.
+/// Whatever happens between a hub and its 1 to 8 nodes, the journal is legal. The posts of a node that were served are
+/// its requests in the journal, and the first of all its posts. The items that were sent to a node are the first of its
+/// items in the journal, and those that it has received are the first of these. At most 64 posts of a node are not yet
+/// served, and at most 64 items of it are sent and not yet received. The hub itself has taken the ASTs that it drew, and
+/// made the departures of lost nodes, in that order, and nothing else.
 pub fn law_world()
     ensures right { (nodes : ℕ) → nodes ≤ 8 → (events : List Event) (world : World)
         → Reached nodes events world → IsRight nodes world }

@@ -1,5 +1,6 @@
-//! The journal of a cluster: which steps a hub made, for whom, and what each was answered. What it says of each node, of
-//! its departure, and of what goes between it and the hub is in [`laws`]; [`book::Book`] is a core that writes its journal.
+//! The journal of a hub: each step, who asked for it, and its answer. [`book::Book`] is a core that writes its journal.
+//! [`laws`] has the laws of every journal: of its nodes, of their departures, and of the posts and items between them
+//! and the hub.
 #![tactic(auto)]
 
 pub mod book;
