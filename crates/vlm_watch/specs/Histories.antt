@@ -11,6 +11,6 @@ Counts cells log = cells ≡ (length log, true) ∷ (0, true) ∷ []
 abbrev pub word_of : Book → Named
 word_of book = record { tracked = true; key = 0; book = book }
 
--- where the number that was found is the one that was told, the change stands behind all that was reached
+-- if the number found is the number given, the change is appended to all changes before it
 abbrev pub Lengthens : Step Change → View Change ℕ → ℕ → View Change ℕ → Type 0
 Lengthens step before found after = (found == step.old) ≡ true → after.0 ≡ before.0 ++ step.ask ∷ []

@@ -1,4 +1,4 @@
--- What a watcher is shown of a resource.
+-- The rows of resources.
 use Rattle.std.specs.Prelude.{◌≡◌, ℕ, true, List, length, map, replicate, take, Option, None, Some}
 use Rattle.std.specs.Option.{option_map}
 use Rattle.vlm_queue.specs.declared.views.Usage.{Usage}
@@ -9,11 +9,11 @@ use Rattle.vlm_watch.specs.declared.rows.Change.{Change}
 use Rattle.vlm_watch.specs.declared.rows.RootKey.{RootKey}
 use Rattle.vlm_watch.specs.declared.rows.Row.{Row}
 
--- a resource that is not there, before any entry
+-- the row of a resource that does not exist, before any entry
 abbrev pub absent : Row
 absent = record { held = replicate 6 0; conversions = 0; waiters = 0; value = replicate 16 0; valid = true; journal = 0 }
 
--- a resource that is used so, or is not there, behind so many entries
+-- the row of a resource that is used so, or does not exist, after so many entries
 abbrev pub row_with : Option Usage → ℕ → Row
 row_with None journal = record absent { journal = journal }
 row_with (Some u) journal = record {
@@ -25,10 +25,10 @@ row_with (Some u) journal = record {
   journal = journal;
 }
 
--- the row of a root resource, as the book stands
+-- the row of a root resource in the present state of the book
 abbrev pub row_of : Account → RootKey → Row
 row_of book key = row_with (option_map usage (root_of book.state.resources key.domain key.name)) (made book)
 
--- the change has the rows of these resources in their order, as the book stands
+-- the change has the rows of these resources in their order, in the present state of the book
 abbrev pub IsChangeOf : Account → List RootKey → Change → Type 0
 IsChangeOf book keys change = take (length keys) change.rows ≡ map (row_of book) keys

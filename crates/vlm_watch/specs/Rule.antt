@@ -1,4 +1,4 @@
--- The rule of a board: what each place saw is a beginning of what is published.
+-- The rule of a board: each place saw a first part of the published changes.
 use Rattle.std.specs.Prelude.{◌≡◌, ℕ, List, [], true, false, length}
 use mathlib.Core.Option.{some}
 use mathlib.Core.List.{IsPrefix}
@@ -8,11 +8,11 @@ use Rattle.vlm_watch.specs.declared.sheet.Sheet.{Sheet}
 use Rattle.vlm_watch.specs.declared.view.View.{View}
 use Rattle.vlm_watch.specs.Sheets.{changes_to}
 
--- a place that saw nothing, and doesn't know of which board it is
+-- a place that saw nothing, and does not know its board
 abbrev pub newcomer : View
 newcomer = record { seen = []; knows = false; number = 0; log_name = 0; cells_name = 0 }
 
--- the book of the board, of a view that knows it
+-- the book of the board, from a view that knows it
 abbrev pub book_of : View → Book
 book_of v = record { number = v.number; log_name = v.log_name; cells_name = v.cells_name }
 
@@ -20,7 +20,7 @@ book_of v = record { number = v.number; log_name = v.log_name; cells_name = v.ce
 abbrev pub knowing : Book → View → View
 knowing book v = record v { knows = true; number = book.number; log_name = book.log_name; cells_name = book.cells_name }
 
--- what the view saw is a beginning of what the sheet shows, and the book that it knows is the sheet's
+-- the changes up to the sheet begin with those that the view saw, and the book that the view knows is the sheet's
 pub record Fits (sheet : Sheet) (v : View) : Type 0 where
   pub begins : IsPrefix v.seen (changes_to sheet)
   pub book : v.knows ≡ true → book_of v ≡ sheet.before.book
@@ -29,16 +29,16 @@ pub record Fits (sheet : Sheet) (v : View) : Type 0 where
 abbrev pub Each : (View → Type 0) → List View → Type 0
 Each P views = (place : ℕ) (v : View) → get_elem? views place ≡ some v → P v
 
--- the sheet's number is that of its changes, and each view fits it
+-- the sheet's number is the number of its changes, and each view fits it
 abbrev pub Kept : Sheet → List View → Type 0
 Kept sheet views = (sheet.count ≡ length (changes_to sheet)) × Each (Fits sheet) views
 
--- a reader that fitted the sheet has now seen what it shows
+-- a reader that fitted the sheet has now seen its changes
 abbrev pub See : View → Sheet → Sheet → View → Type 0
 See v shown next w =
     (w ≡ record v { seen = changes_to shown }) × Fits shown v × (shown.count ≡ length (changes_to shown))
 
--- the writer has seen what the next sheet shows
+-- the writer has seen the changes of the next sheet
 abbrev pub Publish : View → Sheet → Sheet → View → Type 0
 Publish v shown next w = w ≡ record v { seen = changes_to next }
 
@@ -46,10 +46,10 @@ Publish v shown next w = w ≡ record v { seen = changes_to next }
 abbrev pub Open : View → Sheet → Sheet → View → Type 0
 Open v shown next w = w ≡ knowing shown.before.book v
 
--- a note: of which board it is
+-- a note: the board that it names
 abbrev pub note_of : View → View
 note_of v = record v { seen = [] }
 
--- what was seen before, of the board that the note tells
+-- the changes that were seen before, of the board in the note
 abbrev pub informed : View → View → View
 informed v note = record note { seen = v.seen }

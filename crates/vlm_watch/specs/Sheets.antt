@@ -1,4 +1,4 @@
--- What a sheet stands for.
+-- The changes up to a sheet.
 use Rattle.std.specs.Prelude.{ℕ, List, [], ◌∷◌, ◌++◌, Option, Some, None, false, slice_index_or}
 use Rattle.std.specs.List.{last_or}
 use Rattle.vlm_watch.specs.declared.rows.Change.{Change}
@@ -12,7 +12,7 @@ abbrev pub with_last : List Change → Option Change → List Change
 with_last before None = []
 with_last before (Some change) = before ++ change ∷ []
 
--- the changes up to the one that the sheet shows
+-- the changes up to the sheet's own
 abbrev pub changes_to : Sheet → List Change
 changes_to sheet = with_last sheet.before.log sheet.last
 
@@ -20,11 +20,11 @@ changes_to sheet = with_last sheet.before.log sheet.last
 abbrev pub updated : Sheet → Update → Sheet
 updated sheet update = record { last = Some update.change; count = update.count; before = update.before }
 
--- what a place behind the rows would read: a change has 16
+-- the row at a place after the last: a change has 16
 abbrev pub no_row : Row
 no_row = record { held = []; conversions = 0; waiters = 0; value = []; valid = false; journal = 0 }
 
--- the row at a place of a change, or of a resource that is not there where there is no change
+-- the row at a place of a change; if there is no change, the row of a resource that does not exist
 abbrev pub row_in : Option Change → ℕ → Row
 row_in None place = absent
 row_in (Some change) place = slice_index_or change.rows place no_row

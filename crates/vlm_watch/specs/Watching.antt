@@ -1,4 +1,4 @@
--- What contracts say of boards, watchers and what these are told.
+-- The words of contracts about boards, watchers and told values.
 use Rattle.std.specs.Prelude.{◌≡◌, ◌++◌, ◌∷◌, ℕ, List, []}
 use Rattle.left_right.specs.Sides.{view}
 use Rattle.logbook.specs.Pages.{Book}
@@ -12,7 +12,7 @@ use Rattle.vlm_watch.specs.Rows.{IsChangeOf}
 use Rattle.vlm_watch.specs.Rule.{book_of}
 use Rattle.vlm_watch.specs.Sheets.{changes_to}
 
--- what tells a board from any other
+-- the identity of a board
 abbrev pub name_of : Board → Book
 name_of b = b.publisher.history.book
 
@@ -24,7 +24,7 @@ published b = b.publisher.history.log
 abbrev pub keys_of : Board → List RootKey
 keys_of b = b.keys.items
 
--- the board has published one change more: the rows of its keys, as the book stands
+-- the board has published one more change: the rows of its keys in the present state of the book
 abbrev pub HasPublished : Account → Board → Board → Type 0
 HasPublished book old new =
     (change : Change) × IsChangeOf book (keys_of old) change × (published new ≡ published old ++ change ∷ [])
@@ -33,7 +33,7 @@ HasPublished book old new =
 abbrev pub board_of : Watcher → Book
 board_of w = book_of (view w.reader.place)
 
--- the changes that a watcher has seen, of which it showed the last
+-- the changes that a watcher has seen; it showed the last
 abbrev pub seen : Watcher → List Change
 seen w = changes_to w.shown
 
@@ -41,21 +41,21 @@ seen w = changes_to w.shown
 abbrev pub learnt : Watcher → List Change
 learnt w = w.learnt.history.log
 
--- it watches the same board, and as many keys
+-- it watches the same board and as many keys
 abbrev pub IsAsBefore : Watcher → Watcher → Type 0
 IsAsBefore old new = (board_of new ≡ board_of old) × (new.keys ≡ old.keys)
 
--- a watcher of this board and of so many keys, which has seen nothing and was told nothing
+-- a watcher of this board and of so many keys, before it has seen or was told anything
 pub record IsNew (board : Book) (keys : ℕ) (w : Watcher) : Type 0 where
   pub board_is : board_of w ≡ board
   pub keys_are : w.keys ≡ keys
   pub blind : seen w ≡ []
   pub untold : learnt w ≡ []
 
--- the board of which it is told
+-- the board of a told value
 abbrev pub told_board : Told → Book
 told_board t = t.history.book
 
--- the changes that it tells of
+-- the changes in a told value
 abbrev pub told_changes : Told → List Change
 told_changes t = t.history.log

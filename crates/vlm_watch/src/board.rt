@@ -1,4 +1,4 @@
-//! A board: what is published of the resources under some keys.
+//! A board publishes how the resources under some keys are used.
 
 ghost use Rattle.std.specs.Prelude.{◌≡◌, ◌<◌, ◌≤◌, ◌++◌, ◌∷◌, [], All, IfOk, OnErr, OnOk, vec_len};
 
@@ -11,7 +11,7 @@ use std::alloc::{AllocError, Global};
 use std::sync::Wait;
 use vlm_journal::book::Book;
 
-/// What is published of the resources under some keys. It can't be dropped: end it by [`Board::close`].
+/// Publishes how the resources under some keys are used. It can't be dropped: end it by [`Board::close`].
 pub struct Board {
     pub(crate) publisher: Publisher,
     pub(crate) keys: Vec<RootKey>,
@@ -21,9 +21,9 @@ pub struct Board {
 impl Board {
     ghost use Rattle.vlm_watch.specs.Watching.{HasPublished, IsNew, keys_of, name_of, published, told_board, told_changes};
 
-    /// A board of 1 to 16 keys with nothing published, and so many watchers of it, 1 to 8. Refused, there is neither, and
-    /// the memory is given back: `Memory` comes first, `Seat` where there is no place for a watcher. It may wait only where
-    /// it is refused.
+    /// A board of 1 to 16 keys with nothing published, and 1 to 8 watchers of it. If it is refused, there is neither,
+    /// and the memory is given back: by `Memory` first, then by `Seat` if there is no place for a watcher. It may wait
+    /// only if it is refused.
     pub fn open<R: Wait>(
         rt: &R,
         alloc: Global,
@@ -49,9 +49,9 @@ impl Board {
         }
     }
 
-    /// Publishes the rows of the keys, as the book stands, and tells what is published then. Refused, where the writer's log
-    /// can't grow or there were 2 ^ 64 - 1 changes, nothing is published. It may wait for readers of the change before the
-    /// last. Its cost grows with the number of keys alone.
+    /// Publishes the rows of the keys in the present state of the book, and answers a told value of all that is
+    /// published. If the writer's log can't grow or there were 2 ^ 64 - 1 changes, it is refused, and nothing is
+    /// published. It may wait for readers of the change before the last. Its cost grows only with the number of keys.
     pub fn publish<R: Wait>(&mut self, rt: &R, book: &Book) -> Result<Told, AllocError>
         ensures same { (name_of self.new ≡ name_of self.old) × (keys_of self.new ≡ keys_of self.old) }
         ensures published { OnOk result (HasPublished book.now self.old self.new) }
@@ -63,7 +63,7 @@ impl Board {
         self.publisher.publish(rt, change)
     }
 
-    /// Tells what is published once more.
+    /// Another told value of all that is published.
     pub fn tell(&self) -> Told
         ensures board { told_board result ≡ name_of self.now }
         ensures told { told_changes result ≡ published self.now }
@@ -71,7 +71,7 @@ impl Board {
         self.publisher.tell()
     }
 
-    /// Ends it. It waits for the readers that are in. A watcher that lives on then sees nothing more.
+    /// Ends the board. It waits for the readers that are reading. A watcher that lives on then sees nothing more.
     pub fn close<R: Wait>(self, rt: &R) {
         let Board { publisher, keys: _ } = self;
         publisher.close(rt);

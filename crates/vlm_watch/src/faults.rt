@@ -1,4 +1,4 @@
-//! Why there is no board.
+//! The faults that a board is refused by.
 
 use thiserror::Error;
 

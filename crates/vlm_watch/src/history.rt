@@ -1,4 +1,4 @@
-//! The changes that were published, in order. They exist in the proofs alone, but for a word with their number.
+//! The published changes, in order. They exist only in proofs, except for a word with their number.
 
 ghost use Rattle.std.specs.Prelude.{◌≡◌, ◌+◌, ◌<◌, ◌^◌, ◌++◌, ◌∷◌, [], length, IsTrue};
 ghost use Rattle.vlm_watch.specs.Histories.{word_of};
@@ -27,7 +27,7 @@ impl Rule<Change, u64> for IsCounted {
     ghost moves = { λ ask before after answer. Unit {0} };
 }
 
-/// Nobody trades anything for a step.
+/// A step of the book takes nothing and gives nothing.
 pub(crate) struct NoGain;
 
 impl Gain<Change, u64> for NoGain {
@@ -53,7 +53,7 @@ impl Plain<Change, Change, u64> for Lengthening {
     ghost state = { λ change. None };
 }
 
-/// A beginning of the changes that was reached. It takes no room.
+/// A first part of the published changes. It takes no room.
 pub(crate) type History = Seen<Change, u64, IsCounted>;
 
 /// The number of changes.
@@ -68,7 +68,7 @@ pub(crate) fn empty() -> (Count, History)
     (Count::tracked(0, &mut pen), history)
 }
 
-/// Adds a change to all that was reached, and says whether it did. It does not where there are more already.
+/// Adds a change after this part, and says whether it did. It does not if there are more changes already.
 pub(crate) fn lengthen(word: &Count, history: &mut History, count: u64, change: &Change) -> bool
     requires word { word.now ≡ word_of history.old.book }
     requires count { count ≡ length history.old.log }

@@ -1,18 +1,18 @@
-//! Watchers: threads that see who holds what, and wait for nobody.
+//! Watchers: threads that see how resources are used, and never wait.
 //!
-//! A [`Board`] publishes rows: what a watcher is shown of a resource, for each of up to 16 root resources. A [`Watcher`]
-//! reads the last of them that came to it, on a thread of its own, and asks no lock manager that is at work. What is
-//! published is a list of changes that only grows; what a watcher sees is a beginning of it, and never goes back.
-//! A [`Told`] carries what is published to a watcher, which then sees that or more.
+//! A [`Board`] publishes a row for each of up to 16 root resources. A [`Watcher`] reads the last published row on a
+//! thread of its own, while the lock manager goes on with its work. The published changes are a list that only grows. A
+//! watcher sees a first part of this list, and that part never shrinks. A [`Told`] value carries the published list to
+//! a watcher, which then sees that much or more.
 //!
 //! # Implementation
 //!
-//! Two copies of a sheet stand in the kit's `left_right`: readers take one while the writer changes the other. A sheet has
-//! the last change alone. The list of all changes exists in the proofs, as the log of a book of the kit's `logbook`, and
-//! only its length is a word. A sheet and a told value carry the beginning of the list that they stand for, which takes no
-//! room: so a watcher that compares two counts, and two changes where these are equal, knows which list begins which.
-//! Publishing appends to the writer's log, the only growth, then lengthens the list, and then swaps the copies, once the
-//! readers of the spare one have left it.
+//! The kit's `left_right` has two copies of a sheet: readers read one while the writer changes the other. A sheet has
+//! only the last change. The list of all changes exists only in proofs, as the log of a book of the kit's `logbook`;
+//! its length is one word. A sheet and a told value carry the first part of the list that they belong to, which takes
+//! no room. So a watcher compares two counts, and two changes if the counts are equal, and knows which list begins with
+//! the other. A publish appends to the writer's log, which is the only growth. Then it lengthens the list, and swaps
+//! the copies as soon as no reader is in the spare one.
 #![tactic(auto)]
 
 mod board;

@@ -1,4 +1,4 @@
-//! What publishes: the writer of the sheets, and the history of what was published.
+//! The publisher: the writer of the sheets, and the history of the published changes.
 
 ghost use Rattle.std.specs.Prelude.{◌≡◌, ◌<◌, ◌≤◌, ◌++◌, ◌∷◌, [], All, IfOk, OnErr, OnOk, length, true, vec_len};
 ghost use Rattle.left_right.specs.Sides.{view};
@@ -17,12 +17,12 @@ use core::mem::replace_with;
 use std::alloc::{AllocError, Global};
 use std::sync::Wait;
 
-/// What publishes. It can't be dropped: end it by `close`.
+/// The publisher of a board. It can't be dropped: end it by `close`.
 pub(crate) struct Publisher {
     writer: SheetWriter,
-    // the number of changes, which nobody else has
+    // the number of changes, which only the publisher has
     count: Count,
-    // what is published
+    // the published changes
     pub(crate) history: History,
     ghost word: { count ≡ word_of history.book },
     ghost shows: { changes_to writer.desk.shown.value ≡ history.log },
@@ -36,7 +36,7 @@ pub(crate) struct Publisher {
 impl Publisher {
     ghost use Rattle.vlm_watch.specs.Watching.{IsNew, told_board, told_changes};
 
-    /// For so many readers, with nothing published. Refused, nothing is left.
+    /// A publisher for so many readers, with nothing published. If it is refused, no memory stays taken.
     pub(crate) fn open<R: Wait>(
         rt: &R,
         alloc: Global,
@@ -57,7 +57,7 @@ impl Publisher {
         })
     }
 
-    // A watcher of so many keys, before anything is published. Refused, there is no place for one.
+    // A watcher of so many keys, before anything is published. Refused if there is no place for one.
     fn watcher(&mut self, keys: usize) -> Result<Watcher, AllocError>
         requires keys { keys ≤ 16 }
         requires first { self.old.history.log ≡ [] }
@@ -102,7 +102,7 @@ impl Publisher {
         Ok(all)
     }
 
-    // Publishes a change. Refused, nothing is published.
+    // Publishes a change. If it is refused, nothing is published.
     fn publishing<R: Wait>(self, rt: &R, change: Change) -> (Publisher, Result<(), AllocError>)
         ensures book { result.0.history.book ≡ self.history.book }
         ensures ok { OnOk result.1 (result.0.history.log ≡ self.history.log ++ change ∷ []) }
@@ -131,7 +131,7 @@ impl Publisher {
             return (same, Err(AllocError));
         };
         let mut longer = history.again();
-        // Nobody else has the number, so this is always done.
+        // Only the publisher has the number, so this always succeeds.
         if !lengthen(&count, &mut longer, number, &change) {
             let same = Publisher {
                 writer,
@@ -149,7 +149,7 @@ impl Publisher {
         (publisher, done)
     }
 
-    /// Publishes a change, and tells what is published then. Refused, nothing is published.
+    /// Publishes a change, and answers a told value of all that is published. If it is refused, nothing is published.
     pub(crate) fn publish<R: Wait>(&mut self, rt: &R, change: Change) -> Result<Told, AllocError>
         ensures book { self.new.history.book ≡ self.old.history.book }
         ensures ok { OnOk result (self.new.history.log ≡ self.old.history.log ++ change ∷ []) }
@@ -165,7 +165,7 @@ impl Publisher {
         Ok(self.tell())
     }
 
-    /// Tells what is published.
+    /// A told value of all that is published.
     pub(crate) fn tell(&self) -> Told
         ensures board { told_board result ≡ self.now.history.book }
         ensures told { told_changes result ≡ self.now.history.log }
@@ -178,7 +178,7 @@ impl Publisher {
         }
     }
 
-    /// Ends it, once the readers that are in have left.
+    /// Ends it, as soon as no reader is reading.
     pub(crate) fn close<R: Wait>(self, rt: &R) {
         let Publisher {
             writer,

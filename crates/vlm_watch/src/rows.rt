@@ -1,4 +1,4 @@
-//! What a watcher is shown of a resource, and a change: the rows of up to 16 resources.
+//! Rows of resources, and changes: the rows of up to 16 resources.
 
 ghost use Rattle.std.specs.Prelude.{◌≡◌, ◌≤◌, IsTrue, length};
 ghost use Rattle.vlm_watch.specs.Rows.{IsChangeOf, absent, row_of, row_with};
@@ -8,19 +8,19 @@ use vlm_journal::book::Book;
 use vlm_words::names::Name;
 use vlm_words::resources::Domain;
 
-/// Where a root resource stands: its domain and its name.
+/// The key of a root resource: its domain and its name.
 #[derive(Clone, Copy)]
 pub struct RootKey {
-    /// The space of names that it is in.
+    /// Its domain.
     pub domain: Domain,
     /// Its name.
     pub name: Name,
 }
 
-/// What a watcher is shown of a resource. One that is not there has no locks, and a valid value block of zeros.
+/// How a resource is used. The row of a resource that does not exist has no locks, and a valid value block of zeros.
 #[derive(Clone, Copy, Debug)]
 pub struct Row {
-    /// How many locks hold each mode, from NL to EX: the granted and the converting.
+    /// How many granted and converting locks hold each mode, from NL to EX.
     pub held: [u32; 6],
     /// How many conversions wait.
     pub conversions: u32,
@@ -30,18 +30,19 @@ pub struct Row {
     pub value: [u8; 16],
     /// Whether the value block is valid.
     pub valid: bool,
-    /// How many entries the hub had made as the row was published, or `u64::MAX` where there were more; 0 before.
+    /// How many entries the hub had made when the row was published; `u64::MAX` if that is less than their number; 0
+    /// before the first publish.
     pub journal: u64,
 }
 
-/// What is published at once: the rows of the keys in their order, and behind them rows of resources that are not there.
+/// The rows that are published at once: those of the keys in their order, and then rows of resources that do not exist.
 #[derive(Clone, Copy)]
 pub(crate) struct Change {
     pub(crate) rows: [Row; 16],
 }
 
 impl Row {
-    /// The row of a resource that is not there, before any entry.
+    /// The row of a resource that does not exist, before any entry.
     pub(crate) fn absent() -> Row
         ensures { result ≡ absent }
     {
@@ -55,7 +56,7 @@ impl Row {
         }
     }
 
-    // The row of a resource that is used so, or is not there, behind so many entries.
+    // The row of a resource that is used so, or does not exist, after so many entries.
     fn of(usage: Option<Usage>, journal: u64) -> Row
         ensures { result ≡ row_with usage journal }
     {
@@ -72,7 +73,7 @@ impl Row {
         row
     }
 
-    // Whether the two are equal. An answer of a derive says less of arrays.
+    // Whether the two are equal. The contract of a derived `==` says less about arrays.
     fn is_same(&self, other: &Row) -> bool
         ensures { IsTrue result → self.now ≡ other.now }
     {
@@ -86,7 +87,7 @@ impl Row {
     }
 }
 
-// The row of a resource, as the book stands.
+// The row of a resource in the present state of the book.
 fn root_row(book: &Book, key: &RootKey) -> Row
     ensures { result ≡ row_of book.now key.now }
 {
@@ -94,7 +95,7 @@ fn root_row(book: &Book, key: &RootKey) -> Row
 }
 
 impl Change {
-    /// The rows of the resources under these keys, as the book stands.
+    /// The rows of the resources under these keys in the present state of the book.
     pub(crate) fn of(book: &Book, keys: &[RootKey]) -> Change
         requires { length keys.now ≤ 16 }
         ensures { IsChangeOf book.now keys.now result }

@@ -1,4 +1,4 @@
-//! What readers take, and what a publish asks for.
+//! Sheets, which readers read, and updates, which a publish makes.
 
 ghost use Rattle.std.specs.Prelude.{◌≡◌, ◌<◌, None};
 ghost use Rattle.vlm_watch.specs.Sheets.{row_in};
@@ -8,7 +8,7 @@ use crate::rows::{Change, Row};
 use left_right::Absorb;
 use std::alloc::AllocError;
 
-/// What readers take: the last change, if there was one, how many there were, and the history before the last.
+/// A sheet: the last change, if there was one, the number of changes, and the history before the last.
 #[derive(Drop)]
 pub(crate) struct Sheet {
     pub(crate) last: Option<Change>,
@@ -16,7 +16,7 @@ pub(crate) struct Sheet {
     pub(crate) before: History,
 }
 
-/// What a publish asks for: the change, how many there are with it, and the history before it.
+/// An update of a sheet: the change, the number of changes with it, and the history before it.
 #[derive(Drop)]
 pub(crate) struct Update {
     pub(crate) change: Change,
@@ -24,7 +24,7 @@ pub(crate) struct Update {
     pub(crate) before: History,
 }
 
-// A sheet is written whole, so an update that was never shown leaves nothing behind.
+// A sheet is written whole, so an update that no reader saw leaves no trace.
 impl Absorb<Update> for Sheet {
     ghost use Rattle.vlm_watch.specs.Sheets.{updated};
 
@@ -67,7 +67,7 @@ impl Sheet {
         }
     }
 
-    /// The row at a place of the last change, or that of a resource that is not there where there was none.
+    /// The row at a place of the last change; if there was no change, the row of a resource that does not exist.
     pub(crate) fn row(&self, place: usize) -> Row
         requires { place < 16 }
         ensures { result ≡ row_in self.now.last place }

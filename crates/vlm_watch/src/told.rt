@@ -1,4 +1,4 @@
-//! What is published, as it is told to a watcher.
+//! Told values, which carry the published list to a watcher.
 
 ghost use Rattle.std.specs.Prelude.{◌≡◌, length, IsTrue, None};
 ghost use Rattle.std.specs.List.{last_or};
@@ -8,7 +8,7 @@ use crate::history::History;
 use crate::rows::Change;
 use crate::sheet::Sheet;
 
-/// What was published up to a moment, for one watcher of the same board. It takes no memory.
+/// The changes that were published up to a moment, for one watcher of the same board. It takes no memory.
 #[derive(Drop)]
 pub struct Told {
     pub(crate) history: History,
@@ -21,7 +21,7 @@ pub struct Told {
 impl Told {
     ghost use Rattle.vlm_watch.specs.Sheets.{changes_to};
 
-    /// Whether what the sheet shows begins with this. It does for each sheet that is taken behind it.
+    /// Whether the changes up to the sheet begin with these. They do for each sheet that is read later.
     pub(crate) fn begins(&self, sheet: &Sheet) -> bool
         requires book { self.now.history.book ≡ sheet.now.before.book }
         requires count { sheet.now.count ≡ length (changes_to sheet.now) }

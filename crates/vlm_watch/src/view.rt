@@ -1,4 +1,4 @@
-//! The rule of a board, and what each step on it tells.
+//! The rule of a board, and the facts that each step on it gives.
 
 use crate::rows::Change;
 use crate::sheet::{Sheet, Update};
@@ -7,8 +7,8 @@ use crossbeam_utils::rule::{Outcome, Protocol};
 use left_right::reader::Reader;
 use left_right::writer::Writer;
 
-/// What a place at the board knows: the changes that it saw, and of which board it is, as the numbers of its book, once it
-/// knows that. No value of it is made: a clause reads the array as a list of any length.
+/// What a place at the board knows: the changes that it saw, and its board, by the numbers of the board's book, as soon
+/// as it knows them. No value of this type is made: a clause reads the array as a list of any length.
 pub(crate) struct View {
     pub(crate) seen: [Change; 0],
     pub(crate) knows: bool,
@@ -17,7 +17,7 @@ pub(crate) struct View {
     pub(crate) cells_name: u64,
 }
 
-/// What each place saw is a beginning of what is published.
+/// Each place saw a first part of the published changes.
 pub(crate) struct BeginsWithWhatWasSeen;
 
 impl Protocol<Sheet, View> for BeginsWithWhatWasSeen {
@@ -28,7 +28,7 @@ impl Protocol<Sheet, View> for BeginsWithWhatWasSeen {
     ghost first = { newcomer };
 }
 
-/// A reader enters: it sees what is published.
+/// A reader enters: it sees all that is published.
 pub(crate) struct Sees;
 
 impl Outcome<Sheet, View> for Sees {
@@ -37,7 +37,7 @@ impl Outcome<Sheet, View> for Sees {
     ghost then = { See };
 }
 
-/// The writer shows a sheet with one change more.
+/// The writer shows a sheet with one more change.
 pub(crate) struct Publishes;
 
 impl Outcome<Sheet, View> for Publishes {
@@ -46,7 +46,7 @@ impl Outcome<Sheet, View> for Publishes {
     ghost then = { Publish };
 }
 
-/// The writer shows the first sheet, and learns of which board it is.
+/// The writer shows the first sheet, and learns its board.
 pub(crate) struct Opens;
 
 impl Outcome<Sheet, View> for Opens {
@@ -55,7 +55,7 @@ impl Outcome<Sheet, View> for Opens {
     ghost then = { Open };
 }
 
-/// A note says of which board it is, and nothing of what was seen. Its taker keeps what it saw.
+/// A note names the board, and no changes. Who takes it keeps what it saw.
 pub(crate) struct Notes;
 
 impl Split<View> for Notes {

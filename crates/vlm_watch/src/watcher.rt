@@ -1,4 +1,4 @@
-//! A watcher: the end of a board that reads.
+//! A watcher: the reading end of a board.
 
 ghost use Rattle.std.specs.Prelude.{◌≡◌, ◌<◌, ◌≤◌, true, take, length, IfSome, IfNone, IsTrue, OnSome};
 ghost use mathlib.Core.List.{IsPrefix};
@@ -12,15 +12,15 @@ use crate::told::Told;
 use crate::view::{Sees, SheetReader};
 use core::mem::replace_with;
 
-/// A watcher of a hub, for a thread of its own. Its calls wait for nobody and take no memory.
+/// A watcher of a hub, for a thread of its own. Its calls never wait, and take no memory.
 #[derive(Drop)]
 pub struct Watcher {
     pub(crate) reader: SheetReader,
     // how many keys its board has
     pub(crate) keys: usize,
-    // the longest of what it was told
+    // the longest list that it was told
     pub(crate) learnt: Told,
-    // the sheet that it showed last
+    // the last sheet that it showed
     pub(crate) shown: Sheet,
     ghost few: { keys ≤ 16 },
     ghost knows: { (view reader.place).knows ≡ true },
@@ -33,7 +33,7 @@ pub struct Watcher {
 impl Watcher {
     ghost use Rattle.vlm_watch.specs.Watching.{IsAsBefore, board_of, learnt, seen, told_board, told_changes};
 
-    // Looks at the sheet that is published, and shows its row at a place.
+    // Reads the published sheet, and shows its row at a place.
     fn looking(self, place: usize) -> (Watcher, Option<Row>)
         requires { place < self.keys }
         ensures same { IsAsBefore self result.0 }
@@ -82,10 +82,11 @@ impl Watcher {
         (watcher, Some(row))
     }
 
-    /// The row of the key at a place, from 0: of the last change of a list that begins with all that this watcher has seen,
-    /// and with all that it was told. Before any change it is the row of a resource that is not there, with `journal` 0.
-    /// None, and then nothing is changed, where the hub is finished, or where what is shown is less than what was told,
-    /// which comes to nothing: what is told was published before. It takes the same time however much is held.
+    /// The row of the key at a place, from 0, in the last change of a list. That list begins with all changes that this
+    /// watcher has seen, and with all that it was told. Before any change it is the row of a resource that does not
+    /// exist, with `journal` 0. `None` if the hub is finished, and then nothing is changed. (`None` also if the list is
+    /// shorter than what was told. That never happens, since a change is published before it is told.) It takes the
+    /// same time however much is held.
     pub fn see(&mut self, place: usize) -> Option<Row>
         requires { place < self.old.keys }
         ensures same { IsAsBefore self.old self.new }
@@ -98,7 +99,7 @@ impl Watcher {
         replace_with(self, place, |watcher, place| watcher.looking(place))
     }
 
-    // Takes in what it is told.
+    // Takes in a told value.
     fn learning(self, told: Told) -> (Watcher, ())
         requires { told_board told ≡ board_of self }
         ensures same { IsAsBefore self result.0 }
@@ -121,7 +122,7 @@ impl Watcher {
         (watcher, ())
     }
 
-    /// What is seen from now on begins with what is told here. The told value, of the same hub, is used up.
+    /// All that this watcher sees later begins with the told changes. The told value is of the same hub, and is used up.
     pub fn learn(&mut self, told: Told)
         requires { told_board told ≡ board_of self.old }
         ensures same { IsAsBefore self.old self.new }
@@ -132,7 +133,7 @@ impl Watcher {
         replace_with(self, told, |watcher, told| watcher.learning(told))
     }
 
-    /// Whether the row that it showed last is of the change that `told` carries, and of no later one. `told` is of the same
+    /// Whether the last row that it showed is of the last change in `told`, and of no later one. `told` is of the same
     /// hub. It takes constant time.
     pub fn has_seen(&self, told: &Told) -> bool
         requires { told_board told.now ≡ board_of self.now }
