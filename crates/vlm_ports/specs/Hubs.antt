@@ -1,4 +1,4 @@
--- What a hub has written down, and what it knows of its ports.
+-- The journal of a hub, and what the hub knows of its ports.
 use Rattle.std.specs.Prelude.{◌≡◌, ◌⊎◌, ◌<◌, ◌≤◌, ◌-◌, ◌+◌, ◌++◌, ℕ, All, List, [], length, map, slice_get, slice_index_or, Some, None, IsNone}
 use Rattle.vlm_words.specs.declared.asts.Ast.{Ast}
 use Rattle.vlm_words.specs.declared.steps.Answer.TheVariants.{Taken}
@@ -20,7 +20,7 @@ use Rattle.vlm_ports.specs.Links.{Base, IsDrawn, Lasts, MayRest, knows, line_bas
 use Rattle.vlm_ports.specs.Ports.{identity}
 use Rattle.vlm_ports.specs.Rings.{RingName}
 
--- the entries since the last cut, the state that they lead to, and how many were handed out before them
+-- the entries since the last cut, the state to which they lead, and the number of entries before them
 abbrev pub journal : Hub → List Entry
 journal h = h.book.entries
 
@@ -38,7 +38,7 @@ nodes h = length h.lines.items
 abbrev pub rings : Hub → List (ℕ × RingName × RingName)
 rings h = map line_identity h.lines.items
 
--- what each node had asked for and had been told before the last cut
+-- the requests and the items of each node before the last cut
 abbrev pub bases : Hub → List Base
 bases h = map (line_base (journal h)) h.lines.items
 
@@ -48,7 +48,7 @@ asked_before h node = (slice_index_or (bases h) (node - 1) no_base).asked_before
 abbrev pub told_before : Hub → ℕ → List Item
 told_before h node = (slice_index_or (bases h) (node - 1) no_base).told_before
 
--- the posts of a node that the hub knows to lie on its ring
+-- the posts of a node that the hub knows to be on its ring
 abbrev pub waiting : Hub → ℕ → List Step
 waiting h node = slice_index_or (map knows h.lines.items) (node - 1) []
 
@@ -56,29 +56,29 @@ waiting h node = slice_index_or (map knows h.lines.items) (node - 1) []
 abbrev pub free_for : Hub → ℕ → ℕ
 free_for h node = slice_index_or (map places h.lines.items) (node - 1) 0
 
--- the posts of a node that the hub knows of: those that it has made, and then those that wait
+-- the posts of a node that the hub knows of: first those that it has made, then those that wait
 abbrev pub known_posts : Hub → ℕ → List Step
 known_posts h node = (asked_before h node ++ asked node (journal h)) ++ waiting h node
 
--- how many places of items the hub knows of: those of the items that it has sent to a node, and those that are free
+-- how many places for items the hub knows of: those of the items that it has sent to a node, and the free ones
 abbrev pub known_places : Hub → ℕ → ℕ
 known_places h node = length (told_before h node ++ told node (journal h)) + free_for h node
 
--- what the hub knows of its nodes lasts: each post that it knew of it has made or knows still, and each place that it
--- knew to be free it has used or knows still
+-- the hub forgets nothing: each post that it knew of it has made or still knows, and each place that it knew to be free
+-- it has used or still knows
 abbrev pub KeepsKnown : Hub → Hub → Type 0
 KeepsKnown old new = (node : ℕ) → 0 < node → node ≤ nodes old
     → IsPrefix (known_posts old node) (known_posts new node) × (known_places old node ≤ known_places new node)
 
--- of a node the hub knows what it knew
+-- the hub knows the same about a node
 abbrev pub KnowsTheSame : ℕ → Hub → Hub → Type 0
 KnowsTheSame node old new = (waiting new node ≡ waiting old node) × (free_for new node ≡ free_for old node)
 
--- of each node but one the hub knows what it knew
+-- the hub knows the same about each node except one
 abbrev pub OthersLast : ℕ → Hub → Hub → Type 0
 OthersLast own old new = (node : ℕ) → 0 < node → (node ≡ own → ⊥) → KnowsTheSame node old new
 
--- what is known of each line lasts
+-- no line forgets anything
 abbrev pub LinesLast : Hub → Hub → Type 0
 LinesLast old new = (k : ℕ) (d : Line) → Lasts (slice_index_or old.lines.items k d) (slice_index_or new.lines.items k d)
 
@@ -99,24 +99,24 @@ IsDrawnAt h k = (d : Line) → IsDrawn (state h) (slice_index_or h.lines.items k
 abbrev pub MayRestAt : Hub → ℕ → Type 0
 MayRestAt h k = (d : Line) → MayRest (state h) (slice_index_or h.lines.items k d)
 
--- neither the state nor any line but the one at a place has changed
+-- only the line at a place has changed, and not the state
 pub record IsSameBut (at : ℕ) (old new : Hub) : Type 0 where
   pub state : new.book.state ≡ old.book.state
   pub lines : (k : ℕ) (d : Line) → (k ≡ at → ⊥) → slice_index_or new.lines.items k d ≡ slice_index_or old.lines.items k d
 
--- the entry is a take, and is answered an AST
+-- the entry is a take, and its answer is an AST
 pub record TakesAst (entry : Entry) : Type 0 where
   pub pid : ℕ
   pub ast : Ast
   pub step : entry.step ≡ Take pid
   pub answer : entry.answer ≡ Taken (Some ast)
 
--- all that the hub makes by itself are takes that are answered an AST
+-- the hub itself makes only takes whose answers are ASTs
 abbrev pub HubTakesAlone : List Entry → Type 0
 HubTakesAlone entries = All (λ entry. entry.sender ≡ 0 → TakesAst entry) entries
 
--- so many entries were put at the end, they are legal from the state before them and lead to the state after them; by
--- itself the hub makes takes alone, and a node that had departed is answered DEPARTED each time
+-- so many entries were appended: they are legal from the state before them and lead to the state after them; the hub
+-- itself makes only takes, and a node that had departed is always answered DEPARTED
 pub record Grew (n : ℕ) (before : List Entry) (old : State) (now : List Entry) (new : State) : Type 0 where
   pub more : List Entry
   pub is : now ≡ before ++ more
@@ -125,19 +125,19 @@ pub record Grew (n : ℕ) (before : List Entry) (old : State) (now : List Entry)
   pub takes : HubTakesAlone more
   pub departed : (node : ℕ) → HasDeparted old node → StaysDeparted node more new
 
--- the hub has put so many entries at the end
+-- the hub has appended so many entries
 abbrev pub HubGrew : ℕ → Hub → Hub → Type 0
 HubGrew n old new = Grew n (journal old) (state old) (journal new) (state new)
 
--- the hub has put none at the end, and its state is the same
+-- the hub has appended no entry, and its state is the same
 abbrev pub IsAsWritten : Hub → Hub → Type 0
 IsAsWritten old new = (journal new ≡ journal old) × (state new ≡ state old)
 
--- by these entries no node asks for more
+-- these entries have no request of a node
 abbrev pub NoneAsks : List Entry → List Entry → Type 0
 NoneAsks old new = (k : ℕ) → asked (k + 1) new ≡ asked (k + 1) old
 
--- none but the node of the line at a place asks for more, and that for one step at most
+-- these entries have at most one request, of the node of the line at a place
 pub record OneAsks (at : ℕ) (old new : List Entry) : Type 0 where
   pub own : length (asked (at + 1) new) ≤ length (asked (at + 1) old) + 1
   pub others : (k : ℕ) → (k ≡ at → ⊥) → asked (k + 1) new ≡ asked (k + 1) old
@@ -146,8 +146,7 @@ pub record OneAsks (at : ℕ) (old new : List Entry) : Type 0 where
 abbrev pub EachAsksOnce : List Entry → List Entry → Type 0
 EachAsksOnce old new = (node : ℕ) → 0 < node → length (asked node new) ≤ length (asked node old) + 1
 
--- a hub of so many nodes that has made nothing: nothing is written down, no node has asked for anything or been told
--- anything, and nobody watches
+-- a new hub of so many nodes: it has no entries, no requests, no items and no watchers
 pub record IsNewHub (count : ℕ) (h : Hub) : Type 0 where
   pub journal : journal h ≡ []
   pub state : state h ≡ start

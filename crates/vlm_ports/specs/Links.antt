@@ -1,4 +1,4 @@
--- What the hub's ends of a node's rings have taken and sent.
+-- The posts that the hub has taken from a node's rings, and the items that it has sent.
 use Rattle.std.specs.Prelude.{◌≡◌, ◌⊎◌, ◌<◌, ◌≤◌, ◌+◌, ◌-◌, ◌++◌, ℕ, List, [], length, map, slice_index_or, take, None}
 use mathlib.Core.List.{IsPrefix}
 use Rattle.rtrb.specs.Ring.{known_free, known_items, received, sent}
@@ -20,7 +20,7 @@ has_taken l = map (λ step. on_behalf l.node step) (received l.requests)
 abbrev pub has_told : Line → List Item
 has_told l = sent l.items
 
--- the posts that the hub knows to lie on the node's ring
+-- the posts that the hub knows to be on the node's ring
 abbrev pub knows : Line → List Step
 knows l = map (λ step. on_behalf l.node step) (known_items l.requests)
 
@@ -28,8 +28,8 @@ knows l = map (λ step. on_behalf l.node step) (known_items l.requests)
 abbrev pub places : Line → ℕ
 places l = known_free l.items
 
--- what was known of a line lasts: each post that was known is taken or still known, and each place that was known to be
--- free has an item or is still known to be free
+-- a line forgets nothing: each known post is taken or still known, and each place that was known to be free has an item
+-- or is still known to be free
 pub record Lasts (was l : Line) : Type 0 where
   pub posts : IsPrefix (has_taken was ++ knows was) (has_taken l ++ knows l)
   pub places : length (has_told was) + places was ≤ length (has_told l) + places l
@@ -38,11 +38,11 @@ pub record Lasts (was l : Line) : Type 0 where
 abbrev pub line_identity : Line → ℕ × RingName × RingName
 line_identity l = (l.node, pop_ring l.requests, push_ring l.items)
 
--- what stands before so many of the last
+-- a list without so many of its last elements
 abbrev pub front : {X : Type 0} → List X → List X → List X
 front all last = take (length all - length last) all
 
--- what the node had asked for, and what it had been told, before these entries
+-- the requests and the items of the node before these entries
 pub record Base : Type 0 where
   pub asked_before : List Step
   pub told_before : List Item
@@ -50,14 +50,14 @@ pub record Base : Type 0 where
 abbrev pub no_base : Base
 no_base = record { asked_before = []; told_before = [] }
 
--- what the hub had taken and sent before these entries
+-- the posts that the hub had taken and the items that it had sent before these entries
 abbrev pub line_base : List Entry → Line → Base
 line_base journal l = record {
   asked_before = front (has_taken l) (asked l.node journal);
   told_before = front (has_told l) (told l.node journal);
 }
 
--- what was taken from the node's ring ends with what it asked for, and what was sent with what it is told
+-- the posts that were taken end with the node's requests, and the items that were sent end with its items
 pub record IsLinked (k : ℕ) (l : Line) (journal : List Entry) : Type 0 where
   pub node : l.node ≡ k + 1
   pub taken : has_taken l ≡ front (has_taken l) (asked (k + 1) journal) ++ asked (k + 1) journal
@@ -67,7 +67,7 @@ pub record IsLinked (k : ℕ) (l : Line) (journal : List Entry) : Type 0 where
 abbrev pub AreLinked : List Line → List Entry → Type 0
 AreLinked lines journal = (k : ℕ) (d : Line) → k < length lines → IsLinked k (slice_index_or lines k d) journal
 
--- the lines are those of the nodes from 1 on, and of none anything was taken or sent
+-- the lines are those of the nodes from 1 on, and nothing was taken from or sent to any of them
 abbrev pub AreFresh : List Line → Type 0
 AreFresh lines = (k : ℕ) (d : Line) → k < length lines
     → ((slice_index_or lines k d).node ≡ k + 1) × (has_taken (slice_index_or lines k d) ≡ [])

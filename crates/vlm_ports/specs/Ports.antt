@@ -1,4 +1,4 @@
--- What a port has posted and taken, and what it knows.
+-- The posts of a port, the items that it has taken, and what it knows.
 use Rattle.std.specs.Prelude.{◌≡◌, ◌<◌, ◌+◌, ℕ, List, [], length, map, slice_index_or}
 use Rattle.rtrb.specs.Ring.{known_free, known_items, received, sent}
 use Rattle.vlm_words.specs.declared.steps.Step.{Step}
@@ -27,7 +27,7 @@ arrived p = known_items p.items
 abbrev pub identity : Port → ℕ × RingName × RingName
 identity p = (p.node, push_ring p.requests, pop_ring p.items)
 
--- the ports of the nodes from 1 on, of which none has posted or taken anything
+-- the ports of the nodes from 1 on, before any of them has posted or taken anything
 abbrev pub AreNew : List Port → Type 0
 AreNew ports =
     (k : ℕ) (d : Port) → k < length ports

@@ -1,11 +1,11 @@
--- Which ring an end belongs to.
+-- The ring of an end.
 use Rattle.std.specs.Prelude.{ℕ}
 use Rattle.std.specs.declared.alloc.Global.{Global}
 use denote.RawPtr.{Ptr}
 use Rattle.rtrb.specs.declared.consumer.Consumer.{Consumer}
 use Rattle.rtrb.specs.declared.producer.Producer.{Producer}
 
--- what tells one ring from another
+-- the identity of a ring
 abbrev pub RingName : Type 0
 RingName = Ptr × Ptr × (ℕ × (ℕ × ℕ)) × Global
 

@@ -1,4 +1,4 @@
--- What a turn came to.
+-- The result of a turn.
 use Rattle.std.specs.Prelude.{ℕ}
 use Rattle.vlm_ports.specs.declared.hub.Turn.TheVariants.{Idle, NoMemory, Served}
 use Rattle.vlm_ports.specs.declared.hub.Turn.{Turn}

@@ -1,4 +1,4 @@
--- What contracts say of a hub that is watched.
+-- The words of contracts about a watched hub.
 use Rattle.std.specs.Prelude.{◌≡◌, ◌++◌, ◌∷◌, List, [], length, Option, None, Some, IsNone, IsSome}
 use Rattle.logbook.specs.Pages.{Book}
 use Rattle.vlm_ports.specs.declared.hub.Hub.{Hub}
@@ -9,7 +9,7 @@ use Rattle.vlm_watch.specs.declared.watcher.Watcher.{Watcher}
 use Rattle.vlm_watch.specs.Rows.{IsChangeOf}
 use Rattle.vlm_watch.specs.Watching.{board_of, keys_of, name_of, published as published_on}
 
--- what is published to those who watch the hub, once somebody does
+-- the board of the hub's watchers, once somebody watches it
 abbrev pub board : Hub → Option Board
 board h = h.board
 
@@ -25,7 +25,7 @@ IsUnwatched h = IsNone (board h)
 abbrev pub no_name : Book
 no_name = record { number = 0; log_name = 0; cells_name = 0 }
 
--- what tells a board from any other, if there is one
+-- the identity of a board, if there is one
 abbrev pub name_in : Option Board → Book
 name_in None = no_name
 name_in (Some board) = name_of board
@@ -35,12 +35,12 @@ abbrev pub keys_in : Option Board → List RootKey
 keys_in None = []
 keys_in (Some board) = keys_of board
 
--- what a board has published, if there is one
+-- the changes that a board has published, if there is one
 abbrev pub published_in : Option Board → List Change
 published_in None = []
 published_in (Some board) = published_on board
 
--- what tells a hub that is watched from any other
+-- the identity of a watched hub
 abbrev pub board_name : Hub → Book
 board_name h = name_in (board h)
 
@@ -61,7 +61,8 @@ abbrev pub IsWatchedAsBefore : Hub → Hub → Type 0
 IsWatchedAsBefore old new =
     IsWatched new × (board_name new ≡ board_name old) × (watched_keys new ≡ watched_keys old)
 
--- it has published one change more: the rows of its keys, as its core is, and with the entries made so far
+-- it has published one more change: the rows of its keys in the present state of its core, with the number of entries
+-- so far
 abbrev pub HasPublished : Hub → Hub → Type 0
 HasPublished old new =
     (change : Change) × IsChangeOf old.book (watched_keys old) change

@@ -1,4 +1,4 @@
-//! The hub: it alone owns the core and its journal.
+//! The hub, which owns the core and its journal.
 
 ghost use Rattle.std.specs.Prelude.{◌≡◌, ◌⊎◌, ◌≤◌, ◌<◌, ◌+◌, ◌*◌, ◌∷◌, ◌++◌, ◌-◌, ◌^◌, [], length, min, vec_len, IfOk, OnErr, OnOk, IsFalse, All, map, ℕ};
 ghost use mathlib.Core.List.{IsPrefix};
@@ -16,29 +16,29 @@ use vlm_watch::Board;
 use vlm_words::conditions::Cond;
 use vlm_words::steps::Answer;
 
-/// The hub: it makes what the ports post, and alone owns the core and its journal. It can't be dropped, since one that is
-/// watched may have to wait: end it by [`Hub::finish`], or where it is not watched by [`Hub::close`].
+/// The hub makes the steps that the ports post. It owns the core and its journal. It can't be dropped, since a watched
+/// hub may have to wait: end it by [`Hub::finish`], or by [`Hub::close`] if it is not watched.
 pub struct Hub {
     pub(crate) book: Book,
     lines: Vec<Line>,
-    // what is published to its watchers, once it is watched
+    // the board of its watchers, once it is watched
     pub(crate) board: Option<Board>,
     ghost few: { vec_len lines ≤ 8 },
     ghost linked: { AreLinked lines.items book.entries },
 }
 
-/// What a turn came to.
+/// The result of a turn.
 #[derive(Clone, Copy, Debug, PartialEq, Eq)]
 pub enum Turn {
-    /// So many entries were made, at least one.
+    /// It made so many entries, at least one.
     Served(usize),
-    /// None was made, and none could be.
+    /// It made no entry, and could make none.
     Idle,
-    /// A growth of the journal was refused after so many entries. No post is lost.
+    /// It made so many entries, and then more room for the journal was refused. No post is lost.
     NoMemory(usize),
 }
 
-// What attending to a node came to.
+// The result of attending to a node.
 #[derive(Clone, Copy)]
 struct Attended {
     made: usize,
@@ -74,8 +74,8 @@ impl Hub {
         self.book.entries()
     }
 
-    /// A hub of so many nodes, with a core at its start, and a port for each node: that of node 1 first. Refused, there is
-    /// no hub and no port.
+    /// A hub of so many nodes with a new core, and a port for each node, node 1 first. If it is refused, there is no
+    /// hub and no port.
     pub fn make(alloc: Global, count: usize) -> Result<(Hub, Vec<Port>), AllocError>
         requires count { (0 < count) × (count ≤ 8) }
         ensures hub { IfOk result (λ r. IsNewHub count r.0) }
@@ -86,7 +86,7 @@ impl Hub {
         Hub::with_core(alloc, Core::new(alloc), count)
     }
 
-    /// The same over a core that is made: with [`Core::with_keys`] where others choose the names of resources.
+    /// The same over this core. Make it with [`Core::with_keys`] if others choose the names of resources.
     pub fn with_core(
         alloc: Global,
         core: Core,
@@ -108,9 +108,10 @@ impl Hub {
         Ok((hub, ports))
     }
 
-    /// Attends to each node once: takes and sends at most one AST of it, and makes and answers at most one of its posts. What
-    /// it makes of a node that has departed, or was lost, is answered DEPARTED. Idle comes only where the hub knows no free place on the item ring of any node that has an AST pending or a post
-    /// that the hub knows to lie on its request ring. It waits for nobody.
+    /// Attends to each node once: takes and sends at most one of its ASTs, and makes and answers at most one of its
+    /// posts. A post of a node that has departed or was lost is answered DEPARTED. `Idle` comes only if no node both
+    /// has work, a pending AST or a post that the hub knows of, and a place on its item ring that the hub knows to be
+    /// free. It never waits.
     pub fn turn(&mut self) -> Turn
         ensures rings { rings self.new ≡ rings self.old }
         ensures base { (base self.new ≡ base self.old) × (bases self.new ≡ bases self.old) }
@@ -137,8 +138,8 @@ impl Hub {
         }
     }
 
-    /// A node is lost: the hub makes its departure, whatever the node has posted, and answers NORMAL, or DEPARTED where it
-    /// had departed before. What it still posts is answered DEPARTED. Refused, nothing is changed.
+    /// Makes the departure of a lost node, whatever the node has posted. It answers NORMAL, or DEPARTED if the node had
+    /// departed before. Later posts of the node are answered DEPARTED. If it is refused, nothing is changed.
     pub fn lost(&mut self, node: u8) -> Result<Cond, AllocError>
         requires node { (0 < node) × (node ≤ 8) }
         ensures rings { rings self.new ≡ rings self.old }
@@ -159,8 +160,9 @@ impl Hub {
         Ok(condition_of(answer))
     }
 
-    /// Settles a port of this hub, whose thread has handed it back: how many posts the hub has not taken, and how many
-    /// items the port has not taken. Nothing is moved; the hub then knows those posts, and the port those items.
+    /// Settles a port of this hub that its thread has handed back: it counts the posts that the hub has not taken, and
+    /// the items that the port has not taken. It moves nothing. After it the hub knows those posts, and the port knows
+    /// those items.
     pub fn settle(&mut self, port: &mut Port) -> Settled
         requires { IsPortOf self.old port.old }
         ensures rings { rings self.new ≡ rings self.old }
@@ -187,7 +189,7 @@ impl Hub {
         line.settle(port)
     }
 
-    /// Hands out the entries since the last cut, and begins anew behind them. It takes no memory.
+    /// Hands out the entries since the last cut, and begins a new part. It takes no memory.
     pub fn cut(&mut self) -> Part
         ensures rings { rings self.new ≡ rings self.old }
         ensures board { board self.new ≡ board self.old }
@@ -208,7 +210,7 @@ impl Hub {
         self.book.cut()
     }
 
-    /// Ends a hub that is not watched: gives out the entries since the last cut, and the core. It waits for nobody.
+    /// Ends a hub that is not watched, and gives out the entries since the last cut, and the core. It never waits.
     pub fn close(self) -> (Vec<Entry>, Core)
         requires { IsUnwatched self }
         ensures entries { result.0.items ≡ journal self }
@@ -226,8 +228,8 @@ impl Hub {
         }
     }
 
-    /// Ends the hub: gives out the entries since the last cut, and the core. Where it is watched it may wait for watchers that
-    /// are reading, and a watcher that lives on then sees nothing more.
+    /// Ends the hub, and gives out the entries since the last cut, and the core. If it is watched, it may wait for
+    /// watchers that are reading. A watcher that lives on then sees nothing more.
     pub fn finish<R: Wait>(self, rt: &R) -> (Vec<Entry>, Core)
         ensures entries { result.0.items ≡ journal self }
         ensures state { result.1 ≡ state self }
@@ -271,7 +273,8 @@ impl Hub {
         }
     }
 
-    // Sends a node an AST that is pending for it, if one is and there is a known place. Says how many entries it made.
+    // Sends a node one of its pending ASTs, if there is one, and a place for it that the hub knows to be free. Answers
+    // how many entries it made.
     fn draw(&mut self, at: usize) -> Result<usize, AllocError>
         requires { at < nodes self.old }
         ensures rings { rings self.new ≡ rings self.old }
@@ -298,8 +301,8 @@ impl Hub {
         Ok(1)
     }
 
-    // Takes a post of a node, if one is known and there is a known place for its answer, and answers it. Says how many
-    // entries it made. Refused, no post is lost.
+    // Takes a post of a node and answers it, if the hub knows of a post, and of a free place for the answer. Answers
+    // how many entries it made. If it is refused, no post is lost.
     fn serve(&mut self, at: usize) -> Result<usize, AllocError>
         requires { at < nodes self.old }
         ensures rings { rings self.new ≡ rings self.old }
@@ -327,7 +330,7 @@ impl Hub {
     }
 }
 
-// The ends of the rings of so many nodes, the hub's and the nodes'.
+// The hub's and the nodes' ends of the rings of so many nodes.
 fn ring_ends(alloc: Global, count: usize) -> Result<(Vec<Line>, Vec<Port>), AllocError>
     requires count { count ≤ 8 }
     ensures lines { IfOk result (λ r. (length r.0.items ≡ count) × AreFresh r.0.items) }
@@ -344,7 +347,7 @@ fn ring_ends(alloc: Global, count: usize) -> Result<(Vec<Line>, Vec<Port>), Allo
     Ok((lines, ports))
 }
 
-// The condition that a step was answered.
+// The condition in an answer.
 fn condition_of(answer: Answer) -> Cond
     requires { (cond : Cond) × (answer ≡ Answer.Plain cond) }
     ensures { answer ≡ Answer.Plain result }

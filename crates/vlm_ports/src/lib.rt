@@ -1,8 +1,8 @@
-//! Ports that never wait, and the hub that makes what they post.
+//! Ports that never wait, and the hub that makes their steps.
 //!
-//! A node has a [`Port`], which its thread owns alone: it posts steps and takes items, and waits for nobody. The [`Hub`]
-//! owns the core and its journal: in turns it makes what the ports have posted, and sends each node its answers and its
-//! ASTs. Between them lie two rings for each node, one each way, of 64 places.
+//! A node has a [`Port`], which only its thread owns. A port posts steps and takes items, and never waits. The [`Hub`]
+//! owns the core and its journal. In each turn it makes steps that the ports have posted, and sends each node its
+//! answers and its ASTs. Between the hub and each port are two rings of 64 places, one each way.
 #![tactic(auto)]
 
 mod hub;

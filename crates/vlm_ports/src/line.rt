@@ -20,14 +20,14 @@ const PLACES: usize = 64;
 pub(crate) struct Line {
     /// The node, from 1.
     pub(crate) node: u8,
-    /// What the node posts.
+    /// The ring of the node's posts.
     pub(crate) requests: Consumer<Step>,
-    /// What the node is told.
+    /// The ring of the node's items.
     pub(crate) items: Producer<Item>,
     ghost places: { producer_capacity items ≡ 64 },
 }
 
-/// What a settling of a port found.
+/// The counts of a settled port.
 #[derive(Clone, Copy, Debug, PartialEq, Eq)]
 pub struct Settled {
     /// How many posts the hub has not taken.
@@ -64,7 +64,7 @@ impl Line {
         Ok((line, port))
     }
 
-    /// Whether a place for an item is known to be free, after a look if none was.
+    /// Whether a place for an item is known to be free. It looks at the ring if none is known.
     pub(crate) fn has_place(&mut self) -> bool
         ensures rings { line_identity self.new ≡ line_identity self.old }
         ensures taken { has_taken self.new ≡ has_taken self.old }
@@ -77,7 +77,7 @@ impl Line {
         !self.items.is_full()
     }
 
-    /// Whether a place for an item is known to be free, without a look.
+    /// Whether a place for an item is known to be free. It does not look at the ring.
     pub(crate) fn has_known_place(&self) -> bool
         ensures place { IsTrue result → 0 < places self.now }
         ensures none { IsFalse result → places self.now ≡ 0 }
@@ -85,7 +85,7 @@ impl Line {
         self.items.cached_slots() > 0
     }
 
-    /// Whether a post is known to lie on the ring, after a look if none was.
+    /// Whether a post is known to be on the ring. It looks at the ring if none is known.
     pub(crate) fn has_request(&mut self) -> bool
         ensures rings { line_identity self.new ≡ line_identity self.old }
         ensures taken { has_taken self.new ≡ has_taken self.old }
@@ -98,7 +98,7 @@ impl Line {
         !self.requests.is_empty()
     }
 
-    /// The next post, of those known.
+    /// The next known post.
     pub(crate) fn request(&mut self) -> Step
         requires { 0 < length (knows self.old) }
         ensures rings { line_identity self.new ≡ line_identity self.old }
@@ -122,8 +122,8 @@ impl Line {
         self.items.push_reserved(item);
     }
 
-    /// Both ends in one hand: what the port posted and the hub has not taken, and what the hub sent and the port has not
-    /// taken, at most 64 each. Then each empty place is known to be free.
+    /// Counts from both ends: the posts that the hub has not taken, and the items that the port has not taken, at most
+    /// 64 each. Then each empty place is known to be free.
     pub(crate) fn settle(&mut self, port: &mut Port) -> Settled
         requires { line_identity self.old ≡ identity port.old }
         ensures rings { line_identity self.new ≡ line_identity self.old }

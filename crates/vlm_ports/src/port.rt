@@ -11,18 +11,18 @@ use rtrb::{Consumer, Producer, PushError};
 use vlm_journal::entries::Item;
 use vlm_words::steps::Step;
 
-/// No free place was known, and nothing is posted. The step is handed back.
+/// The port knows no free place, and has posted nothing. This is the step.
 #[derive(Clone, Copy)]
 pub struct Full(pub Step);
 
-/// The port of a node, for a thread of its own. Its calls wait for nobody and take no memory.
+/// The port of a node, for a thread of its own. Its calls never wait, and take no memory.
 #[derive(Drop)]
 pub struct Port {
     /// The node, from 1.
     pub(crate) node: u8,
-    /// Where its posts go.
+    /// The ring of its posts.
     pub(crate) requests: Producer<Step>,
-    /// Where its items come from.
+    /// The ring of its items.
     pub(crate) items: Consumer<Item>,
     ghost places: { producer_capacity requests ≡ 64 },
 }
@@ -37,7 +37,7 @@ impl Port {
         self.node
     }
 
-    /// Whether it may post the step: the step is of the own node, and no take.
+    /// Whether it may post the step: the step is of its own node, and not a take.
     pub fn may_post(&self, step: &Step) -> bool
         ensures yes { OnTrue result (IsPostOf self.now.node step.now) }
         ensures no { OnFalse result (¬ IsPostOf self.now.node step.now) }
@@ -45,8 +45,8 @@ impl Port {
         is_post_of(self.node, step)
     }
 
-    /// Posts a step of the own node. Refused by [`Full`], only where the port knows no free place; then nothing is changed
-    /// but what it knows (this project's own).
+    /// Posts a step of its own node. It is refused by [`Full`] only if the port knows no free place, and then only what
+    /// the port knows is changed (this project's own).
     pub fn post(&mut self, step: Step) -> Result<(), Full>
         requires { IsPostOf self.old.node step }
         ensures same { identity self.new ≡ identity self.old }
@@ -64,7 +64,7 @@ impl Port {
         }
     }
 
-    /// Posts the departure of the own node. Refused as [`Port::post`].
+    /// Posts the departure of its own node. It is refused as [`Port::post`] is.
     pub fn bye(&mut self) -> Result<(), Full>
         ensures same { identity self.new ≡ identity self.old }
         ensures taken { taken self.new ≡ taken self.old }
@@ -79,7 +79,7 @@ impl Port {
         self.post(Step::Leave(self.node))
     }
 
-    /// Takes the next item. None where the port knows of none that has come.
+    /// Takes the next item. `None` if the port knows of none that has come.
     pub fn take(&mut self) -> Option<Item>
         ensures same { identity self.new ≡ identity self.old }
         ensures posted { posted self.new ≡ posted self.old }

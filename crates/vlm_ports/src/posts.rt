@@ -1,4 +1,4 @@
-//! Which steps a node may post.
+//! The steps that a node may post.
 
 ghost use Rattle.std.specs.Prelude.{◌≡◌};
 ghost use Rattle.vlm_journal.specs.Journals.{IsPostOf};
@@ -6,7 +6,7 @@ ghost use Rattle.vlm_ports.specs.Posts.{is_post_of, on_behalf};
 
 use vlm_words::steps::Step;
 
-/// Whether a node may post the step: it is of that node, and no take.
+/// Whether a node may post the step: it is a step of that node, and not a take.
 pub(crate) fn is_post_of(node: u8, step: &Step) -> bool
     ensures { result ≡ is_post_of node step.now }
 {
@@ -16,7 +16,7 @@ pub(crate) fn is_post_of(node: u8, step: &Step) -> bool
     }
 }
 
-/// The step as a post of a node: itself where it is one, and else the departure of the node.
+/// The step, if the node may post it; else the departure of the node.
 pub(crate) fn on_behalf(node: u8, step: Step) -> Step
     ensures same { result ≡ on_behalf node step }
     ensures post { IsPostOf node result }

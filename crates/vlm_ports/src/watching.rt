@@ -1,4 +1,4 @@
-//! A hub that is watched: it publishes what it has of some resources.
+//! A watched hub, which publishes how some resources are used.
 
 ghost use Rattle.std.specs.Prelude.{◌≡◌, ◌<◌, ◌≤◌, ◌↔◌, [], All, IfOk, IsTrue, OnErr, OnOk, vec_len};
 
@@ -11,17 +11,17 @@ impl Hub {
     ghost use Rattle.vlm_watch.specs.Watching.{IsNew, told_board, told_changes};
     ghost use Rattle.vlm_ports.specs.Watched.{HasPublished, IsSameHub, IsUnwatched, IsWatched, IsWatchedAsBefore, board_name, published, watched_keys};
 
-    /// Whether it is watched: a [`Hub::watch`] of it was Ok.
+    /// Whether it is watched: [`Hub::watch`] was Ok.
     pub fn watched(&self) -> bool
         ensures { IsTrue result ↔ IsWatched self.now }
     {
         self.board.is_some()
     }
 
-    /// Makes so many watchers, 1 to 8, of the root resources under 1 to 16 keys, of a hub that is not watched yet. Nothing is
-    /// published, so each sees a resource that is not there until something is. Refused, the hub is not watched, and the
-    /// memory is given back: by `Memory` first, and then by `Seat` where there is no place for a watcher. It may wait only
-    /// where it is refused. It makes no entry (this project's own).
+    /// Makes 1 to 8 watchers of the root resources under 1 to 16 keys, for a hub that is not watched yet. Until the
+    /// first publish each watcher sees resources that do not exist. If it is refused, the hub is not watched, and the
+    /// memory is given back: by `Memory` first, then by `Seat` if there is no place for a watcher. It may wait only if
+    /// it is refused. It makes no entry (this project's own).
     pub fn watch<R: Wait>(
         &mut self,
         rt: &R,
@@ -47,10 +47,11 @@ impl Hub {
         Ok(all)
     }
 
-    /// Publishes the rows of its keys, as the core is now, with the number of entries made so far, to all its watchers at
-    /// once, and tells what is published then. It is refused where the room for the change is, or where there were 2 ^ 64 - 1;
-    /// then nothing is published. It makes no entry and moves nothing. It may wait for watchers that still read the change
-    /// before the last. Its cost grows with the number of keys, and with nothing that is held (this project's own).
+    /// Publishes the rows of its keys in the present state of the core, with the number of entries so far, to all its
+    /// watchers at once. It answers a told value of all that is published. It is refused if there is no room for the
+    /// change, or if there were 2 ^ 64 - 1 changes, and then nothing is published. It makes no entry and moves nothing.
+    /// It may wait for watchers that still read the change before the last. Its cost grows only with the number of keys
+    /// (this project's own).
     pub fn publish<R: Wait>(&mut self, rt: &R) -> Result<Told, AllocError>
         requires { IsWatched self.old }
         ensures same { IsSameHub self.old self.new × IsWatchedAsBefore self.old self.new }
@@ -66,7 +67,7 @@ impl Hub {
         }
     }
 
-    /// Tells what is published once more, so that each watcher can have a told value of its own. It changes nothing.
+    /// Another told value of all that is published, so that each watcher can have its own. It changes nothing.
     pub fn tell(&self) -> Told
         requires { IsWatched self.now }
         ensures board { told_board result ≡ board_name self.now }
