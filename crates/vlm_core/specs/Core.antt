@@ -1,4 +1,4 @@
--- What holds of a core between two steps.
+-- The invariant of a core.
 use Rattle.vlm_words.specs.Runs.{History, Run}
 use Rattle.vlm_words.specs.State.{State}
 use Rattle.vlm_machine.specs.Machine.{plain_state}

@@ -1,4 +1,4 @@
--- What the readers look for.
+-- The resource that a reader looks for.
 use Rattle.std.specs.Prelude.{ℕ, List, find, Option}
 use Rattle.vlm_words.specs.declared.resources.Domain.{Domain}
 use Rattle.vlm_words.specs.declared.resources.Key.TheVariants.{Root}

@@ -1,12 +1,11 @@
--- Steps that are made one after another.
+-- Steps in order.
 use Rattle.std.specs.Prelude.{◌≡◌, List, ◌++◌}
 use Rattle.vlm_words.specs.declared.steps.Answer.{Answer}
 use Rattle.vlm_words.specs.declared.steps.Step.{Step}
 use Rattle.vlm_words.specs.Runs.{Legal}
 use Rattle.vlm_words.specs.State.{State}
 
--- the steps were made in order, each in the state that the one before it left, and their answers are put
--- behind those before
+-- the steps were made in order, each in the state after the one before it, and their answers are appended
 pub record MakesInOrder (old : State) (steps : List Step) (before after : List Answer) (new : State) : Type 0 where
   pub given : List Answer
   pub legal : Legal old steps given new

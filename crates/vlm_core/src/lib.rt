@@ -1,9 +1,8 @@
-//! The lock manager's core: the steps of the plain lock machine, and its readers.
+//! The lock manager's core: whole steps of the lock machine, and readers.
 //!
-//! Inside, a machine of records makes the parts of a step (`vlm_machine`); outside, [`Core`] makes whole steps, so that
-//! every law of the plain machine holds of every core (`public`). The readers show the processes and their status
-//! blocks, whose ASTs are pending, the resources and their queues, and how a root is used (`readers`); [`run_steps`] makes
-//! many steps in order (`running`).
+//! A machine of records makes the parts of a step (`vlm_machine`). [`Core`] makes only whole steps, so every law of the
+//! plain machine holds of every core (`public`). The readers show processes with their status blocks and pending ASTs,
+//! resources with their queues, and how a root is used (`readers`). [`run_steps`] makes many steps in order (`running`).
 #![tactic(auto)]
 
 mod public;

@@ -1,5 +1,5 @@
-//! The readers: they show the processes and their status blocks, whose ASTs are pending, the resources and their queues,
-//! and how a root is used, take no memory and change nothing.
+//! The readers. They show processes with their status blocks and pending ASTs, resources with their queues, and how a
+//! root is used. They take no memory, and change nothing.
 
 ghost use Rattle.std.specs.Prelude.{◌≡◌, length, slice_get};
 ghost use Rattle.std.specs.Option.{option_map};
@@ -20,8 +20,8 @@ use vlm_words::names::Name;
 use vlm_words::resources::{Domain, Key, Queue};
 
 impl Core {
-    /// The status block of this number, from 1, of a process: its status, its lock, its value part and its tail.
-    /// None where no living process has the identification, or it has no such block.
+    /// The status block of this number, from 1, of a process: its status, its lock, its value part and its tail. `None`
+    /// if no living process has the identification, or the process has no such block.
     #[tactic(auto, unfolding(vlm_words::specs::StatusBlocks::status_block_at))]
     pub fn block(&self, pid: u32, number: u8) -> Option<Block>
         ensures { result ≡ status_block_at self.now.processes pid number }
@@ -30,7 +30,7 @@ impl Core {
         status_block(&self.machine.store, caller.at, number)
     }
 
-    /// How many ASTs are queued to a process and not yet taken. None where no living process has the
+    /// How many ASTs are pending of a process: queued and not yet taken. `None` if no living process has the
     /// identification.
     pub fn pending(&self, pid: u32) -> Option<usize>
         ensures { result ≡ option_map (λ p. length p.asts) (process_of self.now.processes pid) }
@@ -39,8 +39,8 @@ impl Core {
         Some(pending(&self.machine.store, caller.at))
     }
 
-    /// The first living process of a node, in order of making, that has an AST pending. None where none of the node
-    /// has one. It takes constant time, however many processes there are.
+    /// The first living process of a node, in order of making, that has an AST pending; `None` if no process of the
+    /// node has one. It takes constant time, however many processes there are.
     pub fn pending_of(&self, node: u8) -> Option<u32>
         ensures { result ≡ first_pending node self.now.processes }
     {
@@ -55,8 +55,8 @@ impl Core {
         self.machine.store.total_processes()
     }
 
-    /// The living process at an index, from 0, in order of making: as it was declared, and how many ASTs are pending for
-    /// it. None past the last. The cost grows with the index.
+    /// The living process at an index, from 0, in order of making: its declaration, and how many ASTs of it are pending.
+    /// `None` after the last. The cost grows with the index.
     pub fn process_at(&self, index: usize) -> Option<ProcessView>
         ensures { result ≡ option_map process_view (slice_get self.now.processes index) }
     {
@@ -70,24 +70,24 @@ impl Core {
         self.machine.store.resource_count()
     }
 
-    /// The resource at an index, from 0, by rising serial, with its value block and the tail of that. None past the
-    /// last. The cost grows with the index: [`Core::store`] goes from one resource to the next.
+    /// The resource at an index, from 0, by rising serial, with its value block and tail. `None` after the last. The cost
+    /// grows with the index; [`Core::store`] goes from one resource to the next.
     pub fn resource_at(&self, index: usize) -> Option<ResourceView>
         ensures { result ≡ option_map resource_view (slice_get self.now.resources index) }
     {
         resource_at(&self.machine.store, index)
     }
 
-    /// The lock at an index, from 0, of a queue of the resource at its index. None where one of them is past
-    /// the last. The cost grows with both.
+    /// The lock at an index, from 0, of a queue of the resource at an index, from 0. `None` if one of them is after the
+    /// last. The cost grows with both.
     pub fn row_at(&self, resource: usize, queue: Queue, index: usize) -> Option<RowView>
         ensures { result ≡ row_shown (slice_get self.now.resources resource) queue index }
     {
         row_at(&self.machine.store, resource, queue, index)
     }
 
-    /// How the root resource of this name in this domain is used, and its value block without the tail. None where no
-    /// lock stands on it. It reads counts alone: its cost does not grow with what is held.
+    /// How the root resource of this name in this domain is used, and its value block without the tail. `None` if it
+    /// has no locks. It reads only counts, so its cost does not grow with what is held.
     pub fn usage(&self, domain: Domain, name: Name) -> Option<Usage>
         ensures { result ≡ option_map usage (root_of self.now.resources domain name) }
     {

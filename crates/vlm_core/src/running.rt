@@ -1,4 +1,4 @@
-//! Many steps in order.
+//! Makes many steps in order.
 
 ghost use Rattle.std.specs.Prelude.{◌<◌, OnOk, IfErr, length, take};
 ghost use Rattle.vlm_core.specs.Running.{MakesInOrder};
@@ -6,15 +6,14 @@ ghost use Rattle.vlm_core.specs.Running.{MakesInOrder};
 use crate::public::Core;
 use vlm_words::steps::{Answer, Step};
 
-/// Memory for an answer was refused: the steps before it are made and answered, and no other is begun.
+/// Memory for an answer was refused. The steps before it are made and answered, and no other step is begun.
 #[derive(Clone, Copy)]
 pub struct Stopped {
     /// How many steps are made.
     pub done: usize,
 }
 
-/// Makes the steps in order, and puts the answer of each at the end of `answers`. Room for an answer is
-/// made before its step.
+/// Makes the steps in order, and appends the answer of each to `answers`. It makes room for an answer before its step.
 pub fn run_steps(core: &mut Core, steps: &[Step], answers: &mut Vec<Answer>) -> Result<(), Stopped>
     ensures made { OnOk result
         (MakesInOrder core.old steps.now answers.old.items answers.new.items core.new) }
