@@ -1,4 +1,4 @@
-//! The checks that several steps make. They only read, and answer the refusal.
+//! The checks that several steps share. They only read, and answer the refusal.
 
 ghost use Rattle.std.specs.Prelude.{◌≡◌, ◌<◌, ◌≤◌, ◌^◌, ℕ, IfOk, OnOk};
 ghost use Rattle.std.specs.Result.{result_err};
@@ -24,7 +24,7 @@ use vlm_words::flags::EnqFlags;
 use vlm_words::steps::Which;
 
 impl Machine {
-    /// BADPARAM where there is no such node, DEPARTED where it has departed before.
+    /// BADPARAM if there is no such node, DEPARTED if it has departed before.
     #[tactic(auto, unfolding(vlm_words::specs::Rundown::leave_refusal))]
     pub(crate) fn check_node(&self, node: u8) -> Result<(), Cond>
         ensures refusal { result_err result ≡ leave_refusal (plain_state self.now) node }
@@ -40,8 +40,7 @@ impl Machine {
         Ok(())
     }
 
-    /// The caller. DEPARTED where its node has departed, NONEXPR where no living process has the
-    /// identification.
+    /// The caller. DEPARTED if its node has departed, NONEXPR if no living process has the identification.
     #[tactic(auto, unfolding(vlm_words::specs::Checks::caller_refusal))]
     pub(crate) fn checked_caller(&self, pid: u32) -> Result<Caller, Cond>
         ensures refusal { result_err result ≡ caller_refusal (plain_state self.now) pid }
@@ -54,7 +53,7 @@ impl Machine {
         living(&self.store, pid).ok_or(Cond::Nonexpr)
     }
 
-    /// NOLOCKID where the identifications or the request numbers are used up.
+    /// NOLOCKID if the identifications or the request numbers are used up.
     #[tactic(auto, unfolding(vlm_words::specs::Checks::numbers_refusal))]
     pub(crate) fn check_numbers(&self) -> Result<(), Cond>
         ensures refusal { result_err result ≡ numbers_refusal (plain_state self.now) }
@@ -68,7 +67,7 @@ impl Machine {
         }
     }
 
-    /// NOLOCKID where the request numbers are used up.
+    /// NOLOCKID if the request numbers are used up.
     #[tactic(auto, unfolding(vlm_words::specs::Checks::request_numbers_refusal))]
     pub(crate) fn check_request_numbers(&self) -> Result<(), Cond>
         ensures refusal { result_err result ≡ request_numbers_refusal (plain_state self.now) }
@@ -81,7 +80,7 @@ impl Machine {
         }
     }
 
-    /// EXENQLM where the caller has as many locks as it may have.
+    /// EXENQLM if the caller has as many locks as its quota.
     #[tactic(auto, unfolding(vlm_words::specs::Quotas::quota_refusal))]
     pub(crate) fn check_quota(&self, caller: &Caller) -> Result<(), Cond>
         requires { IsCaller caller.now self.now.records }
@@ -94,7 +93,7 @@ impl Machine {
         }
     }
 
-    // The status block of the number. ACCVIO where the caller has none of it.
+    // The status block of this number. ACCVIO if the caller has no such block.
     #[tactic(auto, unfolding(vlm_words::specs::Checks::status_block_refusal, vlm_words::specs::StatusBlocks::status_block_at))]
     fn checked_status_block(&self, caller: &Caller, number: u8) -> Result<Block, Cond>
         requires { IsCaller caller.now self.now.records }
@@ -106,7 +105,7 @@ impl Machine {
         status_block(&self.store, caller.at, number).ok_or(Cond::Accvio)
     }
 
-    /// ACCVIO where the caller has no status block of the number.
+    /// ACCVIO if the caller has no status block of this number.
     pub(crate) fn check_status_block(&self, caller: &Caller, number: u8) -> Result<(), Cond>
         requires { IsCaller caller.now self.now.records }
         ensures { result_err result
@@ -116,8 +115,8 @@ impl Machine {
         Ok(())
     }
 
-    /// The identification that is named: its own, or what stands in a status block of the caller.
-    /// ACCVIO where the caller has no such block.
+    /// The named identification: given by itself, or by a status block of the caller. ACCVIO if the caller has no such
+    /// block.
     #[tactic(auto, unfolding(vlm_words::specs::Checks::which_refusal))]
     pub(crate) fn checked_lkid(&self, caller: &Caller, lock: Which) -> Result<u32, Cond>
         requires { IsCaller caller.now self.now.records }
@@ -132,7 +131,7 @@ impl Machine {
         }
     }
 
-    /// The lock of the caller with this identification. IVLOCKID where it has none.
+    /// The lock of the caller with this identification. IVLOCKID if the caller has no such lock.
     #[tactic(auto, unfolding(vlm_words::specs::Checks::lock_refusal))]
     // Inlined, as `check_cancel` is: each step finds one lock.
     #[inline(always)]
@@ -145,7 +144,7 @@ impl Machine {
         find_lock(&self.store, caller.pid, lkid).ok_or(Cond::Ivlockid)
     }
 
-    /// Where a lock stands that a check has found.
+    /// The standing of a lock that a check has found.
     pub(crate) fn standing(&self, lock: LockAt) -> Standing
         requires { IsStored lock self.now.records }
         ensures lock { result.lock ≡ lock }
@@ -156,7 +155,7 @@ impl Machine {
     }
 }
 
-/// NOTQUEUED where a request that must not queue is not granted at once.
+/// NOTQUEUED if a request that must not queue is not granted at once.
 pub(crate) fn check_queue(flags: EnqFlags, at_once: bool) -> Result<(), Cond>
     ensures { result_err result ≡ queue_refusal (flag_bits flags) at_once }
 {
@@ -167,7 +166,7 @@ pub(crate) fn check_queue(flags: EnqFlags, at_once: bool) -> Result<(), Cond>
     }
 }
 
-/// What an accepted request answers: SYNCH where it is granted at once and asks for that.
+/// The condition for an accepted request: SYNCH if it is granted at once with SYNCSTS, else NORMAL.
 pub(crate) fn acceptance(flags: EnqFlags, at_once: bool) -> Cond
     ensures { result ≡ acceptance (flag_bits flags) at_once }
 {

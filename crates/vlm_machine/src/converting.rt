@@ -25,7 +25,7 @@ use vlm_words::locks::Request;
 use vlm_words::modes::{Mode, quecvt_legal};
 use vlm_words::steps::{Answer, Conversion, Step};
 
-/// The lock of a conversion and its flags, after the first checks.
+/// The lock and the flags of a conversion, after the first checks.
 #[derive(Clone, Copy)]
 pub(crate) struct Named {
     lock: LockAt,
@@ -68,7 +68,7 @@ impl Machine {
         Ok(Named { lock, flags })
     }
 
-    // Converts a lock of the caller: the other checks, the change, and the sweep.
+    // Converts a lock of the caller: the later checks, the change, and the sweep.
     fn convert_named(
         &mut self,
         conversion: &Conversion,
@@ -97,7 +97,7 @@ impl Machine {
         }
     }
 
-    // The other checks, in their order. A lock that is not granted is refused first, by CVTUNGRANT. Answers whether the
+    // The later checks, in their order. The first is CVTUNGRANT, for a lock that is not granted. Answers whether the
     // request is granted at once.
     fn checked_admission(
         &self,
@@ -125,8 +125,8 @@ impl Machine {
         Ok(at_once)
     }
 
-    // The lock converts, with all that becomes of its status block, and the request number that it took is used up.
-    // Where memory for the ASTs of the routines that are named is refused, nothing is changed.
+    // The change: the lock converts, its status block is written, and its request number is used up. If memory for the
+    // ASTs of its routines is refused, nothing is changed.
     fn convert_change(
         &mut self,
         conversion: &Conversion,
@@ -153,7 +153,7 @@ impl Machine {
     }
 }
 
-// The flags, or BADPARAM where one of them is unknown.
+// The flags, or BADPARAM if one of them is unknown.
 #[tactic(auto, unfolding(vlm_words::specs::Convert::convert_flags_refusal))]
 fn checked_flags(conversion: &Conversion) -> Result<EnqFlags, Cond>
     ensures refusal { result_err result ≡ convert_flags_refusal conversion.now }
@@ -162,7 +162,7 @@ fn checked_flags(conversion: &Conversion) -> Result<EnqFlags, Cond>
     enq_flags(conversion.flags).ok_or(Cond::Badparam)
 }
 
-// BADPARAM where QUECVT does not go with a conversion from what the row holds.
+// BADPARAM if QUECVT does not go with a conversion from the held mode.
 #[tactic(auto, unfolding(vlm_words::specs::Convert::pair_refusal))]
 fn check_pair(conversion: &Conversion, flags: EnqFlags, row: &StoredRow) -> Result<(), Cond>
     requires { flag_bits flags ≡ conversion.now.flags }
@@ -175,7 +175,7 @@ fn check_pair(conversion: &Conversion, flags: EnqFlags, row: &StoredRow) -> Resu
     }
 }
 
-// Whether QUECVT may go with a conversion from what is held to the mode.
+// Whether QUECVT goes with a conversion from the held mode to this one.
 fn is_legal_from(held: Option<Request>, mode: Mode) -> bool
     ensures { result ≡ is_queued_legally_from held mode }
 {

@@ -16,11 +16,11 @@ use vlm_cycle::Scratch;
 use vlm_words::conditions::Cond;
 use vlm_words::steps::{Answer, Declaration, Step};
 
-// How many processes a node may declare in all.
+// How many processes a node may declare, ended ones included.
 const ORDINALS: u16 = 65_535;
 
 impl Machine {
-    /// Declares a process: its checks and its change. No resource is touched, so nothing is to be swept.
+    /// Declares a process: its checks and its change. It touches no resource, so there is no sweep.
     pub(crate) fn declare(&mut self, scratch: &mut Scratch, declaration: Declaration) -> Answer
         requires { IsBetweenSteps (plain_state self.old) }
         ensures outcome { Outcome (plain_state self.old) (Step.Declare declaration)
@@ -55,7 +55,7 @@ impl Machine {
         }
     }
 
-    // The identification that the next process of the node gets.
+    // The identification of the node's next process.
     fn next_pid(&self, node: u8) -> u32
         requires first { 1 ≤ node }
         requires last { node ≤ 8 }
@@ -66,7 +66,7 @@ impl Machine {
         u32::from(node) * 65_536 + u32::from(ordinal)
     }
 
-    // The process lives, under the next ordinal of its node, and a search has room to mark it.
+    // The change: the process lives under the next ordinal of its node, and a search has room to mark it.
     #[tactic(auto, unfolding(vlm_words::specs::Declare::declare_change))]
     fn declare_change(
         &mut self,

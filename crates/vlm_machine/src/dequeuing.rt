@@ -30,19 +30,18 @@ use vlm_words::conditions::Cond;
 use vlm_words::flags::DeqFlags;
 use vlm_words::steps::{Answer, Dequeue, Step};
 
-/// A dequeue with DEQALL that no check refuses.
+/// A dequeue with DEQALL that has passed its checks.
 #[derive(Clone, Copy)]
 pub(crate) struct AdmittedDequeueOfAll {
     caller: Caller,
-    // which of the caller's locks go
+    // the locks of the caller that go
     choice: Choice,
-    // with INVVALBLK
+    // whether it has INVVALBLK
     invalidates: bool,
 }
 
 impl Machine {
-    /// Gives locks up, or cancels a request: the lock that is named; or with DEQALL all of the caller, or all below the
-    /// one that is named.
+    /// Gives up or cancels the named lock; or with DEQALL gives up all locks of the caller, or all below the named one.
     pub(crate) fn deq(&mut self, touched: &mut Touched, dequeue: &Dequeue) -> Answer
         requires between { IsBetweenSteps (plain_state self.old) }
         requires notes { HasRoomToNote touched.old self.old }
@@ -76,7 +75,7 @@ impl Machine {
         }
     }
 
-    // With DEQALL: its checks, the end of the requests and of the locks, and one sweep of what these touched.
+    // With DEQALL: its checks, its change, and one sweep of all touched resources.
     fn deq_all(&mut self, touched: &mut Touched, dequeue: &Dequeue) -> Answer
         requires between { IsBetweenSteps (plain_state self.old) }
         requires notes { HasRoomToNote touched.old self.old }
@@ -134,8 +133,7 @@ impl Machine {
         })
     }
 
-    // All locks of the caller where none is named, else those below the one that is. IVLOCKID where that is none of the
-    // caller's.
+    // All locks of the caller if none is named, else those below the named one. IVLOCKID if the caller has no such lock.
     fn checked_choice(&self, caller: &Caller, lkid: u32) -> Result<Choice, Cond>
         ensures refusal { result_err result ≡ (if lkid == 0 then None
             else lock_refusal (plain_state self.now) caller.now.pid lkid) }
@@ -149,7 +147,7 @@ impl Machine {
         Ok(Choice::Below(lkid))
     }
 
-    // CANCELGRANT where a granted lock is to be cancelled.
+    // CANCELGRANT if a granted lock is to be cancelled.
     #[tactic(auto, unfolding(vlm_words::specs::Dequeue::cancel_refusal))]
     #[inline(always)]
     fn check_cancel(&self, dequeue: &Dequeue, lock: LockAt, cancels: bool) -> Result<(), Cond>
@@ -167,7 +165,7 @@ impl Machine {
         }
     }
 
-    // SUBLOCKS where a lock that has sublocks is to be given up. A lock that waits has none.
+    // SUBLOCKS if a lock with sublocks is to be given up. A waiting lock has none.
     #[tactic(auto, unfolding(vlm_words::specs::Dequeue::sublocks_refusal))]
     fn check_sublocks(&self, lock: LockAt, cancels: bool) -> Result<(), Cond>
         requires stored { IsStored lock self.now.records }
@@ -187,7 +185,7 @@ impl Machine {
         }
     }
 
-    // The lock's requests end, and it is gone from its queue, or only its request is.
+    // The change: the lock's request ends, and the lock goes or stays.
     #[tactic(auto, unfolding(vlm_words::specs::Dequeue::deq_change))]
     fn deq_change(&mut self, dequeue: &Dequeue, standing: &Standing)
         requires admitted { IsAdmittedDequeue self.old dequeue.now standing.now }
@@ -201,7 +199,7 @@ impl Machine {
         withdraw(&mut self.store, standing, &withdrawal);
     }
 
-    // The requests of the chosen locks end, and then these locks are gone.
+    // The change: the requests of the chosen locks end, and then these locks go.
     fn deq_all_change(
         &mut self,
         touched: &mut Touched,
@@ -233,15 +231,15 @@ impl Machine {
     }
 }
 
-// Whether the dequeue asks for several locks at once, whatever else it asks for.
+// Whether the dequeue has DEQALL, whatever its other flags are.
 fn asks_for_all(dequeue: &Dequeue) -> bool
     ensures { result ≡ has_flag dequeue.now.flags deqall }
 {
     DeqFlags::from_bits_retain(dequeue.flags).has(DeqFlags::DEQALL)
 }
 
-// The flags. BADPARAM where one of them is unknown, where DEQALL comes with CANCEL or a value, and where a tail comes
-// without a value.
+// The flags. BADPARAM if one of them is unknown, if DEQALL comes with CANCEL or a value, or if a tail comes without a
+// value.
 #[tactic(auto, unfolding(vlm_words::specs::Dequeue::deq_flags_refusal))]
 fn checked_flags(dequeue: &Dequeue) -> Result<DeqFlags, Cond>
     ensures refusal { result_err result ≡ deq_flags_refusal dequeue.now }
@@ -258,8 +256,7 @@ fn checked_flags(dequeue: &Dequeue) -> Result<DeqFlags, Cond>
     Ok(flags)
 }
 
-// What the dequeue asks for: that the lock goes, or only that its request is cancelled. A cancel leaves the value
-// block as it is.
+// The withdrawal that the dequeue asks for: the lock goes, or only its request. A cancel leaves the value block alone.
 fn withdrawal_of(lkid: u32, dequeue: &Dequeue) -> Withdrawal
     ensures { plain_withdrawal result ≡ record {
       lkid = lkid;

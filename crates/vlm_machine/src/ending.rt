@@ -1,4 +1,4 @@
-//! The steps that end processes: the rundown of one, and the departure of a node with all that it declared.
+//! The steps that end processes: the rundown of a process, and the departure of a node with all its processes.
 
 ghost use Rattle.std.specs.Prelude.{◌≡◌, ◌≤◌, []};
 ghost use Rattle.vlm_words.specs.Rundown.{is_ended_by, is_of_node, nodes_after_departure, state_after_rundown};
@@ -17,7 +17,7 @@ use vlm_words::conditions::Cond;
 use vlm_words::steps::{Answer, Step};
 
 impl Machine {
-    /// Ends a process: its check, the end of all its locks and of itself, and the sweep of what these touched.
+    /// Ends a process: its check, its change, and the sweep of all touched resources.
     pub(crate) fn rundown(&mut self, touched: &mut Touched, pid: u32) -> Answer
         requires between { IsBetweenSteps (plain_state self.old) }
         requires notes { HasRoomToNote touched.old self.old }
@@ -36,7 +36,7 @@ impl Machine {
         }
     }
 
-    // The locks of the process are withdrawn, and it is gone.
+    // The change: the locks of the process go, and then the process.
     fn rundown_change(&mut self, touched: &mut Touched, caller: &Caller)
         requires caller { IsCaller caller.now self.old.records }
         requires between { IsBetweenSteps (plain_state self.old) }
@@ -50,7 +50,7 @@ impl Machine {
         end_process(&mut self.store, touched, caller.at, caller.pid);
     }
 
-    /// A node departs: its checks, the end of all its processes with their locks, and one sweep of what these touched.
+    /// Lets a node depart: its checks, its change, and one sweep of all touched resources.
     pub(crate) fn leave(&mut self, touched: &mut Touched, node: u8) -> Answer
         requires between { IsBetweenSteps (plain_state self.old) }
         requires notes { HasRoomToNote touched.old self.old }
@@ -69,7 +69,7 @@ impl Machine {
         }
     }
 
-    // The processes of the node are gone with their locks, and it has departed.
+    // The change: the processes of the node go with their locks, and then the node departs.
     fn leave_change(&mut self, touched: &mut Touched, node: u8)
         requires first { 1 ≤ node }
         requires last { node ≤ 8 }

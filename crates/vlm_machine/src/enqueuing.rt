@@ -41,7 +41,7 @@ use vlm_words::names::NameArg;
 use vlm_words::resources::{Key, Site};
 use vlm_words::steps::{Answer, NewRequest, Step};
 
-/// What a new request says of itself.
+/// The flags and the parent that a new request names.
 #[derive(Clone, Copy)]
 pub(crate) struct Form {
     pub(crate) flags: EnqFlags,
@@ -49,8 +49,7 @@ pub(crate) struct Form {
     pub(crate) parent: u32,
 }
 
-/// The hash of a resource's key, the handle of the resource, if it is there, and whether the request is granted at
-/// once.
+/// The hash of a resource's key, the handle of the resource, if it exists, and whether the request is granted at once.
 #[derive(Clone, Copy)]
 pub(crate) struct Found {
     hash: u32,
@@ -58,7 +57,7 @@ pub(crate) struct Found {
     at_once: bool,
 }
 
-/// A new request that passed its checks, and what they found.
+/// A new request that has passed its checks, with the handles and the hash that they found.
 #[derive(Clone, Copy)]
 pub(crate) struct CheckedRequest {
     // the handle of its process
@@ -66,14 +65,14 @@ pub(crate) struct CheckedRequest {
     flags: EnqFlags,
     // the identification of its parent lock, 0 for none
     parent_lkid: u32,
-    // the handle of that lock, if one is named
+    // the handle of its parent lock, if it names one
     parent: Option<LockAt>,
-    // where its resource stands, and what was found there
+    // the site of its resource, and what a look-up found there
     site: Site,
     found: Found,
 }
 
-// Looks up the resource of a new request, and whether the request is granted at once.
+// Looks up the resource of a new request, and finds out whether the request is granted at once.
 fn look_up(store: &Store, key: &Key, flags: EnqFlags, mode: Mode) -> Found
     requires { IsAtRest store.now }
     ensures hash { result.hash ≡ hash_key store.now.keys key.now }
@@ -98,7 +97,7 @@ fn look_up(store: &Store, key: &Key, flags: EnqFlags, mode: Mode) -> Found
     }
 }
 
-// The serial that was given last, once the lock has entered.
+// The last serial after the lock has entered.
 fn last_given(last_serial: u32, entry: &Entry) -> u32
     ensures { result ≡ (if is_some entry.now.res then last_serial else entry.now.serial) }
 {
@@ -109,8 +108,8 @@ fn last_given(last_serial: u32, entry: &Entry) -> u32
 }
 
 impl Machine {
-    /// Asks for a new lock: its checks, its change, and the sweep of its resource. An ending of the lock is to find room
-    /// to note its resource: that is made here.
+    /// Asks for a new lock: its checks, its growth, its change, and the sweep of its resource. The growth also makes
+    /// room to note the resource when the lock ends.
     pub(crate) fn enq(&mut self, touched: &mut Touched, request: &NewRequest) -> Answer
         requires between { IsBetweenSteps (plain_state self.old) }
         requires notes { HasRoomToNote touched.old self.old }
@@ -149,7 +148,7 @@ impl Machine {
         self.checked_limits(&caller, &form, &parent, request)
     }
 
-    // What is wrong with the request itself.
+    // The checks of the request itself.
     #[tactic(auto, unfolding(vlm_words::specs::Enqueue::enq_form_refusal))]
     fn checked_form(&self, caller: &Caller, request: &NewRequest) -> Result<Form, Cond>
         requires caller { IsCaller caller.now self.now.records }
@@ -165,7 +164,7 @@ impl Machine {
         Ok(Form { flags, parent })
     }
 
-    // What is used up, or in the way.
+    // The checks of quotas and numbers, and of what is in the way.
     #[tactic(auto, unfolding(vlm_words::specs::Enqueue::enq_limit_refusal))]
     fn checked_limits(
         &self,
@@ -232,8 +231,8 @@ impl Machine {
         }
     }
 
-    // Sweeps the resource that a new lock has entered. After a grant at once nothing is to be done, since nobody is queued
-    // there; only an expedited lock may be granted beside a queue.
+    // Sweeps the resource that a new lock has entered. After a grant at once there is nothing to do, since nobody is
+    // queued there. Only an expedited lock may be granted beside a queue.
     fn sweep_entered(&mut self, entry: &Entry, res: ResAt)
         requires there { HasResource res self.old.records }
         requires settled { AreSettledBut (res ∷ []) self.old.records.resources }
@@ -248,9 +247,9 @@ impl Machine {
         self.sweep(res);
     }
 
-    // The lock enters its resource, with all that becomes of its status block, and the numbers that it took are used
-    // up. Where memory for it, or for the ASTs of the routines that are named, is refused, nothing is changed but that
-    // there may be more room.
+    // The growth and the change: the lock enters its resource, its status block is written, and its numbers are used
+    // up. If memory for the lock or for the ASTs of its routines is refused, nothing is changed, except that there may
+    // be more room.
     fn enq_change(&mut self, request: &NewRequest, entry: &Entry) -> Result<ResAt, AllocError>
         requires admitted { IsAdmitted self.old request.now entry.now }
         requires between { IsBetweenSteps (plain_state self.old) }
@@ -270,7 +269,7 @@ impl Machine {
     }
 }
 
-// The flags, or BADPARAM where one of them is unknown.
+// The flags, or BADPARAM if one of them is unknown.
 #[tactic(auto, unfolding(vlm_words::specs::Enqueue::enq_flags_refusal))]
 fn checked_flags(request: &NewRequest) -> Result<EnqFlags, Cond>
     ensures refusal { result_err result ≡ enq_flags_refusal request.now }
@@ -292,7 +291,7 @@ fn check_name(name: &NameArg) -> Result<(), Cond>
     }
 }
 
-// UNSUPPORTED where EXPEDITE goes with another mode than NL.
+// UNSUPPORTED for EXPEDITE at a mode other than NL.
 #[tactic(auto, unfolding(vlm_words::specs::Enqueue::expedite_refusal))]
 fn check_expedite(mode: Mode, flags: EnqFlags) -> Result<(), Cond>
     ensures { result_err result ≡ expedite_refusal (flag_bits flags) mode }

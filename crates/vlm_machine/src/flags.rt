@@ -1,4 +1,4 @@
-//! Flags by their bits.
+//! Reads flags from bits.
 
 ghost use Rattle.std.specs.Prelude.{◌≡◌, true, false, MatchOption};
 ghost use Rattle.vlm_words.specs.Flags.{deq_bits, deq_flag_bits, enq_bits, flag_bits, is_known};
@@ -6,7 +6,7 @@ ghost use Rattle.vlm_words.specs.Flags.{deq_bits, deq_flag_bits, enq_bits, flag_
 use bitflags::Flags;
 use vlm_words::flags::{DeqFlags, EnqFlags};
 
-/// The flags of a request, if all of the bits are built.
+/// The flags of a request, if all bits are known.
 #[tactic(auto, unfolding(vlm_words::specs::Flags::is_known, bitflags::proofs::OnLiterals::bitflags_on_literals))]
 pub(crate) fn enq_flags(bits: u16) -> Option<EnqFlags>
     ensures { MatchOption result (is_known enq_bits bits ≡ false)
@@ -15,7 +15,7 @@ pub(crate) fn enq_flags(bits: u16) -> Option<EnqFlags>
     EnqFlags::from_bits(bits)
 }
 
-/// The flags of a dequeue, if all of the bits are built.
+/// The flags of a dequeue, if all bits are known.
 #[tactic(auto, unfolding(vlm_words::specs::Flags::is_known, bitflags::proofs::OnLiterals::bitflags_on_literals))]
 pub(crate) fn deq_flags(bits: u16) -> Option<DeqFlags>
     ensures { MatchOption result (is_known deq_bits bits ≡ false)

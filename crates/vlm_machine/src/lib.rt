@@ -1,14 +1,24 @@
-//! The machine of records: it makes the steps of the plain lock machine, on records.
+//! The machine of records, which makes the steps of the lock machine.
 //!
-//! Each step is made in three parts. Its checks only read, look up the records that it needs once, and
-//! answer the first refusal in the stated order. Then every growth is made, so that a refused one leaves
-//! all as it was. Then the change is made, which refuses nothing, and the resources that it touched are
-//! swept.
+//! Each step has four stages. The checks only read. They look up the records that the step needs, and answer the first
+//! refusal in the stated order. The growth makes all room that the change may need, so that a refused allocation leaves
+//! the state as it was. The change refuses nothing. The sweep serves the resources that the change touched.
 //!
-//! A [`Machine`] has the records, the nodes and the numbers to come. Each kind of step has a file, but a rundown and a
-//! departure have one (`ending`). Beside them stand the checks that several steps make (`checks`, `parents`), the nodes,
-//! the process that makes a step (`processes`), and flags by their bits. What a step asks of the state in which it begins
-//! (`IsBetweenSteps`) holds after every run, by the laws: `vlm_core` has it from them, and makes whole steps.
+//! | Step | File | Checks | Growth | Change | Sweep |
+//! |---|---|---|---|---|---|
+//! | Declare | `declaring` | `check_declaration` | with the change | `declare_change` | none |
+//! | SetValue | `setting` | `checked_setting` | none | `set_change` | none |
+//! | Take | `taking` | `checked_caller` | none | `take_change` | none |
+//! | Enq | `enqueuing` | `checked_request` | in `enter` | `enq_change` | its resource |
+//! | Convert | `converting` | `checked_names`, `checked_admission` | in `convert` | `convert_change` | its resource |
+//! | Deq | `dequeuing` | `checked_dequeue` | none | `deq_change` | its resource |
+//! | Deq with DEQALL | `dequeuing` | `checked_dequeue_of_all` | none | `deq_all_change` | all touched |
+//! | Rundown, Leave | `ending` | `checked_caller`, `check_node` | none | `rundown_change`, `leave_change` | all touched |
+//! | Search | `searching` | `check_node` | none | `end_victim` | the victim's resource |
+//!
+//! A [`Machine`] has the records, the nodes and the next numbers. `checks` and `parents` have the checks that several
+//! steps share. A step needs some facts of the state in which it begins (`IsBetweenSteps`). They hold after every run, by
+//! the laws: `vlm_core` gets them from there, and makes whole steps.
 #![tactic(auto)]
 
 mod checks;

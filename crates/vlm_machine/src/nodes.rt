@@ -13,7 +13,7 @@ pub(crate) const NODES: usize = 8;
 /// A node.
 #[derive(Clone, Copy)]
 pub(crate) struct Node {
-    // accepted declarations so far, those of ended processes too
+    // how many processes it has declared, ended ones included
     declared: u16,
     departed: bool,
 }
@@ -29,7 +29,7 @@ impl Model for Node {
 }
 
 impl Node {
-    /// A node that has declared nothing.
+    /// A node before its first declaration.
     pub(crate) fn new() -> Self
         ensures { result ≡ new_node }
     {
@@ -61,7 +61,7 @@ impl Node {
         }
     }
 
-    /// The node with one declaration more.
+    /// The node after one more declaration.
     pub(crate) fn counted(&self) -> Self
         requires { self.now.declared < 65535 }
         ensures { result ≡ record self.now { declared = self.now.declared + 1 } }
@@ -73,14 +73,14 @@ impl Node {
     }
 }
 
-/// Whether the node is one of the machine's and has departed.
+/// Whether there is such a node, and it has departed.
 pub(crate) fn has_departed(nodes: &[Node; NODES], node: u32) -> bool
     ensures { result ≡ has_departed nodes.now node }
 {
     0 < node && node as usize <= NODES && nodes[node as usize - 1].departed()
 }
 
-/// The node departs.
+/// Lets the node depart.
 pub(crate) fn depart(nodes: &mut [Node; NODES], node: u8)
     requires first { 1 ≤ node }
     requires last { node ≤ 8 }

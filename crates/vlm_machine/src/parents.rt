@@ -1,4 +1,4 @@
-//! The parent of a new request, and where its resource stands in the tree.
+//! The parent of a new request, and the site of its resource in the tree.
 
 ghost use Rattle.std.specs.Prelude.{◌≡◌, Some, true, IfOk};
 ghost use Rattle.std.specs.Option.{option_map};
@@ -29,7 +29,7 @@ use vlm_words::flags::EnqFlags;
 use vlm_words::names::NameArg;
 use vlm_words::resources::{Domain, Key, Queue, Site};
 
-// The lowest level at which a resource can stand.
+// The lowest level of a resource.
 const LAST_LEVEL: u8 = 15;
 
 /// The parent lock of a new request.
@@ -49,9 +49,9 @@ pub(crate) fn lock_of(parent: &Option<Parent>) -> Option<LockAt>
 }
 
 impl Machine {
-    /// The parent lock of a request, by its handle and its resource's; none where 0 is named. IVLOCKID where the lock is
-    /// none of the caller, PARNOTGRANT where it waits, EXDEPTH where it stands on the lowest level,
-    /// NOSYSLCK where SYSTEM asks for a root and the caller has not the privilege.
+    /// The parent lock of a request, with its handle and its resource's; none for 0. IVLOCKID if the lock is not one of
+    /// the caller, PARNOTGRANT if it waits, EXDEPTH if its resource is on the lowest level, NOSYSLCK for a root with
+    /// SYSTEM without the privilege.
     #[tactic(auto, unfolding(vlm_words::specs::Trees::site_refusal))]
     pub(crate) fn checked_site(
         &self,
@@ -70,7 +70,7 @@ impl Machine {
         Ok(parent)
     }
 
-    // The parent lock, by these handles; none where 0 is named.
+    // The parent lock with these handles; none for 0.
     #[tactic(auto, unfolding(vlm_words::specs::Trees::parent_refusal))]
     fn checked_parent(&self, caller: &Caller, lkid: u32) -> Result<Option<Parent>, Cond>
         ensures refusal { result_err result
@@ -91,7 +91,7 @@ impl Machine {
         }))
     }
 
-    // PARNOTGRANT where a parent waits, EXDEPTH where it stands on the lowest level.
+    // PARNOTGRANT if a parent waits, EXDEPTH if its resource is on the lowest level.
     fn check_parent(&self, parent: &Standing) -> Result<(), Cond>
         requires { IsStanding parent.now self.now.records }
         ensures refusal { (r : StoredResource)
@@ -107,7 +107,7 @@ impl Machine {
         }
     }
 
-    // EXDEPTH where a resource stands on the lowest level.
+    // EXDEPTH if a resource is on the lowest level.
     fn check_depth(&self, res: ResAt) -> Result<(), Cond>
         requires { HasResource res self.now.records }
         ensures { (r : StoredResource) → resource_at res self.now.records.resources ≡ Some r
@@ -120,7 +120,7 @@ impl Machine {
         }
     }
 
-    // NOSYSLCK where SYSTEM asks for a root and the caller has not the privilege.
+    // NOSYSLCK for a root with SYSTEM without the privilege.
     #[tactic(auto, unfolding(vlm_words::specs::Trees::privilege_refusal))]
     fn check_privilege(&self, caller: &Caller, flags: EnqFlags, parent: u32) -> Result<(), Cond>
         requires { IsCaller caller.now self.now.records }
@@ -134,10 +134,10 @@ impl Machine {
         }
     }
 
-    /// Where the resource of a request stands: below its parent resource, in the same domain and one
-    /// level lower, or as a root in the system's domain or in the group of the caller.
-    // (a call of its own: the name stands at two places in the two forms of a key, and where this is a part of its
-    // caller the key is taken to pieces and put together again)
+    /// The site of a request's resource: below its parent resource, in the same domain and one level lower; or a root,
+    /// in the system's domain or in the caller's group.
+    // Kept out of line: inlined, the key would be copied in pieces, since its two forms have the name in different
+    // places.
     #[inline(never)]
     pub(crate) fn site_of(
         &self,

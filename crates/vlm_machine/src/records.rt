@@ -25,7 +25,7 @@ pub struct Machine {
     pub(crate) nodes: [Node; NODES],
     /// The processes, the resources and their locks.
     pub store: Store,
-    // how many identifications, request numbers and serials were given
+    // how many identifications, request numbers and serials are used
     pub(crate) last_lkid: u32,
     pub(crate) last_request: u64,
     pub(crate) last_serial: u32,
@@ -44,7 +44,7 @@ impl Model for Machine {
 }
 
 impl Machine {
-    /// A machine at its start, whose index of names hashes by these keys. It takes no memory.
+    /// A new machine, whose index of names hashes by these keys. It takes no memory.
     pub fn with_keys(alloc: Global, keys: HashKeys) -> Machine
         ensures { plain_state result ≡ start }
     {
@@ -57,7 +57,7 @@ impl Machine {
         }
     }
 
-    /// Makes one step, of whichever kind.
+    /// Makes one step of any kind.
     pub fn step(&mut self, touched: &mut Touched, scratch: &mut Scratch, step: &Step) -> Answer
         requires between { IsBetweenSteps (plain_state self.old) }
         requires notes { HasRoomToNote touched.old self.old }
@@ -79,8 +79,8 @@ impl Machine {
         }
     }
 
-    /// Ends a step that touched one resource: what is queued there is granted as far as it can be, and it
-    /// goes if no lock is left on it. On the others nothing is to be done.
+    /// Ends a step that touched one resource: grants what can be granted there, warns the locks that are in the way of
+    /// the rest, and removes the resource if it has no locks. No other resource needs this.
     pub(crate) fn sweep(&mut self, res: ResAt)
         requires there { HasResource res self.old.records }
         requires settled { AreSettledBut (res ∷ []) self.old.records.resources }
@@ -89,7 +89,7 @@ impl Machine {
         sweep_resource(&mut self.store, res);
     }
 
-    /// Ends a step that touched the resources that are noted, in the order of their making, and forgets the notes.
+    /// Ends a step that touched the noted resources, in the order of their making, and forgets the notes.
     pub(crate) fn sweep_touched(&mut self, touched: &mut Touched)
         requires { IsToSweep touched.old self.old }
         ensures swept { plain_state self.new ≡ state_after_sweep (plain_state self.old) }

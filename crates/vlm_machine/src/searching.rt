@@ -18,7 +18,8 @@ use vlm_store::laws::law_records_are_sound;
 use vlm_words::steps::{Answer, Step};
 
 impl Machine {
-    /// Searches for a deadlock: its checks; the request that is found ends, and its resource is swept. It takes no memory.
+    /// Searches for a deadlock: its checks, the end of the victim's request, and the sweep of its resource. It takes no
+    /// memory.
     // Kept out of line: inlined, it would cost the other steps registers.
     #[inline(never)]
     pub(crate) fn search(&mut self, scratch: &mut Scratch, node: u8) -> Answer
@@ -41,7 +42,7 @@ impl Machine {
         }
     }
 
-    // The request of the victim ends, and with it a lock that waits.
+    // The change: the victim's request ends, and a lock that waits goes with it.
     #[tactic(auto, unfolding(vlm_words::specs::Search::search_change))]
     fn end_victim(&mut self, standing: &Standing)
         requires standing { IsStanding standing.now self.old.records }

@@ -15,8 +15,8 @@ use vlm_words::conditions::Cond;
 use vlm_words::steps::{Answer, Step, ValueSetting};
 
 impl Machine {
-    /// Writes the value part of a status block of the caller, and its tail where one is given, and nothing else. No
-    /// resource is touched, so nothing is to be swept.
+    /// Writes the value part of a status block of the caller, and its tail if one is given. It touches no resource, so
+    /// there is no sweep.
     pub(crate) fn set_value(&mut self, setting: &ValueSetting) -> Answer
         requires { IsBetweenSteps (plain_state self.old) }
         ensures { Outcome (plain_state self.old) (Step.SetValue setting.now)
@@ -43,7 +43,7 @@ impl Machine {
         Ok(caller)
     }
 
-    // The value part is written, and the tail where one is given.
+    // The change: the value part is written, and the tail if one is given.
     #[tactic(auto, unfolding(vlm_words::specs::SetValue::set_change))]
     fn set_change(&mut self, caller: &Caller, setting: &ValueSetting)
         requires caller { IsCaller caller.now self.old.records }
