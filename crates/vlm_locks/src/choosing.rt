@@ -1,4 +1,4 @@
-//! Locks that are to go together are noted: those of a process, or those below a lock.
+//! Notes the locks that go together: all locks of a process, or all locks below a lock.
 
 ghost use Rattle.std.specs.Prelude.{◌≡◌, ◌≤◌, ◌+◌, ◌++◌, [], length};
 ghost use Rattle.vlm_store.specs.Records.{IsProcess, IsStored, sublocks_at};
@@ -31,7 +31,7 @@ pub(crate) fn note_own(store: &Store, touched: &mut Touched, owner: ProcAt, pid:
     }
 }
 
-// Notes the locks that stand below a lock on the next level, behind what is noted. There is room for each.
+// Notes the sublocks of a lock, after the notes that are there. There is room for each.
 fn note_sublocks(store: &Store, touched: &mut Touched, lock: LockAt)
     requires rest { IsAtRest store.now }
     requires stored { IsStored lock store.now }
@@ -51,8 +51,8 @@ fn note_sublocks(store: &Store, touched: &mut Touched, lock: LockAt)
     }
 }
 
-// Notes all locks below the one of this identification, by rising identification. It goes level by level: what is noted
-// is the queue of those whose sublocks are still to be noted. So it looks at no other lock, and takes no memory.
+// Notes all locks below the lock of this identification, by rising identification. It goes level by level, and the
+// notes are its queue of locks whose sublocks come next. So it looks at no other lock, and takes no memory.
 pub(crate) fn note_below(store: &Store, touched: &mut Touched, pid: u32, top: u32)
     requires rest { IsAtRest store.now }
     requires top { IsOwnChoice (Below top) pid store.now }

@@ -27,7 +27,7 @@ use vlm_words::locks::Request;
 use vlm_words::modes::Mode;
 use vlm_words::resources::Queue;
 
-// Whether the mode fits beside all other locks of the resource of a granted lock.
+// Whether the mode fits beside all other locks of a granted lock's resource.
 fn fits_others(store: &Store, standing: &Standing, mode: Mode) -> bool
     requires standing { IsStanding standing.now store.now }
     requires granted { standing.now.queue ≡ Queue.Granted }
@@ -39,8 +39,8 @@ fn fits_others(store: &Store, standing: &Standing, mode: Mode) -> bool
     can_hold(store, standing.res, mode, Some(standing.lock))
 }
 
-/// Whether a conversion of a granted lock is granted at once: what it asks for fits beside all other locks
-/// of its resource, and with QUECVT no conversion is queued there.
+/// Whether a conversion of a granted lock is granted at once: the mode fits beside all other locks of the resource, and
+/// with QUECVT no conversion is queued there.
 #[tactic(auto, unfolding(vlm_words::specs::Convert::converts_at_once))]
 pub fn converts_at_once(store: &Store, standing: &Standing, flags: EnqFlags, mode: Mode) -> bool
     requires standing { IsStanding standing.now store.now }
@@ -54,8 +54,8 @@ pub fn converts_at_once(store: &Store, standing: &Standing, flags: EnqFlags, mod
         && (!flags.has(EnqFlags::QUECVT) || is_empty(store, standing.res, Queue::Conversion))
 }
 
-// What a lock wants is granted at once: it goes to the end of the granted queue, its request is accepted, and the grant
-// takes effect on the value block of its resource, if the request names that, and on its status block.
+// Grants a conversion at once: the lock goes to the end of the granted queue, its request is accepted, and the grant
+// takes effect on its status block, and with VALBLK on the value block of its resource.
 fn convert_now(store: &mut Store, standing: &Standing, row: &StoredRow, asked: &Request)
     requires standing { IsStanding standing.now store.old }
     requires row { IsSameLock standing.now.row row.now }
@@ -81,7 +81,7 @@ fn convert_now(store: &mut Store, standing: &Standing, row: &StoredRow, asked: &
     }
 }
 
-// The conversion waits: its request is accepted, and the lock goes to the end of the conversion queue.
+// Queues a conversion: its request is accepted, and the lock goes to the end of the conversion queue.
 fn convert_later(store: &mut Store, standing: &Standing, row: StoredRow, asked: &Request)
     requires standing { IsStanding standing.now store.old }
     requires row { IsSameLock standing.now.row row }
@@ -100,8 +100,8 @@ fn convert_later(store: &mut Store, standing: &Standing, row: StoredRow, asked: 
     accept(store, standing.owner, asked.block, standing.row.lkid());
 }
 
-// Converts a granted lock whose process is owed the ASTs of the request: at once, or it goes to the end of the conversion
-// queue and holds what it held. A grant at once takes effect on the value block of the resource and on the status block.
+// Converts a granted lock whose process is owed the ASTs of the request. The lock is granted at once, or goes to the
+// end of the conversion queue and keeps its mode.
 fn convert_owed(store: &mut Store, standing: &Standing, asked: &Request, at_once: bool)
     requires rest { IsAtRest store.old }
     requires standing { IsStanding standing.now store.old }
@@ -126,10 +126,9 @@ fn convert_owed(store: &mut Store, standing: &Standing, asked: &Request, at_once
     }
 }
 
-/// Converts a granted lock: its process is owed the ASTs of the routines that the request names, its status block is
-/// that of a pending request, and then the lock is granted at once, or it goes to the end of the conversion queue and
-/// holds what it held. A grant at once takes effect on the value block of the resource and on the status block of the
-/// request. Where memory is refused nothing is changed.
+/// Converts a granted lock. Its process is owed the ASTs of the request's routines. Then the lock is granted at once,
+/// or goes to the end of the conversion queue and keeps its mode. A grant at once takes effect on the status block of
+/// the request, and with VALBLK on the value block of the resource. If memory is refused, nothing is changed.
 pub fn convert(
     store: &mut Store,
     standing: &Standing,

@@ -1,5 +1,5 @@
-//! What the end of a request does: it writes its status, and with VALBLK a grant returns or writes a value block; and
-//! its completion AST is queued.
+//! The end of a request: its status is written, with VALBLK a grant returns or writes the value block, and its completion
+//! AST is queued.
 
 ghost use Rattle.std.specs.Prelude.{◌≡◌, ◌≤◌, ◌-◌, Some, true, false, is_some};
 ghost use Rattle.vlm_words.specs.declared.resources.ValueBlock.{ValueBlock};
@@ -25,7 +25,7 @@ use vlm_words::locks::Request;
 use vlm_words::modes::{Act, value_action};
 use vlm_words::resources::ValueBlock;
 
-// What the grant of a request does with the value block, by what is held before.
+// The action of a request's grant on the value block, by the mode held before.
 #[tactic(auto, unfolding(vlm_words::specs::Grants::grant_act))]
 fn grant_act(held: Option<Request>, want: &Request) -> Act
     ensures { result ≡ grant_act held (Some want.now) }
@@ -39,7 +39,7 @@ fn grant_act(held: Option<Request>, want: &Request) -> Act
     }
 }
 
-// Writes the value block from a status block: its value part, and its tail too where the write is wide.
+// Writes the value block from a status block: its value part, and for a wide write its tail too.
 fn write_from(value_block: &mut ValueBlock, from: &Block, wide: bool)
     ensures { value_block.new ≡ value_block_written_from wide from.now value_block.old }
 {
@@ -47,8 +47,8 @@ fn write_from(value_block: &mut ValueBlock, from: &Block, wide: bool)
     value_block.write(from.value, tail);
 }
 
-// The grant of what a lock wanted writes its status to the status block of the lock's process, and with VALBLK the
-// value block is returned there, or written from there: with WIDE all 64 bytes of it.
+// Writes the status of a grant to the status block of the lock's process. With VALBLK the value block is returned
+// there, or written from there: with WIDE all 64 bytes of it.
 #[tactic(auto, unfolding(vlm_words::specs::Effects::blocks_after_return, vlm_words::specs::Effects::blocks_after_writing))]
 fn write_grant(
     value_block: &mut ValueBlock,
@@ -77,8 +77,8 @@ fn write_grant(
     }
 }
 
-/// The request of a lock has ended, at once or later: its completion AST is queued, if it names a routine for one. Of a
-/// grant at once under SYNCSTS the answer alone tells.
+/// Queues the completion AST of a request that has ended, at once or later, if it names a completion routine. A grant
+/// at once with SYNCSTS queues none, since the answer tells of it.
 #[tactic(auto, unfolding(vlm_words::specs::Asts::completion_asts))]
 pub(crate) fn complete(
     store: &mut Store,
@@ -111,14 +111,14 @@ pub(crate) fn complete(
     }
 }
 
-/// One where it is so.
+/// 1 for true, 0 for false.
 pub(crate) fn one_where(so: bool) -> usize
     ensures { result ≡ one_where so }
 {
     if so { 1 } else { 0 }
 }
 
-// How many completions do not come of a request: that of which SYNCSTS lets the answer tell.
+// How many completion ASTs of a request never come: one after a grant at once with SYNCSTS.
 fn completions_spared(request: &Request, at_once: bool) -> usize
     ensures { result ≡ completions_spared at_once request.now }
 {
@@ -172,9 +172,9 @@ pub(crate) fn grant_without_value_block(
     tell_grant(store, at, row, request, true);
 }
 
-/// The request that the lock of a row wanted is granted, at once or from a queue: its status is written to the
-/// status block of the lock's process, with VALBLK the value block is returned there, or written from there, and
-/// its completion AST is queued. What is owed for the lock and does not come is forgiven.
+/// Ends a request by its grant, at once or from a queue. Its status is written to the status block of the lock's
+/// process. With VALBLK the value block is returned there, or written from there. Its completion AST is queued, and the
+/// room of the ASTs that will not come is freed.
 pub(crate) fn end_by_grant(
     value_block: &mut ValueBlock,
     store: &mut Store,

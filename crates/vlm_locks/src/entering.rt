@@ -39,10 +39,10 @@ pub fn enters_at_once(store: &Store, res: ResAt, flags: EnqFlags, mode: Mode) ->
             && is_empty(store, res, Queue::Waiting))
 }
 
-/// A new lock, and where it is to enter.
+/// A new lock before it enters its resource.
 #[derive(Clone, Copy)]
 pub struct Entry {
-    /// What it asks for.
+    /// Its request.
     pub asked: Request,
     /// Its identification.
     pub lkid: u32,
@@ -54,13 +54,13 @@ pub struct Entry {
     pub owner: ProcAt,
     /// The handle of its parent lock, if it has one.
     pub parent: Option<LockAt>,
-    /// Where its resource stands.
+    /// The site of its resource.
     pub site: Site,
-    /// How its key is hashed.
+    /// The hash of the resource's key.
     pub hash: u32,
-    /// The serial of its resource, if that is made.
+    /// The serial that its resource gets, if it has to be made.
     pub serial: u32,
-    /// Where its resource is, if it is there.
+    /// The handle of its resource, if it exists.
     pub res: Option<ResAt>,
     /// Whether the request is granted at once.
     pub at_once: bool,
@@ -80,7 +80,7 @@ fn new_row(entry: &Entry) -> StoredRow
     })
 }
 
-// The row of a new lock as it enters: it holds what it wants where it is granted at once.
+// The row of a new lock as it enters. If it is granted at once, it holds the mode that it wants.
 fn entered_row(entry: &Entry, row: &StoredRow) -> StoredRow
     requires { row.now ≡ new_row entry.now }
     ensures { result ≡ entered_row entry.now.at_once (new_row entry.now) }
@@ -115,7 +115,7 @@ fn enter_at(store: &mut Store, entry: &Entry, row: &StoredRow, res: ResAt)
     store.add_lock_reserved(&entered_row(entry, row), entry.owner, entry.parent, queue);
 }
 
-// The resource of a new lock. It is made if it is not there.
+// The resource of a new lock. It is made if it does not exist.
 fn resource_or_new(store: &mut Store, entry: &Entry) -> ResAt
     requires may_enter { MayEnter entry.now store.old }
     requires found { FindsResource store.old entry.now.site.key entry.now.res }
@@ -134,7 +134,7 @@ fn resource_or_new(store: &mut Store, entry: &Entry) -> ResAt
     }
 }
 
-// Takes a new lock in on the resource of its handle, which is made if it is not there.
+// Adds a new lock to its resource, which is made if it does not exist.
 fn take_in(store: &mut Store, entry: &Entry, row: &StoredRow) -> ResAt
     requires may_enter { MayEnter entry.now store.old }
     requires row { row.now ≡ new_row entry.now }
@@ -193,8 +193,8 @@ fn accept_entered(store: &mut Store, entry: &Entry, row: &StoredRow, res: ResAt)
     }
 }
 
-// Makes room for a new lock, and for its resource where that is not there. Where memory is refused, nothing is changed
-// but that there may be more room.
+// Makes room for a new lock, and for its resource if it does not exist. If memory is refused, nothing is changed,
+// except that there may be more room.
 fn reserve(store: &mut Store, entry: &Entry) -> Result<(), AllocError>
     ensures unchanged { IsUnchanged store.old store.new }
     ensures lock { OnOk result (HasRoomForLock entry.now.lkid store.new) }
@@ -209,9 +209,8 @@ fn reserve(store: &mut Store, entry: &Entry) -> Result<(), AllocError>
     }
 }
 
-// All that wants memory is made: room for a new lock, and for its resource where that is not there, and its process is
-// owed the ASTs of the routines that its request names. Where memory is refused, nothing is changed but that there may
-// be more room.
+// The growth: room for a new lock, for its resource if it does not exist, and for the ASTs of its routines. If memory
+// is refused, nothing is changed, except that there may be more room.
 fn make_ready(store: &mut Store, entry: &Entry) -> Result<(), AllocError>
     requires owner { IsProcess entry.now.owner entry.now.pid store.old }
     ensures ready { OnOk result (IsReady entry.now store.old store.new) }
@@ -222,7 +221,7 @@ fn make_ready(store: &mut Store, entry: &Entry) -> Result<(), AllocError>
     owe_routines(store, entry.owner, Some(entry.asked))
 }
 
-// Takes a new lock in, after all room for it was made.
+// The change: a new lock enters, after all room for it was made.
 fn enter_ready(store: &mut Store, entry: &Entry) -> ResAt
     requires may_enter { MayEnter entry.now store.old }
     requires found { FindsResource store.old entry.now.site.key entry.now.res }
@@ -237,10 +236,9 @@ fn enter_ready(store: &mut Store, entry: &Entry) -> ResAt
     res
 }
 
-/// Takes a new lock in on the resource of its handle, which is made if it is not there: granted at once, or at the
-/// end of the waiting queue. Its process is owed the ASTs of the routines that its request names. The status block of
-/// the request is that of a pending one, or tells of its grant. Where there is no room and memory is refused, nothing
-/// is changed but that there may be more room.
+/// Adds a new lock to its resource, which is made if it does not exist. The lock is granted at once, or goes to the end
+/// of the waiting queue. Its process is owed the ASTs of its routines, and its status block is written. If memory is
+/// refused, nothing is changed, except that there may be more room.
 pub fn enter(store: &mut Store, entry: &Entry) -> Result<ResAt, AllocError>
     requires may_enter { MayEnter entry.now store.old }
     requires found { FindsResource store.old entry.now.site.key entry.now.res }

@@ -1,4 +1,4 @@
-//! Where a lock stands.
+//! Finds locks, and where they stand.
 
 ghost use Rattle.std.specs.Prelude.{◌≡◌, ◌≢◌, IfSome, is_some};
 ghost use Rattle.std.specs.Bool.{OnFalse, OnTrue};
@@ -14,23 +14,23 @@ ghost use Rattle.vlm_locks.specs.Standing.{IsLockOf, IsStanding};
 use vlm_store::{LockAt, ProcAt, ResAt, Store, StoredRow};
 use vlm_words::resources::Queue;
 
-/// A lock in its queue, with what it holds and wants.
+/// A lock, its row, its process, and the queue in which it is.
 #[derive(Clone, Copy)]
 pub struct Standing {
     /// The handle of the lock.
     pub lock: LockAt,
     /// The handle of the process that owns it.
     pub owner: ProcAt,
-    /// What it holds and wants.
+    /// Its row: its identification, and its granted and requested modes.
     pub row: StoredRow,
     /// The handle of its resource.
     pub res: ResAt,
-    /// The queue in which it stands there.
+    /// The queue in which it is.
     pub queue: Queue,
 }
 
 impl Standing {
-    /// Whether the lock is granted: it stands in the granted queue.
+    /// Whether the lock is granted: it is in the granted queue.
     pub fn is_granted(&self) -> bool
         ensures granted { OnTrue result (self.now.queue ≡ Queue.Granted) }
         ensures queued { OnFalse result (self.now.queue ≢ Queue.Granted) }
@@ -39,7 +39,7 @@ impl Standing {
     }
 }
 
-/// Where a lock that is in hand stands: between two steps each lock stands in a queue.
+/// The standing of a lock with this handle. Each lock is in a queue.
 pub fn standing_of(store: &Store, lock: LockAt) -> Standing
     requires rest { IsAtRest store.now }
     requires stored { IsStored lock store.now }
@@ -59,7 +59,7 @@ pub fn standing_of(store: &Store, lock: LockAt) -> Standing
     }
 }
 
-/// The lock of this identification, if it is one of the process. None where it is not, or where no lock has the
+/// The lock of this identification, if it is one of the process; `None` if it is not, or if no lock has the
 /// identification.
 pub fn find_lock(store: &Store, pid: u32, lkid: u32) -> Option<LockAt>
     requires { IsAtRest store.now }

@@ -1,4 +1,4 @@
-//! Locks of a process that are given up together.
+//! Gives up several locks of a process together.
 
 ghost use Rattle.std.specs.Prelude.{◌≡◌, ◌≤◌, []};
 ghost use Rattle.vlm_store.specs.Records.{IsProcess};
@@ -45,7 +45,7 @@ fn note_chosen(store: &Store, touched: &mut Touched, owner: ProcAt, pid: u32, ch
     }
 }
 
-// The requests of the noted locks end, the first that was made first. The locks stand as before.
+// Ends the requests of the noted locks, from the first to the last. The locks stay where they are.
 fn end_noted(store: &mut Store, notes: &[Note], invalidates: bool)
     requires rise { Rise (noted_lkids notes.now) }
     requires locks { AreOfLocks notes.now store.old }
@@ -63,8 +63,8 @@ fn end_noted(store: &mut Store, notes: &[Note], invalidates: bool)
     }
 }
 
-// The noted locks go, whose requests have ended, the last that was made first: so sublocks go before their parents. In the
-// place of each its resource is noted.
+// Removes the noted locks, from the last to the first, so that sublocks go before their parents. The note of each lock
+// becomes a note of its resource.
 fn remove_noted(
     store: &mut Store,
     touched: &mut Touched,
@@ -91,10 +91,10 @@ fn remove_noted(
     }
 }
 
-/// Gives up locks of a process together: the chosen ones. First their requests end with ABORT, and their completion ASTs
-/// are queued, by rising identification; then all of them go, and a resource on which one of them held PW or EX, granted
-/// or converting, may have its value block marked invalid. What they touched is noted, and nothing is granted. The cost
-/// grows with the locks that go.
+/// Gives up the chosen locks of a process together. First their requests end with ABORT, and their completion ASTs are
+/// queued, by rising identification. Then all of them go. A resource on which one of them held PW or EX, granted or
+/// converting, may have its value block marked invalid. Their resources are noted, and nothing is granted. The cost
+/// grows with the locks that go, and their number times its logarithm for putting them in order.
 pub fn give_up_together(
     store: &mut Store,
     touched: &mut Touched,

@@ -1,8 +1,7 @@
-//! What becomes of one lock: it enters a resource, converts, or is withdrawn, and its resource is swept: what is
-//! queued there is granted, as far as it can be.
+//! The transitions of locks: a lock enters a resource, converts, or is withdrawn; a process ends; a resource is swept.
 //!
-//! A lock is looked up once, and no resource but its own is touched. Only an entry takes memory, and a conversion that
-//! names a routine: before anything is changed.
+//! A transition touches only the lock's own resource. Only an entry, and a conversion that names a routine, take memory,
+//! and they take it before anything is changed.
 #![tactic(auto)]
 
 mod choosing;

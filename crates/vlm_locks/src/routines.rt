@@ -23,8 +23,8 @@ fn routines_of(want: Option<Request>) -> usize
     }
 }
 
-/// Owes a process the ASTs of the routines that a request of it names, if there is one. Where memory is refused
-/// nothing is changed.
+/// Owes a process the ASTs of the routines that its request names, if it names any. If memory is refused, nothing is
+/// changed.
 // Inlined: most requests name no routine, and need no more than the test.
 #[inline(always)]
 pub(crate) fn owe_routines(

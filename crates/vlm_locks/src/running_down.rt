@@ -1,4 +1,4 @@
-//! The end of a process: all its locks go.
+//! Ends processes: all their locks go.
 
 ghost use Rattle.std.specs.Prelude.{◌≡◌, ◌==◌, ◌≤◌, ◌+◌, ℕ, ◌++◌, [], length, map};
 ghost use Rattle.vlm_store.specs.Plain.{plain_processes, plain_resources};
@@ -17,9 +17,9 @@ use crate::withdrawing::withdraw;
 use vlm_store::laws::law_records_are_sound;
 use vlm_store::{ProcAt, Store};
 
-// Withdraws all locks of a process that ends: the requests end and nobody is told; where a lock is held at PW or EX its
-// value block is marked invalid. Sublocks go before their parents, since these were made before them. What it touches is
-// noted. The cost grows with the locks that go.
+// Withdraws all locks of a process that ends. Their requests end without a status or an AST. The value block of a
+// resource on which one is held at PW or EX is marked invalid. The last lock goes first, so that sublocks go before
+// their parents. The touched resources are noted. The cost grows with the locks that go.
 fn run_down(store: &mut Store, touched: &mut Touched, owner: ProcAt, pid: u32)
     requires rest { IsAtRest store.old }
     requires owner { IsProcess owner pid store.old }
@@ -54,9 +54,9 @@ fn run_down(store: &mut Store, touched: &mut Touched, owner: ProcAt, pid: u32)
     }
 }
 
-/// Ends a process. All its locks are withdrawn: their requests end and nobody is told, and where one is held at PW or EX its
-/// value block is marked invalid. Then the process goes, with its status blocks and its ASTs. What it touches is noted. The
-/// cost grows with the locks that go.
+/// Ends a process. All its locks are withdrawn: their requests end without a status or an AST, and the value block of a
+/// resource on which one is held at PW or EX is marked invalid. Then the process goes, with its status blocks and its
+/// ASTs. The touched resources are noted. The cost grows with the locks that go.
 pub fn end_process(store: &mut Store, touched: &mut Touched, owner: ProcAt, pid: u32)
     requires owner { IsProcess owner pid store.old }
     requires can_end { CanEndProcesses touched.old store.old }
@@ -68,7 +68,8 @@ pub fn end_process(store: &mut Store, touched: &mut Touched, owner: ProcAt, pid:
     store.remove_process(owner);
 }
 
-/// Ends all processes of a node, 1 to 8, as [`end_process`] ends one. The cost grows with the processes and the locks that go.
+/// Ends all processes of a node, 1 to 8, as [`end_process`] ends one. The cost grows with the processes and the locks
+/// that go.
 pub fn end_processes_of(store: &mut Store, touched: &mut Touched, node: u8)
     requires first { 1 ≤ node }
     requires last { node ≤ 8 }

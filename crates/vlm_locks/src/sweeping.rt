@@ -17,8 +17,8 @@ use vlm_store::laws::law_records_are_sound;
 use vlm_store::{ResAt, Store};
 use vlm_words::laws::law_a_sweep_touches_only_what_is_not_settled;
 
-// Sweeps one resource: what is queued on it is granted as far as it can be, who is in the way of the rest is warned, and
-// it goes if no lock is left on it.
+// Sweeps one resource: grants what can be granted, warns the locks in the way of the rest, and removes the resource if
+// it has no locks.
 fn sweep_one(store: &mut Store, res: ResAt)
     requires there { HasResource res store.old }
     requires paid { IsPaid store.old }
@@ -53,9 +53,9 @@ pub fn sweep_resource(store: &mut Store, res: ResAt)
     sweep_one(store, res);
 }
 
-/// Ends a step that touched these resources, in the order of their making: what is queued on each is granted as
-/// far as it can be, who is in the way of the rest is warned, and it goes if no lock is left on it. On the others
-/// nothing is to be done. The cost grows with what is touched and granted.
+/// Ends a step that touched these resources, in the order of their making. On each it grants what can be granted, warns
+/// the locks in the way of the rest, and removes the resource if it has no locks. No other resource needs this. The
+/// cost grows with the resources that are touched and the locks that are granted and warned.
 pub fn sweep(store: &mut Store, touches: &[Note])
     requires rest { IsAtRest store.old }
     requires in_order { StandInOrder (touched_handles touches.now) store.old.resources }

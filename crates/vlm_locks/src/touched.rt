@@ -1,5 +1,5 @@
-//! What a step notes on its way: the resources that it touches, for its sweep; and in the same room the locks that it is to
-//! give up together, until they are gone.
+//! The notes of a step: the resources that it touches, for its sweep; and in the same room the locks that it gives up
+//! together, until they are gone.
 
 ghost use Rattle.std.specs.Prelude.{◌≡◌, ◌<◌, ◌≤◌, List, [], ◌∷◌, ◌++◌, length, vec_capacity, IfSome, OnErr, OnOk};
 ghost use Rattle.vlm_words.specs.declared.locks.Row.{Row};
@@ -16,16 +16,17 @@ use vlm_store::{LockAt, ResAt, Store};
 /// The kind of a handle in a note: of a resource, or of a lock.
 pub struct NotedKind;
 
-/// A note of a resource that a step has touched, or of a lock that it is to give up. Who made the note knows which.
+/// A note of a resource that a step has touched, or of a lock that it will give up. The step knows which of the two it
+/// is.
 #[derive(Clone, Copy)]
 pub struct Note {
-    // by which notes stand in the order of making: of a resource its serial, of a lock its identification
+    // the serial of a resource, or the identification of a lock: notes in this order are in the order of making
     number: u32,
     at: At<NotedKind>,
 }
 
 impl Note {
-    /// That of a resource.
+    /// A note of a resource.
     pub fn of_resource(store: &Store, res: ResAt) -> Note
         requires { HasResource res store.now }
         ensures res { result.at ≡ res }
@@ -38,7 +39,7 @@ impl Note {
         }
     }
 
-    /// That of a lock.
+    /// A note of a lock.
     pub fn of_lock(store: &Store, lock: LockAt) -> Note
         requires { IsStored lock store.now }
         ensures lock { result.at ≡ lock }
@@ -65,10 +66,10 @@ impl Note {
     }
 }
 
-/// What a step has noted, in the order in which it came to it, with room for more.
+/// The notes of a step in the order in which it made them, with room for more.
 #[derive(Drop)]
 pub struct Touched {
-    // a resource as often as it was touched
+    // a resource may be noted several times
     notes: Vec<Note>,
 }
 
@@ -83,7 +84,7 @@ impl Model for Touched {
 }
 
 impl Touched {
-    /// None, and no room. It takes no memory.
+    /// No notes, and no room. It takes no memory.
     pub fn new(alloc: Global) -> Self
         ensures { result.noted ≡ [] }
     {
@@ -92,8 +93,8 @@ impl Touched {
         }
     }
 
-    /// Makes room for one more than so many. Where memory is refused nothing is changed. The memory grows to twice its
-    /// size, so many calls seldom move it.
+    /// Makes room for one note more than so many. If memory is refused, nothing is changed. The memory grows to twice
+    /// its size, so most calls move nothing.
     pub fn make_room_beyond(&mut self, count: usize) -> Result<(), AllocError>
         requires { self.old.noted ≡ [] }
         ensures none { self.new.noted ≡ [] }
@@ -116,7 +117,7 @@ impl Touched {
         self.notes.push_reserved(note);
     }
 
-    /// Puts a note in the place of another.
+    /// Replaces the note at an index.
     pub fn replace(&mut self, index: usize, note: Note)
         requires { index < length self.old.noted }
         ensures noted { (before after : List Note) (was : Note)
@@ -127,7 +128,7 @@ impl Touched {
         self.notes[index] = note;
     }
 
-    /// Brings what is noted in the order of making, each once. It takes no memory.
+    /// Puts the notes in the order of making, each once. It takes no memory.
     pub fn in_order(&mut self)
         ensures rising { RiseByNumber self.new.noted }
         ensures within { (t : Note) → IsIn t self.new.noted → IsIn t self.old.noted }
@@ -138,14 +139,14 @@ impl Touched {
         self.notes.dedup_by_key(|note| note.number);
     }
 
-    /// What is noted.
+    /// The notes.
     pub fn notes(&self) -> &[Note]
         ensures { result.now ≡ self.now.noted }
     {
         &self.notes
     }
 
-    /// Forgets all, and keeps the room.
+    /// Forgets all notes, and keeps the room.
     pub fn clear(&mut self)
         ensures none { self.new.noted ≡ [] }
         ensures room { self.new.room ≡ self.old.room }

@@ -1,4 +1,4 @@
-//! The warnings of a resource: its granted locks that are armed and in the way of a queued request.
+//! Warns the armed locks of a resource that are in the way of a queued request.
 
 ghost use Rattle.std.specs.Prelude.{◌≡◌, ◌≤◌, true, IfSome, Some};
 ghost use Rattle.vlm_words.specs.declared.locks.Row.{Row};
@@ -15,8 +15,7 @@ use vlm_store::{Armed, LockAt, ProcAt, ResAt, Store, StoredRow};
 use vlm_words::asts::{Ast, AstKind};
 use vlm_words::modes::Mode;
 
-// Whether a granted lock with this row is to be warned: it is armed, and what it holds is in the way of a queued
-// request.
+// Whether a granted lock with this row is to be warned: it is armed, and its mode is in the way of a queued request.
 #[tactic(auto, unfolding(vlm_words::specs::Asts::is_to_warn))]
 fn is_to_warn(store: &Store, res: ResAt, row: &StoredRow) -> bool
     requires { HasResource res store.now }
@@ -29,7 +28,7 @@ fn is_to_warn(store: &Store, res: ResAt, row: &StoredRow) -> bool
     }
 }
 
-// Queues the blocking AST of what a lock holds, which is owed for it. Where no routine is named, nothing comes of it.
+// Queues the blocking AST of a lock's granted request. If the request names no routine, the AST that is owed is forgiven.
 fn queue_warning(store: &mut Store, at: ProcAt, row: &StoredRow)
     requires process { IsProcess at row.now.pid store.old }
     requires owed { row_due row.now ≤ due_of row.now.pid store.old }
@@ -76,8 +75,8 @@ fn warn_lock(store: &mut Store, res: ResAt, lock: LockAt)
     store.disarm(lock);
 }
 
-// Warns the locks of a list of armed ones that are in the way of a queued request, from the first to the last. Which
-// one follows is read before a lock is warned, since it may be in the list no more then.
+// Warns the locks of a list of armed locks that are in the way of a queued request, from the first to the last. The
+// next lock is read before a lock is warned, since a warned lock leaves the list.
 fn warn_armed(store: &mut Store, res: ResAt, which: Armed)
     requires there { HasResource res store.old }
     requires spares { SparesOthers which res store.old }

@@ -1,4 +1,4 @@
-//! What is to become of a lock.
+//! Withdrawals: how a lock's request ends, and whether the lock goes.
 
 ghost use Rattle.std.specs.Prelude.{◌≡◌};
 ghost use Rattle.vlm_words.specs.Endings.{ending_status};
@@ -10,21 +10,21 @@ ghost use Rattle.vlm_locks.specs.Withdrawals.{how_ended, plain_withdrawal, write
 
 use vlm_words::conditions::Cond;
 
-/// How a request ends that is not granted.
+/// How a request ends without a grant.
 #[derive(Clone, Copy)]
 pub enum End {
-    /// With its lock.
+    /// It ends with its lock.
     Aborted,
     /// It is cancelled.
     Cancelled,
     /// A search found it deadlocked.
     Deadlocked,
-    /// With its process, which is told nothing any more.
+    /// It ends with its process, without a status or an AST.
     RunDown,
 }
 
 impl End {
-    /// The status of the request, ABORT, CANCEL or DEADLOCK; none where its process ends.
+    /// The status of the request: ABORT, CANCEL or DEADLOCK; none if its process ends.
     pub(crate) fn status(self) -> Option<Cond>
         ensures { ending_status (how_ended self) ≡ result }
     {
@@ -37,35 +37,35 @@ impl End {
     }
 }
 
-/// The withdrawal of a lock: its request ends, it leaves what it may leave in the value block, and it goes, or
-/// stays at what it holds.
+/// The withdrawal of a lock: its request ends, the value block may be written or marked invalid, and the lock goes, or
+/// stays granted.
 #[derive(Clone, Copy)]
 pub struct Withdrawal {
     /// The identification of the lock.
     pub lkid: u32,
-    /// How its request ends where it waits.
+    /// How its request ends if it waits.
     pub waiting: End,
-    /// How its request ends where it converts.
+    /// How its request ends if it converts.
     pub converting: End,
-    /// A lock that converts stays, granted as before; else it goes.
+    /// Whether a lock that converts stays, granted as before.
     pub stays: bool,
     /// Written to the value block if the lock is held at PW or EX.
     pub value: Option<[u8; 16]>,
-    /// Written with the value; without one the tail of the value block becomes invalid as the value is written.
+    /// Written with the value. Without it a write of the value makes the tail of the value block invalid.
     pub tail: Option<[u8; 48]>,
-    /// All of the value block is then marked invalid if the lock is held at PW or EX.
+    /// Whether the whole value block is then marked invalid, if the lock is held at PW or EX.
     pub invalidates: bool,
 }
 
 impl Withdrawal {
-    /// Whether it leaves something in the value block, where the lock may write that.
+    /// Whether it changes the value block, if the lock may write that.
     pub(crate) fn writes(&self) -> bool
         ensures { result ≡ writes_something self.now }
     {
         self.value.is_some() || self.invalidates
     }
 
-    /// That of a lock whose process ends.
+    /// The withdrawal of a lock whose process ends.
     pub(crate) fn rundown(lkid: u32) -> Self
         ensures { plain_withdrawal result ≡ rundown_of lkid }
     {
@@ -80,7 +80,7 @@ impl Withdrawal {
         }
     }
 
-    /// That of the victim of a search: its request ends, and with it a lock that waits; one that converts stays.
+    /// The withdrawal of the victim of a search: a lock that waits goes with its request, and one that converts stays.
     pub fn victim(lkid: u32) -> Self
         ensures { plain_withdrawal result ≡ deadlock_of lkid }
     {
@@ -95,7 +95,7 @@ impl Withdrawal {
         }
     }
 
-    /// That of a lock that is given up together with others.
+    /// The withdrawal of a lock that is given up together with others.
     pub(crate) fn together(lkid: u32, invalidates: bool) -> Self
         ensures { plain_withdrawal result ≡ giving_up by_abort by_abort invalidates lkid }
     {

@@ -1,4 +1,4 @@
-//! The withdrawal of a lock: it goes, or only its request does.
+//! Withdraws a lock, or only its request.
 
 ghost use Rattle.std.specs.Prelude.{◌≡◌, ◌≤◌, ℕ, None, Some, true, false, [], ◌∷◌, flat_map, map};
 ghost use Rattle.vlm_words.specs.Withdrawals.{is_writer, processes_after, resource_after_cancel, resource_after_withdrawals, resource_after_writer, resource_without, value_block_after_writer, withdrawal_endings};
@@ -26,8 +26,7 @@ use vlm_words::locks::Request;
 use vlm_words::modes::Mode;
 use vlm_words::resources::{Queue, ValueBlock};
 
-// The request that the lock wants ends with this status, and its completion AST is queued; of a blocking routine that it
-// names nothing comes.
+// Ends the queued request of a lock with this status, and queues its completion AST. Its blocking AST never comes.
 fn end_told(store: &mut Store, standing: &Standing, request: &Request, status: Cond)
     requires standing { IsStanding standing.now store.old }
     requires wants { standing.now.row.want ≡ Some request.now }
@@ -45,7 +44,7 @@ fn end_told(store: &mut Store, standing: &Standing, request: &Request, status: C
     forgive(store, standing.owner, one_where(request.blocking.is_some()));
 }
 
-// The request that the lock wants ends with its process: of no routine that it names comes anything.
+// Ends the queued request of a lock with its process. None of its ASTs come.
 fn end_untold(store: &mut Store, standing: &Standing)
     requires standing { IsStanding standing.now store.old }
     requires owed { row_due standing.now.row ≤ due_of standing.now.row.pid store.old }
@@ -58,7 +57,7 @@ fn end_untold(store: &mut Store, standing: &Standing)
     forgive(store, standing.owner, standing.row.wanted_routines());
 }
 
-// What the lock wants ends so. Where it wants nothing, nothing ends.
+// Ends the queued request of a lock in this way, if it has one.
 fn end_request(store: &mut Store, standing: &Standing, ended: End)
     requires standing { IsStanding standing.now store.old }
     requires owed { row_due standing.now.row ≤ due_of standing.now.row.pid store.old }
@@ -78,7 +77,7 @@ fn end_request(store: &mut Store, standing: &Standing, ended: End)
     }
 }
 
-// The request of the lock ends, by the queue in which it stands. A granted lock has none.
+// Ends the request of a lock as its queue asks for. A granted lock has none.
 fn end_withdrawn(store: &mut Store, standing: &Standing, withdrawal: &Withdrawal)
     requires standing { IsStanding standing.now store.old }
     requires named { withdrawal.now.lkid ≡ standing.now.row.lkid }
@@ -100,7 +99,7 @@ fn end_withdrawn(store: &mut Store, standing: &Standing, withdrawal: &Withdrawal
     }
 }
 
-// A lock that goes is not warned any more: what is owed for that is forgiven.
+// A lock that goes is no longer warned: the AST that is owed for it is forgiven.
 fn spare_warning(store: &mut Store, standing: &Standing, gone: bool)
     requires standing { IsStanding standing.now store.old }
     requires owed { one_where standing.now.row.armed ≤ due_of standing.now.row.pid store.old }
@@ -116,14 +115,14 @@ fn spare_warning(store: &mut Store, standing: &Standing, gone: bool)
     forgive(store, standing.owner, one_where(standing.row.is_armed()));
 }
 
-// Whether a withdrawn lock of this queue goes: always, but where it is to stay and holds a mode.
+// Whether a withdrawn lock of this queue goes. It does not if it is to stay and holds a mode.
 fn goes(stays: bool, queue: Queue) -> bool
     ensures { result ≡ goes stays queue }
 {
     !stays || matches!(queue, Queue::Waiting)
 }
 
-// The request of the lock ends, and what is owed for the lock and does not come is forgiven.
+// Ends the request of a lock, and forgives the ASTs that are owed for it and will not come.
 pub(crate) fn end_notices(store: &mut Store, standing: &Standing, withdrawal: &Withdrawal)
     requires standing { IsStanding standing.now store.old }
     requires named { withdrawal.now.lkid ≡ standing.now.row.lkid }
@@ -143,7 +142,7 @@ pub(crate) fn end_notices(store: &mut Store, standing: &Standing, withdrawal: &W
     spare_warning(store, standing, gone);
 }
 
-// Whether what is held may write the value block as its lock is given up.
+// Whether a lock that holds this may write the value block when it is given up.
 fn is_writer(held: Option<Request>) -> bool
     ensures { result ≡ is_writer held }
 {
@@ -153,7 +152,7 @@ fn is_writer(held: Option<Request>) -> bool
     }
 }
 
-// Whether the lock may write the value block as it goes: it holds PW or EX, granted or converting.
+// Whether a lock may write the value block when it goes: it holds PW or EX, granted or converting.
 fn may_write(standing: &Standing) -> bool
     ensures { result ≡ may_write standing.now.queue standing.now.row }
 {
@@ -163,8 +162,8 @@ fn may_write(standing: &Standing) -> bool
     }
 }
 
-// The value block as a writer leaves it: a given value is written, with a tail or without one, and then all of it may
-// be marked invalid.
+// The value block after a withdrawal that may write it: a given value is written, with a tail or without one, and then
+// the whole block may be marked invalid.
 fn block_after_writer(block: ValueBlock, withdrawal: &Withdrawal) -> ValueBlock
     ensures { result ≡ value_block_after_writer (plain_withdrawal withdrawal.now) block }
 {
@@ -178,7 +177,7 @@ fn block_after_writer(block: ValueBlock, withdrawal: &Withdrawal) -> ValueBlock
     left
 }
 
-// Only a lock that is held at PW or EX, granted or converting, leaves something in the value block.
+// Changes the value block as the withdrawal asks for. Only a lock that is held at PW or EX, granted or converting, does.
 fn leave_value(store: &mut Store, standing: &Standing, withdrawal: &Withdrawal)
     requires rest { IsAtRest store.old }
     requires standing { IsStanding standing.now store.old }
@@ -198,7 +197,7 @@ fn leave_value(store: &mut Store, standing: &Standing, withdrawal: &Withdrawal)
     }
 }
 
-// The lock goes from its queue. No lock stands below it.
+// Removes a lock without sublocks.
 #[inline(always)]
 fn remove(store: &mut Store, standing: &Standing)
     requires rest { IsAtRest store.old }
@@ -213,7 +212,7 @@ fn remove(store: &mut Store, standing: &Standing)
     store.remove_lock(standing.lock);
 }
 
-// The conversion of the lock is given up: it goes to the end of the granted queue and wants nothing.
+// Gives up the conversion of a lock: the lock goes to the end of the granted queue, and wants nothing.
 // Kept out of line: few dequeues cancel a conversion.
 #[inline(never)]
 fn grant_again(store: &mut Store, standing: &Standing)
@@ -249,7 +248,7 @@ fn cancel(store: &mut Store, standing: &Standing)
     }
 }
 
-// The lock leaves what it may leave in the value block, and goes. No lock stands below it.
+// Changes the value block as the withdrawal asks for, and removes a lock without sublocks.
 pub(crate) fn give_up(store: &mut Store, standing: &Standing, withdrawal: &Withdrawal)
     requires rest { IsAtRest store.old }
     requires standing { IsStanding standing.now store.old }
@@ -271,11 +270,10 @@ pub(crate) fn give_up(store: &mut Store, standing: &Standing, withdrawal: &Withd
     remove(store, standing);
 }
 
-/// Withdraws a lock. Its request ends, as the withdrawal says of one that waits and of one that converts, and its
-/// completion AST is queued. Held at PW or EX, granted or converting, it leaves a given value in the value block, with
-/// a given tail or without one, and may then mark all of it invalid.
-/// Then it goes from its queue; or where a converting lock is to stay, it goes to the end of the granted queue
-/// and holds what it held, while a waiting one goes and a granted one stays as it is. A lock that goes has no
+/// Withdraws a lock. Its request ends, and its completion AST is queued. A lock that is held at PW or EX, granted or
+/// converting, writes a given value to the value block, with a given tail or without one, and may then mark the whole
+/// block invalid. Then the lock goes. If a lock that converts is to stay, a converting lock goes to the end of the
+/// granted queue and keeps its mode, a waiting lock goes, and a granted one stays as it is. A lock that goes has no
 /// sublocks.
 // Inlined, as `remove` is: a dequeue has just read the lock.
 #[inline(always)]
