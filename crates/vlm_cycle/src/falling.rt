@@ -1,4 +1,4 @@
-//! Whether no process waits for one of a higher rank.
+//! Checks the ranks: whether no process waits for one of a higher rank.
 
 ghost use Rattle.std.specs.Prelude.{◌≡◌, ◌+◌, ◌≤◌, ◌++◌, ℕ, true};
 ghost use Rattle.vlm_words.specs.declared.resources.Queue.{Queue};
@@ -20,17 +20,17 @@ use vlm_store::laws::law_records_are_sound;
 use vlm_store::{LockAt, ResAt, Store};
 use vlm_words::resources::Queue;
 
-/// What a pass over all queued requests has found.
+/// The result of a pass over all queued requests.
 #[derive(Clone, Copy)]
 pub(crate) struct Fall {
     /// Whether none of them waits for a process of a higher rank than its own.
     pub(crate) falls: bool,
-    /// The one that was made last of those that wait for a process of the same rank or a higher one.
+    /// The most recent of the requests that wait for a process of the same rank or a higher one.
     pub(crate) guess: Option<Standing>,
 }
 
 impl Fall {
-    // Takes in what the ranks say of one more request.
+    // Takes in one more request.
     fn with(self, waiting: &Standing, judged: &Judged) -> Fall
         ensures before { result.falls ≡ true → self.falls ≡ true }
         ensures falls { result.falls ≡ true → judged.now.top ≤ judged.now.rank + 1 }
@@ -91,7 +91,7 @@ fn fall_of_resource(store: &Store, ranks: &Ranks, res: ResAt, fall: Fall) -> Fal
     fall_of_queue(store, ranks, &mut gauge, res, Queue::Waiting, converting)
 }
 
-// Takes in the requests of the resource on which a lock is the first in line, if it is.
+// Takes in the requests of a resource, if this lock is the first in line there.
 fn fall_of_led(store: &Store, ranks: &Ranks, lock: LockAt, fall: Fall) -> Fall
     requires stored { IsStored lock store.now }
     requires stands { StandsIfAny store.now fall.guess }
@@ -106,8 +106,8 @@ fn fall_of_led(store: &Store, ranks: &Ranks, lock: LockAt, fall: Fall) -> Fall
     }
 }
 
-/// Looks whether no process waits for one of a higher rank, and guesses the victim. The cost grows with the locks of the
-/// resources on which a request is queued.
+/// Checks whether no process waits for one of a higher rank, and guesses the victim. The cost grows with the locks of the
+/// resources that have queued requests.
 pub(crate) fn fall_of_all(store: &Store, ranks: &Ranks) -> Fall
     ensures falls { result.falls ≡ true → Falls store.now ranks.now }
     ensures stands { StandsIfAny store.now result.guess }

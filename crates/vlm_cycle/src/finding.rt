@@ -1,4 +1,4 @@
-//! The victim: the deadlocked request that was made last.
+//! Finds the victim: the most recent deadlocked request.
 
 ghost use Rattle.std.specs.Prelude.{◌≡◌, ◌<◌, ◌++◌, ℕ, true, [], ◌∷◌};
 ghost use Rattle.std.specs.Bool.{OnFalse, OnTrue};
@@ -28,7 +28,7 @@ use vlm_store::laws::law_records_are_sound;
 use vlm_store::{LockAt, ResAt, Store, StoredRow};
 use vlm_words::resources::Queue;
 
-// The number of the request that a row wants, 0 where it wants none.
+// The number of a row's queued request, 0 if there is none.
 fn wanted_number(row: &StoredRow) -> u64
     ensures { result ≡ wanted_number row.now }
 {
@@ -65,8 +65,8 @@ fn best_guess(store: &Store, scratch: &mut Scratch, guess: Option<Standing>) -> 
     None
 }
 
-// The lock, if its request is deadlocked and was made after that of the best; else the best. Where no process waits for one
-// of a higher rank, a request that waits for lower ones alone is not deadlocked, and needs no search.
+// The lock, if its request is deadlocked and more recent than that of the best; else the best. If no process waits for
+// one of a higher rank, a request that waits only for lower ranks is not deadlocked, and needs no search.
 fn better(
     store: &Store,
     scratch: &mut Scratch,
@@ -98,7 +98,7 @@ fn better(
     best
 }
 
-// The best of before, or a better one of the queue.
+// The best so far, or a better one of the queue.
 fn best_of_queue(
     store: &Store,
     scratch: &mut Scratch,
@@ -130,7 +130,7 @@ fn best_of_queue(
     best
 }
 
-// The best of before, or a better one of the resource.
+// The best so far, or a better one of the resource.
 fn best_of_resource(
     store: &Store,
     scratch: &mut Scratch,
@@ -168,7 +168,7 @@ fn best_of_resource(
     )
 }
 
-// The best of before, or a better one of the resource on which a lock is the first in line, if it is.
+// The best so far, or a better one of a resource, if this lock is the first in line there.
 fn best_of_led(
     store: &Store,
     scratch: &mut Scratch,
@@ -192,9 +192,9 @@ fn best_of_led(
     }
 }
 
-/// The lock of the deadlocked request that was made last, if some request is deadlocked. It takes no memory. The cost grows
-/// with the queued requests, with the locks of their resources and of the processes that own or block them, and for each
-/// request that the ranks of processes leave in doubt with the locks of the processes that it is found to lead to.
+/// The lock of the most recent deadlocked request, if a request is deadlocked. It takes no memory. The cost grows with
+/// the queued requests, and with the locks of their resources and of the processes that own or block them. For each
+/// request that the ranks leave in doubt, it grows with the locks of the processes to which the request leads.
 pub fn victim(store: &Store, scratch: &mut Scratch) -> Option<Standing>
     requires rest { IsAtRest store.now }
     requires roomy { IsRoomy store.now scratch.old }

@@ -1,4 +1,4 @@
-//! The gauge of a resource: above which ranks a queued request of it waits for nobody.
+//! The gauge of a resource: bounds of the ranks for which its queued requests wait.
 
 ghost use Rattle.std.specs.Prelude.{◌≡◌, ◌≢◌, ◌<◌, ◌≤◌, ℕ, Some, false};
 ghost use Rattle.vlm_words.specs.declared.locks.Request.{Request};
@@ -12,14 +12,15 @@ use vlm_store::StoredRow;
 use vlm_words::flags::EnqFlags;
 use vlm_words::modes::{Mode, compatible};
 
-/// What is above the ranks of some locks, whichever of them is left out.
+/// Bounds above the ranks of some locks: above all of them, and above all except the lock of the highest rank. So the
+/// bound without any one lock is known.
 #[derive(Clone, Copy)]
 pub(crate) struct Peak {
     // the lock of the highest rank
     lkid: u32,
-    // above that
+    // above its rank
     most: u64,
-    // above all ranks but that
+    // above all other ranks
     rest: u64,
 }
 
@@ -42,7 +43,7 @@ impl Peak {
         }
     }
 
-    /// What is above the ranks of the others.
+    /// A bound above the ranks of the other locks.
     pub(crate) fn but(&self, lkid: u32) -> u64
         ensures { (other rank : ℕ) → other ≢ lkid → IsCounted self.now other rank
             → rank < result }
@@ -55,17 +56,17 @@ impl Peak {
     }
 }
 
-/// What is above the ranks of the owners for whose locks a request may wait, whatever it is.
+/// Bounds above the ranks of the owners for whose locks a request may wait.
 #[derive(Clone, Copy)]
 pub(crate) struct Gauge {
-    // by the rank of the mode: the locks that hold it without NODLCKBLK
+    // for each mode: the locks that hold it without NODLCKBLK
     pub(crate) held: [Peak; 6],
-    // the requests before, for which those behind wait
+    // the requests before, for which later ones wait
     pub(crate) before: u64,
 }
 
 impl Gauge {
-    /// A gauge that has counted nothing.
+    /// A gauge of no locks and no requests.
     pub(crate) fn new() -> Gauge {
         let none = Peak {
             lkid: 0,
@@ -78,7 +79,7 @@ impl Gauge {
         }
     }
 
-    /// Counts what a lock holds, whose owner has this rank.
+    /// Counts the held mode of a lock whose owner has this rank.
     pub(crate) fn hold(&mut self, row: &StoredRow, rank: u32)
         ensures counted { CountsHeld self.new.held row.now.held row.now.lkid rank }
         ensures kept { (mode : Mode) (lkid other : ℕ)
@@ -96,7 +97,7 @@ impl Gauge {
         self.held[held.mode.rank()] = peak;
     }
 
-    // What is above the ranks of the others that hold a mode, if that is not compatible with the wanted one.
+    // A bound above the ranks of the others that hold this mode, if it is incompatible with the wanted one.
     fn of_mode(&self, mode: Mode, held: Mode, lkid: u32) -> u64
         ensures { is_compatible mode held ≡ false → IsAbove self.now.held held lkid result }
     {
@@ -107,7 +108,7 @@ impl Gauge {
         }
     }
 
-    // What is above the ranks of the others that hold a mode that is not compatible with the wanted one.
+    // A bound above the ranks of the others that hold a mode that is incompatible with the wanted one.
     fn against(&self, mode: Mode, lkid: u32) -> u64
         ensures { IsAboveAll self.now.held mode lkid result }
     {
@@ -120,7 +121,7 @@ impl Gauge {
         nl.max(cr).max(cw).max(pr).max(pw).max(ex)
     }
 
-    /// What is above the ranks of the owners for whose locks the request of a row waits.
+    /// A bound above the ranks of the owners for whose locks the request of a row waits.
     pub(crate) fn top(&self, row: &StoredRow) -> u64
         ensures held { (want : Request) → row.now.want ≡ Some want
             → has_flag (flag_bits want.flags) nodlckwt ≡ false

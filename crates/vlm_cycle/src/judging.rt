@@ -1,4 +1,4 @@
-//! What the ranks of processes say of a queued request.
+//! Compares the rank of a queued request with the ranks for which it waits.
 
 ghost use Rattle.std.specs.Prelude.{◌≡◌, ◌+◌, ◌<◌, ◌≤◌, ℕ, Some, true};
 ghost use Rattle.vlm_words.specs.declared.locks.Row.{Row};
@@ -18,12 +18,12 @@ use vlm_store::laws::law_records_are_sound;
 use vlm_store::{LockAt, ResAt, Store};
 use vlm_words::resources::Queue;
 
-/// What the ranks say of a request.
+/// The rank of a request's owner, and a bound above the ranks for which the request waits.
 #[derive(Clone, Copy)]
 pub(crate) struct Judged {
     // the rank of its owner
     pub(crate) rank: u32,
-    // above the ranks of all that it waits for
+    // above the ranks of all processes for which it waits
     pub(crate) top: u64,
 }
 
@@ -35,7 +35,7 @@ impl Judged {
         self.top <= u64::from(self.rank) + 1
     }
 
-    /// Whether it waits for processes of lower ranks alone.
+    /// Whether it waits only for processes of lower ranks.
     pub(crate) fn is_below(&self) -> bool
         ensures { result ≡ true → self.now.top ≤ self.now.rank }
     {
@@ -73,7 +73,7 @@ pub(crate) fn standing_in(store: &Store, res: ResAt, queue: Queue, lock: LockAt)
     }
 }
 
-// Counts what the locks of a queue hold.
+// Counts the held modes of the locks of a queue.
 fn hold_queue(store: &Store, ranks: &Ranks, gauge: &mut Gauge, res: ResAt, queue: Queue)
     requires there { HasResource res store.now }
     ensures counted { CountsHolders store.now ranks.now gauge.new.held
@@ -90,7 +90,7 @@ fn hold_queue(store: &Store, ranks: &Ranks, gauge: &mut Gauge, res: ResAt, queue
     }
 }
 
-/// The gauge of a resource. The cost grows with the locks that hold something on it.
+/// The gauge of a resource. The cost grows with the locks that hold a mode on it.
 pub(crate) fn gauge_of(store: &Store, ranks: &Ranks, res: ResAt) -> Gauge
     requires there { HasResource res store.now }
     ensures { IsGaugeOf store.now ranks.now result res Queue.Conversion }

@@ -24,8 +24,8 @@ fn first_in_line(store: &Store, res: ResAt) -> Option<LockAt>
     }
 }
 
-/// The resource on which a lock is the first in line, if there is one. Each resource with a queue is led by one lock, so
-/// whoever goes along the queued locks comes to each such resource once.
+/// The resource on which a lock is the first in line, if there is one. Each resource with queued requests has one such
+/// lock. So a walk along all queued locks comes to each of these resources once.
 pub(crate) fn resource_led(store: &Store, lock: LockAt) -> Option<ResAt>
     requires { IsStored lock store.now }
     ensures there { ForSome result (λ res. HasResource res store.now) }

@@ -1,12 +1,12 @@
-//! The search for a deadlock: which queued request ends where processes wait for each other in a circle.
+//! The search for a deadlock: processes that wait for each other in a circle, and the victim among their requests.
 //!
-//! From the locks that a request waits for the search goes on through the processes that own them and the queued requests of
-//! these. Which processes it has found, and to which of them it still has to go, is marked in two sets, whose room is made
-//! beforehand: so a search takes no memory.
+//! A search begins with the locks for which a request waits. It goes on to the processes that own them, and to the locks
+//! for which the queued requests of these processes wait. It marks the processes that it has found, and those to which
+//! it still has to go, in two sets. Their room is made beforehand, so a search takes no memory.
 //!
-//! Most requests need no search. Processes are ranked, and one pass over the queues checks that none waits for one of a higher
-//! rank: then a request that waits for lower ranks alone is not deadlocked. What is promised hangs on no rank: a wrong one costs
-//! searches, and changes no answer.
+//! Most requests need no search. Processes are ranked, and one pass over the queues checks that none waits for one of a
+//! higher rank. Then a request that waits only for lower ranks is not deadlocked. No promise depends on a rank: a wrong
+//! rank costs searches, and changes no answer.
 #![tactic(auto)]
 
 mod falling;

@@ -20,7 +20,7 @@ use vlm_words::flags::EnqFlags;
 use vlm_words::modes::Mode;
 use vlm_words::resources::Queue;
 
-// Finds the owner of a lock, if it is another one that is held against the mode.
+// Finds the owner of a lock, if it is another lock that is held against the mode.
 fn find_holder(scratch: &mut Scratch, row: &StoredRow, lkid: u32, mode: Mode)
     requires room { HasRoomInBoth scratch.old row.now.pid }
     requires node { is_node (row.now.pid / 65536) ≡ true }
@@ -34,7 +34,7 @@ fn find_holder(scratch: &mut Scratch, row: &StoredRow, lkid: u32, mode: Mode)
     }
 }
 
-// Finds the owner of a lock, if those behind its request wait for it.
+// Finds the owner of a lock, if later requests wait for its request.
 fn find_blocker(scratch: &mut Scratch, row: &StoredRow)
     requires room { HasRoomInBoth scratch.old row.now.pid }
     requires node { is_node (row.now.pid / 65536) ≡ true }
@@ -67,7 +67,7 @@ fn find_holders(
     }
 }
 
-// Finds the owners of the requests of a queue that those behind wait for, up to the lock of this identification.
+// Finds the owners of the requests of a queue for which later ones wait, up to the lock of this identification.
 fn find_blockers(store: &Store, scratch: &mut Scratch, res: ResAt, queue: Queue, lkid: u32)
     requires there { HasResource res store.now }
     requires roomy { IsRoomy store.now scratch.old }
@@ -85,7 +85,7 @@ fn find_blockers(store: &Store, scratch: &mut Scratch, res: ResAt, queue: Queue,
     }
 }
 
-// Finds the owners of the requests before one, which stands in this queue.
+// Finds the owners of the requests before a request of this queue.
 fn find_those_before(store: &Store, scratch: &mut Scratch, res: ResAt, queue: Queue, lkid: u32)
     requires there { HasResource res store.now }
     requires roomy { IsRoomy store.now scratch.old }
@@ -122,7 +122,7 @@ fn find_keepers(
     find_those_before(store, scratch, res, queue, lkid);
 }
 
-/// Finds the owners of the locks for which the request of a lock waits, if it has one that is queued.
+/// Finds the owners of the locks for which the queued request of a lock waits, if it has one.
 pub(crate) fn find_waited_for(store: &Store, scratch: &mut Scratch, waiting: &Standing)
     requires standing { IsStanding waiting.now store.now }
     requires roomy { IsRoomy store.now scratch.old }

@@ -1,4 +1,4 @@
-//! The notes of the processes, read and written.
+//! The notes of Tarjan's walk, one for each process.
 
 ghost use Rattle.std.specs.Prelude.{◌≡◌};
 ghost use Rattle.std.specs.Option.{ForSome};
@@ -9,19 +9,19 @@ ghost use Rattle.vlm_cycle.specs.Ranks.{blank_note};
 use crate::ranks::{Note, Ranks};
 use vlm_store::{LockAt, ProcAt};
 
-/// A part of what a queued request waits for.
+/// A part of the locks for which a queued request waits.
 #[derive(Clone, Copy)]
 pub(crate) enum Part {
     /// The requests before it in its queue.
     Before,
     /// The granted locks.
     Granted,
-    /// The converting locks: what they hold, and for a waiting request what they want too.
+    /// The converting locks: their held modes, and for a waiting request their requests too.
     Converting,
 }
 
 impl Note {
-    /// The note of a process that is not found.
+    /// The note of a process that the walk has not found.
     pub(crate) fn blank() -> Note
         ensures { result ≡ blank_note }
     {
@@ -37,7 +37,7 @@ impl Note {
         }
     }
 
-    /// What is noted of a process whose walk stands there now.
+    /// The note with this position of the walk at the process.
     pub(crate) fn standing(&self, own: Option<LockAt>, part: Part, at: Option<LockAt>) -> Note
         ensures { (s : Records) → IsNote s self.now → ForSome own (λ lock. IsStored lock s)
             → ForSome at (λ lock. IsStored lock s) → IsNote s result }
@@ -54,7 +54,7 @@ impl Note {
         }
     }
 
-    /// What is noted of a process that has this rank, and leads back to the one that was found under this number.
+    /// The note with this rank, and with the number of the process to which it leads back.
     pub(crate) fn ranked(&self, rank: u32, low: u32) -> Note
         ensures { (s : Records) → IsNote s self.now → IsNote s result }
     {
@@ -72,7 +72,7 @@ impl Note {
 }
 
 impl Ranks {
-    /// A process, if there is one, leads back to the one that was found under this number.
+    /// Notes that a process, if there is one, leads back to the process of this number.
     pub(crate) fn lower(&mut self, process: Option<ProcAt>, low: u32)
         ensures { (s : Records) → AreNotes s self.old → AreNotes s self.new }
     {

@@ -2,12 +2,12 @@
 //!
 //! # Implementation
 //!
-//! It finds the strongly connected components by Tarjan's walk: each process is found once, and a component is closed
-//! once the walk comes back from the one of it that was found first. The two stacks, of those that the walk came by and of
-//! those that are not closed, are links in the notes. A request that stands behind another one is followed to that one
-//! alone where that one waits for all before it: so a long queue costs its length.
+//! Tarjan's algorithm finds the strongly connected components. The walk finds each process once. It closes a component
+//! when it comes back from the first process of it that it found. `index` and `low` of a note are Tarjan's; `caller`
+//! links the stack of the walk, and `opened` the stack of the processes whose components are not closed. If the request
+//! before a request waits for all before it, the walk follows only that one: so a long queue costs its length.
 //!
-//! Nothing is promised of the ranks. Whoever uses them checks them.
+//! Nothing is promised of the ranks. The code that uses them checks them.
 
 ghost use Rattle.std.specs.Option.{ForSome};
 ghost use Rattle.vlm_store.specs.Records.{IsStored, Records};
@@ -21,12 +21,12 @@ use vlm_store::laws::law_records_are_sound;
 use vlm_store::{LockAt, ProcAt, Store};
 use vlm_words::resources::Queue;
 
-/// How far the walk has come.
+/// The state of the walk.
 #[derive(Clone, Copy)]
 pub(crate) struct Walk {
-    // the process at which it stands
+    // the process at which it is
     process: Option<ProcAt>,
-    // the process that was found last, of those that are not closed
+    // the last process found, of those that are not closed
     opened: Option<ProcAt>,
     // how many processes were found
     found: u32,
@@ -35,7 +35,7 @@ pub(crate) struct Walk {
 }
 
 impl Walk {
-    // The walk once so many components are closed; the process is the last one that is not.
+    // The walk after so many components are closed; this process is the last one that is not.
     fn with_closed(&self, opened: Option<ProcAt>, closed: u32) -> Walk
         ensures { (s : Records) → IsWalk s self.now → ForSome opened (LivesAt s) → IsWalk s result }
     {
@@ -48,7 +48,7 @@ impl Walk {
     }
 }
 
-// What is noted of a process whose walk begins with this lock of its own, or is at its end.
+// The note of a process whose walk begins at this lock of its own, or is at its end.
 fn with_own(store: &Store, note: &Note, own: Option<LockAt>) -> Note
     requires own { ForSome own (λ lock. IsStored lock store.now) }
     requires note { IsNote store.now note.now }
@@ -60,7 +60,7 @@ fn with_own(store: &Store, note: &Note, own: Option<LockAt>) -> Note
     note.standing(Some(lock), Part::Before, store.previous(lock))
 }
 
-// What is noted of a process whose walk goes on with its next lock.
+// The note of a process whose walk goes on to its next lock.
 fn with_next_own(store: &Store, note: &Note, own: LockAt) -> Note
     requires own { IsStored own store.now }
     requires note { IsNote store.now note.now }
@@ -70,7 +70,7 @@ fn with_next_own(store: &Store, note: &Note, own: LockAt) -> Note
     with_own(store, note, store.next_own(own))
 }
 
-// What is noted of a process whose walk goes on with the next part.
+// The note of a process whose walk goes on to the next part.
 fn with_next_part(store: &Store, note: &Note, wanting: &Wanting) -> Note
     requires wanting { IsWanting store.now wanting.now }
     requires note { IsNote store.now note.now }
@@ -85,7 +85,7 @@ fn with_next_part(store: &Store, note: &Note, wanting: &Wanting) -> Note
     note.standing(Some(own), part, head(store, wanting.res, queue))
 }
 
-// What is noted of a process whose walk goes on behind a lock before its own.
+// The note of a process whose walk goes on after a lock that is before its own.
 fn with_next_before(
     store: &Store,
     ranks: &Ranks,
@@ -109,7 +109,7 @@ fn with_next_before(
     note.standing(Some(own), Part::Before, None)
 }
 
-// What is noted of a process whose walk goes on behind a lock.
+// The note of a process whose walk goes on after a lock.
 fn with_next(store: &Store, ranks: &Ranks, note: &Note, wanting: &Wanting, lock: LockAt) -> Note
     requires lock { IsStored lock store.now }
     requires wanting { IsWanting store.now wanting.now }
@@ -173,7 +173,7 @@ fn go_along(store: &Store, ranks: &mut Ranks, walk: Walk, process: ProcAt, targe
     walk
 }
 
-// The processes found since this one get the next rank, and this one too.
+// Gives the next rank to this process, and to those found since.
 fn close(ranks: &mut Ranks, walk: Walk, first: ProcAt) -> Walk
     ensures { (s : Records) → AreNotes s ranks.old → IsWalk s walk
         → AreNotes s ranks.new × IsWalk s result }
@@ -194,7 +194,7 @@ fn close(ranks: &mut Ranks, walk: Walk, first: ProcAt) -> Walk
     walk.with_closed(opened, rank)
 }
 
-// The component of a process is closed if the process is the one of it that was found first.
+// Closes the component of a process, if the process is the first of it that was found.
 fn close_if_whole(ranks: &mut Ranks, walk: Walk, process: ProcAt) -> Walk
     ensures { (s : Records) → AreNotes s ranks.old → IsWalk s walk
         → AreNotes s ranks.new × IsWalk s result }
@@ -206,7 +206,7 @@ fn close_if_whole(ranks: &mut Ranks, walk: Walk, process: ProcAt) -> Walk
     walk
 }
 
-// The walk goes back from a process whose waits it has all gone along.
+// The walk goes back from a process whose waits it has all followed.
 fn go_back(ranks: &mut Ranks, walk: Walk, process: ProcAt) -> Walk
     ensures { (s : Records) → AreNotes s ranks.old → IsWalk s walk
         → AreNotes s ranks.new × IsWalk s result }
@@ -222,7 +222,7 @@ fn go_back(ranks: &mut Ranks, walk: Walk, process: ProcAt) -> Walk
     }
 }
 
-// The walk looks at a lock that its process may wait for, and goes there if it does.
+// The walk looks at a lock for which its process may wait, and goes to the lock's owner if it does.
 fn look_at(
     store: &Store,
     ranks: &mut Ranks,
@@ -249,7 +249,7 @@ fn look_at(
     walk
 }
 
-// One step of the walk at a process: to the next lock of what it waits for, to its next lock, or back.
+// One step of the walk at a process: to the next lock for which it waits, to its next own lock, or back.
 fn step(store: &Store, ranks: &mut Ranks, walk: Walk, process: ProcAt) -> Walk
     requires walk { IsWalk store.now walk }
     requires notes { AreNotes store.now ranks.old }
@@ -271,7 +271,7 @@ fn step(store: &Store, ranks: &mut Ranks, walk: Walk, process: ProcAt) -> Walk
     look_at(store, ranks, walk, process, &note, &wanting, lock)
 }
 
-// The walk goes to all that a process leads to, if the process was not found.
+// The walk goes to all processes to which a process leads, if that process was not found.
 fn walk_from(store: &Store, ranks: &mut Ranks, walk: Walk, root: ProcAt) -> Walk
     requires root { LivesAt store.now root }
     requires walk { IsWalk store.now walk }
@@ -292,10 +292,10 @@ fn walk_from(store: &Store, ranks: &mut Ranks, walk: Walk, root: ProcAt) -> Walk
     walk
 }
 
-/// Ranks the processes that own queued requests, and those that these lead to: none waits for one of a higher rank, and
-/// two have one rank where each leads to the other. Others have rank 0. It takes no memory. The cost grows with the
-/// queued requests and, for each process that owns one or is waited for, with its locks and what it looks at for each of
-/// its queued requests.
+/// Ranks the processes that own queued requests, and those to which they lead. None waits for one of a higher rank, and
+/// two that lead to each other have one rank. Other processes have rank 0. It takes no memory. The cost grows with the
+/// queued requests, and for each process that owns one or is waited for, with its locks and the locks that it looks at
+/// for each of its queued requests.
 // Kept out of line: its walk needs each register.
 #[inline(never)]
 pub(crate) fn rank_processes(store: &Store, ranks: &mut Ranks) {

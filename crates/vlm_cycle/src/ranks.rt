@@ -1,4 +1,4 @@
-//! Ranks of processes: advice, of which nothing is promised. What is concluded from them is checked first.
+//! The ranks of processes. They are advice: nothing is promised of them, and each use checks them first.
 
 ghost use Rattle.std.specs.Prelude.{◌≡◌, ◌≤◌, [], length, slice_index_or, slice_set};
 ghost use Rattle.std.specs.List.{All};
@@ -12,24 +12,24 @@ use std::alloc::{AllocError, Global};
 use std::marker::Model;
 use vlm_store::{LockAt, ProcAt};
 
-/// What is noted of a process.
+/// The note of a process.
 #[derive(Clone, Copy)]
 pub(crate) struct Note {
     /// Its rank, from 1, once its component is closed; 0 before.
     pub(crate) rank: u32,
-    /// Its number among those that were found, from 1; 0 while it is not found.
+    /// Its number in the order in which processes were found, from 1; 0 while it is not found.
     pub(crate) index: u32,
-    /// The least number that it is known to lead back to, of those that are not closed.
+    /// The least number to which it is known to lead back, of processes that are not closed.
     pub(crate) low: u32,
     /// The process from which the walk came to it.
     pub(crate) caller: Option<ProcAt>,
-    /// The one that was found last before it, of those that are not closed.
+    /// The process found last before it, of those that are not closed.
     pub(crate) opened: Option<ProcAt>,
-    /// The lock of its own at which its walk stands.
+    /// Its own lock at which its walk is.
     pub(crate) own: Option<LockAt>,
-    /// The part of what that lock waits for at which its walk stands.
+    /// The part of the locks for which that lock waits at which its walk is.
     pub(crate) part: Part,
-    /// The lock of that part at which its walk stands.
+    /// The lock of that part at which its walk is.
     pub(crate) at: Option<LockAt>,
 }
 
@@ -94,7 +94,7 @@ impl Ranks {
         self.notes.len()
     }
 
-    /// The note of a process, a blank one where there is no room for it.
+    /// The note of a process, a blank one if there is no room for it.
     pub(crate) fn note(&self, process: ProcAt) -> Note
         ensures note { result ≡ slice_index_or self.now process blank_note }
         ensures there { (s : Records) → AreNotes s self.now → IsNote s result }
@@ -105,7 +105,7 @@ impl Ranks {
         }
     }
 
-    /// The rank of a process, 0 where it has none.
+    /// The rank of a process, 0 if it has none.
     pub(crate) fn of(&self, process: ProcAt) -> u32
         ensures { result ≡ rank_at self.now process }
     {
@@ -143,8 +143,8 @@ impl Ranks {
         }
     }
 
-    /// Makes room for the notes of one process more than so many. The memory grows to twice its size, so many calls
-    /// seldom move it.
+    /// Makes room for the notes of one process more than so many. The memory grows to twice its size, so most calls move
+    /// nothing.
     pub(crate) fn make_room(&mut self, living: usize) -> Result<(), AllocError> {
         if self.notes.len() <= living {
             let Some(count) = living.checked_add(1) else {

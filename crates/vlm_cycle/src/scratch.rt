@@ -1,4 +1,4 @@
-//! The two sets of marked processes that a search has, and the ranks of the processes.
+//! The memory of a search: two sets of processes, and their ranks.
 
 ghost use Rattle.std.specs.Prelude.{◌≡◌, ◌/◌, ℕ, true, OnOk};
 ghost use Rattle.vlm_marks.specs.Nodes.{is_marked, is_node};
@@ -13,9 +13,9 @@ use vlm_marks::NodeMarks;
 pub struct Scratch {
     // the processes that were found
     pub(crate) seen: NodeMarks,
-    // those of them to which the search still has to go
+    // the found processes to which the search still has to go
     pub(crate) todo: NodeMarks,
-    // advice: by these most searches are spared
+    // advice that spares most searches
     pub(crate) ranks: Ranks,
 }
 
@@ -29,8 +29,8 @@ impl Scratch {
         }
     }
 
-    /// Makes room to mark the process, and 64 of its node at a time, and to rank it beside so many living ones. Where
-    /// memory is refused there may be more room than there was.
+    /// Makes room to mark the process, for 64 of its node at a time, and to rank it beside so many living ones. If
+    /// memory is refused, there may be more room than before.
     pub fn make_room(&mut self, pid: u32, living: usize) -> Result<(), AllocError>
         ensures room { OnOk result (HasRoomInBoth self.new pid) }
         ensures kept { KeepsRoom self.old self.new }
@@ -50,7 +50,7 @@ impl Scratch {
         self.todo.clear();
     }
 
-    /// A process is found: where it was not before, the search has to go to it.
+    /// Marks a process as found. If it was not found before, the search has to go to it.
     pub(crate) fn find(&mut self, pid: u32)
         requires room { HasRoomInBoth self.old pid }
         requires node { is_node (pid / 65536) ≡ true }
@@ -62,7 +62,7 @@ impl Scratch {
         }
     }
 
-    /// A process to which the search has to go: it need not go there again. None where there is none.
+    /// Takes a process to which the search has to go; `None` if there is none.
     pub(crate) fn take(&mut self) -> Option<u32>
         requires { (pid : ℕ) → is_marked self.old.todo pid ≡ true → HasRoomInBoth self.old pid }
         ensures { TakesNext result self.old self.new }

@@ -1,4 +1,4 @@
-//! Whether a request is deadlocked.
+//! Finds out whether a request is deadlocked.
 
 ghost use Rattle.std.specs.Prelude.{◌≡◌};
 ghost use Rattle.std.specs.Bool.{OnFalse, OnTrue};
@@ -15,8 +15,8 @@ use vlm_locks::{Standing, standing_of};
 use vlm_store::laws::law_records_are_sound;
 use vlm_store::{ProcAt, Store};
 
-// Finds the owners of the locks for which the requests of a process wait. The cost grows with its locks and with what stands
-// on their resources.
+// Finds the owners of the locks for which the requests of a process wait. The cost grows with its locks, and with the
+// locks of their resources.
 fn find_behind_own(store: &Store, scratch: &mut Scratch, owner: ProcAt, pid: u32)
     requires rest { IsAtRest store.now }
     requires owner { IsProcess owner pid store.now }
@@ -32,7 +32,7 @@ fn find_behind_own(store: &Store, scratch: &mut Scratch, owner: ProcAt, pid: u32
     }
 }
 
-// The same for a process that is named.
+// The same for the process of this identification.
 fn find_behind(store: &Store, scratch: &mut Scratch, pid: u32)
     requires rest { IsAtRest store.now }
     requires roomy { IsRoomy store.now scratch.old }

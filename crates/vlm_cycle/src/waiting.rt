@@ -1,4 +1,4 @@
-//! What keeps a queued request waiting.
+//! The locks and requests that keep a queued request waiting.
 
 ghost use Rattle.std.specs.Bool.{OnFalse, OnTrue};
 ghost use Rattle.vlm_words.specs.Deadlocks.{BlocksThoseBehind, HoldsAgainst};
@@ -7,7 +7,7 @@ use vlm_words::flags::EnqFlags;
 use vlm_words::locks::Request;
 use vlm_words::modes::{Mode, compatible};
 
-/// Whether what is held keeps a request of this mode waiting: it is not compatible, and without NODLCKBLK.
+/// Whether a held request keeps a request of this mode waiting: its mode is incompatible, and it is without NODLCKBLK.
 pub(crate) fn holds_against(mode: Mode, held: &Option<Request>) -> bool
     ensures yes { OnTrue result (HoldsAgainst mode held.now) }
     ensures no { OnFalse result (¬ HoldsAgainst mode held.now) }
@@ -18,7 +18,7 @@ pub(crate) fn holds_against(mode: Mode, held: &Option<Request>) -> bool
     }
 }
 
-/// Whether the requests behind one wait for it: it is without NODLCKBLK.
+/// Whether later requests wait for a request: it is without NODLCKBLK.
 pub(crate) fn blocks_those_behind(want: &Option<Request>) -> bool
     ensures yes { OnTrue result (BlocksThoseBehind want.now) }
     ensures no { OnFalse result (¬ BlocksThoseBehind want.now) }

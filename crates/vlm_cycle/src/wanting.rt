@@ -1,4 +1,4 @@
-//! What a queued request waits for, as far as a ranking looks at it.
+//! The waits of a queued request, as the ranking follows them.
 
 ghost use Rattle.std.specs.Option.{ForSome};
 ghost use Rattle.vlm_store.specs.Records.{IsStored};
@@ -16,15 +16,15 @@ use vlm_words::resources::Queue;
 pub(crate) struct Wanting {
     /// Its lock.
     pub(crate) lock: LockAt,
-    /// The resource that it wants.
+    /// Its resource.
     pub(crate) res: ResAt,
-    /// Whether it stands behind the conversions too.
+    /// Whether it is after the conversions: it is in the waiting queue.
     pub(crate) is_behind_conversions: bool,
     /// The mode that it wants.
     pub(crate) mode: Mode,
 }
 
-// The mode for which a row waits: none where it wants none, or with NODLCKWT.
+// The mode for which a row waits; none if it has no request, or with NODLCKWT.
 fn awaited_mode(row: &StoredRow) -> Option<Mode> {
     let request = row.want()?;
     if request.flags.has(EnqFlags::NODLCKWT) {
@@ -69,7 +69,7 @@ impl Wanting {
         }
     }
 
-    /// Whether whoever waits as the row does, before it in its queue, waits for all holders that it waits for.
+    /// Whether the request of this row, earlier in its queue, waits for all holders for which this one waits.
     pub(crate) fn is_like(&self, row: &StoredRow) -> bool {
         match row.want() {
             Some(request) => request.mode.rank() == self.mode.rank(),
@@ -78,8 +78,8 @@ impl Wanting {
     }
 }
 
-/// Whether what stands before a queued lock need not be looked at for those behind it: its owner waits for that too, and
-/// those behind wait for its owner, or that is closed.
+/// Whether later requests need not look at the locks before this queued lock. Its owner waits for these locks too, and
+/// later requests wait for its owner, or the owner's component is closed.
 pub(crate) fn covers_those_before(record: &Lock, is_closed: bool) -> bool {
     match awaited_mode(&record.row) {
         Some(_) => is_closed || blocks_those_behind(&record.row.want()),
