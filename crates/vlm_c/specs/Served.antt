@@ -12,6 +12,13 @@ use Rattle.vlm_words.specs.State.{State, start}
 use Rattle.vlm_words.specs.Stepped.{Outcome}
 use Rattle.vlm_c.specs.declared.replies.VlmAst.{VlmAst}
 
+-- a call with the core takes it from one state to the next and gives a result; with no core nothing happens
+abbrev pub Called : {R : Type 0} → (State → R → State → Type 0) → Option State → Option R → Option State → Type 0
+Called call None result after = (result ≡ None) × (after ≡ None)
+Called call (Some s) None after = ⊥
+Called call (Some s) (Some r) None = ⊥
+Called call (Some s) (Some r) (Some s') = call s r s'
+
 -- the handle's core before, the step that the words name, the core after and the answer: an outcome of the step; with no
 -- core or no step nothing changes and the answer is BADPARAM
 abbrev pub Served : Option State → Option Step → Option State → Answer → Type 0

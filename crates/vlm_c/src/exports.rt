@@ -73,7 +73,7 @@ pub extern "C" fn vlm_close(alloc: Global, handle: &mut Vlm)
 fn reply(handle: &mut Vlm, step: Option<Step>, number: &mut u32) -> u32
     ensures { Replied handle.old.slot.core step handle.new.slot.core result number.new }
 {
-    let answer = handle.take(step);
+    let answer = handle.make_step(step);
     *number = answer_number(&answer);
     answer_status(&answer)
 }
@@ -82,7 +82,7 @@ fn reply(handle: &mut Vlm, step: Option<Step>, number: &mut u32) -> u32
 fn status_reply(handle: &mut Vlm, step: Option<Step>) -> u32
     ensures { StatusReplied handle.old.slot.core step handle.new.slot.core result }
 {
-    let answer = handle.take(step);
+    let answer = handle.make_step(step);
     answer_status(&answer)
 }
 
@@ -150,7 +150,7 @@ pub extern "C" fn vlm_take(handle: &mut Vlm, pid: u32, out: &mut VlmAst) -> u32
     ensures { AstReplied handle.old.slot.core (option_map Take (take_of pid out.old.size)) handle.new.slot.core result out.old out.new }
 {
     let step = take_of(pid, out.size).map(|pid| Step::Take(pid));
-    let answer = handle.take(step);
+    let answer = handle.make_step(step);
     write_ast(&answer, out);
     answer_status(&answer)
 }
