@@ -180,6 +180,19 @@ pub extern "C" fn vlm_search(handle: &mut Vlm, node: u32, victim: &mut u32) -> u
     reply(handle, node_of(node).map(|node| Step::Search(node)), victim)
 }
 
+// Writes the value. With no value, or where the struct of the caller has another size, it writes nothing.
+fn copy_out<T: Copy>(fits: bool, value: Option<T>, out: &mut T) -> u32
+    ensures { Told (sized fits value) out.old out.new result }
+{
+    match value {
+        Some(value) if fits => {
+            *out = value;
+            status(Cond::Normal)
+        }
+        _ => status(Cond::Badparam),
+    }
+}
+
 /// Copies a status block of a process out. NORMAL, or BADPARAM, and nothing is written, where it is not there or the
 /// struct has another size.
 #[unsafe(no_mangle)]
@@ -187,16 +200,9 @@ pub extern "C" fn vlm_block(handle: &mut Vlm, pid: u32, block: u32, out: &mut Vl
     ensures told { Told (sized (out.old.size == 80) (option_map lksb_of (block_shown handle.old.slot.core pid block))) out.old out.new result }
     ensures same { handle.new.slot.core ≡ handle.old.slot.core }
 {
-    if out.size != LKSB_SIZE {
-        return status(Cond::Badparam);
-    }
-    match handle.block(pid, block) {
-        Some(block) => {
-            *out = lksb_of(&block);
-            status(Cond::Normal)
-        }
-        None => status(Cond::Badparam),
-    }
+    let fits = out.size == LKSB_SIZE;
+    let shown = handle.block(pid, block).map(|block| lksb_of(&block));
+    copy_out(fits, shown, out)
 }
 
 /// How many ASTs are pending of a process. NORMAL, or BADPARAM, and nothing is written, where it is not there.
@@ -205,13 +211,7 @@ pub extern "C" fn vlm_pending(handle: &mut Vlm, pid: u32, count: &mut usize) -> 
     ensures told { Told (pending_shown handle.old.slot.core pid) count.old count.new result }
     ensures same { handle.new.slot.core ≡ handle.old.slot.core }
 {
-    match handle.pending(pid) {
-        Some(pending) => {
-            *count = pending;
-            status(Cond::Normal)
-        }
-        None => status(Cond::Badparam),
-    }
+    copy_out(true, handle.pending(pid), count)
 }
 
 /// How many processes live: 0 where the handle has no core. It answers no condition.
@@ -230,16 +230,9 @@ pub extern "C" fn vlm_process(handle: &mut Vlm, place: usize, out: &mut VlmProce
     ensures told { Told (sized (out.old.size == 64) (option_map process_of (process_shown handle.old.slot.core place))) out.old out.new result }
     ensures same { handle.new.slot.core ≡ handle.old.slot.core }
 {
-    if out.size != PROCESS_SIZE {
-        return status(Cond::Badparam);
-    }
-    match handle.process(place) {
-        Some(process) => {
-            *out = process_of(&process);
-            status(Cond::Normal)
-        }
-        None => status(Cond::Badparam),
-    }
+    let fits = out.size == PROCESS_SIZE;
+    let shown = handle.process(place).map(|process| process_of(&process));
+    copy_out(fits, shown, out)
 }
 
 /// How many resources have locks: 0 where the handle has no core. It answers no condition.
@@ -258,16 +251,9 @@ pub extern "C" fn vlm_resource(handle: &mut Vlm, place: usize, out: &mut VlmReso
     ensures told { Told (sized (out.old.size == 144) (option_map resource_of (resource_shown handle.old.slot.core place))) out.old out.new result }
     ensures same { handle.new.slot.core ≡ handle.old.slot.core }
 {
-    if out.size != RESOURCE_SIZE {
-        return status(Cond::Badparam);
-    }
-    match handle.resource(place) {
-        Some(resource) => {
-            *out = resource_of(&resource);
-            status(Cond::Normal)
-        }
-        None => status(Cond::Badparam),
-    }
+    let fits = out.size == RESOURCE_SIZE;
+    let shown = handle.resource(place).map(|resource| resource_of(&resource));
+    copy_out(fits, shown, out)
 }
 
 /// Copies the lock at a place of a queue of the resource at its place out, each place from 0. NORMAL, or BADPARAM, and
@@ -283,14 +269,7 @@ pub extern "C" fn vlm_row(
     ensures told { Told (sized (out.old.size == 32) (option_map row_of (row_shown_at handle.old.slot.core resource queue place))) out.old out.new result }
     ensures same { handle.new.slot.core ≡ handle.old.slot.core }
 {
-    if out.size != ROW_SIZE {
-        return status(Cond::Badparam);
-    }
-    match handle.row(resource, queue, place) {
-        Some(row) => {
-            *out = row_of(&row);
-            status(Cond::Normal)
-        }
-        None => status(Cond::Badparam),
-    }
+    let fits = out.size == ROW_SIZE;
+    let shown = handle.row(resource, queue, place).map(|row| row_of(&row));
+    copy_out(fits, shown, out)
 }
