@@ -1,4 +1,4 @@
-//! The handle of a core, in memory that C holds. Each call takes the core out of it and puts it back.
+//! The handle of a core, in memory that C holds. It lends its core to one call at a time.
 
 ghost use Rattle.std.specs.Prelude.{◌≡◌, None, Some};
 ghost use Rattle.std.specs.Option.{is_some, option_map};
@@ -16,7 +16,7 @@ use vlm_words::blocks::Block;
 use vlm_words::conditions::Cond;
 use vlm_words::steps::{Answer, Step};
 
-/// A core, or none. All bytes 0 is a handle with none.
+/// All bytes 0 are a handle with no core.
 #[repr(C)]
 pub struct Vlm {
     slot: Slot,
@@ -32,7 +32,6 @@ impl Drop for Vlm {
 }
 
 impl Vlm {
-    /// No core.
     pub(crate) fn closed(alloc: Global) -> Vlm
         ensures { result.slot.core ≡ None }
     {
@@ -43,7 +42,6 @@ impl Vlm {
         }
     }
 
-    /// The core of the box. It may go to another thread.
     pub(crate) fn holding(core: Box<Core>, alloc: Global) -> Vlm
         ensures { result.slot.core ≡ Some core.value }
     {
@@ -54,7 +52,6 @@ impl Vlm {
         })
     }
 
-    /// The box of the core, if there is one.
     pub(crate) fn into_core(self) -> Option<Box<Core>>
         ensures { option_map (λ b. b.value) result ≡ self.slot.core }
     {
@@ -70,7 +67,6 @@ impl Vlm {
         }
     }
 
-    /// Whether there is a core.
     pub(crate) fn is_open(&mut self) -> bool
         ensures told { result ≡ is_some self.old.slot.core }
         ensures same { self.new.slot.core ≡ self.old.slot.core }
@@ -78,7 +74,7 @@ impl Vlm {
         self.is_held
     }
 
-    // Takes the core out, calls `call` with it and puts it back.
+    // Takes the core out, passes it to `call` and puts it back.
     fn with_core<R, F: FnOnce(&mut Core) -> R + Drop>(&mut self, call: F) -> Option<R>
         requires { F.IsAlwaysCallable call }
         ensures { Called (FnOnceReturnsAtMut F.FnOnce call) self.old.slot.core result self.new.slot.core }
@@ -90,7 +86,7 @@ impl Vlm {
         Some(result)
     }
 
-    /// Makes the step. With no core or no step it changes nothing and answers BADPARAM.
+    /// With no core or no step it changes nothing and answers BADPARAM.
     pub(crate) fn make_step(&mut self, step: Option<Step>) -> Answer
         ensures { Served self.old.slot.core step self.new.slot.core result }
     {
@@ -103,7 +99,7 @@ impl Vlm {
         }
     }
 
-    /// Copies a status block of a process. Numbers start at 1.
+    /// A status block of a process. Numbers start at 1.
     #[tactic(auto, unfolding(crate::specs::Shown::block_shown))]
     pub(crate) fn block(&mut self, pid: u32, number: u32) -> Option<Block>
         ensures told { result ≡ block_shown self.old.slot.core pid number }
@@ -112,10 +108,11 @@ impl Vlm {
         if number > 255 {
             return None;
         }
-        self.with_core(|core| core.block(pid, number as u8))?
+        let number = number as u8;
+        self.with_core(|core| core.block(pid, number))?
     }
 
-    /// Counts the pending ASTs of a process.
+    /// How many ASTs are pending for a process.
     pub(crate) fn pending(&mut self, pid: u32) -> Option<usize>
         ensures told { result ≡ pending_shown self.old.slot.core pid }
         ensures same { self.new.slot.core ≡ self.old.slot.core }
@@ -123,7 +120,6 @@ impl Vlm {
         self.with_core(|core| core.pending(pid))?
     }
 
-    /// Counts the living processes.
     pub(crate) fn process_count(&mut self) -> usize
         ensures told { result ≡ process_count_shown self.old.slot.core }
         ensures same { self.new.slot.core ≡ self.old.slot.core }
@@ -131,7 +127,7 @@ impl Vlm {
         self.with_core(|core| core.process_count()).unwrap_or(0)
     }
 
-    /// Copies the living process at a place.
+    /// The living process at a place, from 0.
     pub(crate) fn process(&mut self, place: usize) -> Option<ProcessView>
         ensures told { result ≡ process_shown self.old.slot.core place }
         ensures same { self.new.slot.core ≡ self.old.slot.core }
@@ -139,7 +135,6 @@ impl Vlm {
         self.with_core(|core| core.process_at(place))?
     }
 
-    /// Counts the resources that have locks.
     pub(crate) fn resource_count(&mut self) -> usize
         ensures told { result ≡ count_shown self.old.slot.core }
         ensures same { self.new.slot.core ≡ self.old.slot.core }
@@ -147,7 +142,7 @@ impl Vlm {
         self.with_core(|core| core.resource_count()).unwrap_or(0)
     }
 
-    /// Copies the resource at a place.
+    /// The resource at a place, from 0.
     pub(crate) fn resource(&mut self, place: usize) -> Option<ResourceView>
         ensures told { result ≡ resource_shown self.old.slot.core place }
         ensures same { self.new.slot.core ≡ self.old.slot.core }
@@ -155,7 +150,7 @@ impl Vlm {
         self.with_core(|core| core.resource_at(place))?
     }
 
-    /// Copies the lock at a place in a queue of the resource at a place.
+    /// The lock at a place in a queue of a resource, each from 0.
     pub(crate) fn row(&mut self, resource: usize, queue: u32, place: usize) -> Option<RowView>
         ensures told { result ≡ row_shown_at self.old.slot.core resource queue place }
         ensures same { self.new.slot.core ≡ self.old.slot.core }
@@ -165,7 +160,7 @@ impl Vlm {
     }
 }
 
-// What may go to another thread.
+// Its bound proves `Send`: C may use a handle in any thread.
 fn sendable<T: Send>(value: T) -> T
     ensures { result ≡ value }
 {
