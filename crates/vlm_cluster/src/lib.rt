@@ -7,17 +7,17 @@
 //! the rings is served and taken, and the [`Report`] says what happened.
 #![tactic(auto)]
 
-mod basket;
-mod desk;
-mod finish;
+mod client;
+mod finishing;
 mod gate;
+mod hub_driver;
 mod laws;
 mod pause;
 mod posts;
+mod preallocated;
 mod report;
-mod room;
-mod serve;
-mod settle;
+mod serving;
+mod settling;
 mod signals;
 mod threads;
 mod worker;
@@ -25,4 +25,4 @@ mod worker;
 pub use gate::{Gate, Go};
 pub use posts::posts_of;
 pub use report::{Fault, Report};
-pub use serve::{serve_lists, serve_lists_over};
+pub use serving::{serve_lists, serve_lists_over};

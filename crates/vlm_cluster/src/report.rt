@@ -7,7 +7,7 @@ ghost use Rattle.vlm_cluster.specs.Parts.{AreNumbered, HaveEnough, IsAccounted};
 ghost use Rattle.vlm_cluster.specs.Reports.{entries_of, parts_of};
 ghost use Rattle.vlm_cluster.specs.Works.{entries_at};
 
-use crate::desk::Desk;
+use crate::hub_driver::HubDriver;
 use std::sync::Wait;
 use vlm_core::Core;
 use vlm_journal::entries::{Item, Part};
@@ -36,7 +36,7 @@ pub enum Fault {
     Memory(Option<Report>),
 }
 
-impl Desk {
+impl HubDriver {
     /// Cuts the rest off, and makes the report. It takes no memory.
     pub(crate) fn report(self, rt: &impl Wait, items: Vec<Vec<Item>>, posted: Vec<usize>) -> Report
         requires { IsAccounted self.parts.items self.hub }
@@ -49,7 +49,7 @@ impl Desk {
         ensures items { result.items ≡ items }
         ensures posted { result.posted ≡ posted }
     {
-        let Desk {
+        let HubDriver {
             mut hub,
             parts,
             every: _,
@@ -67,7 +67,7 @@ impl Desk {
 
     /// Ends it with nothing to report.
     pub(crate) fn close(self, rt: &impl Wait) {
-        let Desk {
+        let HubDriver {
             hub,
             parts: _,
             every: _,

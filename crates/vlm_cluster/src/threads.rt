@@ -8,7 +8,7 @@ ghost use Rattle.vlm_cluster.specs.Works.{IsGatedWork, IsWorkOn, work_of};
 
 use crate::gate::Gate;
 use crate::signals::Signals;
-use crate::worker::{Done, work};
+use crate::worker::{WorkerResult, work};
 use std::alloc::{AllocError, Global};
 use std::snapshot::Snapshot;
 use std::sync::{Arc, Wait};
@@ -20,14 +20,14 @@ use vlm_words::steps::Step;
 
 /// What a worker was given.
 #[derive(Drop)]
-pub(crate) struct Given<G> {
+pub(crate) struct WorkerInput<G> {
     pub(crate) gate: Snapshot<G>,
     pub(crate) port: Snapshot<Port>,
     pub(crate) list: Snapshot<Vec<Step>>,
 }
 
 // What the worker hands back is its work on that.
-impl<G: Gate> Promise<Done<G>> for Given<G> {
+impl<G: Gate> Promise<WorkerResult<G>> for WorkerInput<G> {
     ghost kept_by = { λ p r. IsWorkOn G.never_stops p.port.value p.list.value.items (work_of r)
         × IsGatedWork (moves G.answers G.hears) p.gate.value p.list.value.items r };
 }
@@ -41,7 +41,7 @@ pub(crate) fn start_all<
     rt: &R,
     alloc: Global,
     signals: &Arc<Signals>,
-    children: &mut Vec<PromisedHandle<Done<G>, Given<G>>>,
+    children: &mut Vec<PromisedHandle<WorkerResult<G>, WorkerInput<G>>>,
     gates: Vec<G>,
     ports: Vec<Port>,
     lists: Vec<Vec<Step>>,
@@ -84,7 +84,7 @@ fn start<R: Threads + Wait + Clock + Copy + Send + 'static, G: Gate + Send + 'st
     gate: G,
     port: Port,
     list: Vec<Step>,
-) -> Result<PromisedHandle<Done<G>, Given<G>>, AllocError>
+) -> Result<PromisedHandle<WorkerResult<G>, WorkerInput<G>>, AllocError>
     requires new { (posted port ≡ []) × (taken port ≡ []) }
     requires posts { ArePostsOf port.node list.items }
     ensures gate { IfOk result (λ h. h.promise.gate.value ≡ gate) }
@@ -92,7 +92,7 @@ fn start<R: Threads + Wait + Clock + Copy + Send + 'static, G: Gate + Send + 'st
     ensures list { IfOk result (λ h. h.promise.list.value ≡ list) }
 {
     let theirs = Arc::try_clone(signals)?;
-    let given = Given {
+    let input = WorkerInput {
         gate: Snapshot::of(&gate),
         port: Snapshot::of(&port),
         list: Snapshot::of(&list),
@@ -100,15 +100,15 @@ fn start<R: Threads + Wait + Clock + Copy + Send + 'static, G: Gate + Send + 'st
     let handle = *rt;
     let child = thread::spawn_with(
         rt,
-        given,
-        move || -> Done<G>
+        input,
+        move || -> WorkerResult<G>
             requires { (posted port ≡ []) × (taken port ≡ []) × ArePostsOf port.node list.items }
             ensures { IsWorkOn G.never_stops port list.items (work_of result)
                 × IsGatedWork (moves G.answers G.hears) gate list.items result }
         {
-            let done = work(&handle, alloc, &theirs, gate, port, list.as_slice());
+            let result = work(&handle, alloc, &theirs, gate, port, list.as_slice());
             theirs.end();
-            done
+            result
         },
     )?;
     Ok(child)
@@ -117,23 +117,23 @@ fn start<R: Threads + Wait + Clock + Copy + Send + 'static, G: Gate + Send + 'st
 /// Joins each worker, and puts in order what they hand back. It takes no memory.
 pub(crate) fn join_all<R: Threads, G: Gate + Send + 'static>(
     rt: &R,
-    children: Vec<PromisedHandle<Done<G>, Given<G>>>,
-    dones: &mut Vec<Done<G>>,
+    children: Vec<PromisedHandle<WorkerResult<G>, WorkerInput<G>>>,
+    results: &mut Vec<WorkerResult<G>>,
 )
-    requires none { vec_len dones.old ≡ 0 }
-    requires room { vec_len children ≤ vec_capacity dones.old }
-    ensures len { vec_len dones.new ≡ vec_len children }
+    requires none { vec_len results.old ≡ 0 }
+    requires room { vec_len children ≤ vec_capacity results.old }
+    ensures len { vec_len results.new ≡ vec_len children }
     ensures each { (k : ℕ) (d : _) (h : _) → k < vec_len children
         → IsWorkOn G.never_stops (slice_index_or children.items k h).promise.port.value
         (slice_index_or children.items k h).promise.list.value.items
-        (work_of (slice_index_or dones.new.items k d)) }
+        (work_of (slice_index_or results.new.items k d)) }
     ensures gated { (k : ℕ) (d : _) (h : _) → k < vec_len children
         → IsGatedWork (moves G.answers G.hears)
         (slice_index_or children.items k h).promise.gate.value
         (slice_index_or children.items k h).promise.list.value.items
-        (slice_index_or dones.new.items k d) }
+        (slice_index_or results.new.items k d) }
 {
     for child in children {
-        dones.push_reserved(child.join(rt));
+        results.push_reserved(child.join(rt));
     }
 }

@@ -6,7 +6,7 @@ ghost use Rattle.vlm_cluster.specs.Gates.{IsFollowed, moves};
 ghost use Rattle.vlm_cluster.specs.Posts.{ArePostsOf};
 ghost use Rattle.vlm_cluster.specs.Works.{IsGatedWork, IsWorkOn, work_of};
 
-use crate::basket::Basket;
+use crate::client::Client;
 use crate::gate::{Gate, Go};
 use crate::signals::Signals;
 use std::alloc::Global;
@@ -18,22 +18,22 @@ use vlm_words::steps::Step;
 
 /// What a worker hands back.
 #[derive(Drop)]
-pub(crate) struct Done<G: Gate> {
+pub(crate) struct WorkerResult<G: Gate> {
     pub(crate) gate: G,
-    pub(crate) basket: Basket,
+    pub(crate) client: Client,
     /// How many steps of the list were posted.
     pub(crate) posted: usize,
     /// Whether the departure was posted behind them.
     pub(crate) left: bool,
 }
 
-impl<G: Gate> Done<G> {
+impl<G: Gate> WorkerResult<G> {
     /// The items that were taken.
     pub(crate) fn into_items(self) -> Vec<Item>
-        ensures { result ≡ self.basket.items }
+        ensures { result ≡ self.client.items }
     {
-        let Done { basket, .. } = self;
-        basket.into_items()
+        let WorkerResult { client, .. } = self;
+        client.into_items()
     }
 }
 
@@ -41,7 +41,7 @@ impl<G: Gate> Done<G> {
 #[derive(Clone, Copy)]
 struct Posted {
     count: usize,
-    early: bool,
+    cancelled: bool,
 }
 
 /// Posts a list and the departure, and takes items until every post is answered, or all are to end
@@ -53,28 +53,28 @@ pub(crate) fn work<R: Wait + Clock, G: Gate>(
     gate: G,
     port: Port,
     list: &[Step],
-) -> Done<G>
+) -> WorkerResult<G>
     requires new { (posted port ≡ []) × (taken port ≡ []) }
     requires posts { ArePostsOf port.node list.now }
     ensures work { IsWorkOn G.never_stops port list.now (work_of result) }
     ensures gated { IsGatedWork (moves G.answers G.hears) gate list.now result }
 {
     let mut gate = gate;
-    let mut basket = Basket::new(alloc, port);
-    let posted = post_list(rt, signals, &mut gate, &mut basket, list);
-    if posted.early || basket.bye(rt, signals, &mut gate).is_err() {
-        return Done {
+    let mut client = Client::new(alloc, port);
+    let posted = post_list(rt, signals, &mut gate, &mut client, list);
+    if posted.cancelled || client.bye(rt, signals, &mut gate).is_err() {
+        return WorkerResult {
             gate,
-            basket,
+            client,
             posted: posted.count,
             left: false,
         };
     }
     let answers = posted.count.saturating_add(1);
-    let _ = basket.await_answers(rt, signals, &mut gate, answers);
-    Done {
+    let _ = client.await_answers(rt, signals, &mut gate, answers);
+    WorkerResult {
         gate,
-        basket,
+        client,
         posted: posted.count,
         left: true,
     }
@@ -85,42 +85,42 @@ fn post_list<R: Wait + Clock, G: Gate>(
     rt: &R,
     signals: &Signals,
     gate: &mut G,
-    basket: &mut Basket,
+    client: &mut Client,
     list: &[Step],
 ) -> Posted
-    requires { ArePostsOf basket.old.port.node list.now }
-    ensures same { identity basket.new.port ≡ identity basket.old.port }
-    ensures posted { posted basket.new.port ≡ posted basket.old.port ++ take result.count list.now }
+    requires { ArePostsOf client.old.port.node list.now }
+    ensures same { identity client.new.port ≡ identity client.old.port }
+    ensures posted { posted client.new.port ≡ posted client.old.port ++ take result.count list.now }
     ensures within { result.count ≤ length list.now }
-    ensures whole { G.never_stops ≡ true → result.early ≡ false → result.count ≡ length list.now }
+    ensures whole { G.never_stops ≡ true → result.cancelled ≡ false → result.count ≡ length list.now }
     ensures gated { IsFollowed (moves G.answers G.hears)
-        (gate.old, basket.old.items.items) (gate.new, basket.new.items.items)
-        (length list.now) result.count (not result.early) }
+        (gate.old, client.old.items.items) (gate.new, client.new.items.items)
+        (length list.now) result.count (not result.cancelled) }
 {
     let mut next = 0usize;
     for _ in rt.forever() {
         if next >= list.len() {
             return Posted {
                 count: next,
-                early: false,
+                cancelled: false,
             };
         }
         if signals.is_stopped() {
             return Posted {
                 count: next,
-                early: true,
+                cancelled: true,
             };
         }
         let round = match gate.before(next) {
             Go::Stop => {
                 return Posted {
                     count: next,
-                    early: false,
+                    cancelled: false,
                 };
             }
-            Go::Later => basket.wait(rt, signals, gate),
+            Go::Later => client.wait(rt, signals, gate),
             Go::Post => {
-                let posted = basket.post(rt, signals, gate, &list[next]);
+                let posted = client.post(rt, signals, gate, &list[next]);
                 if posted.is_ok() {
                     next += 1;
                 }
@@ -130,7 +130,7 @@ fn post_list<R: Wait + Clock, G: Gate>(
         if round.is_err() {
             return Posted {
                 count: next,
-                early: true,
+                cancelled: true,
             };
         }
     }

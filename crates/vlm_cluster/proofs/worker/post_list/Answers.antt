@@ -1,6 +1,6 @@
 use Rattle.std.proofs.Common.{◌+◌, refl, ap, subst, arith, rules}
 use Rattle.std.proofs.lemmas.Grind.{common_steps}
-use Rattle.vlm_cluster.specs.declared.basket.Basket.{Basket}
+use Rattle.vlm_cluster.specs.declared.client.Client.{Client}
 use Rattle.vlm_cluster.specs.declared.gate.Go.{Go}
 use Rattle.vlm_cluster.specs.declared.gate.Go.TheVariants.{Later, Post, Stop}
 use Rattle.vlm_cluster.specs.Gates.{Moves, Point, asks, moves, open_at, shut_at}
@@ -11,9 +11,9 @@ use Rattle.vlm_cluster.proofs.worker.post_list.Goals.{in-Later, in-Post+then-is_
 pub returns-in-Stop-clause-gated : goal.returns-in-Stop-clause-gated
 returns-in-Stop-clause-gated g c =
     let M : Moves g.row.G.Denot = moves g.G.Gate.answers g.G.Gate.hears in
-    let o : Point g.row.G.Denot = (c.args.gate.now, c.args.basket.now.items.items) in
-    let a : Point g.row.G.Denot = (c.loop.gate, c.loop.basket.items.items) in
-    let b : Point g.row.G.Denot = (c.before-in-loop.new.self, c.loop.basket.items.items) in
+    let o : Point g.row.G.Denot = (c.args.gate.now, c.args.client.now.items.items) in
+    let a : Point g.row.G.Denot = (c.loop.gate, c.loop.client.items.items) in
+    let b : Point g.row.G.Denot = (c.before-in-loop.new.self, c.loop.client.items.items) in
     let n = c.loop.next in record {
       standing = shut_at n;
       guided = guided_then M o a b (open_at 0) (open_at n) (shut_at n) c.loop.invariant.guided
@@ -25,9 +25,9 @@ returns-in-Stop-clause-gated g c =
 pub loop-preserved : goal.loop-preserved
 loop-preserved g c =
     let M : Moves g.row.G.Denot = moves g.G.Gate.answers g.G.Gate.hears in
-    let o : Point g.row.G.Denot = (c.args.gate.now, c.args.basket.now.items.items) in
-    let a : Point g.row.G.Denot = (c.loop.gate, c.loop.basket.items.items) in
-    let e : Point g.row.G.Denot = (c.match-before.gate, c.match-before.basket.items.items) in
+    let o : Point g.row.G.Denot = (c.args.gate.now, c.args.client.now.items.items) in
+    let a : Point g.row.G.Denot = (c.loop.gate, c.loop.client.items.items) in
+    let e : Point g.row.G.Denot = (c.match-before.gate, c.match-before.client.items.items) in
     let n = c.loop.next in
     let answer = c.before-in-loop.new.self in record {
       same = search rules;
@@ -40,13 +40,13 @@ loop-preserved g c =
             guided_at M o b e (open_at 0) (open_at n) (open_at c.match-before.next)
             (guided_round M o a b n Later answer (open_at 0) (open_at n) (open_at n) c.loop.invariant.guided
             (subst (λ (go : Go). M a.0 (asks n go) answer) w.in-Later.is c.before-in-loop.ensures.answers) (refl, refl) w.wait-round.ensures.told)
-            w.gate-is (ap (λ (x : Basket). x.items.items) w.basket-is) (ap open_at w.next-is)
+            w.gate-is (ap (λ (x : Client). x.items.items) w.client-is) (ap open_at w.next-is)
         | in-Post+then-is_ok w ↦
             let b : Point g.row.G.Denot = (w.post-posted.new.gate, w.post-posted.new.self.items.items) in
             guided_at M o b e (open_at 0) (open_at (n + 1)) (open_at c.match-before.next)
             (guided_round M o a b n Post answer (open_at 0) (open_at n) (open_at (n + 1)) c.loop.invariant.guided
             (subst (λ (go : Go). M a.0 (asks n go) answer) w.in-Post.is c.before-in-loop.ensures.answers) (refl, refl) w.post-posted.ensures.told)
-            w.gate-is (ap (λ (x : Basket). x.items.items) w.basket-is) (ap open_at w.next-is)
+            w.gate-is (ap (λ (x : Client). x.items.items) w.client-is) (ap open_at w.next-is)
         | in-Post+else-is_ok w ↦ absurd (search rules)
       ];
     }
@@ -54,9 +54,9 @@ loop-preserved g c =
 pub returns-then-is_err-clause-gated : goal.returns-then-is_err-clause-gated
 returns-then-is_err-clause-gated g c =
     let M : Moves g.row.G.Denot = moves g.G.Gate.answers g.G.Gate.hears in
-    let o : Point g.row.G.Denot = (c.args.gate.now, c.args.basket.now.items.items) in
-    let a : Point g.row.G.Denot = (c.loop.gate, c.loop.basket.items.items) in
-    let e : Point g.row.G.Denot = (c.match-before.gate, c.match-before.basket.items.items) in
+    let o : Point g.row.G.Denot = (c.args.gate.now, c.args.client.now.items.items) in
+    let a : Point g.row.G.Denot = (c.loop.gate, c.loop.client.items.items) in
+    let e : Point g.row.G.Denot = (c.match-before.gate, c.match-before.client.items.items) in
     let n = c.loop.next in
     let answer = c.before-in-loop.new.self in
     elim c.match-before.branch [
@@ -66,7 +66,7 @@ returns-then-is_err-clause-gated g c =
             guided = guided_at M o b e (open_at 0) (open_at n) (open_at n)
                 (guided_round M o a b n Later answer (open_at 0) (open_at n) (open_at n) c.loop.invariant.guided
                 (subst (λ (go : Go). M a.0 (asks n go) answer) w.in-Later.is c.before-in-loop.ensures.answers) (refl, refl) w.wait-round.ensures.told)
-                w.gate-is (ap (λ (x : Basket). x.items.items) w.basket-is) refl;
+                w.gate-is (ap (λ (x : Client). x.items.items) w.client-is) refl;
             counted = (let m = w.next-is in omega (arith, m), let m = w.next-is in omega (arith, m));
           }
       | in-Post+then-is_ok w ↦ absurd (search rules)
@@ -76,7 +76,7 @@ returns-then-is_err-clause-gated g c =
             guided = guided_at M o b e (open_at 0) (open_at (n + 1)) (open_at (n + 1))
                 (guided_round M o a b n Post answer (open_at 0) (open_at n) (open_at (n + 1)) c.loop.invariant.guided
                 (subst (λ (go : Go). M a.0 (asks n go) answer) w.in-Post.is c.before-in-loop.ensures.answers) (refl, refl) w.post-posted.ensures.told)
-                w.gate-is (ap (λ (x : Basket). x.items.items) w.basket-is) refl;
+                w.gate-is (ap (λ (x : Client). x.items.items) w.client-is) refl;
             counted = (let m = w.next-is in omega (arith, m), let m = w.next-is in omega (arith, m));
           }
     ]

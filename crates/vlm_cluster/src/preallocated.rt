@@ -1,0 +1,45 @@
+//! The room that is made before a worker starts.
+
+ghost use Rattle.std.specs.Prelude.{◌≡◌, ◌≤◌, IfOk, replicate, vec_capacity, vec_len};
+
+use crate::gate::Gate;
+use crate::signals::Signals;
+use crate::threads::WorkerInput;
+use crate::worker::WorkerResult;
+use std::alloc::{AllocError, Global};
+use std::sync::Arc;
+use std::thread::PromisedHandle;
+use vlm_journal::entries::Item;
+
+/// The room that a run takes but for what grows with it.
+#[derive(Drop)]
+pub(crate) struct Preallocated<G: Gate> {
+    pub(crate) signals: Arc<Signals>,
+    /// Room for the handles of the workers.
+    pub(crate) children: Vec<PromisedHandle<WorkerResult<G>, WorkerInput<G>>>,
+    /// Room for what they hand back.
+    pub(crate) results: Vec<WorkerResult<G>>,
+    /// Room for what each is told.
+    pub(crate) items: Vec<Vec<Item>>,
+    /// How much each has posted: nothing.
+    pub(crate) posted: Vec<usize>,
+}
+
+impl<G: Gate> Preallocated<G> {
+    /// The room for so many workers.
+    pub(crate) fn new(alloc: Global, count: usize) -> Result<Preallocated<G>, AllocError>
+        ensures children { IfOk result (λ r.
+            (vec_len r.children ≡ 0) × (count ≤ vec_capacity r.children)) }
+        ensures results { IfOk result (λ r. (vec_len r.results ≡ 0) × (count ≤ vec_capacity r.results)) }
+        ensures items { IfOk result (λ r. (vec_len r.items ≡ 0) × (count ≤ vec_capacity r.items)) }
+        ensures posted { IfOk result (λ r. r.posted.items ≡ replicate count 0) }
+    {
+        Ok(Preallocated {
+            signals: Arc::new(alloc, Signals::new())?,
+            children: Vec::with_capacity(alloc, count)?,
+            results: Vec::with_capacity(alloc, count)?,
+            items: Vec::with_capacity(alloc, count)?,
+            posted: vec![in alloc; 0; count]?,
+        })
+    }
+}

@@ -1,0 +1,147 @@
+//! Lists of steps are served, each in a thread of its own.
+
+ghost use Rattle.std.specs.Prelude.{◌≡◌, ◌<◌, ◌≤◌, [], MatchResult, map, replicate, vec_capacity, vec_len};
+ghost use Rattle.vlm_words.specs.State.{start};
+ghost use Rattle.vlm_ports.specs.Hubs.{rings};
+ghost use Rattle.vlm_ports.specs.Ports.{AreNew, identity};
+ghost use Rattle.vlm_cluster.specs.Gates.{moves};
+ghost use Rattle.vlm_cluster.specs.Headline.{AreGated, IsGatedFault, IsServing};
+ghost use Rattle.vlm_cluster.specs.Parts.{IsAccounted};
+ghost use Rattle.vlm_cluster.specs.Posts.{AreListsOfPosts};
+ghost use Rattle.vlm_cluster.specs.Reports.{IsParted, IsPartedFault};
+ghost use Rattle.vlm_cluster.specs.Works.{entries_at};
+
+use crate::finishing::{finish, give_up};
+use crate::gate::Gate;
+use crate::hub_driver::HubDriver;
+use crate::laws::{law_grants_keep_order, law_modes_stay_compatible, law_requests_end_once};
+use crate::preallocated::Preallocated;
+use crate::report::{Fault, Report};
+use crate::threads::{join_all, start_all};
+use std::alloc::Global;
+use std::sync::Wait;
+use std::thread::Threads;
+use std::time::Clock;
+use vlm_core::Core;
+use vlm_journal::laws::law_departed;
+use vlm_ports::{Hub, Port};
+use vlm_words::steps::Step;
+
+/// Serves up to eight lists of steps, list i for node i + 1, each posted by a worker in a thread of
+/// its own, as its gate says, while the hub turns in this thread over a new core. A part of the
+/// journal is cut off after a turn that leaves `every` entries or more. It returns when all threads
+/// are joined.
+///
+/// [`Fault::Memory`] comes where memory or a thread is refused. With no report, no worker was
+/// started. Else all workers are over, and the report says what was done: all of it, where only
+/// room that came too late was refused. What a run takes grows with its lists and its entries.
+pub fn serve_lists<R: Threads + Wait + Clock + Copy + Send + 'static, G: Gate + Send + 'static>(
+    rt: &R,
+    alloc: Global,
+    gates: Vec<G>,
+    lists: Vec<Vec<Step>>,
+    every: usize,
+) -> Result<Report, Fault>
+    requires lens { (0 < vec_len lists) × (vec_len lists ≤ 8) × (vec_len gates ≡ vec_len lists) }
+    requires posts { AreListsOfPosts lists.items }
+    requires every { 0 < every }
+    ensures serving { IsServing G.never_stops lists.items result }
+    ensures gated { MatchResult result
+        (AreGated (moves G.answers G.hears) gates.items lists.items)
+        (IsGatedFault (moves G.answers G.hears) gates.items lists.items) }
+    ensures parts { MatchResult result (IsParted every) (IsPartedFault every) }
+{
+    serve_lists_over(rt, alloc, Core::new(alloc), gates, lists, every)
+}
+
+/// The same over a core that is made: with [`Core::with_keys`] where others choose the names of
+/// resources.
+pub fn serve_lists_over<
+    R: Threads + Wait + Clock + Copy + Send + 'static,
+    G: Gate + Send + 'static,
+>(
+    rt: &R,
+    alloc: Global,
+    core: Core,
+    gates: Vec<G>,
+    lists: Vec<Vec<Step>>,
+    every: usize,
+) -> Result<Report, Fault>
+    requires start { core ≡ start }
+    requires lens { (0 < vec_len lists) × (vec_len lists ≤ 8) × (vec_len gates ≡ vec_len lists) }
+    requires posts { AreListsOfPosts lists.items }
+    requires every { 0 < every }
+    ensures serving { IsServing G.never_stops lists.items result }
+    ensures gated { MatchResult result
+        (AreGated (moves G.answers G.hears) gates.items lists.items)
+        (IsGatedFault (moves G.answers G.hears) gates.items lists.items) }
+    ensures parts { MatchResult result (IsParted every) (IsPartedFault every) }
+{
+    let Ok(preallocated) = Preallocated::new(alloc, lists.len()) else {
+        return Err(Fault::Memory(None));
+    };
+    let Ok((hub, ports)) = Hub::with_core(alloc, core, lists.len()) else {
+        return Err(Fault::Memory(None));
+    };
+    let driver = HubDriver::new(alloc, hub, every);
+    run(rt, alloc, driver, preallocated, gates, ports, lists)
+}
+
+// Starts the workers, has the hub serve them, and reports.
+fn run<R: Threads + Wait + Clock + Copy + Send + 'static, G: Gate + Send + 'static>(
+    rt: &R,
+    alloc: Global,
+    driver: HubDriver,
+    preallocated: Preallocated<G>,
+    gates: Vec<G>,
+    ports: Vec<Port>,
+    lists: Vec<Vec<Step>>,
+) -> Result<Report, Fault>
+    requires lens { (vec_len ports ≡ vec_len lists) × (vec_len gates ≡ vec_len lists) }
+    requires posts { AreListsOfPosts lists.items }
+    requires new { AreNew ports.items × (map identity ports.items ≡ rings driver.hub) }
+    requires quiet { entries_at driver ≡ [] }
+    requires accounted { IsAccounted driver.parts.items driver.hub }
+    requires children { (vec_len preallocated.children ≡ 0) × (vec_len lists ≤ vec_capacity preallocated.children) }
+    requires results { (vec_len preallocated.results ≡ 0) × (vec_len lists ≤ vec_capacity preallocated.results) }
+    requires items { (vec_len preallocated.items ≡ 0) × (vec_len lists ≤ vec_capacity preallocated.items) }
+    requires posted { preallocated.posted.items ≡ replicate (vec_len lists) 0 }
+    ensures serving { IsServing G.never_stops lists.items result }
+    ensures gated { MatchResult result
+        (AreGated (moves G.answers G.hears) gates.items lists.items)
+        (IsGatedFault (moves G.answers G.hears) gates.items lists.items) }
+    ensures parts { MatchResult result (IsParted driver.every) (IsPartedFault driver.every) }
+{
+    let Preallocated {
+        signals,
+        mut children,
+        mut results,
+        items,
+        posted,
+    } = preallocated;
+    let mut driver = driver;
+    let count = lists.len();
+    start_all(rt, alloc, &signals, &mut children, gates, ports, lists);
+    let started = children.len();
+    if started == 0 {
+        driver.close(rt);
+        return Err(Fault::Memory(None));
+    }
+    law_departed();
+    if started < count {
+        join_all(rt, children, &mut results);
+        let report = give_up(rt, alloc, driver, results.as_slice(), items, posted);
+        return Err(Fault::Memory(Some(report)));
+    }
+    driver.serve(rt, &signals, count as u64);
+    join_all(rt, children, &mut results);
+    let finished = finish(rt, &signals, driver, results, items, posted);
+    law_modes_stay_compatible();
+    law_requests_end_once();
+    law_grants_keep_order();
+    if finished.whole {
+        Ok(finished.report)
+    } else {
+        Err(Fault::Memory(Some(finished.report)))
+    }
+}
