@@ -1,4 +1,4 @@
-//! A port, and all that was taken from it.
+//! A node's client: its port, and the items taken from it.
 
 ghost use Rattle.std.specs.Prelude.{◌≡◌, ◌∷◌, ◌++◌, [], OnOk, OnErr};
 ghost use Rattle.vlm_journal.specs.Journals.{IsPostOf};
@@ -18,23 +18,24 @@ use vlm_journal::entries::Item;
 use vlm_ports::{Hub, Port, Settled};
 use vlm_words::steps::Step;
 
-/// A port, and all that was taken from it.
+/// A node's port, and all items taken from it.
 #[derive(Drop)]
 pub(crate) struct Client {
     pub(crate) port: Port,
+    /// All items taken from the port, in order.
     pub(crate) items: Vec<Item>,
-    // how many of the items are answers
+    // the number of answers among the items
     answers: usize,
     pause: Pause,
     ghost collected: { items.items ≡ taken port },
 }
 
-/// A worker is to end early: memory was refused to it, or to another.
+/// The run is cancelled: memory or a thread was refused, so the worker stops early.
 #[derive(Clone, Copy, Drop)]
 pub(crate) struct Cancelled;
 
 impl Client {
-    /// Of a port from which nothing was taken.
+    /// A client of a port from which nothing was taken.
     pub(crate) fn new(alloc: Global, port: Port) -> Client
         requires { taken port ≡ [] }
         ensures port { result.port ≡ port }
@@ -48,8 +49,8 @@ impl Client {
         }
     }
 
-    /// Takes an item, if one is known to have come, and tells the gate. Says whether it took one.
-    /// Refused, nothing is taken.
+    /// Takes one item if the port has one, and tells the gate. Returns whether it took one. If
+    /// memory is refused, it takes nothing.
     pub(crate) fn collect<G: Gate>(&mut self, gate: &mut G) -> Result<bool, AllocError>
         ensures same { identity self.new.port ≡ identity self.old.port }
         ensures posted { posted self.new.port ≡ posted self.old.port }
@@ -68,8 +69,8 @@ impl Client {
         Ok(true)
     }
 
-    /// A round of a worker that waits: it takes an item, or rests where none has come. Refused, all
-    /// are to end early.
+    /// One round of waiting: takes an item, or rests if none has come. If memory is refused, it
+    /// cancels the run.
     pub(crate) fn wait<R: Clock, G: Gate>(
         &mut self,
         rt: &R,
@@ -81,12 +82,12 @@ impl Client {
         ensures told { IsTold (moves G.answers G.hears)
             (gate.old, self.old.items.items) (gate.new, self.new.items.items) }
     {
-        if signals.is_stopped() {
+        if signals.is_cancelled() {
             return Err(Cancelled);
         }
         match self.collect(gate) {
             Err(AllocError) => {
-                signals.stop();
+                signals.cancel();
                 return Err(Cancelled);
             }
             Ok(true) => self.pause.end(),
@@ -95,7 +96,7 @@ impl Client {
         Ok(())
     }
 
-    /// Posts a step, and waits for a place where the ring is full.
+    /// Posts a step. While the ring is full, it waits.
     pub(crate) fn post<R: Wait + Clock, G: Gate>(
         &mut self,
         rt: &R,
@@ -119,7 +120,7 @@ impl Client {
         unreachable!()
     }
 
-    /// Posts the departure of the node, and waits for a place where the ring is full.
+    /// Posts the departure of the node. While the ring is full, it waits.
     pub(crate) fn bye<R: Wait + Clock, G: Gate>(
         &mut self,
         rt: &R,
@@ -142,7 +143,7 @@ impl Client {
         unreachable!()
     }
 
-    /// Takes items until so many answers have come.
+    /// Takes items until `count` answers have come in all.
     pub(crate) fn await_answers<R: Wait + Clock, G: Gate>(
         &mut self,
         rt: &R,
@@ -164,7 +165,8 @@ impl Client {
         unreachable!()
     }
 
-    /// Settles its port: how many posts the hub has not taken, and how many items were not taken.
+    /// Has the hub settle the port. Returns the number of posts that the hub has not taken, and of
+    /// items that the port has not taken.
     pub(crate) fn settle(&mut self, hub: &mut Hub) -> Settled
         requires { IsPortOf hub.old self.old.port }
         ensures standing { standing hub.new ≡ standing hub.old }
@@ -181,7 +183,6 @@ impl Client {
         hub.settle(&mut self.port)
     }
 
-    /// The items that were taken.
     pub(crate) fn into_items(self) -> Vec<Item>
         ensures { result ≡ self.items }
     {

@@ -1,4 +1,4 @@
-//! The report of a run, from what the workers hand back.
+//! Making the report of a run from the results of its workers.
 
 ghost use Rattle.std.specs.Prelude.{◌≡◌, ◌<◌, ◌≤◌, [], ℕ, IsTrue, length, map, replicate, slice_index, slice_index_or, vec_capacity, vec_len};
 ghost use Rattle.vlm_journal.specs.Journals.{Journal};
@@ -25,7 +25,8 @@ pub(crate) struct Finished {
     pub(crate) whole: bool,
 }
 
-/// Serves and takes what is left, and reports. It takes no memory but for items and entries.
+/// Serves and takes what is left on the rings, and makes the report. It allocates memory only for
+/// items and entries.
 pub(crate) fn finish<G: Gate>(
     rt: &impl Wait,
     signals: &Signals,
@@ -70,8 +71,8 @@ pub(crate) fn finish<G: Gate>(
     }
 }
 
-/// The report where a later worker could not be started: the hub has made no turn, and nobody was
-/// told anything.
+/// Makes the report if a worker after the first could not be started. The hub has made no turn, so
+/// no node was told anything.
 pub(crate) fn give_up<G: Gate>(
     rt: &impl Wait,
     alloc: Global,
@@ -107,7 +108,7 @@ pub(crate) fn give_up<G: Gate>(
     driver.report(rt, items, posted)
 }
 
-// Notes how much each worker has posted.
+// Notes the number of steps that each worker has posted.
 fn note_posted<G: Gate>(results: &[WorkerResult<G>], posted: &mut [usize])
     requires { length results.now ≤ length posted.old }
     ensures each { (k : ℕ) (d : _) → k < length results.now
@@ -120,7 +121,7 @@ fn note_posted<G: Gate>(results: &[WorkerResult<G>], posted: &mut [usize])
     }
 }
 
-// Takes the items out of what the workers hand back, in order.
+// Moves the items out of the results, in order.
 fn take_items<G: Gate>(results: Vec<WorkerResult<G>>, items: &mut Vec<Vec<Item>>)
     requires none { vec_len items.old ≡ 0 }
     requires room { vec_len results ≤ vec_capacity items.old }

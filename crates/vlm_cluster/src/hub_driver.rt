@@ -1,4 +1,4 @@
-//! The hub, and the parts that were cut off its journal.
+//! The hub, and the parts cut off its journal.
 
 ghost use Rattle.std.specs.Prelude.{◌≡◌, ◌<◌, [], OnOk, length};
 ghost use Rattle.vlm_cluster.specs.Parts.{HaveEnough};
@@ -11,11 +11,11 @@ use std::time::Clock;
 use vlm_journal::entries::Part;
 use vlm_ports::{Hub, Turn};
 
-/// The hub, and the parts that were cut off its journal. It can't be dropped: end it by `report` or `close`.
+/// The hub, and the parts cut off its journal. It can't be dropped: end it with `report` or `close`.
 pub(crate) struct HubDriver {
     pub(crate) hub: Hub,
     pub(crate) parts: Vec<Part>,
-    /// How many entries a part has at least.
+    /// The least number of entries of a part.
     pub(crate) every: usize,
     ghost some: { 0 < every },
     ghost enough: { HaveEnough every parts.items },
@@ -26,7 +26,7 @@ impl HubDriver {
     ghost use Rattle.vlm_cluster.specs.Parts.{IsAccounted};
     ghost use Rattle.vlm_cluster.specs.Works.{entries_at};
 
-    /// Of a new hub.
+    /// A driver of a new hub.
     pub(crate) fn new(alloc: Global, hub: Hub, every: usize) -> HubDriver
         requires hub { IsNewHub (nodes hub) hub }
         requires every { 0 < every }
@@ -42,8 +42,8 @@ impl HubDriver {
         }
     }
 
-    /// Has the hub make a turn, and cuts a part off where it has entries enough. Says whether any
-    /// entry was made. Refused, the entries that were made stand.
+    /// Makes one turn of the hub, and cuts a part off if the journal is long enough. Returns whether
+    /// the turn made an entry. If memory is refused, the entries already made stay.
     pub(crate) fn turn(&mut self) -> Result<bool, AllocError>
         requires { IsAccounted self.old.parts.items self.old.hub }
         ensures every { self.new.every ≡ self.old.every }
@@ -59,7 +59,7 @@ impl HubDriver {
         }
     }
 
-    /// Cuts a part off, if the hub has entries enough for one. Then the hub has fewer.
+    /// Cuts a part off if the hub's journal has `every` entries or more.
     pub(crate) fn cut_off(&mut self) -> Result<(), AllocError>
         requires { IsAccounted self.old.parts.items self.old.hub }
         ensures every { self.new.every ≡ self.old.every }
@@ -76,7 +76,7 @@ impl HubDriver {
         Ok(())
     }
 
-    /// Has the hub make turns until so many workers are over. Refused, all are to end early.
+    /// Makes turns until `count` workers have finished. If memory is refused, it cancels the run.
     pub(crate) fn serve<R: Wait + Clock>(&mut self, rt: &R, signals: &Signals, count: u64)
         requires { IsAccounted self.old.parts.items self.old.hub }
         ensures every { self.new.every ≡ self.old.every }
@@ -90,7 +90,7 @@ impl HubDriver {
             }
             match self.turn() {
                 Err(AllocError) => {
-                    signals.stop();
+                    signals.cancel();
                     return;
                 }
                 Ok(true) => pause.end(),

@@ -1,4 +1,4 @@
-//! The room that is made before a worker starts.
+//! Memory that is allocated before any worker starts.
 
 ghost use Rattle.std.specs.Prelude.{◌≡◌, ◌≤◌, IfOk, replicate, vec_capacity, vec_len};
 
@@ -11,22 +11,22 @@ use std::sync::Arc;
 use std::thread::PromisedHandle;
 use vlm_journal::entries::Item;
 
-/// The room that a run takes but for what grows with it.
+/// The memory of a run, except what grows with its steps and entries.
 #[derive(Drop)]
 pub(crate) struct Preallocated<G: Gate> {
     pub(crate) signals: Arc<Signals>,
-    /// Room for the handles of the workers.
+    /// Space for the handles of the workers.
     pub(crate) children: Vec<PromisedHandle<WorkerResult<G>, WorkerInput<G>>>,
-    /// Room for what they hand back.
+    /// Space for their results.
     pub(crate) results: Vec<WorkerResult<G>>,
-    /// Room for what each is told.
+    /// Space for the items of each.
     pub(crate) items: Vec<Vec<Item>>,
-    /// How much each has posted: nothing.
+    /// For each, the number of steps posted: 0.
     pub(crate) posted: Vec<usize>,
 }
 
 impl<G: Gate> Preallocated<G> {
-    /// The room for so many workers.
+    /// For `count` workers.
     pub(crate) fn new(alloc: Global, count: usize) -> Result<Preallocated<G>, AllocError>
         ensures children { IfOk result (λ r.
             (vec_len r.children ≡ 0) × (count ≤ vec_capacity r.children)) }

@@ -1,4 +1,4 @@
-//! Lists of steps are served, each in a thread of its own.
+//! Serving lists of steps: a worker thread for each list, and the hub in the caller's thread.
 
 ghost use Rattle.std.specs.Prelude.{◌≡◌, ◌<◌, ◌≤◌, [], MatchResult, map, replicate, vec_capacity, vec_len};
 ghost use Rattle.vlm_words.specs.State.{start};
@@ -27,14 +27,14 @@ use vlm_journal::laws::law_departed;
 use vlm_ports::{Hub, Port};
 use vlm_words::steps::Step;
 
-/// Serves up to eight lists of steps, list i for node i + 1, each posted by a worker in a thread of
-/// its own, as its gate says, while the hub turns in this thread over a new core. A part of the
-/// journal is cut off after a turn that leaves `every` entries or more. It returns when all threads
-/// are joined.
+/// Serves one to eight lists of steps, list i for node i + 1. A worker thread posts each list, as its
+/// gate says, while the hub makes its turns in the caller's thread over a new core. After a turn that
+/// leaves `every` entries or more in the journal, it cuts a part off. It returns when all threads are
+/// joined.
 ///
-/// [`Fault::Memory`] comes where memory or a thread is refused. With no report, no worker was
-/// started. Else all workers are over, and the report says what was done: all of it, where only
-/// room that came too late was refused. What a run takes grows with its lists and its entries.
+/// It answers [`Fault::Memory`] if memory or a thread is refused. Without a report no worker was
+/// started. Otherwise all workers have finished, and the report says what was done. A late refusal
+/// can leave nothing undone. Memory use grows with the lists and the entries.
 pub fn serve_lists<R: Threads + Wait + Clock + Copy + Send + 'static, G: Gate + Send + 'static>(
     rt: &R,
     alloc: Global,
@@ -54,8 +54,8 @@ pub fn serve_lists<R: Threads + Wait + Clock + Copy + Send + 'static, G: Gate + 
     serve_lists_over(rt, alloc, Core::new(alloc), gates, lists, every)
 }
 
-/// The same over a core that is made: with [`Core::with_keys`] where others choose the names of
-/// resources.
+/// Does the same over the core that it is given. Use [`Core::with_keys`] if others choose the names
+/// of resources.
 pub fn serve_lists_over<
     R: Threads + Wait + Clock + Copy + Send + 'static,
     G: Gate + Send + 'static,
@@ -87,7 +87,7 @@ pub fn serve_lists_over<
     run(rt, alloc, driver, preallocated, gates, ports, lists)
 }
 
-// Starts the workers, has the hub serve them, and reports.
+// Starts the workers, serves them, and makes the report.
 fn run<R: Threads + Wait + Clock + Copy + Send + 'static, G: Gate + Send + 'static>(
     rt: &R,
     alloc: Global,

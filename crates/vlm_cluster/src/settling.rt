@@ -1,4 +1,5 @@
-//! Both ends of each ring are in one hand again: what is left on the rings is served and taken.
+//! After the workers are joined, this thread owns both ends of each ring: it serves and takes what
+//! is left on them.
 
 ghost use Rattle.std.specs.Prelude.{◌≡◌, ◌<◌, IsTrue, OnOk, length, map};
 ghost use Rattle.vlm_ports.specs.Hubs.{IsPortOf, journal, rings};
@@ -13,8 +14,8 @@ use crate::worker::WorkerResult;
 use std::alloc::AllocError;
 use std::sync::Wait;
 
-/// Serves and takes what is left, if no worker has ended early. Says whether each list is whole:
-/// each of its posts and the departure behind them is answered, and each item is taken.
+/// Serves and takes what is left on the rings, unless the run is cancelled. Returns whether each list
+/// is whole: all its posts and the departure are answered, and all items are taken.
 pub(crate) fn close<G: Gate>(
     rt: &impl Wait,
     signals: &Signals,
@@ -35,7 +36,7 @@ pub(crate) fn close<G: Gate>(
     settle_all(driver, results) && served.is_ok()
 }
 
-// Serves and takes what is left. Refused where memory is, or was before.
+// Serves and takes what is left. Fails if memory is refused, or the run is cancelled.
 fn serve_rest<G: Gate>(
     rt: &impl Wait,
     signals: &Signals,
@@ -52,7 +53,7 @@ fn serve_rest<G: Gate>(
     ensures few { OnOk result (length (journal driver.new.hub) < driver.new.every) }
 {
     for _ in rt.forever() {
-        if signals.is_stopped() {
+        if signals.is_cancelled() {
             return Err(AllocError);
         }
         if settle_all(driver, results) {
@@ -64,7 +65,7 @@ fn serve_rest<G: Gate>(
     unreachable!()
 }
 
-// Settles each port. Says whether each list is whole.
+// Settles each port. Returns whether each list is whole.
 fn settle_all<G: Gate>(driver: &mut HubDriver, results: &mut [WorkerResult<G>]) -> bool
     requires ports { ArePortsOf driver.old.hub results.old }
     requires accounted { IsAccounted driver.old.parts.items driver.old.hub }
@@ -87,7 +88,7 @@ fn settle_all<G: Gate>(driver: &mut HubDriver, results: &mut [WorkerResult<G>]) 
     all
 }
 
-// Settles a port. Says whether its list is whole.
+// Settles one port. Returns whether its list is whole.
 fn settle<G: Gate>(driver: &mut HubDriver, worker: &mut WorkerResult<G>) -> bool
     requires port { IsPortOf driver.old.hub worker.old.client.port }
     requires accounted { IsAccounted driver.old.parts.items driver.old.hub }
@@ -109,7 +110,7 @@ fn settle<G: Gate>(driver: &mut HubDriver, worker: &mut WorkerResult<G>) -> bool
     settled.steps == 0 && settled.items == 0
 }
 
-// Takes an item of each port that knows one, and tells the gate of its list.
+// Takes one item from each port that has one, and tells the gate of its list.
 fn collect_all<G: Gate>(results: &mut [WorkerResult<G>]) -> Result<(), AllocError>
     ensures same { map work_of results.new ≡ map work_of results.old }
     ensures told { AreTold (moves G.answers G.hears) results.old results.new }
@@ -121,7 +122,6 @@ fn collect_all<G: Gate>(results: &mut [WorkerResult<G>]) -> Result<(), AllocErro
     Ok(())
 }
 
-// Takes an item, if the port knows one, and tells the gate.
 fn collect<G: Gate>(worker: &mut WorkerResult<G>) -> Result<bool, AllocError>
     ensures same { work_of worker.new ≡ work_of worker.old }
     ensures told { IsTold (moves G.answers G.hears) (point_of worker.old) (point_of worker.new) }

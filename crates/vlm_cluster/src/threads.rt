@@ -1,4 +1,4 @@
-//! Workers in threads of their own: how they are started and joined.
+//! Worker threads: how they are started and joined.
 
 ghost use Rattle.std.specs.Prelude.{◌≡◌, ◌<◌, ◌≤◌, [], ℕ, IfOk, slice_index_or, vec_capacity, vec_len};
 ghost use Rattle.vlm_ports.specs.Ports.{AreNew, posted, taken};
@@ -18,7 +18,7 @@ use std::time::Clock;
 use vlm_ports::Port;
 use vlm_words::steps::Step;
 
-/// What a worker was given.
+/// What a worker starts with.
 #[derive(Drop)]
 pub(crate) struct WorkerInput<G> {
     pub(crate) gate: Snapshot<G>,
@@ -26,14 +26,14 @@ pub(crate) struct WorkerInput<G> {
     pub(crate) list: Snapshot<Vec<Step>>,
 }
 
-// What the worker hands back is its work on that.
+// The result of a worker is its work on this input.
 impl<G: Gate> Promise<WorkerResult<G>> for WorkerInput<G> {
     ghost kept_by = { λ p r. IsWorkOn G.never_stops p.port.value p.list.value.items (work_of r)
         × IsGatedWork (moves G.answers G.hears) p.gate.value p.list.value.items r };
 }
 
-/// Starts a worker for each list, or for the first of them: where a thread is refused, all are to
-/// end early. It makes no room for the handles.
+/// Starts a worker for each list. If a thread is refused, it starts no more, and cancels the run. It
+/// needs space for the handles in `children`.
 pub(crate) fn start_all<
     R: Threads + Wait + Clock + Copy + Send + 'static,
     G: Gate + Send + 'static,
@@ -69,14 +69,13 @@ pub(crate) fn start_all<
         let port = ports.remove(0);
         let list = lists.remove(0);
         let Ok(child) = start(rt, alloc, signals, gate, port, list) else {
-            signals.stop();
+            signals.cancel();
             return;
         };
         children.push_reserved(child);
     }
 }
 
-// Starts a worker.
 fn start<R: Threads + Wait + Clock + Copy + Send + 'static, G: Gate + Send + 'static>(
     rt: &R,
     alloc: Global,
@@ -114,7 +113,7 @@ fn start<R: Threads + Wait + Clock + Copy + Send + 'static, G: Gate + Send + 'st
     Ok(child)
 }
 
-/// Joins each worker, and puts in order what they hand back. It takes no memory.
+/// Joins each worker, and collects the results in order. It allocates nothing.
 pub(crate) fn join_all<R: Threads, G: Gate + Send + 'static>(
     rt: &R,
     children: Vec<PromisedHandle<WorkerResult<G>, WorkerInput<G>>>,

@@ -1,4 +1,4 @@
-//! A worker posts its list and the departure of its node.
+//! A worker: it posts a list of steps, and then the departure of its node.
 
 ghost use Rattle.std.specs.Prelude.{◌≡◌, ◌≤◌, ◌++◌, [], false, length, not, take, true};
 ghost use Rattle.vlm_ports.specs.Ports.{identity, posted, taken};
@@ -21,14 +21,13 @@ use vlm_words::steps::Step;
 pub(crate) struct WorkerResult<G: Gate> {
     pub(crate) gate: G,
     pub(crate) client: Client,
-    /// How many steps of the list were posted.
+    /// The number of steps of the list that were posted.
     pub(crate) posted: usize,
-    /// Whether the departure was posted behind them.
+    /// Whether the departure was posted after them.
     pub(crate) left: bool,
 }
 
 impl<G: Gate> WorkerResult<G> {
-    /// The items that were taken.
     pub(crate) fn into_items(self) -> Vec<Item>
         ensures { result ≡ self.client.items }
     {
@@ -37,15 +36,39 @@ impl<G: Gate> WorkerResult<G> {
     }
 }
 
-// How much of a list was posted, and whether the worker is to end early.
+// The number of steps that were posted, and whether the worker was cancelled.
 #[derive(Clone, Copy)]
 struct Posted {
     count: usize,
     cancelled: bool,
 }
 
-/// Posts a list and the departure, and takes items until every post is answered, or all are to end
-/// early.
+impl Posted {
+    // Up to the end of the list, or up to a stop of its gate.
+    fn to_end(count: usize) -> Posted
+        ensures count { result.count ≡ count }
+        ensures cancelled { result.cancelled ≡ false }
+    {
+        Posted {
+            count,
+            cancelled: false,
+        }
+    }
+
+    // Up to the place where the worker was cancelled.
+    fn cut_short(count: usize) -> Posted
+        ensures count { result.count ≡ count }
+        ensures cancelled { result.cancelled ≡ true }
+    {
+        Posted {
+            count,
+            cancelled: true,
+        }
+    }
+}
+
+/// Posts a list and the departure, and takes items until every post is answered, or the run is
+/// cancelled.
 pub(crate) fn work<R: Wait + Clock, G: Gate>(
     rt: &R,
     alloc: Global,
@@ -80,7 +103,7 @@ pub(crate) fn work<R: Wait + Clock, G: Gate>(
     }
 }
 
-// Posts a list, as its gate says.
+// Posts the list, as its gate says.
 fn post_list<R: Wait + Clock, G: Gate>(
     rt: &R,
     signals: &Signals,
@@ -100,24 +123,13 @@ fn post_list<R: Wait + Clock, G: Gate>(
     let mut next = 0usize;
     for _ in rt.forever() {
         if next >= list.len() {
-            return Posted {
-                count: next,
-                cancelled: false,
-            };
+            return Posted::to_end(next);
         }
-        if signals.is_stopped() {
-            return Posted {
-                count: next,
-                cancelled: true,
-            };
+        if signals.is_cancelled() {
+            return Posted::cut_short(next);
         }
         let round = match gate.before(next) {
-            Go::Stop => {
-                return Posted {
-                    count: next,
-                    cancelled: false,
-                };
-            }
+            Go::Stop => return Posted::to_end(next),
             Go::Later => client.wait(rt, signals, gate),
             Go::Post => {
                 let posted = client.post(rt, signals, gate, &list[next]);
@@ -128,10 +140,7 @@ fn post_list<R: Wait + Clock, G: Gate>(
             }
         };
         if round.is_err() {
-            return Posted {
-                count: next,
-                cancelled: true,
-            };
+            return Posted::cut_short(next);
         }
     }
     unreachable!()
