@@ -19,7 +19,7 @@ use Rattle.vlm_ports.specs.Hubs.{HubTakesAlone, rings}
 use Rattle.vlm_ports.specs.Ports.{AreNew, identity}
 use Rattle.vlm_ports.specs.Rings.{RingName}
 use Rattle.vlm_cluster.specs.declared.report.Report.{Report}
-use Rattle.vlm_cluster.specs.declared.threads.WorkerInput.{WorkerInput}
+use Rattle.vlm_cluster.specs.declared.threads.WorkerPromise.{WorkerPromise}
 use Rattle.vlm_cluster.specs.declared.worker.WorkerResult.{WorkerResult}
 use Rattle.vlm_cluster.specs.Headline.{AreAllPosted, AreServed, AreServedInPart, IsReport, Items, StepList}
 use Rattle.vlm_cluster.specs.Parts.{AreNumbered}
@@ -166,10 +166,10 @@ ports_of_works never ports lists results h new works few_ports few_lists same k 
     )
 
 -- what each worker was given, and what it made of that
-pub works_of : {G : Type 0} (never : Bool) (ports : List Port) (lists : List StepList) (children : List (PromisedHandle (WorkerResult G) (WorkerInput G))) (results : List (WorkerResult G)) (n : ℕ)
-    → ((k : ℕ) (h : PromisedHandle (WorkerResult G) (WorkerInput G)) (p : Port) (l : StepList) → k < n
+pub works_of : {G : Type 0} (never : Bool) (ports : List Port) (lists : List StepList) (children : List (PromisedHandle (WorkerResult G) (WorkerPromise G))) (results : List (WorkerResult G)) (n : ℕ)
+    → ((k : ℕ) (h : PromisedHandle (WorkerResult G) (WorkerPromise G)) (p : Port) (l : StepList) → k < n
     → ((get_or children k h).promise.port.value ≡ get_or ports k p) × ((get_or children k h).promise.list.value ≡ get_or lists k l))
-    → ((k : ℕ) (d : WorkerResult G) (h : PromisedHandle (WorkerResult G) (WorkerInput G)) → k < n
+    → ((k : ℕ) (d : WorkerResult G) (h : PromisedHandle (WorkerResult G) (WorkerPromise G)) → k < n
     → IsWorkOn never (get_or children k h).promise.port.value (get_or children k h).promise.list.value.items (work_of (get_or results k d)))
     → length results ≡ n → length children ≡ n → AreWorks never ports lists results
 works_of {G} never ports lists children results n given made same long k d p l lt =

@@ -7,7 +7,7 @@ use Rattle.std.proofs.lemmas.Option.{get_or_from_slice_get, slice_get_within}
 use mathlib.Core.List.{IsPrefix}
 use Rattle.vlm_journal.specs.declared.entries.Item.{Item}
 use Rattle.vlm_cluster.specs.declared.report.Report.{Report}
-use Rattle.vlm_cluster.specs.declared.threads.WorkerInput.{WorkerInput}
+use Rattle.vlm_cluster.specs.declared.threads.WorkerPromise.{WorkerPromise}
 use Rattle.vlm_cluster.specs.declared.worker.WorkerResult.{WorkerResult}
 use Rattle.vlm_cluster.specs.Gates.{IsFollowed, IsToldOn, Moves}
 use Rattle.vlm_cluster.specs.Headline.{AreGated, AreGatedInPart, Items, StepList}
@@ -87,10 +87,10 @@ module _ {G : Type 0} (moves : Moves G) (gates : List G) (lists : List StepList)
       ]
 
 -- what each worker was given, and what it made of that
-pub gated_works_of : {G : Type 0} (moves : Moves G) (gates : List G) (lists : List StepList) (children : List (PromisedHandle (WorkerResult G) (WorkerInput G))) (results : List (WorkerResult G)) (n : ℕ)
-    → ((k : ℕ) (h : PromisedHandle (WorkerResult G) (WorkerInput G)) (x : G) → k < n → (get_or children k h).promise.gate.value ≡ get_or gates k x)
-    → ((k : ℕ) (h : PromisedHandle (WorkerResult G) (WorkerInput G)) (l : StepList) → k < n → (get_or children k h).promise.list.value ≡ get_or lists k l)
-    → ((k : ℕ) (d : WorkerResult G) (h : PromisedHandle (WorkerResult G) (WorkerInput G)) → k < n
+pub gated_works_of : {G : Type 0} (moves : Moves G) (gates : List G) (lists : List StepList) (children : List (PromisedHandle (WorkerResult G) (WorkerPromise G))) (results : List (WorkerResult G)) (n : ℕ)
+    → ((k : ℕ) (h : PromisedHandle (WorkerResult G) (WorkerPromise G)) (x : G) → k < n → (get_or children k h).promise.gate.value ≡ get_or gates k x)
+    → ((k : ℕ) (h : PromisedHandle (WorkerResult G) (WorkerPromise G)) (l : StepList) → k < n → (get_or children k h).promise.list.value ≡ get_or lists k l)
+    → ((k : ℕ) (d : WorkerResult G) (h : PromisedHandle (WorkerResult G) (WorkerPromise G)) → k < n
     → IsGatedWork moves (get_or children k h).promise.gate.value (get_or children k h).promise.list.value.items (get_or results k d))
     → length results ≡ n → length children ≡ n → AreGatedWorks moves gates lists results
 gated_works_of {G} moves gates lists children results n gate_is list_is made same long k d x l lt =

@@ -10,6 +10,7 @@ ghost use Rattle.vlm_cluster.specs.Works.{ArePortsOf, IsBegun, IsWhole, entries_
 
 use crate::gate::Gate;
 use crate::hub_driver::HubDriver;
+use crate::preallocated::ReportSpace;
 use crate::report::Report;
 use crate::settling::close;
 use crate::signals::Signals;
@@ -32,13 +33,12 @@ pub(crate) fn finish<G: Gate>(
     signals: &Signals,
     driver: HubDriver,
     results: Vec<WorkerResult<G>>,
-    items: Vec<Vec<Item>>,
-    posted: Vec<usize>,
+    space: ReportSpace,
 ) -> Finished
     requires ports { ArePortsOf driver.hub results.items }
     requires accounted { IsAccounted driver.parts.items driver.hub }
-    requires items { (vec_len items ≡ 0) × (vec_len results ≤ vec_capacity items) }
-    requires posted { vec_len posted ≡ vec_len results }
+    requires items { (vec_len space.items ≡ 0) × (vec_len results ≤ vec_capacity space.items) }
+    requires posted { vec_len space.posted ≡ vec_len results }
     ensures legal { Journal (entries_of result.report) result.report.core }
     ensures numbered { AreNumbered (parts_of result.report) }
     ensures takes { HubTakesAlone (entries_of result.report) }
@@ -60,8 +60,10 @@ pub(crate) fn finish<G: Gate>(
 {
     let mut driver = driver;
     let mut results = results;
-    let mut items = items;
-    let mut posted = posted;
+    let ReportSpace {
+        mut items,
+        mut posted,
+    } = space;
     let whole = close(rt, signals, &mut driver, results.as_mut_slice());
     note_posted(results.as_slice(), posted.as_mut_slice());
     take_items(results, &mut items);
@@ -78,29 +80,30 @@ pub(crate) fn give_up<G: Gate>(
     alloc: Global,
     driver: HubDriver,
     results: &[WorkerResult<G>],
-    items: Vec<Vec<Item>>,
-    posted: Vec<usize>,
+    space: ReportSpace,
 ) -> Report
     requires quiet { entries_at driver ≡ [] }
     requires accounted { IsAccounted driver.parts.items driver.hub }
-    requires items { (vec_len items ≡ 0) × (vec_len posted ≤ vec_capacity items) }
-    requires few { length results.now ≤ vec_len posted }
-    requires posted { posted.items ≡ replicate (vec_len posted) 0 }
+    requires items { (vec_len space.items ≡ 0) × (vec_len space.posted ≤ vec_capacity space.items) }
+    requires few { length results.now ≤ vec_len space.posted }
+    requires posted { space.posted.items ≡ replicate (vec_len space.posted) 0 }
     ensures entries { entries_of result ≡ [] }
     ensures legal { Journal (entries_of result) result.core }
     ensures numbered { AreNumbered (parts_of result) }
     ensures takes { HubTakesAlone (entries_of result) }
     ensures enough { HaveEnough driver.every result.parts.items }
-    ensures counts { (vec_len result.items ≡ vec_len posted)
-        × (vec_len result.posted ≡ vec_len posted) }
-    ensures items { (k : ℕ) (v : _) → k < vec_len posted
+    ensures counts { (vec_len result.items ≡ vec_len space.posted)
+        × (vec_len result.posted ≡ vec_len space.posted) }
+    ensures items { (k : ℕ) (v : _) → k < vec_len space.posted
         → (slice_index_or result.items.items k v).items ≡ [] }
     ensures posted { (k : ℕ) (d : _) → k < length results.now
         → slice_index result.posted.items k ≡ (slice_index_or results.now k d).posted }
     ensures others { (k : ℕ) → length results.now ≤ k → slice_index result.posted.items k ≡ 0 }
 {
-    let mut items = items;
-    let mut posted = posted;
+    let ReportSpace {
+        mut items,
+        mut posted,
+    } = space;
     for _ in 0..posted.len() {
         items.push_reserved(Vec::new(alloc));
     }

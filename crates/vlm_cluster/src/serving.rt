@@ -17,7 +17,7 @@ use crate::hub_driver::HubDriver;
 use crate::laws::{law_grants_keep_order, law_modes_stay_compatible, law_requests_end_once};
 use crate::preallocated::Preallocated;
 use crate::report::{Fault, Report};
-use crate::threads::{join_all, start_all};
+use crate::threads::{WorkerInputs, join_all, start_all};
 use std::alloc::Global;
 use std::sync::Wait;
 use std::thread::Threads;
@@ -84,7 +84,12 @@ pub fn serve_lists_over<
         return Err(Fault::Memory(None));
     };
     let driver = HubDriver::new(alloc, hub, every);
-    run(rt, alloc, driver, preallocated, gates, ports, lists)
+    let inputs = WorkerInputs {
+        gates,
+        ports,
+        lists,
+    };
+    run(rt, alloc, driver, preallocated, inputs)
 }
 
 // Starts the workers, serves them, and makes the report.
@@ -93,35 +98,36 @@ fn run<R: Threads + Wait + Clock + Copy + Send + 'static, G: Gate + Send + 'stat
     alloc: Global,
     driver: HubDriver,
     preallocated: Preallocated<G>,
-    gates: Vec<G>,
-    ports: Vec<Port>,
-    lists: Vec<Vec<Step>>,
+    inputs: WorkerInputs<G>,
 ) -> Result<Report, Fault>
-    requires lens { (vec_len ports ≡ vec_len lists) × (vec_len gates ≡ vec_len lists) }
-    requires posts { AreListsOfPosts lists.items }
-    requires new { AreNew ports.items × (map identity ports.items ≡ rings driver.hub) }
+    requires lens { (vec_len inputs.ports ≡ vec_len inputs.lists)
+        × (vec_len inputs.gates ≡ vec_len inputs.lists) }
+    requires posts { AreListsOfPosts inputs.lists.items }
+    requires new { AreNew inputs.ports.items × (map identity inputs.ports.items ≡ rings driver.hub) }
     requires quiet { entries_at driver ≡ [] }
     requires accounted { IsAccounted driver.parts.items driver.hub }
-    requires children { (vec_len preallocated.children ≡ 0) × (vec_len lists ≤ vec_capacity preallocated.children) }
-    requires results { (vec_len preallocated.results ≡ 0) × (vec_len lists ≤ vec_capacity preallocated.results) }
-    requires items { (vec_len preallocated.items ≡ 0) × (vec_len lists ≤ vec_capacity preallocated.items) }
-    requires posted { preallocated.posted.items ≡ replicate (vec_len lists) 0 }
-    ensures serving { IsServing G.never_stops lists.items result }
+    requires children { (vec_len preallocated.children ≡ 0)
+        × (vec_len inputs.lists ≤ vec_capacity preallocated.children) }
+    requires results { (vec_len preallocated.results ≡ 0)
+        × (vec_len inputs.lists ≤ vec_capacity preallocated.results) }
+    requires items { (vec_len preallocated.space.items ≡ 0)
+        × (vec_len inputs.lists ≤ vec_capacity preallocated.space.items) }
+    requires posted { preallocated.space.posted.items ≡ replicate (vec_len inputs.lists) 0 }
+    ensures serving { IsServing G.never_stops inputs.lists.items result }
     ensures gated { MatchResult result
-        (AreGated (moves G.answers G.hears) gates.items lists.items)
-        (IsGatedFault (moves G.answers G.hears) gates.items lists.items) }
+        (AreGated (moves G.answers G.hears) inputs.gates.items inputs.lists.items)
+        (IsGatedFault (moves G.answers G.hears) inputs.gates.items inputs.lists.items) }
     ensures parts { MatchResult result (IsParted driver.every) (IsPartedFault driver.every) }
 {
     let Preallocated {
         signals,
         mut children,
         mut results,
-        items,
-        posted,
+        space,
     } = preallocated;
     let mut driver = driver;
-    let count = lists.len();
-    start_all(rt, alloc, &signals, &mut children, gates, ports, lists);
+    let count = inputs.lists.len();
+    start_all(rt, alloc, &signals, &mut children, inputs);
     let started = children.len();
     if started == 0 {
         driver.close(rt);
@@ -130,12 +136,12 @@ fn run<R: Threads + Wait + Clock + Copy + Send + 'static, G: Gate + Send + 'stat
     law_departed();
     if started < count {
         join_all(rt, children, &mut results);
-        let report = give_up(rt, alloc, driver, results.as_slice(), items, posted);
+        let report = give_up(rt, alloc, driver, results.as_slice(), space);
         return Err(Fault::Memory(Some(report)));
     }
     driver.serve(rt, &signals, count as u64);
     join_all(rt, children, &mut results);
-    let finished = finish(rt, &signals, driver, results, items, posted);
+    let finished = finish(rt, &signals, driver, results, space);
     law_modes_stay_compatible();
     law_requests_end_once();
     law_grants_keep_order();

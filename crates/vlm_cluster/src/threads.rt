@@ -6,6 +6,7 @@ ghost use Rattle.vlm_cluster.specs.Gates.{moves};
 ghost use Rattle.vlm_cluster.specs.Posts.{AreListsOfPosts, ArePostsOf};
 ghost use Rattle.vlm_cluster.specs.Works.{IsGatedWork, IsWorkOn, work_of};
 
+use crate::client::Client;
 use crate::gate::Gate;
 use crate::signals::Signals;
 use crate::worker::{WorkerResult, work};
@@ -18,16 +19,32 @@ use std::time::Clock;
 use vlm_ports::Port;
 use vlm_words::steps::Step;
 
-/// What a worker starts with.
+/// What all workers start with.
 #[derive(Drop)]
-pub(crate) struct WorkerInput<G> {
+pub(crate) struct WorkerInputs<G: Gate> {
+    pub(crate) gates: Vec<G>,
+    pub(crate) ports: Vec<Port>,
+    pub(crate) lists: Vec<Vec<Step>>,
+}
+
+// What one worker starts with.
+#[derive(Drop)]
+struct WorkerInput<G: Gate> {
+    gate: G,
+    port: Port,
+    list: Vec<Step>,
+}
+
+/// The input of a worker, for its promise.
+#[derive(Drop)]
+pub(crate) struct WorkerPromise<G> {
     pub(crate) gate: Snapshot<G>,
     pub(crate) port: Snapshot<Port>,
     pub(crate) list: Snapshot<Vec<Step>>,
 }
 
 // The result of a worker is its work on this input.
-impl<G: Gate> Promise<WorkerResult<G>> for WorkerInput<G> {
+impl<G: Gate> Promise<WorkerResult<G>> for WorkerPromise<G> {
     ghost kept_by = { λ p r. IsWorkOn G.never_stops p.port.value p.list.value.items (work_of r)
         × IsGatedWork (moves G.answers G.hears) p.gate.value p.list.value.items r };
 }
@@ -41,34 +58,36 @@ pub(crate) fn start_all<
     rt: &R,
     alloc: Global,
     signals: &Arc<Signals>,
-    children: &mut Vec<PromisedHandle<WorkerResult<G>, WorkerInput<G>>>,
-    gates: Vec<G>,
-    ports: Vec<Port>,
-    lists: Vec<Vec<Step>>,
+    children: &mut Vec<PromisedHandle<WorkerResult<G>, WorkerPromise<G>>>,
+    inputs: WorkerInputs<G>,
 )
     requires none { vec_len children.old ≡ 0 }
-    requires room { vec_len ports ≤ vec_capacity children.old }
-    requires lens { (vec_len gates ≡ vec_len ports) × (vec_len lists ≡ vec_len ports) }
-    requires new { AreNew ports.items }
-    requires posts { AreListsOfPosts lists.items }
-    ensures few { vec_len children.new ≤ vec_len ports }
+    requires room { vec_len inputs.ports ≤ vec_capacity children.old }
+    requires lens { (vec_len inputs.gates ≡ vec_len inputs.ports)
+        × (vec_len inputs.lists ≡ vec_len inputs.ports) }
+    requires new { AreNew inputs.ports.items }
+    requires posts { AreListsOfPosts inputs.lists.items }
+    ensures few { vec_len children.new ≤ vec_len inputs.ports }
     ensures gates { (k : ℕ) (h : _) (g : _) → k < vec_len children.new
         → (slice_index_or children.new.items k h).promise.gate.value
-        ≡ slice_index_or gates.items k g }
+        ≡ slice_index_or inputs.gates.items k g }
     ensures each { (k : ℕ) (h : _) (p : _) (l : _) → k < vec_len children.new
         → ((slice_index_or children.new.items k h).promise.port.value
-        ≡ slice_index_or ports.items k p)
+        ≡ slice_index_or inputs.ports.items k p)
         × ((slice_index_or children.new.items k h).promise.list.value
-        ≡ slice_index_or lists.items k l) }
+        ≡ slice_index_or inputs.lists.items k l) }
 {
-    let mut gates = gates;
-    let mut ports = ports;
-    let mut lists = lists;
+    let WorkerInputs {
+        mut gates,
+        mut ports,
+        mut lists,
+    } = inputs;
     for _ in 0..ports.len() {
         let gate = gates.remove(0);
         let port = ports.remove(0);
         let list = lists.remove(0);
-        let Ok(child) = start(rt, alloc, signals, gate, port, list) else {
+        let input = WorkerInput { gate, port, list };
+        let Ok(child) = start(rt, alloc, signals, input) else {
             signals.cancel();
             return;
         };
@@ -80,18 +99,17 @@ fn start<R: Threads + Wait + Clock + Copy + Send + 'static, G: Gate + Send + 'st
     rt: &R,
     alloc: Global,
     signals: &Arc<Signals>,
-    gate: G,
-    port: Port,
-    list: Vec<Step>,
-) -> Result<PromisedHandle<WorkerResult<G>, WorkerInput<G>>, AllocError>
-    requires new { (posted port ≡ []) × (taken port ≡ []) }
-    requires posts { ArePostsOf port.node list.items }
-    ensures gate { IfOk result (λ h. h.promise.gate.value ≡ gate) }
-    ensures port { IfOk result (λ h. h.promise.port.value ≡ port) }
-    ensures list { IfOk result (λ h. h.promise.list.value ≡ list) }
+    input: WorkerInput<G>,
+) -> Result<PromisedHandle<WorkerResult<G>, WorkerPromise<G>>, AllocError>
+    requires new { (posted input.port ≡ []) × (taken input.port ≡ []) }
+    requires posts { ArePostsOf input.port.node input.list.items }
+    ensures gate { IfOk result (λ h. h.promise.gate.value ≡ input.gate) }
+    ensures port { IfOk result (λ h. h.promise.port.value ≡ input.port) }
+    ensures list { IfOk result (λ h. h.promise.list.value ≡ input.list) }
 {
+    let WorkerInput { gate, port, list } = input;
     let theirs = Arc::try_clone(signals)?;
-    let input = WorkerInput {
+    let promise = WorkerPromise {
         gate: Snapshot::of(&gate),
         port: Snapshot::of(&port),
         list: Snapshot::of(&list),
@@ -99,13 +117,14 @@ fn start<R: Threads + Wait + Clock + Copy + Send + 'static, G: Gate + Send + 'st
     let handle = *rt;
     let child = thread::spawn_with(
         rt,
-        input,
+        promise,
         move || -> WorkerResult<G>
             requires { (posted port ≡ []) × (taken port ≡ []) × ArePostsOf port.node list.items }
             ensures { IsWorkOn G.never_stops port list.items (work_of result)
                 × IsGatedWork (moves G.answers G.hears) gate list.items result }
         {
-            let result = work(&handle, alloc, &theirs, gate, port, list.as_slice());
+            let client = Client::new(alloc, port);
+            let result = work(&handle, &theirs, gate, client, list.as_slice());
             theirs.end();
             result
         },
@@ -116,7 +135,7 @@ fn start<R: Threads + Wait + Clock + Copy + Send + 'static, G: Gate + Send + 'st
 /// Joins each worker, and collects the results in order. It allocates nothing.
 pub(crate) fn join_all<R: Threads, G: Gate + Send + 'static>(
     rt: &R,
-    children: Vec<PromisedHandle<WorkerResult<G>, WorkerInput<G>>>,
+    children: Vec<PromisedHandle<WorkerResult<G>, WorkerPromise<G>>>,
     results: &mut Vec<WorkerResult<G>>,
 )
     requires none { vec_len results.old ≡ 0 }

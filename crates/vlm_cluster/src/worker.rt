@@ -9,11 +9,9 @@ ghost use Rattle.vlm_cluster.specs.Works.{IsGatedWork, IsWorkOn, work_of};
 use crate::client::Client;
 use crate::gate::{Gate, Go};
 use crate::signals::Signals;
-use std::alloc::Global;
 use std::sync::Wait;
 use std::time::Clock;
 use vlm_journal::entries::Item;
-use vlm_ports::Port;
 use vlm_words::steps::Step;
 
 /// What a worker hands back.
@@ -71,19 +69,18 @@ impl Posted {
 /// cancelled.
 pub(crate) fn work<R: Wait + Clock, G: Gate>(
     rt: &R,
-    alloc: Global,
     signals: &Signals,
     gate: G,
-    port: Port,
+    client: Client,
     list: &[Step],
 ) -> WorkerResult<G>
-    requires new { (posted port ≡ []) × (taken port ≡ []) }
-    requires posts { ArePostsOf port.node list.now }
-    ensures work { IsWorkOn G.never_stops port list.now (work_of result) }
+    requires new { (posted client.port ≡ []) × (client.items.items ≡ []) }
+    requires posts { ArePostsOf client.port.node list.now }
+    ensures work { IsWorkOn G.never_stops client.port list.now (work_of result) }
     ensures gated { IsGatedWork (moves G.answers G.hears) gate list.now result }
 {
     let mut gate = gate;
-    let mut client = Client::new(alloc, port);
+    let mut client = client;
     let posted = post_list(rt, signals, &mut gate, &mut client, list);
     if posted.cancelled || client.bye(rt, signals, &mut gate).is_err() {
         return WorkerResult {

@@ -18,9 +18,9 @@ returns-clause-posted g c k d below =
     let lt : k < length xs = omega (arith, long, below) in
     let there : k < length c.as_slice.result.now = omega (arith, m, lt) in
     let ps : List ℕ = c.note_posted.new.posted in
-    let room : length ps ≡ c.args.posted.len = omega arith in
+    let room : length ps ≡ c.args.space.posted.len = omega arith in
     ap (λ v. get_or v.items k 0) c.report.ensures.posted
-    ∙ ap (λ (qs : List ℕ). get_or qs k 0) (after_lend c.args.posted.len ps (drop (length ps) c.args.posted.items) room)
+    ∙ ap (λ (qs : List ℕ). get_or qs k 0) (after_lend c.args.space.posted.len ps (drop (length ps) c.args.space.posted.items) room)
     ∙ c.note_posted.ensures.each k d there
     ∙ ap (λ (ys : List D). (get_or ys k d).posted) now
     ∙ ap (λ (w : Work). w.count) (work_at xs ds same k d lt)

@@ -3,7 +3,7 @@ use Rattle.std.specs.declared.thread.PromisedHandle.{PromisedHandle}
 use Rattle.std.proofs.lemmas.List.{length-replicate}
 use Rattle.vlm_ports.specs.declared.port.Port.{Port}
 use Rattle.vlm_cluster.specs.declared.report.Report.{Report}
-use Rattle.vlm_cluster.specs.declared.threads.WorkerInput.{WorkerInput}
+use Rattle.vlm_cluster.specs.declared.threads.WorkerPromise.{WorkerPromise}
 use Rattle.vlm_cluster.specs.declared.worker.WorkerResult.{WorkerResult}
 use Rattle.vlm_cluster.specs.Gates.{Moves, moves}
 use Rattle.vlm_cluster.specs.Headline.{StepList}
@@ -16,11 +16,11 @@ use Rattle.vlm_cluster.proofs.serving.run.Goals as goal
 pub finish-finished-requires-clause-ports : goal.finish-finished-requires-clause-ports
 finish-finished-requires-clause-ports g c =
     let D = WorkerResult g.row.G.Denot in
-    let ports : List Port = c.args.ports.items in let lists : List StepList = c.args.lists.items in
-    let children : List (PromisedHandle D (WorkerInput g.row.G.Denot)) = c.start_all.new.children.items in let results : List D = c.join_all-2.new.results.items in
-    let op = c.args.ports.ok in let ol = c.args.lists.ok in let oc = c.start_all.new.children.ok in let od = c.join_all-2.new.results.ok in
-    let ports_are : vec_len c.args.ports ≡ vec_len c.args.lists = c.requires.lens.0 in
-    let few : vec_len c.start_all.new.children ≤ vec_len c.args.ports = c.start_all.ensures.few in
+    let ports : List Port = c.args.inputs.ports.items in let lists : List StepList = c.args.inputs.lists.items in
+    let children : List (PromisedHandle D (WorkerPromise g.row.G.Denot)) = c.start_all.new.children.items in let results : List D = c.join_all-2.new.results.items in
+    let op = c.args.inputs.ports.ok in let ol = c.args.inputs.lists.ok in let oc = c.start_all.new.children.ok in let od = c.join_all-2.new.results.ok in
+    let ports_are : vec_len c.args.inputs.ports ≡ vec_len c.args.inputs.lists = c.requires.lens.0 in
+    let few : vec_len c.start_all.new.children ≤ vec_len c.args.inputs.ports = c.start_all.ensures.few in
     let joined : vec_len c.join_all-2.new.results ≡ vec_len c.start_all.new.children = c.join_all-2.ensures.len in
     let as_many : length ports ≡ length lists = omega arith in
     let fewer : length results ≤ length lists = omega arith in
@@ -32,11 +32,11 @@ finish-finished-requires-clause-ports g c =
 pub returns-then-finished-clause-serving : goal.returns-then-finished-clause-serving
 returns-then-finished-clause-serving g c =
     let D = WorkerResult g.row.G.Denot in
-    let ports : List Port = c.args.ports.items in let lists : List StepList = c.args.lists.items in
-    let children : List (PromisedHandle D (WorkerInput g.row.G.Denot)) = c.start_all.new.children.items in let results : List D = c.join_all-2.new.results.items in
-    let op = c.args.ports.ok in let ol = c.args.lists.ok in let oc = c.start_all.new.children.ok in let od = c.join_all-2.new.results.ok in
-    let ports_are : vec_len c.args.ports ≡ vec_len c.args.lists = c.requires.lens.0 in
-    let few : vec_len c.start_all.new.children ≤ vec_len c.args.ports = c.start_all.ensures.few in
+    let ports : List Port = c.args.inputs.ports.items in let lists : List StepList = c.args.inputs.lists.items in
+    let children : List (PromisedHandle D (WorkerPromise g.row.G.Denot)) = c.start_all.new.children.items in let results : List D = c.join_all-2.new.results.items in
+    let op = c.args.inputs.ports.ok in let ol = c.args.inputs.lists.ok in let oc = c.start_all.new.children.ok in let od = c.join_all-2.new.results.ok in
+    let ports_are : vec_len c.args.inputs.ports ≡ vec_len c.args.inputs.lists = c.requires.lens.0 in
+    let few : vec_len c.start_all.new.children ≤ vec_len c.args.inputs.ports = c.start_all.ensures.few in
     let joined : vec_len c.join_all-2.new.results ≡ vec_len c.start_all.new.children = c.join_all-2.ensures.len in
     let as_many : length ports ≡ length lists = omega arith in
     let fewer : length results ≤ length lists = omega arith in
@@ -66,11 +66,11 @@ returns-then-finished-clause-serving g c =
 pub returns-clause-serving : goal.returns-clause-serving
 returns-clause-serving g c =
     let D = WorkerResult g.row.G.Denot in
-    let ports : List Port = c.args.ports.items in let lists : List StepList = c.args.lists.items in
-    let children : List (PromisedHandle D (WorkerInput g.row.G.Denot)) = c.start_all.new.children.items in let results : List D = c.join_all-2.new.results.items in
-    let op = c.args.ports.ok in let ol = c.args.lists.ok in let oc = c.start_all.new.children.ok in let od = c.join_all-2.new.results.ok in
-    let ports_are : vec_len c.args.ports ≡ vec_len c.args.lists = c.requires.lens.0 in
-    let few : vec_len c.start_all.new.children ≤ vec_len c.args.ports = c.start_all.ensures.few in
+    let ports : List Port = c.args.inputs.ports.items in let lists : List StepList = c.args.inputs.lists.items in
+    let children : List (PromisedHandle D (WorkerPromise g.row.G.Denot)) = c.start_all.new.children.items in let results : List D = c.join_all-2.new.results.items in
+    let op = c.args.inputs.ports.ok in let ol = c.args.inputs.lists.ok in let oc = c.start_all.new.children.ok in let od = c.join_all-2.new.results.ok in
+    let ports_are : vec_len c.args.inputs.ports ≡ vec_len c.args.inputs.lists = c.requires.lens.0 in
+    let few : vec_len c.start_all.new.children ≤ vec_len c.args.inputs.ports = c.start_all.ensures.few in
     let joined : vec_len c.join_all-2.new.results ≡ vec_len c.start_all.new.children = c.join_all-2.ensures.len in
     let as_many : length ports ≡ length lists = omega arith in
     let fewer : length results ≤ length lists = omega arith in
@@ -97,11 +97,11 @@ returns-clause-serving g c =
 pub returns-then-started-count-clause-serving : goal.returns-then-started-count-clause-serving
 returns-then-started-count-clause-serving g c =
     let D = WorkerResult g.row.G.Denot in
-    let ports : List Port = c.args.ports.items in let lists : List StepList = c.args.lists.items in
-    let children : List (PromisedHandle D (WorkerInput g.row.G.Denot)) = c.start_all.new.children.items in let results : List D = c.join_all.new.results.items in
-    let op = c.args.ports.ok in let ol = c.args.lists.ok in let oc = c.start_all.new.children.ok in let od = c.join_all.new.results.ok in
-    let ports_are : vec_len c.args.ports ≡ vec_len c.args.lists = c.requires.lens.0 in
-    let few : vec_len c.start_all.new.children ≤ vec_len c.args.ports = c.start_all.ensures.few in
+    let ports : List Port = c.args.inputs.ports.items in let lists : List StepList = c.args.inputs.lists.items in
+    let children : List (PromisedHandle D (WorkerPromise g.row.G.Denot)) = c.start_all.new.children.items in let results : List D = c.join_all.new.results.items in
+    let op = c.args.inputs.ports.ok in let ol = c.args.inputs.lists.ok in let oc = c.start_all.new.children.ok in let od = c.join_all.new.results.ok in
+    let ports_are : vec_len c.args.inputs.ports ≡ vec_len c.args.inputs.lists = c.requires.lens.0 in
+    let few : vec_len c.start_all.new.children ≤ vec_len c.args.inputs.ports = c.start_all.ensures.few in
     let joined : vec_len c.join_all.new.results ≡ vec_len c.start_all.new.children = c.join_all.ensures.len in
     let as_many : length ports ≡ length lists = omega arith in
     let fewer : length results ≤ length lists = omega arith in
@@ -111,8 +111,8 @@ returns-then-started-count-clause-serving g c =
     let oi = r.items.ok in let oq = r.posted.ok in let counts = c.give_up-report.ensures.counts in
     let now = c.as_slice.ensures.value in
     let long : length c.as_slice.result.now ≡ length results = ap (λ (xs : List D). length xs) now in
-    let zeros : vec_len c.args.preallocated.posted ≡ vec_len c.args.lists =
-    (let ok = c.args.preallocated.posted.ok in let n = ap (λ (xs : List ℕ). length xs) c.requires.posted in omega (arith, n, length-replicate {A = ℕ})) in
+    let zeros : vec_len c.args.preallocated.space.posted ≡ vec_len c.args.inputs.lists =
+    (let ok = c.args.preallocated.space.posted.ok in let n = ap (λ (xs : List ℕ). length xs) c.requires.posted in omega (arith, n, length-replicate {A = ℕ})) in
     let noted : AreNoted results r.posted.items = λ k d lt. c.give_up-report.ensures.posted k d (omega (arith, long, lt)) ∙ ap (λ (xs : List D). (get_or xs k d).posted) now in
     record {
       served = tt;
@@ -139,10 +139,10 @@ returns-then-finished-clause-parts g c =
 pub returns-then-finished-clause-gated : goal.returns-then-finished-clause-gated
 returns-then-finished-clause-gated g c =
     let D = WorkerResult g.row.G.Denot in let M : Moves g.row.G.Denot = moves g.G.Gate.answers g.G.Gate.hears in
-    let gates : List g.row.G.Denot = c.args.gates.items in let ports : List Port = c.args.ports.items in let lists : List StepList = c.args.lists.items in
-    let children : List (PromisedHandle D (WorkerInput g.row.G.Denot)) = c.start_all.new.children.items in let results : List D = c.join_all-2.new.results.items in
-    let op = c.args.ports.ok in let oc = c.start_all.new.children.ok in let od = c.join_all-2.new.results.ok in
-    let few : vec_len c.start_all.new.children ≤ vec_len c.args.ports = c.start_all.ensures.few in
+    let gates : List g.row.G.Denot = c.args.inputs.gates.items in let ports : List Port = c.args.inputs.ports.items in let lists : List StepList = c.args.inputs.lists.items in
+    let children : List (PromisedHandle D (WorkerPromise g.row.G.Denot)) = c.start_all.new.children.items in let results : List D = c.join_all-2.new.results.items in
+    let op = c.args.inputs.ports.ok in let oc = c.start_all.new.children.ok in let od = c.join_all-2.new.results.ok in
+    let few : vec_len c.start_all.new.children ≤ vec_len c.args.inputs.ports = c.start_all.ensures.few in
     let joined : vec_len c.join_all-2.new.results ≡ vec_len c.start_all.new.children = c.join_all-2.ensures.len in
     let works : AreGatedWorks M gates lists results =
     gated_works_of M gates lists children results (vec_len c.start_all.new.children) c.start_all.ensures.gates
@@ -157,10 +157,10 @@ returns-then-finished-clause-gated g c =
 pub returns-clause-gated : goal.returns-clause-gated
 returns-clause-gated g c =
     let D = WorkerResult g.row.G.Denot in let M : Moves g.row.G.Denot = moves g.G.Gate.answers g.G.Gate.hears in
-    let gates : List g.row.G.Denot = c.args.gates.items in let ports : List Port = c.args.ports.items in let lists : List StepList = c.args.lists.items in
-    let children : List (PromisedHandle D (WorkerInput g.row.G.Denot)) = c.start_all.new.children.items in let results : List D = c.join_all-2.new.results.items in
-    let op = c.args.ports.ok in let oc = c.start_all.new.children.ok in let od = c.join_all-2.new.results.ok in
-    let few : vec_len c.start_all.new.children ≤ vec_len c.args.ports = c.start_all.ensures.few in
+    let gates : List g.row.G.Denot = c.args.inputs.gates.items in let ports : List Port = c.args.inputs.ports.items in let lists : List StepList = c.args.inputs.lists.items in
+    let children : List (PromisedHandle D (WorkerPromise g.row.G.Denot)) = c.start_all.new.children.items in let results : List D = c.join_all-2.new.results.items in
+    let op = c.args.inputs.ports.ok in let oc = c.start_all.new.children.ok in let od = c.join_all-2.new.results.ok in
+    let few : vec_len c.start_all.new.children ≤ vec_len c.args.inputs.ports = c.start_all.ensures.few in
     let joined : vec_len c.join_all-2.new.results ≡ vec_len c.start_all.new.children = c.join_all-2.ensures.len in
     let works : AreGatedWorks M gates lists results =
     gated_works_of M gates lists children results (vec_len c.start_all.new.children) c.start_all.ensures.gates
@@ -174,10 +174,10 @@ returns-clause-gated g c =
 pub returns-then-started-count-clause-gated : goal.returns-then-started-count-clause-gated
 returns-then-started-count-clause-gated g c =
     let D = WorkerResult g.row.G.Denot in let M : Moves g.row.G.Denot = moves g.G.Gate.answers g.G.Gate.hears in
-    let gates : List g.row.G.Denot = c.args.gates.items in let ports : List Port = c.args.ports.items in let lists : List StepList = c.args.lists.items in
-    let children : List (PromisedHandle D (WorkerInput g.row.G.Denot)) = c.start_all.new.children.items in let results : List D = c.join_all.new.results.items in
-    let op = c.args.ports.ok in let oc = c.start_all.new.children.ok in let od = c.join_all.new.results.ok in
-    let few : vec_len c.start_all.new.children ≤ vec_len c.args.ports = c.start_all.ensures.few in
+    let gates : List g.row.G.Denot = c.args.inputs.gates.items in let ports : List Port = c.args.inputs.ports.items in let lists : List StepList = c.args.inputs.lists.items in
+    let children : List (PromisedHandle D (WorkerPromise g.row.G.Denot)) = c.start_all.new.children.items in let results : List D = c.join_all.new.results.items in
+    let op = c.args.inputs.ports.ok in let oc = c.start_all.new.children.ok in let od = c.join_all.new.results.ok in
+    let few : vec_len c.start_all.new.children ≤ vec_len c.args.inputs.ports = c.start_all.ensures.few in
     let joined : vec_len c.join_all.new.results ≡ vec_len c.start_all.new.children = c.join_all.ensures.len in
     let works : AreGatedWorks M gates lists results =
     gated_works_of M gates lists children results (vec_len c.start_all.new.children) c.start_all.ensures.gates

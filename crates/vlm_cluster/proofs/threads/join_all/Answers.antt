@@ -2,7 +2,7 @@ use Rattle.std.proofs.Common.{◌≡◌, ◌+◌, ◌<◌, ℕ, List, length, ru
 use Rattle.std.proofs.lemmas.List.{get_or_default}
 use Rattle.std.specs.declared.thread.PromisedHandle.{PromisedHandle}
 use Rattle.std.specs.Vec.Iter.{into_iter_items}
-use Rattle.vlm_cluster.specs.declared.threads.WorkerInput.{WorkerInput}
+use Rattle.vlm_cluster.specs.declared.threads.WorkerPromise.{WorkerPromise}
 use Rattle.vlm_cluster.specs.declared.worker.WorkerResult.{WorkerResult}
 use Rattle.vlm_cluster.specs.Gates.{moves}
 use Rattle.vlm_cluster.specs.Works.{IsGatedWork, IsWorkOn, work_of}
@@ -12,7 +12,7 @@ use Rattle.vlm_cluster.proofs.threads.join_all.Goals as goal
 -- the handle that is joined stood first among the rest, so it is the one at the next place
 pub loop-child-preserved : goal.loop-child-preserved
 loop-child-preserved g c =
-    let D = WorkerResult g.row.G.Denot in let H = PromisedHandle D (WorkerInput g.row.G.Denot) in
+    let D = WorkerResult g.row.G.Denot in let H = PromisedHandle D (WorkerPromise g.row.G.Denot) in
     let was = c.loop-child.invariant in let step = c.in-Some.ensures.steps in let done = vec_len c.loop-child.results in
     let child = c.in-Some.child in
     let children : List H = into_iter_items c.into_iter-child-iterator.result in
@@ -33,7 +33,7 @@ loop-child-preserved g c =
 
 pub returns-clause-each : goal.returns-clause-each
 returns-clause-each g c k d h below =
-    let D = WorkerResult g.row.G.Denot in let H = PromisedHandle D (WorkerInput g.row.G.Denot) in
+    let D = WorkerResult g.row.G.Denot in let H = PromisedHandle D (WorkerPromise g.row.G.Denot) in
     let was = c.loop-child.invariant in let began = c.into_iter-child-iterator.ensures.into_iter_gives in
     let children : List H = c.args.children.items in
     let whole : vec_len c.loop-child.results ≡ vec_len c.args.children = omega (arith, was.0, c.in-None.ensures.steps.0, began.1) in
@@ -45,7 +45,7 @@ returns-clause-each g c k d h below =
 
 pub returns-clause-gated : goal.returns-clause-gated
 returns-clause-gated g c k d h below =
-    let D = WorkerResult g.row.G.Denot in let H = PromisedHandle D (WorkerInput g.row.G.Denot) in
+    let D = WorkerResult g.row.G.Denot in let H = PromisedHandle D (WorkerPromise g.row.G.Denot) in
     let was = c.loop-child.invariant in let began = c.into_iter-child-iterator.ensures.into_iter_gives in
     let children : List H = c.args.children.items in
     let whole : vec_len c.loop-child.results ≡ vec_len c.args.children = omega (arith, was.0, c.in-None.ensures.steps.0, began.1) in

@@ -14,7 +14,7 @@ returns-then-posted-clause-gated g c =
     let e : Point g.row.G.Denot = (c.then-posted.gate, c.then-posted.client.items.items) in
     let size = length c.args.list.now in let count = c.post_list-posted.result.count in let whole = not c.post_list-posted.result.cancelled in
     let begun : IsFollowed M o a size count whole =
-    subst (λ (items : List Item). IsFollowed M (c.args.gate, items) a size count whole) c.new-client.ensures.none c.post_list-posted.ensures.gated in
+    subst (λ (items : List Item). IsFollowed M (c.args.gate, items) a size count whole) c.requires.new.1 c.post_list-posted.ensures.gated in
     let told : IsTold M a e = elim c.then-posted.branch [
       | then-posted-via-then-posted w ↦ told_kept M a e w.gate-is (ap (λ (x : Client). x.items.items) w.client-is)
       | then-posted-via-else-posted+then-is_err w ↦
@@ -33,5 +33,5 @@ returns-clause-gated g c =
     let size = length c.args.list.now in let count = c.post_list-posted.result.count in
     let begun : IsFollowed M o a size count true =
     subst (λ (cancelled : Bool). IsFollowed M o a size count (not cancelled)) c.if-posted.false
-    (subst (λ (items : List Item). IsFollowed M (c.args.gate, items) a size count (not c.post_list-posted.result.cancelled)) c.new-client.ensures.none c.post_list-posted.ensures.gated) in
+    (subst (λ (items : List Item). IsFollowed M (c.args.gate, items) a size count (not c.post_list-posted.result.cancelled)) c.requires.new.1 c.post_list-posted.ensures.gated) in
     followed_told M o a e size count true begun (told_then M a b e c.bye.ensures.told c.await_answers.ensures.told)
