@@ -65,8 +65,8 @@ pub record IsGuided {G : Type 0} (moves : Moves G) (old new : Point G) (from to 
   pub told : new.1 ≡ old.1 ++ items_told events
   pub asked : AreInTurn events from to
 
--- a worker posts each step that its gate lets through, until the gate stops the list or the list ends; a
--- cancelled worker may leave out the last of these steps
+-- a worker posts each step that its gate lets through, until the gate stops the list or the list ends; a cancelled worker
+-- may leave out the last of these steps
 abbrev pub IsCounted : Standing → ℕ → ℕ → Bool → Type 0
 IsCounted (shut_at n) size count whole = count ≡ n
 IsCounted (open_at n) size count true = (count ≡ n) × (n ≡ size)

@@ -80,7 +80,8 @@ pub record IsReached (P : History → State → Type 0) (before behind : List En
 
 -- the fact holds at each place of a journal
 abbrev pub HoldsThroughout : (History → State → Type 0) → List Entry → State → Type 0
-HoldsThroughout P entries last = (before behind : List Entry) → entries ≡ before ++ behind → IsReached P before behind last
+HoldsThroughout P entries last = (before behind : List Entry) → entries ≡ before ++ behind
+    → IsReached P before behind last
 
 -- in each resource the held modes of any two locks are compatible, at each place of the journal
 abbrev pub ModesStayCompatible : List Entry → State → Type 0
@@ -108,8 +109,8 @@ pub record IsServing (never_stops : Bool) (lists : List StepList) (result : Resu
   pub order : IfOk result (λ r. GrantsKeepOrder (entries_of r) r.core)
   pub cut_short : IfErr result (λ fault. IsCutShort lists fault)
 
--- each list was posted as its gate said: the gate was told the items of the report, and let through what was posted, which
--- is the whole list or all steps before a stop
+-- each list was posted as its gate said: the gate was told the items of the report, and let through what was posted,
+-- which is the whole list or all steps before a stop
 abbrev pub AreGated : {G : Type 0} → Moves G → List G → List StepList → Report → Type 0
 AreGated {G} moves gates lists r = (k n : ℕ) (gate : G) (list : StepList) (items : Items)
     → slice_get gates k ≡ Some gate → slice_get lists k ≡ Some list

@@ -47,7 +47,8 @@ entries_at driver = entries_in driver.parts.items ++ journal driver.hub
 
 -- each port was made with the hub
 abbrev pub ArePortsOf : {G : Type 0} → Hub → List (WorkerResult G) → Type 0
-ArePortsOf {G} h results = (k : ℕ) (d : WorkerResult G) → k < length results → IsPortOf h (slice_index_or results k d).client.port
+ArePortsOf {G} h results = (k : ℕ) (d : WorkerResult G) → k < length results
+    → IsPortOf h (slice_index_or results k d).client.port
 
 -- the node's steps in the journal are a prefix of its posts, and these items are a prefix of what the journal tells it
 pub record IsBegun (entries : List Entry) (w : Work) (items : List Item) : Type 0 where
@@ -60,12 +61,12 @@ pub record IsWhole (entries : List Entry) (w : Work) (items : List Item) : Type 
   pub asked : asked w.port.0 entries ≡ w.posts
   pub told : items ≡ told w.port.0 entries
 
--- the first n results are begun
+-- `IsBegun` holds of the first n results
 abbrev pub AreBegun : {G : Type 0} → List Entry → List (WorkerResult G) → ℕ → Type 0
 AreBegun {G} entries results n = (k : ℕ) (d : WorkerResult G) → k < n
     → IsBegun entries (work_of (slice_index_or results k d)) (slice_index_or results k d).client.items.items
 
--- the first n results are whole
+-- `IsWhole` holds of the first n results
 abbrev pub AreWhole : {G : Type 0} → List Entry → List (WorkerResult G) → ℕ → Type 0
 AreWhole {G} entries results n = (k : ℕ) (d : WorkerResult G) → k < n
     → IsWhole entries (work_of (slice_index_or results k d)) (slice_index_or results k d).client.items.items

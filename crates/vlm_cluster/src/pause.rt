@@ -25,7 +25,7 @@ impl Pause {
         self.rounds = 0;
     }
 
-    /// The thread found nothing to do: lets other threads run, or sleeps after many such rounds.
+    /// The thread found nothing to do. It lets other threads run, or sleeps after many such rounds.
     pub(crate) fn rest(&mut self, clock: &impl Clock) {
         if self.rounds < ROUNDS {
             self.rounds += 1;

@@ -33,8 +33,8 @@ use vlm_words::steps::Step;
 /// joined.
 ///
 /// It answers [`Fault::Memory`] if memory or a thread is refused. Without a report no worker was
-/// started. Otherwise all workers have finished, and the report says what was done. A late refusal
-/// can leave nothing undone. Memory use grows with the lists and the entries.
+/// started. Otherwise all workers have finished, and the report says what was done, which may be
+/// everything. Memory use grows with the lists and the entries.
 pub fn serve_lists<R: Threads + Wait + Clock + Copy + Send + 'static, G: Gate + Send + 'static>(
     rt: &R,
     alloc: Global,

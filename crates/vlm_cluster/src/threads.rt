@@ -35,7 +35,7 @@ struct WorkerInput<G: Gate> {
     list: Vec<Step>,
 }
 
-/// The input of a worker, for its promise.
+/// The input that a worker's promise speaks of.
 #[derive(Drop)]
 pub(crate) struct WorkerPromise<G> {
     pub(crate) gate: Snapshot<G>,
@@ -43,7 +43,7 @@ pub(crate) struct WorkerPromise<G> {
     pub(crate) list: Snapshot<Vec<Step>>,
 }
 
-// The result of a worker is its work on this input.
+// A worker promises that its result is its work on this input.
 impl<G: Gate> Promise<WorkerResult<G>> for WorkerPromise<G> {
     ghost kept_by = { λ p r. IsWorkOn G.never_stops p.port.value p.list.value.items (work_of r)
         × IsGatedWork (moves G.answers G.hears) p.gate.value p.list.value.items r };

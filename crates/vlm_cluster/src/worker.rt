@@ -42,7 +42,7 @@ struct Posted {
 }
 
 impl Posted {
-    // Up to the end of the list, or up to a stop of its gate.
+    // The worker came to the end of the list, or its gate stopped it.
     fn to_end(count: usize) -> Posted
         ensures count { result.count ≡ count }
         ensures cancelled { result.cancelled ≡ false }
@@ -53,7 +53,7 @@ impl Posted {
         }
     }
 
-    // Up to the place where the worker was cancelled.
+    // The worker was cancelled.
     fn cut_short(count: usize) -> Posted
         ensures count { result.count ≡ count }
         ensures cancelled { result.cancelled ≡ true }
