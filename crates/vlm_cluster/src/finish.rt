@@ -28,6 +28,8 @@ pub(crate) struct Finished {
 
 /// Serves and takes what is left on the rings, and makes the report. It allocates memory only for
 /// items and entries.
+// (inlined, LLVM works for minutes on how the hub moves)
+#[inline(never)]
 pub(crate) fn finish<G: Gate>(
     rt: &impl Wait,
     signals: &Signals,
@@ -75,6 +77,7 @@ pub(crate) fn finish<G: Gate>(
 
 /// Makes the report if a worker after the first could not be started. The hub has made no turn, so
 /// no node was told anything.
+#[inline(never)]
 pub(crate) fn give_up<G: Gate>(
     rt: &impl Wait,
     alloc: Global,
