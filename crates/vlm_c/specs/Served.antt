@@ -1,4 +1,4 @@
--- What a call from C comes to.
+-- What the calls that make a step do.
 use Rattle.std.specs.Prelude.{◌≡◌, ℕ, Bool, true, false, Option, Some, None, replicate}
 use Rattle.vlm_words.specs.declared.asts.Ast.{Ast}
 use Rattle.vlm_words.specs.declared.asts.AstKind.{AstKind}
@@ -12,15 +12,21 @@ use Rattle.vlm_words.specs.State.{State, start}
 use Rattle.vlm_words.specs.Stepped.{Outcome}
 use Rattle.vlm_c.specs.declared.replies.VlmAst.{VlmAst}
 
--- the handle's core before, the step that the words name, the core after and the answer: an outcome of the step; with no
--- core or no step nothing changes and the answer is BADPARAM
+-- the call relates the core before, its result and the core after; with no core it does not run
+abbrev pub Called : {R : Type 0} → (State → R → State → Type 0)
+    → Option State → Option R → Option State → Type 0
+Called call None result after = (result ≡ None) × (after ≡ None)
+Called call (Some s) None after = ⊥
+Called call (Some s) (Some r) None = ⊥
+Called call (Some s) (Some r) (Some s') = call s r s'
+
+-- the step leads to an outcome of it; with no core or no step nothing changes and the answer is BADPARAM
 abbrev pub Served : Option State → Option Step → Option State → Answer → Type 0
 Served None step after answer = (after ≡ None) × (answer ≡ Plain Badparam)
 Served (Some s) None after answer = (after ≡ Some s) × (answer ≡ Plain Badparam)
 Served (Some s) (Some step) None answer = ⊥
 Served (Some s) (Some step) (Some s') answer = Outcome s step s' answer
 
--- the condition value of an answer
 abbrev pub answer_status : Answer → ℕ
 answer_status (process_answer pid) = condition_number Normal
 answer_status (Lock cond lkid) = condition_number cond
@@ -37,20 +43,25 @@ answer_number (Victim None) = 0
 answer_number (Taken ast) = 0
 answer_number (Plain cond) = 0
 
--- the number of a kind of AST
 abbrev pub kind_number : AstKind → ℕ
 kind_number Completion = 1
 kind_number Blocking = 2
 
--- the AST as C sees it
 abbrev pub ast_of : Ast → VlmAst
-ast_of a = record { size = 32; kind = kind_number a.kind; routine = a.routine; param = a.param; lkid = a.lkid; reserved = replicate 3 0 }
+ast_of a = record {
+  size = 32;
+  kind = kind_number a.kind;
+  routine = a.routine;
+  param = a.param;
+  lkid = a.lkid;
+  reserved = replicate 3 0;
+}
 
--- no AST as C sees it
+-- what C reads if no AST is pending
 abbrev pub no_ast : VlmAst
 no_ast = record { size = 32; kind = 0; routine = 0; param = 0; lkid = 0; reserved = replicate 3 0 }
 
--- what stands behind C's pointer once an AST was asked for: the AST that was taken, or none; a refusal writes nothing
+-- the caller's struct after a Take; a refusal leaves it as it was
 abbrev pub ast_written : Answer → VlmAst → VlmAst
 ast_written (Taken (Some ast)) old = ast_of ast
 ast_written (Taken None) old = no_ast
@@ -59,33 +70,35 @@ ast_written (Lock cond lkid) old = old
 ast_written (Victim lkid) old = old
 ast_written (Plain cond) old = old
 
--- what a call returns and writes for an answer to the step
-pub record Replied (before : Option State) (step : Option Step) (after : Option State) (status : ℕ) (number : ℕ) : Type 0 where
+-- a call makes a step, returns the status of its answer and writes the identification in it
+pub record Replied (before : Option State) (step : Option Step) (after : Option State)
+    (status : ℕ) (number : ℕ) : Type 0 where
   pub answer : Answer
   pub served : Served before step after answer
   pub status_told : status ≡ answer_status answer
   pub number_told : number ≡ answer_number answer
 
--- what a call that writes nothing returns for an answer to the step
+-- a call makes a step and returns the status of its answer
 pub record StatusReplied (before : Option State) (step : Option Step) (after : Option State) (status : ℕ) : Type 0 where
   pub answer : Answer
   pub served : Served before step after answer
   pub status_told : status ≡ answer_status answer
 
--- what a call for an AST returns, and what it makes of the struct behind its pointer
-pub record AstReplied (before : Option State) (step : Option Step) (after : Option State) (status : ℕ) (old new : VlmAst) : Type 0 where
+-- a call makes a Take, returns the status of its answer and writes the caller's struct
+pub record AstReplied (before : Option State) (step : Option Step) (after : Option State)
+    (status : ℕ) (old new : VlmAst) : Type 0 where
   pub answer : Answer
   pub served : Served before step after answer
   pub status_told : status ≡ answer_status answer
   pub ast_told : new ≡ ast_written answer old
 
--- a handle is opened: a core at its start where there was none, INSFMEM where memory is refused, BADPARAM where there is one
+-- an open handle stays, with BADPARAM; a closed one gets a new core, or stays with INSFMEM
 abbrev pub Opened : Option State → Option State → ℕ → Type 0
 Opened (Some s) after status = (after ≡ Some s) × (status ≡ condition_number Badparam)
 Opened None (Some s) status = (s ≡ start) × (status ≡ condition_number Normal)
 Opened None None status = status ≡ condition_number Insfmem
 
--- a handle is opened where the keys are as long as keys are; else nothing changes and BADPARAM is answered
+-- a handle is opened if the keys have the right length; otherwise nothing changes, with BADPARAM
 abbrev pub OpenedIf : Bool → Option State → Option State → ℕ → Type 0
 OpenedIf true before after status = Opened before after status
 OpenedIf false before after status = (after ≡ before) × (status ≡ condition_number Badparam)

@@ -1,4 +1,4 @@
--- What the readers copy out.
+-- What the calls that read write for C.
 use Rattle.std.specs.Prelude.{◌≡◌, ℕ, Bool, true, false, length, replicate, slice_get, Option, Some, None, nat_le, if◌then◌else◌}
 use Rattle.std.specs.Option.{option_map}
 use Rattle.vlm_words.specs.declared.blocks.Block.{Block}
@@ -23,41 +23,45 @@ use Rattle.vlm_c.specs.declared.shown.VlmResource.{VlmResource}
 use Rattle.vlm_c.specs.declared.shown.VlmRow.{VlmRow}
 use Rattle.vlm_c.specs.Words.{queue_of}
 
--- a value is written and NORMAL returned, or where there is none nothing is written and BADPARAM returned
+-- a value is written, with NORMAL; with no value nothing is written, and BADPARAM is returned
 abbrev pub Told : {A : Type 0} → Option A → A → A → ℕ → Type 0
 Told (Some x) old new status = (new ≡ x) × (status ≡ condition_number Normal)
 Told None old new status = (new ≡ old) × (status ≡ condition_number Badparam)
 
--- what is told to a struct of this size: to one of another nothing
+-- the value, or no value if the caller's struct has another size
 abbrev pub sized : {A : Type 0} → Bool → Option A → Option A
 sized true x = x
 sized false x = None
 
--- the status block as C sees it
 abbrev pub lksb_of : Block → VlmLksb
-lksb_of block = record { size = 80; status = block.status; lkid = block.lkid; reserved = 0; value = block.value; tail = block.tail }
+lksb_of block = record {
+  size = 80;
+  status = block.status;
+  lkid = block.lkid;
+  reserved = 0;
+  value = block.value;
+  tail = block.tail;
+}
 
--- the status block of the number, if the handle has a core and that the process with its block
+-- the status block of this number
 unfoldable pub block_shown : Option State → ℕ → ℕ → Option Block
 block_shown None pid number = None
 block_shown (Some s) pid number = if nat_le number 255 then status_block_at s.processes pid number else None
 
--- how many ASTs are pending of the process, if the handle has a core and that the process
+-- how many ASTs are pending for a process
 abbrev pub pending_shown : Option State → ℕ → Option ℕ
 pending_shown None pid = None
 pending_shown (Some s) pid = option_map (λ p. length p.asts) (living_process s.processes pid)
 
--- how many processes live
 abbrev pub process_count_shown : Option State → ℕ
 process_count_shown None = 0
 process_count_shown (Some s) = length s.processes
 
--- how many resources have locks
+-- how many resources there are; each has a lock
 abbrev pub count_shown : Option State → ℕ
 count_shown None = 0
 count_shown (Some s) = length s.resources
 
--- the mode as C sees it
 abbrev pub mode_number : Option Mode → ℕ
 mode_number (Some Nl) = 0
 mode_number (Some Cr) = 1
@@ -67,36 +71,40 @@ mode_number (Some Pw) = 4
 mode_number (Some Ex) = 5
 mode_number None = 255
 
--- the lock as C sees it
 abbrev pub row_of : RowView → VlmRow
-row_of row = record { size = 32; lkid = row.lkid; pid = row.pid; held = mode_number row.held; want = mode_number row.want; reserved = replicate 3 0 }
+row_of row = record {
+  size = 32;
+  lkid = row.lkid;
+  pid = row.pid;
+  held = mode_number row.held;
+  want = mode_number row.want;
+  reserved = replicate 3 0;
+}
 
--- the lock at its place of the queue, if both are there
+-- the lock at a place of a queue
 abbrev pub row_in : State → ℕ → Option Queue → ℕ → Option RowView
 row_in s resource (Some queue) place = row_shown (slice_get s.resources resource) queue place
 row_in s resource None place = None
 
--- the lock at its place, if the handle has a core and that the lock
+-- the lock at a place of the queue that has this number for C
 abbrev pub row_shown_at : Option State → ℕ → ℕ → ℕ → Option RowView
 row_shown_at None resource queue place = None
 row_shown_at (Some s) resource queue place = row_in s resource (queue_of queue) place
 
--- 1 for yes and 0 for no
 abbrev pub bit : Bool → ℕ
 bit true = 1
 bit false = 0
 
--- whether it is the system's domain, as C sees it
+-- 1 for the system's domain
 abbrev pub system_bit : Domain → ℕ
 system_bit (Group g) = 0
 system_bit System = 1
 
--- the group of a domain, or 0
+-- the group of a domain, or 0 for the system's
 abbrev pub group_of : Domain → ℕ
 group_of (Group g) = g
 group_of System = 0
 
--- the process as C sees it
 abbrev pub process_of : ProcessView → VlmProcess
 process_of p = record {
   size = 64;
@@ -110,12 +118,11 @@ process_of p = record {
   reserved = replicate 6 0;
 }
 
--- the living process at its place, if the handle has a core and that the process
+-- the living process at a place
 abbrev pub process_shown : Option State → ℕ → Option ProcessView
 process_shown None place = None
 process_shown (Some s) place = option_map process_view (slice_get s.processes place)
 
--- the resource as C sees it
 abbrev pub resource_of : ResourceView → VlmResource
 resource_of r = record {
   size = 144;
@@ -132,7 +139,7 @@ resource_of r = record {
   reserved = replicate 4 0;
 }
 
--- the resource at its place, if the handle has a core and that the resource
+-- the resource at a place
 abbrev pub resource_shown : Option State → ℕ → Option ResourceView
 resource_shown None place = None
 resource_shown (Some s) place = option_map resource_view (slice_get s.resources place)

@@ -1,4 +1,4 @@
--- What the words that C passes name.
+-- The steps that the structs and numbers of C name.
 use Rattle.std.specs.Prelude.{ℕ, List, Bool, ◌==◌, ◌&&◌, nat_lt, nat_le, take, Option, Some, None, if◌then◌else◌}
 use Rattle.std.specs.List.{list_all}
 use Rattle.vlm_words.specs.declared.modes.Mode.{Mode}
@@ -17,7 +17,6 @@ use Rattle.vlm_c.specs.declared.words.VlmSetting.{VlmSetting}
 use Rattle.vlm_c.specs.declared.words.VlmRequest.{VlmRequest}
 use Rattle.vlm_c.specs.declared.words.VlmDequeue.{VlmDequeue}
 
--- the mode of a number
 unfoldable pub mode_of : ℕ → Option Mode
 mode_of n =
     if n == 0 then Some Nl
@@ -27,60 +26,57 @@ mode_of n =
     else (if n == 4 then Some Pw
     else (if n == 5 then Some Ex else None)))))
 
--- the queue of a number
 unfoldable pub queue_of : ℕ → Option Queue
 queue_of n =
     if n == 0 then Some Granted
     else (if n == 1 then Some conversion_queue
     else (if n == 2 then Some Waiting else None))
 
--- the lock that is named by an identification, or where it is 0 by the number of a status block
+-- with block 0 the identification names the lock; otherwise the block does, and the identification is 0
 unfoldable pub which_of : ℕ → ℕ → Option Which
 which_of lock block =
     if block == 0 then Some (Id lock)
     else (if (lock == 0) && nat_lt block 256 then Some (Block block) else None)
 
--- the node of a number
+-- every byte passes; the core checks that it is a node
 abbrev pub node_of : ℕ → Option ℕ
 node_of n = if nat_le n 255 then Some n else None
 
--- the process whose AST is to be taken into a struct of this size
+-- the caller's struct for the AST has its size
 abbrev pub take_of : ℕ → ℕ → Option ℕ
 take_of pid size = if size == 32 then Some pid else None
 
--- every word is 0
 abbrev pub is_blank : List ℕ → Bool
 is_blank words = list_all (λ w. w == 0) words
 
--- what is given where its mark is 1
+-- mark 1 says that the value is given
 abbrev pub given : {A : Type 0} → ℕ → A → Option A
 given mark x = if mark == 1 then Some x else None
 
--- a declaration of its size, with nothing behind its members, whose numbers fit
+-- the struct has its size, its reserved words are 0 and its numbers fit
 abbrev pub is_declaration : VlmDeclaration → Bool
 is_declaration w =
     (w.size == 32) && is_blank w.reserved && nat_le w.node 255 && nat_le w.group 65535 && nat_le w.syslck 1
     && nat_le w.quota 65535 && nat_le w.blocks 255
 
--- the declaration of the words, if they name one
 unfoldable pub declaration_of : VlmDeclaration → Option Declaration
 declaration_of w =
     if is_declaration w
-    then Some (record { node = w.node; group = w.group; syslck = w.syslck == 1; quota = w.quota; blocks = w.blocks }) else None
+    then Some (record { node = w.node; group = w.group; syslck = w.syslck == 1; quota = w.quota; blocks = w.blocks })
+    else None
 
--- the setting of the words, if they name one
 unfoldable pub setting_of : VlmSetting → Option ValueSetting
 setting_of w =
     if (w.size == 96) && is_blank w.reserved && nat_le w.block 255 && nat_le w.has_tail 1
     then Some (record { pid = w.pid; block = w.block; value = w.value; tail = given w.has_tail w.tail }) else None
 
--- a request of its size, with nothing behind its members, whose numbers fit
+-- the struct has its size, its reserved words are 0 and its numbers fit
 abbrev pub is_request : VlmRequest → Bool
 is_request w =
     (w.size == 128) && is_blank w.reserved && nat_le w.flags 65535 && nat_le w.block 255 && nat_le w.has_ast 1
     && nat_le w.has_bast 1
 
--- the new request of the words in this mode below this parent
+-- a new request needs a mode and a parent
 abbrev pub request_with : VlmRequest → List ℕ → Option Mode → Option Which → Option NewRequest
 request_with w name (Some mode) (Some parent) = Some (record {
   pid = w.pid;
@@ -96,11 +92,10 @@ request_with w name (Some mode) (Some parent) = Some (record {
 request_with w name (Some mode) None = None
 request_with w name None parent = None
 
--- the new request of the words and the name, if they name one
 unfoldable pub request_of : VlmRequest → List ℕ → Option NewRequest
 request_of w name = if is_request w then request_with w name (mode_of w.mode) (which_of w.lock w.lock_block) else None
 
--- the conversion of the words of this lock to this mode
+-- a conversion needs a mode and a lock
 abbrev pub conversion_with : VlmRequest → Option Mode → Option Which → Option Conversion
 conversion_with w (Some mode) (Some lock) = Some (record {
   pid = w.pid;
@@ -115,11 +110,10 @@ conversion_with w (Some mode) (Some lock) = Some (record {
 conversion_with w (Some mode) None = None
 conversion_with w None lock = None
 
--- the conversion of the words, if they name one
 unfoldable pub conversion_of : VlmRequest → Option Conversion
 conversion_of w = if is_request w then conversion_with w (mode_of w.mode) (which_of w.lock w.lock_block) else None
 
--- the dequeue of the words of this lock
+-- a dequeue needs a lock
 abbrev pub dequeue_with : VlmDequeue → Option Which → Option Dequeue
 dequeue_with w (Some lock) = Some (record {
   pid = w.pid;
@@ -130,7 +124,6 @@ dequeue_with w (Some lock) = Some (record {
 })
 dequeue_with w None = None
 
--- the dequeue of the words, if they name one
 unfoldable pub dequeue_of : VlmDequeue → Option Dequeue
 dequeue_of w =
     if (w.size == 128) && is_blank w.reserved && nat_le w.flags 65535 && nat_le w.has_value 1 && nat_le w.has_tail 1

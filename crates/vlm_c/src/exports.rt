@@ -1,4 +1,7 @@
-//! The functions that C calls. Each checks all that C passes but its pointers and handles.
+//! The functions that C calls. include/vlm.h describes them for their callers.
+//!
+//! Each checks all its arguments except pointers and handles. It answers BADPARAM and changes nothing if an argument
+//! is malformed or the handle has no core. docs/MACHINE.md lists the refusals of each step, and their order.
 
 ghost use Rattle.std.specs.Prelude.{◌≡◌, ◌==◌, None, Some, length};
 ghost use Rattle.std.specs.Option.{option_map};
@@ -22,7 +25,6 @@ use vlm_core::{Core, HashKeys};
 use vlm_words::conditions::Cond;
 use vlm_words::steps::Step;
 
-// Puts a new core into a handle that has none.
 fn opened(alloc: Global, handle: &mut Vlm, keys: HashKeys) -> u32
     ensures { Opened handle.old.slot.core handle.new.slot.core result }
 {
@@ -38,8 +40,7 @@ fn opened(alloc: Global, handle: &mut Vlm, keys: HashKeys) -> u32
     }
 }
 
-/// Puts a new core, whose index of names hashes by fixed keys, into a handle that has none. NORMAL, INSFMEM where
-/// memory is refused, BADPARAM where the handle has one.
+/// Puts a new core into a handle that has none. Fixed keys hash its names.
 #[unsafe(no_mangle)]
 pub extern "C" fn vlm_open(alloc: Global, handle: &mut Vlm) -> u32
     ensures { Opened handle.old.slot.core handle.new.slot.core result }
@@ -47,8 +48,7 @@ pub extern "C" fn vlm_open(alloc: Global, handle: &mut Vlm) -> u32
     opened(alloc, handle, HashKeys::fixed())
 }
 
-/// Puts a new core, whose index of names hashes by these 16 bytes, into a handle that has none. NORMAL, INSFMEM where
-/// memory is refused, BADPARAM where the handle has one or the keys are not 16 bytes.
+/// Puts a new core into a handle that has none. These 16 bytes are the keys that hash its names.
 #[unsafe(no_mangle)]
 pub extern "C" fn vlm_open_with_keys(alloc: Global, handle: &mut Vlm, keys: &[u8]) -> u32
     ensures { OpenedIf (length keys.now == 16) handle.old.slot.core handle.new.slot.core result }
@@ -69,46 +69,44 @@ pub extern "C" fn vlm_close(alloc: Global, handle: &mut Vlm)
     *handle = Vlm::closed(alloc);
 }
 
-// Makes the step, tells its condition, and writes the identification that it answers, or 0.
+// Makes the step and writes the identification in the answer, or 0.
 fn reply(handle: &mut Vlm, step: Option<Step>, number: &mut u32) -> u32
     ensures { Replied handle.old.slot.core step handle.new.slot.core result number.new }
 {
-    let answer = handle.take(step);
+    let answer = handle.make_step(step);
     *number = answer_number(&answer);
     answer_status(&answer)
 }
 
-// Makes a step that answers no identification, and tells its condition.
+// Makes a step whose answer has no identification.
 fn status_reply(handle: &mut Vlm, step: Option<Step>) -> u32
     ensures { StatusReplied handle.old.slot.core step handle.new.slot.core result }
 {
-    let answer = handle.take(step);
+    let answer = handle.make_step(step);
     answer_status(&answer)
 }
 
-/// Declares a process and writes its identification, or 0. NORMAL, or what the core refuses it by: BADPARAM, DEPARTED,
-/// INSFMEM. BADPARAM where the words name no declaration.
+/// Declares a process and writes its identification, or 0.
 #[unsafe(no_mangle)]
 pub extern "C" fn vlm_declare(handle: &mut Vlm, declaration: &VlmDeclaration, pid: &mut u32) -> u32
-    ensures { Replied handle.old.slot.core (option_map Declare (declaration_of declaration.now)) handle.new.slot.core result pid.new }
+    ensures { Replied handle.old.slot.core (option_map Declare (declaration_of declaration.now))
+        handle.new.slot.core result pid.new }
 {
     let step = declaration_of(declaration).map(|step| Step::Declare(step));
     reply(handle, step, pid)
 }
 
-/// Sets the value part of a status block, and its tail where one is given. NORMAL, or DEPARTED, NONEXPR, ACCVIO.
-/// BADPARAM where the words name no setting.
+/// Sets the value part of a status block, and its tail if the caller gives one.
 #[unsafe(no_mangle)]
 pub extern "C" fn vlm_set_value(handle: &mut Vlm, setting: &VlmSetting) -> u32
-    ensures { StatusReplied handle.old.slot.core (option_map SetValue (setting_of setting.now)) handle.new.slot.core result }
+    ensures { StatusReplied handle.old.slot.core (option_map SetValue (setting_of setting.now))
+        handle.new.slot.core result }
 {
     let step = setting_of(setting).map(|step| Step::SetValue(step));
     status_reply(handle, step)
 }
 
-/// Asks for a new lock and writes its identification, or 0. NORMAL, SYNCH, or what the core refuses it by: DEPARTED,
-/// NONEXPR, BADPARAM, ACCVIO, IVBUFLEN, UNSUPPORTED, IVLOCKID, PARNOTGRANT, EXDEPTH, NOSYSLCK, EXENQLM, NOLOCKID,
-/// NOTQUEUED, INSFMEM. BADPARAM where the words name no request.
+/// Asks for a new lock ($ENQ) and writes its identification, or 0.
 #[unsafe(no_mangle)]
 pub extern "C" fn vlm_enq(
     handle: &mut Vlm,
@@ -116,25 +114,24 @@ pub extern "C" fn vlm_enq(
     name: &[u8],
     lkid: &mut u32,
 ) -> u32
-    ensures { Replied handle.old.slot.core (option_map Enq (request_of request.now name.now)) handle.new.slot.core result lkid.new }
+    ensures { Replied handle.old.slot.core (option_map Enq (request_of request.now name.now))
+        handle.new.slot.core result lkid.new }
 {
     let step = request_of(request, name).map(|step| Step::Enq(step));
     reply(handle, step, lkid)
 }
 
-/// Asks for another mode of a granted lock and writes its identification, or 0. NORMAL, SYNCH, or what the core refuses
-/// it by: DEPARTED, NONEXPR, BADPARAM, ACCVIO, IVLOCKID, CVTUNGRANT, NOLOCKID, NOTQUEUED, INSFMEM. BADPARAM where the
-/// words name no conversion.
+/// Asks for another mode of a granted lock ($ENQ with LCK$M_CONVERT) and writes its identification, or 0.
 #[unsafe(no_mangle)]
 pub extern "C" fn vlm_convert(handle: &mut Vlm, request: &VlmRequest, lkid: &mut u32) -> u32
-    ensures { Replied handle.old.slot.core (option_map Convert (conversion_of request.now)) handle.new.slot.core result lkid.new }
+    ensures { Replied handle.old.slot.core (option_map Convert (conversion_of request.now))
+        handle.new.slot.core result lkid.new }
 {
     let step = conversion_of(request).map(|step| Step::Convert(step));
     reply(handle, step, lkid)
 }
 
-/// Gives a lock up, or cancels a request. NORMAL, or what the core refuses it by: DEPARTED, NONEXPR, BADPARAM, ACCVIO,
-/// IVLOCKID, CANCELGRANT, SUBLOCKS. BADPARAM where the words name no dequeue.
+/// Gives up locks, or cancels a request ($DEQ).
 #[unsafe(no_mangle)]
 pub extern "C" fn vlm_deq(handle: &mut Vlm, dequeue: &VlmDequeue) -> u32
     ensures { StatusReplied handle.old.slot.core (option_map Deq (dequeue_of dequeue.now)) handle.new.slot.core result }
@@ -143,19 +140,19 @@ pub extern "C" fn vlm_deq(handle: &mut Vlm, dequeue: &VlmDequeue) -> u32
     status_reply(handle, step)
 }
 
-/// Takes the oldest pending AST of a process and writes it, or that there is none. NORMAL, or DEPARTED, NONEXPR, and
-/// nothing is written. BADPARAM where the struct has another size.
+/// Takes the oldest pending AST of a process and writes it, or that none is pending. A refusal writes nothing.
 #[unsafe(no_mangle)]
 pub extern "C" fn vlm_take(handle: &mut Vlm, pid: u32, out: &mut VlmAst) -> u32
-    ensures { AstReplied handle.old.slot.core (option_map Take (take_of pid out.old.size)) handle.new.slot.core result out.old out.new }
+    ensures { AstReplied handle.old.slot.core (option_map Take (take_of pid out.old.size))
+        handle.new.slot.core result out.old out.new }
 {
     let step = take_of(pid, out.size).map(|pid| Step::Take(pid));
-    let answer = handle.take(step);
+    let answer = handle.make_step(step);
     write_ast(&answer, out);
     answer_status(&answer)
 }
 
-/// Ends a process, with all that it has. NORMAL, or DEPARTED, NONEXPR.
+/// Ends a process, with its locks, requests and ASTs.
 #[unsafe(no_mangle)]
 pub extern "C" fn vlm_rundown(handle: &mut Vlm, pid: u32) -> u32
     ensures { StatusReplied handle.old.slot.core (Some (Rundown pid)) handle.new.slot.core result }
@@ -163,7 +160,7 @@ pub extern "C" fn vlm_rundown(handle: &mut Vlm, pid: u32) -> u32
     status_reply(handle, Some(Step::Rundown(pid)))
 }
 
-/// A node departs, with all its processes. NORMAL, or BADPARAM where it is none, DEPARTED where it has departed before.
+/// Ends a node, with all its processes.
 #[unsafe(no_mangle)]
 pub extern "C" fn vlm_leave(handle: &mut Vlm, node: u32) -> u32
     ensures { StatusReplied handle.old.slot.core (option_map Leave (node_of node)) handle.new.slot.core result }
@@ -171,8 +168,7 @@ pub extern "C" fn vlm_leave(handle: &mut Vlm, node: u32) -> u32
     status_reply(handle, node_of(node).map(|node| Step::Leave(node)))
 }
 
-/// Searches for a deadlock and writes the lock whose request was ended, or 0. NORMAL, or BADPARAM where the node is
-/// none, DEPARTED.
+/// Searches for a deadlock, ends the request of its victim and writes the victim's lock, or 0.
 #[unsafe(no_mangle)]
 pub extern "C" fn vlm_search(handle: &mut Vlm, node: u32, victim: &mut u32) -> u32
     ensures { Replied handle.old.slot.core (option_map Search (node_of node)) handle.new.slot.core result victim.new }
@@ -180,41 +176,46 @@ pub extern "C" fn vlm_search(handle: &mut Vlm, node: u32, victim: &mut u32) -> u
     reply(handle, node_of(node).map(|node| Step::Search(node)), victim)
 }
 
-/// Copies a status block of a process out. NORMAL, or BADPARAM, and nothing is written, where it is not there or the
-/// struct has another size.
-#[unsafe(no_mangle)]
-pub extern "C" fn vlm_block(handle: &mut Vlm, pid: u32, block: u32, out: &mut VlmLksb) -> u32
-    ensures told { Told (sized (out.old.size == 80) (option_map lksb_of (block_shown handle.old.slot.core pid block))) out.old out.new result }
-    ensures same { handle.new.slot.core ≡ handle.old.slot.core }
+// The value, or no value if the caller's struct has another size.
+fn sized<T: Copy>(fits: bool, value: Option<T>) -> Option<T>
+    ensures { result ≡ sized fits value }
 {
-    if out.size != LKSB_SIZE {
-        return status(Cond::Badparam);
-    }
-    match handle.block(pid, block) {
-        Some(block) => {
-            *out = lksb_of(&block);
+    if fits { value } else { None }
+}
+
+// Writes the value. With no value it writes nothing.
+fn copy_out<T: Copy>(value: Option<T>, out: &mut T) -> u32
+    ensures { Told value out.old out.new result }
+{
+    match value {
+        Some(value) => {
+            *out = value;
             status(Cond::Normal)
         }
         None => status(Cond::Badparam),
     }
 }
 
-/// How many ASTs are pending of a process. NORMAL, or BADPARAM, and nothing is written, where it is not there.
+/// Copies a status block of a process.
+#[unsafe(no_mangle)]
+pub extern "C" fn vlm_block(handle: &mut Vlm, pid: u32, block: u32, out: &mut VlmLksb) -> u32
+    ensures told { Told (sized (out.old.size == 80) (option_map lksb_of (block_shown handle.old.slot.core pid block)))
+        out.old out.new result }
+    ensures same { handle.new.slot.core ≡ handle.old.slot.core }
+{
+    let shown = handle.block(pid, block).map(|block| lksb_of(&block));
+    copy_out(sized(out.size == LKSB_SIZE, shown), out)
+}
+
+/// Counts the pending ASTs of a process.
 #[unsafe(no_mangle)]
 pub extern "C" fn vlm_pending(handle: &mut Vlm, pid: u32, count: &mut usize) -> u32
     ensures told { Told (pending_shown handle.old.slot.core pid) count.old count.new result }
     ensures same { handle.new.slot.core ≡ handle.old.slot.core }
 {
-    match handle.pending(pid) {
-        Some(pending) => {
-            *count = pending;
-            status(Cond::Normal)
-        }
-        None => status(Cond::Badparam),
-    }
+    copy_out(handle.pending(pid), count)
 }
 
-/// How many processes live: 0 where the handle has no core. It answers no condition.
 #[unsafe(no_mangle)]
 pub extern "C" fn vlm_process_count(handle: &mut Vlm) -> usize
     ensures told { result ≡ process_count_shown handle.old.slot.core }
@@ -223,26 +224,17 @@ pub extern "C" fn vlm_process_count(handle: &mut Vlm) -> usize
     handle.process_count()
 }
 
-/// Copies the living process at its place, from 0, out. NORMAL, or BADPARAM, and nothing is written, where none is there
-/// or the struct has another size.
+/// Copies a living process. Places start at 0; the cost grows with the place.
 #[unsafe(no_mangle)]
 pub extern "C" fn vlm_process(handle: &mut Vlm, place: usize, out: &mut VlmProcess) -> u32
-    ensures told { Told (sized (out.old.size == 64) (option_map process_of (process_shown handle.old.slot.core place))) out.old out.new result }
+    ensures told { Told (sized (out.old.size == 64) (option_map process_of (process_shown handle.old.slot.core place)))
+        out.old out.new result }
     ensures same { handle.new.slot.core ≡ handle.old.slot.core }
 {
-    if out.size != PROCESS_SIZE {
-        return status(Cond::Badparam);
-    }
-    match handle.process(place) {
-        Some(process) => {
-            *out = process_of(&process);
-            status(Cond::Normal)
-        }
-        None => status(Cond::Badparam),
-    }
+    let shown = handle.process(place).map(|process| process_of(&process));
+    copy_out(sized(out.size == PROCESS_SIZE, shown), out)
 }
 
-/// How many resources have locks: 0 where the handle has no core. It answers no condition.
 #[unsafe(no_mangle)]
 pub extern "C" fn vlm_resource_count(handle: &mut Vlm) -> usize
     ensures told { result ≡ count_shown handle.old.slot.core }
@@ -251,27 +243,20 @@ pub extern "C" fn vlm_resource_count(handle: &mut Vlm) -> usize
     handle.resource_count()
 }
 
-/// Copies the resource at its place, from 0, out. NORMAL, or BADPARAM, and nothing is written, where none is there or
-/// the struct has another size.
+/// Copies a resource. Places start at 0; the cost grows with the place.
 #[unsafe(no_mangle)]
 pub extern "C" fn vlm_resource(handle: &mut Vlm, place: usize, out: &mut VlmResource) -> u32
-    ensures told { Told (sized (out.old.size == 144) (option_map resource_of (resource_shown handle.old.slot.core place))) out.old out.new result }
+    ensures told { Told (sized (out.old.size == 144) (option_map resource_of (resource_shown handle.old.slot.core place)))
+        out.old out.new result }
     ensures same { handle.new.slot.core ≡ handle.old.slot.core }
 {
-    if out.size != RESOURCE_SIZE {
-        return status(Cond::Badparam);
-    }
-    match handle.resource(place) {
-        Some(resource) => {
-            *out = resource_of(&resource);
-            status(Cond::Normal)
-        }
-        None => status(Cond::Badparam),
-    }
+    let shown = handle
+        .resource(place)
+        .map(|resource| resource_of(&resource));
+    copy_out(sized(out.size == RESOURCE_SIZE, shown), out)
 }
 
-/// Copies the lock at a place of a queue of the resource at its place out, each place from 0. NORMAL, or BADPARAM, and
-/// nothing is written, where none is there or the struct has another size.
+/// Copies a lock in a queue of a resource. Places start at 0; the cost grows with both.
 #[unsafe(no_mangle)]
 pub extern "C" fn vlm_row(
     handle: &mut Vlm,
@@ -280,17 +265,10 @@ pub extern "C" fn vlm_row(
     place: usize,
     out: &mut VlmRow,
 ) -> u32
-    ensures told { Told (sized (out.old.size == 32) (option_map row_of (row_shown_at handle.old.slot.core resource queue place))) out.old out.new result }
+    ensures told { Told (sized (out.old.size == 32) (option_map row_of
+        (row_shown_at handle.old.slot.core resource queue place))) out.old out.new result }
     ensures same { handle.new.slot.core ≡ handle.old.slot.core }
 {
-    if out.size != ROW_SIZE {
-        return status(Cond::Badparam);
-    }
-    match handle.row(resource, queue, place) {
-        Some(row) => {
-            *out = row_of(&row);
-            status(Cond::Normal)
-        }
-        None => status(Cond::Badparam),
-    }
+    let shown = handle.row(resource, queue, place).map(|row| row_of(&row));
+    copy_out(sized(out.size == ROW_SIZE, shown), out)
 }

@@ -1,8 +1,9 @@
-//! The handle of a core, in memory that C holds. Each call takes the core out of it and puts it back.
+//! The handle of a core, in memory that C holds. It lends its core to one call at a time.
 
 ghost use Rattle.std.specs.Prelude.{◌≡◌, None, Some};
 ghost use Rattle.std.specs.Option.{is_some, option_map};
-ghost use Rattle.vlm_c.specs.Served.{Served};
+ghost use Rattle.std.specs.Fn.{FnOnceReturnsAtMut};
+ghost use Rattle.vlm_c.specs.Served.{Called, Served};
 ghost use Rattle.vlm_c.specs.Shown.{block_shown, count_shown, pending_shown, process_count_shown, process_shown, resource_shown, row_shown_at};
 
 use crate::loose::Loose;
@@ -15,7 +16,7 @@ use vlm_words::blocks::Block;
 use vlm_words::conditions::Cond;
 use vlm_words::steps::{Answer, Step};
 
-/// A core, or none. All bytes 0 is a handle with none.
+/// All bytes 0 are a handle with no core.
 #[repr(C)]
 pub struct Vlm {
     slot: Slot,
@@ -31,7 +32,6 @@ impl Drop for Vlm {
 }
 
 impl Vlm {
-    /// No core.
     pub(crate) fn closed(alloc: Global) -> Vlm
         ensures { result.slot.core ≡ None }
     {
@@ -42,7 +42,6 @@ impl Vlm {
         }
     }
 
-    /// The core of the box. It may go to another thread.
     pub(crate) fn holding(core: Box<Core>, alloc: Global) -> Vlm
         ensures { result.slot.core ≡ Some core.value }
     {
@@ -53,7 +52,6 @@ impl Vlm {
         })
     }
 
-    /// The box of the core, if there is one.
     pub(crate) fn into_core(self) -> Option<Box<Core>>
         ensures { option_map (λ b. b.value) result ≡ self.slot.core }
     {
@@ -69,7 +67,6 @@ impl Vlm {
         }
     }
 
-    /// Whether there is a core.
     pub(crate) fn is_open(&mut self) -> bool
         ensures told { result ≡ is_some self.old.slot.core }
         ensures same { self.new.slot.core ≡ self.old.slot.core }
@@ -77,23 +74,32 @@ impl Vlm {
         self.is_held
     }
 
-    /// Makes the step, if there is a core and a step. Else nothing changes and BADPARAM is answered.
-    pub(crate) fn take(&mut self, step: Option<Step>) -> Answer
+    // Takes the core out, passes it to `call` and puts it back.
+    fn with_core<R, F: FnOnce(&mut Core) -> R + Drop>(&mut self, call: F) -> Option<R>
+        requires { F.IsAlwaysCallable call }
+        ensures { Called (FnOnceReturnsAtMut F.FnOnce call) self.old.slot.core result self.new.slot.core }
+    {
+        let alloc = self.alloc;
+        let mut core = replace(self, Vlm::closed(alloc)).into_core()?;
+        let result = call(&mut *core);
+        *self = Vlm::holding(core, alloc);
+        Some(result)
+    }
+
+    /// With no core or no step it changes nothing and answers BADPARAM.
+    pub(crate) fn make_step(&mut self, step: Option<Step>) -> Answer
         ensures { Served self.old.slot.core step self.new.slot.core result }
     {
         let Some(step) = step else {
             return Answer::Plain(Cond::Badparam);
         };
-        let alloc = self.alloc;
-        let Some(mut core) = replace(self, Vlm::closed(alloc)).into_core() else {
-            return Answer::Plain(Cond::Badparam);
-        };
-        let answer = core.step(step);
-        *self = Vlm::holding(core, alloc);
-        answer
+        match self.with_core(|core| core.step(step)) {
+            Some(answer) => answer,
+            None => Answer::Plain(Cond::Badparam),
+        }
     }
 
-    /// The status block of the number, from 1, of a process, if it is there.
+    /// A status block of a process. Numbers start at 1.
     #[tactic(auto, unfolding(crate::specs::Shown::block_shown))]
     pub(crate) fn block(&mut self, pid: u32, number: u32) -> Option<Block>
         ensures told { result ≡ block_shown self.old.slot.core pid number }
@@ -102,92 +108,59 @@ impl Vlm {
         if number > 255 {
             return None;
         }
-        let alloc = self.alloc;
-        let core = replace(self, Vlm::closed(alloc)).into_core()?;
-        let block = core.block(pid, number as u8);
-        *self = Vlm::holding(core, alloc);
-        block
+        let number = number as u8;
+        self.with_core(|core| core.block(pid, number))?
     }
 
-    /// How many ASTs are pending of a process, if it is there.
+    /// How many ASTs are pending for a process.
     pub(crate) fn pending(&mut self, pid: u32) -> Option<usize>
         ensures told { result ≡ pending_shown self.old.slot.core pid }
         ensures same { self.new.slot.core ≡ self.old.slot.core }
     {
-        let alloc = self.alloc;
-        let core = replace(self, Vlm::closed(alloc)).into_core()?;
-        let count = core.pending(pid);
-        *self = Vlm::holding(core, alloc);
-        count
+        self.with_core(|core| core.pending(pid))?
     }
 
-    /// How many processes live.
     pub(crate) fn process_count(&mut self) -> usize
         ensures told { result ≡ process_count_shown self.old.slot.core }
         ensures same { self.new.slot.core ≡ self.old.slot.core }
     {
-        let alloc = self.alloc;
-        let Some(core) = replace(self, Vlm::closed(alloc)).into_core() else {
-            return 0;
-        };
-        let count = core.process_count();
-        *self = Vlm::holding(core, alloc);
-        count
+        self.with_core(|core| core.process_count()).unwrap_or(0)
     }
 
-    /// The living process at its place, if it is there.
+    /// The living process at a place, from 0.
     pub(crate) fn process(&mut self, place: usize) -> Option<ProcessView>
         ensures told { result ≡ process_shown self.old.slot.core place }
         ensures same { self.new.slot.core ≡ self.old.slot.core }
     {
-        let alloc = self.alloc;
-        let core = replace(self, Vlm::closed(alloc)).into_core()?;
-        let process = core.process_at(place);
-        *self = Vlm::holding(core, alloc);
-        process
+        self.with_core(|core| core.process_at(place))?
     }
 
-    /// How many resources have locks.
     pub(crate) fn resource_count(&mut self) -> usize
         ensures told { result ≡ count_shown self.old.slot.core }
         ensures same { self.new.slot.core ≡ self.old.slot.core }
     {
-        let alloc = self.alloc;
-        let Some(core) = replace(self, Vlm::closed(alloc)).into_core() else {
-            return 0;
-        };
-        let count = core.resource_count();
-        *self = Vlm::holding(core, alloc);
-        count
+        self.with_core(|core| core.resource_count()).unwrap_or(0)
     }
 
-    /// The resource at its place, if it is there.
+    /// The resource at a place, from 0.
     pub(crate) fn resource(&mut self, place: usize) -> Option<ResourceView>
         ensures told { result ≡ resource_shown self.old.slot.core place }
         ensures same { self.new.slot.core ≡ self.old.slot.core }
     {
-        let alloc = self.alloc;
-        let core = replace(self, Vlm::closed(alloc)).into_core()?;
-        let resource = core.resource_at(place);
-        *self = Vlm::holding(core, alloc);
-        resource
+        self.with_core(|core| core.resource_at(place))?
     }
 
-    /// The lock at a place of a queue of the resource at its place, if it is there.
+    /// The lock at a place in a queue of a resource, each from 0.
     pub(crate) fn row(&mut self, resource: usize, queue: u32, place: usize) -> Option<RowView>
         ensures told { result ≡ row_shown_at self.old.slot.core resource queue place }
         ensures same { self.new.slot.core ≡ self.old.slot.core }
     {
         let queue = queue_of(queue)?;
-        let alloc = self.alloc;
-        let core = replace(self, Vlm::closed(alloc)).into_core()?;
-        let row = core.row_at(resource, queue, place);
-        *self = Vlm::holding(core, alloc);
-        row
+        self.with_core(|core| core.row_at(resource, queue, place))?
     }
 }
 
-// What may go to another thread.
+// Its bound proves `Send`: C may use a handle in any thread.
 fn sendable<T: Send>(value: T) -> T
     ensures { result ≡ value }
 {

@@ -1,9 +1,16 @@
-//! The lock manager as a static library for C: the core behind a handle that the C program holds.
+//! The lock manager as a static library for C. The C program holds the handle of a core.
 //!
-//! `exports` are the calls of include/vlm.h. Each checks all that C passes but its pointers and handles, and none has
-//! a `requires`. `words` reads what C passes as steps of the core, `shown` copies out what its readers tell,
-//! `replies` reads answers; `handle` is the handle, over a place for a core (`slot`) and a box as its pointer
-//! (`loose`).
+//! | Module | Role |
+//! |---|---|
+//! | `exports` | the calls of include/vlm.h |
+//! | `words` | reads arguments as steps of the core |
+//! | `replies` | turns answers into values for C |
+//! | `shown` | the structs that readers copy out |
+//! | `handle` | the handle, which lends its core to a call |
+//! | `slot` | the pointer to a core in memory that C holds |
+//! | `loose` | a box taken apart into its pointer |
+//!
+//! No export has a `requires`. The caller in C answers for pointers and handles; the exports check all else.
 #![tactic(auto)]
 
 mod exports;

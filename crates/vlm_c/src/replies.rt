@@ -1,4 +1,4 @@
-//! What a call returns and writes for an answer.
+//! Turns the answer of the machine into the values that a call returns and writes.
 
 ghost use Rattle.std.specs.Prelude.{◌≡◌};
 ghost use Rattle.vlm_words.specs.Conditions.{condition_number};
@@ -9,37 +9,31 @@ use vlm_words::asts::{Ast, AstKind};
 use vlm_words::conditions::Cond;
 use vlm_words::steps::Answer;
 
-/// The bytes of a [`VlmAst`].
+// The `size` that C writes into the struct.
 pub(crate) const AST_SIZE: u32 = 32;
 
 const _: () = prove!(size_of::<VlmAst>() == 32);
 
-/// An AST that was taken.
+/// A taken AST. include/vlm.h describes its members.
 #[repr(C)]
 #[derive(Clone, Copy)]
 pub struct VlmAst {
-    /// How many bytes this struct has.
     pub size: u32,
-    /// 0 none, 1 completion, 2 blocking.
+    /// 0 for no AST, 1 for completion, 2 for blocking.
     pub kind: u32,
-    /// The routine that the request named.
+    /// The request named it, and gave `param` for it.
     pub routine: u32,
-    /// The parameter that the request gave for it.
     pub param: u32,
-    /// The lock that it is about.
     pub lkid: u32,
-    /// 0.
     pub reserved: [u32; 3],
 }
 
-/// The condition as C sees it.
 pub(crate) fn status(cond: Cond) -> u32
     ensures { result ≡ condition_number cond }
 {
     u32::from(cond.number())
 }
 
-/// The condition value of the answer.
 pub(crate) fn answer_status(answer: &Answer) -> u32
     ensures { result ≡ answer_status answer.now }
 {
@@ -49,7 +43,6 @@ pub(crate) fn answer_status(answer: &Answer) -> u32
     }
 }
 
-/// The identification in the answer, or 0.
 pub(crate) fn answer_number(answer: &Answer) -> u32
     ensures { result ≡ answer_number answer.now }
 {
@@ -59,7 +52,6 @@ pub(crate) fn answer_number(answer: &Answer) -> u32
     }
 }
 
-// The number of the kind.
 fn kind_number(kind: AstKind) -> u32
     ensures { result ≡ kind_number kind }
 {
@@ -69,7 +61,6 @@ fn kind_number(kind: AstKind) -> u32
     }
 }
 
-// The AST as C sees it.
 fn ast_of(ast: &Ast) -> VlmAst
     ensures { result ≡ ast_of ast.now }
 {
@@ -83,7 +74,7 @@ fn ast_of(ast: &Ast) -> VlmAst
     }
 }
 
-// No AST as C sees it.
+// What C reads if no AST is pending.
 fn no_ast() -> VlmAst
     ensures { result ≡ no_ast }
 {
@@ -97,7 +88,7 @@ fn no_ast() -> VlmAst
     }
 }
 
-/// Writes the AST that was taken, or that there was none. A refusal writes nothing.
+/// Writes the taken AST, or that none is pending. A refusal writes nothing.
 pub(crate) fn write_ast(answer: &Answer, out: &mut VlmAst)
     ensures { out.new ≡ ast_written answer.now out.old }
 {

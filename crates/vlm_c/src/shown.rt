@@ -1,4 +1,4 @@
-//! What readers copy out to C.
+//! The structs that readers copy out to C. include/vlm.h describes their members.
 
 ghost use Rattle.std.specs.Prelude.{◌≡◌, ◌≤◌, length};
 ghost use Rattle.vlm_words.specs.Padding.{padded};
@@ -11,16 +11,13 @@ use vlm_words::modes::Mode;
 use vlm_words::names::Name;
 use vlm_words::resources::Domain;
 
-/// The bytes of a [`VlmLksb`].
+// The `size` that C writes into each struct.
 pub(crate) const LKSB_SIZE: u32 = 80;
 
-/// The bytes of a [`VlmProcess`].
 pub(crate) const PROCESS_SIZE: u32 = 64;
 
-/// The bytes of a [`VlmResource`].
 pub(crate) const RESOURCE_SIZE: u32 = 144;
 
-/// The bytes of a [`VlmRow`].
 pub(crate) const ROW_SIZE: u32 = 32;
 
 const _: () = prove!(size_of::<VlmLksb>() == 80);
@@ -35,17 +32,14 @@ const _: () = prove!(size_of::<VlmRow>() == 32);
 #[repr(C)]
 #[derive(Clone, Copy)]
 pub struct VlmLksb {
-    /// How many bytes this struct has.
     pub size: u32,
-    /// 0 while a request is pending, else the condition that it ended with.
+    /// 0 while a request is pending, then the condition that ended it.
     pub status: u32,
-    /// The lock of the request that was accepted last, or 0.
+    /// The lock of the last accepted request, or 0.
     pub lkid: u32,
-    /// 0.
     pub reserved: u32,
-    /// The value block.
+    /// The value part.
     pub value: [u8; 16],
-    /// The tail of a wide value block.
     pub tail: [u8; 48],
 }
 
@@ -53,23 +47,15 @@ pub struct VlmLksb {
 #[repr(C)]
 #[derive(Clone, Copy)]
 pub struct VlmProcess {
-    /// How many bytes this struct has.
     pub size: u32,
-    /// Its identification.
     pub pid: u32,
-    /// Its node, 1 to 8.
     pub node: u32,
-    /// Its UIC group.
     pub group: u32,
-    /// 1 where it has the privilege SYSLCK, or 0.
     pub syslck: u32,
-    /// How many locks it may have.
     pub quota: u32,
     /// How many status blocks it has, numbered from 1.
     pub blocks: u64,
-    /// How many ASTs are pending for it.
     pub pending: u64,
-    /// 0.
     pub reserved: [u32; 6],
 }
 
@@ -77,29 +63,22 @@ pub struct VlmProcess {
 #[repr(C)]
 #[derive(Clone, Copy)]
 pub struct VlmResource {
-    /// How many bytes this struct has.
     pub size: u32,
-    /// Its number, from 1, in order of making.
+    /// Counts the resources from 1, in order of making.
     pub serial: u32,
-    /// The serial of its parent resource, or 0 for a root.
+    /// The serial of its parent, or 0 for a root.
     pub parent: u32,
-    /// 0 for the names of a group, 1 for those of the whole system.
+    /// 1 in the system's domain, 0 in the domain of a group.
     pub is_system: u32,
-    /// The group, or 0.
+    /// The UIC group, or 0 in the system's domain.
     pub group: u32,
-    /// 1 where the value block is valid, or 0.
     pub value_valid: u32,
-    /// 1 where its tail is valid, or 0.
     pub tail_valid: u32,
-    /// How many bytes of `name` are the name.
     pub name_len: u32,
-    /// The name, and zeros behind it.
+    /// `name_len` bytes, then zeros.
     pub name: [u8; 32],
-    /// Its value block.
     pub value: [u8; 16],
-    /// The tail of that.
     pub tail: [u8; 48],
-    /// 0.
     pub reserved: [u32; 4],
 }
 
@@ -107,21 +86,16 @@ pub struct VlmResource {
 #[repr(C)]
 #[derive(Clone, Copy)]
 pub struct VlmRow {
-    /// How many bytes this struct has.
     pub size: u32,
-    /// The lock.
     pub lkid: u32,
-    /// Its process.
     pub pid: u32,
-    /// The mode that it holds, or 255.
+    /// A mode, or 255 for no mode.
     pub held: u32,
-    /// The mode that it waits for, or 255.
+    /// A mode, or 255 for no mode.
     pub want: u32,
-    /// 0.
     pub reserved: [u32; 3],
 }
 
-/// The status block as C sees it.
 pub(crate) fn lksb_of(block: &Block) -> VlmLksb
     ensures { result ≡ lksb_of block.now }
 {
@@ -135,7 +109,6 @@ pub(crate) fn lksb_of(block: &Block) -> VlmLksb
     }
 }
 
-/// The process as C sees it.
 pub(crate) fn process_of(process: &ProcessView) -> VlmProcess
     ensures { result ≡ process_of process.now }
 {
@@ -152,7 +125,6 @@ pub(crate) fn process_of(process: &ProcessView) -> VlmProcess
     }
 }
 
-// The number of the mode, or 255.
 fn mode_number(mode: Option<Mode>) -> u32
     ensures { result ≡ mode_number mode }
 {
@@ -167,7 +139,6 @@ fn mode_number(mode: Option<Mode>) -> u32
     }
 }
 
-/// The lock as C sees it.
 pub(crate) fn row_of(row: &RowView) -> VlmRow
     ensures { result ≡ row_of row.now }
 {
@@ -181,7 +152,6 @@ pub(crate) fn row_of(row: &RowView) -> VlmRow
     }
 }
 
-// The bytes, and zeros behind them.
 fn padded<const N: usize>(bytes: &[u8]) -> [u8; N]
     requires { length bytes.now ≤ N }
     ensures { result ≡ padded N bytes.now }
@@ -191,7 +161,7 @@ fn padded<const N: usize>(bytes: &[u8]) -> [u8; N]
     cells
 }
 
-// The name's bytes with zeros behind them, and how many they are.
+// The padded name and its length.
 #[tactic(auto, using(crate::proofs::Lengths::name_short))]
 fn cells_of(name: Name) -> ([u8; 32], u32)
     ensures cells { result.0 ≡ padded 32 name }
@@ -201,7 +171,6 @@ fn cells_of(name: Name) -> ([u8; 32], u32)
     (padded(bytes), bytes.len() as u32)
 }
 
-/// The resource as C sees it.
 pub(crate) fn resource_of(resource: &ResourceView) -> VlmResource
     ensures { result ≡ resource_of resource.now }
 {

@@ -1,4 +1,6 @@
-//! What C passes, read as the steps of the machine.
+//! Reads the structs and numbers that C passes as steps of the machine. include/vlm.h describes their members.
+//!
+//! A struct names no step if it has another size, a reserved word that is not 0, or a number that does not fit.
 
 ghost use Rattle.std.specs.Prelude.{◌≡◌};
 ghost use Rattle.vlm_c.specs.Words.{conversion_of, declaration_of, dequeue_of, given, is_blank, is_request, mode_of, node_of, queue_of, request_of, setting_of, take_of, which_of};
@@ -10,7 +12,7 @@ use vlm_words::names::NameArg;
 use vlm_words::resources::Queue;
 use vlm_words::steps::{Conversion, Declaration, Dequeue, NewRequest, ValueSetting, Which};
 
-// The bytes of each struct, as its first member tells them.
+// The `size` that C writes into each struct.
 const DECLARATION_SIZE: u32 = 32;
 
 const SETTING_SIZE: u32 = 96;
@@ -27,105 +29,83 @@ const _: () = prove!(size_of::<VlmRequest>() == 128);
 
 const _: () = prove!(size_of::<VlmDequeue>() == 128);
 
-/// A process is declared.
+/// Declares a process.
 #[repr(C)]
 #[derive(Clone, Copy)]
 pub struct VlmDeclaration {
-    /// How many bytes this struct has.
     pub size: u32,
-    /// Its node, 1 to 8.
+    /// 1 to 8.
     pub node: u32,
-    /// Its UIC group.
+    /// The UIC group.
     pub group: u32,
-    /// 1 where it has the privilege SYSLCK, or 0.
+    /// 1 if it has the privilege SYSLCK, or 0.
     pub syslck: u32,
     /// How many locks it may have.
     pub quota: u32,
     /// How many status blocks it has, numbered from 1.
     pub blocks: u32,
-    /// 0, for what is to come.
     pub reserved: [u32; 2],
 }
 
-/// The value part of a status block is set.
+/// Sets the value part of a status block.
 #[repr(C)]
 #[derive(Clone, Copy)]
 pub struct VlmSetting {
-    /// How many bytes this struct has.
     pub size: u32,
-    /// The caller.
     pub pid: u32,
-    /// The number of the status block.
     pub block: u32,
-    /// 1 where the tail is to be set too, or 0.
+    /// 1 to set the tail too, or 0.
     pub has_tail: u32,
-    /// What the value part is to hold.
     pub value: [u8; 16],
-    /// What the tail is to hold.
     pub tail: [u8; 48],
-    /// 0, for what is to come.
     pub reserved: [u32; 4],
 }
 
-/// A new request or a conversion.
+/// Asks for a new lock, or for another mode of a lock.
 #[repr(C)]
 #[derive(Clone, Copy)]
 pub struct VlmRequest {
-    /// How many bytes this struct has.
     pub size: u32,
-    /// The caller.
     pub pid: u32,
-    /// The mode, 0 NL to 5 EX.
+    /// 0 (NL) to 5 (EX).
     pub mode: u32,
-    /// The flags.
     pub flags: u32,
-    /// The number of the caller's status block.
+    /// The caller's status block, from 1.
     pub block: u32,
-    /// The parent lock of a new request, 0 for none; the lock of a conversion.
+    /// The parent lock of a new request, or 0 for a root. The lock of a conversion.
     pub lock: u32,
-    /// Or the number of the status block that it stands in, and `lock` is 0.
+    /// If not 0, the status block that holds that lock's identification. `lock` is 0 then.
     pub lock_block: u32,
-    /// 1 where a completion routine is named, or 0.
+    /// 1 if `ast` names a completion routine, or 0.
     pub has_ast: u32,
-    /// The completion routine.
     pub ast: u32,
-    /// 1 where a blocking routine is named, or 0.
+    /// 1 if `bast` names a blocking routine, or 0.
     pub has_bast: u32,
-    /// The blocking routine.
     pub bast: u32,
-    /// The parameter of both.
+    /// Both routines get it.
     pub param: u32,
-    /// 0, for what is to come.
     pub reserved: [u32; 20],
 }
 
-/// A lock is given up, or a request is cancelled.
+/// Gives up locks, or cancels a request.
 #[repr(C)]
 #[derive(Clone, Copy)]
 pub struct VlmDequeue {
-    /// How many bytes this struct has.
     pub size: u32,
-    /// The caller.
     pub pid: u32,
-    /// The flags.
     pub flags: u32,
-    /// The lock.
     pub lock: u32,
-    /// Or the number of the status block that it stands in, and `lock` is 0.
+    /// As in [`VlmRequest`].
     pub lock_block: u32,
-    /// 1 where a value block is to be written, or 0.
+    /// 1 to write the value block, or 0.
     pub has_value: u32,
-    /// 1 where a tail is to be written with it, or 0.
+    /// 1 to write its tail too, or 0.
     pub has_tail: u32,
-    /// The value block.
     pub value: [u8; 16],
-    /// The tail.
     pub tail: [u8; 48],
-    /// 0, for what is to come.
     pub reserved: [u32; 9],
 }
 
-/// The mode of a number.
 #[tactic(auto, unfolding(crate::specs::Words::mode_of))]
 pub(crate) fn mode_of(number: u32) -> Option<Mode>
     ensures { result ≡ mode_of number }
@@ -141,7 +121,6 @@ pub(crate) fn mode_of(number: u32) -> Option<Mode>
     }
 }
 
-/// The queue of a number.
 #[tactic(auto, unfolding(crate::specs::Words::queue_of))]
 pub(crate) fn queue_of(number: u32) -> Option<Queue>
     ensures { result ≡ queue_of number }
@@ -154,7 +133,7 @@ pub(crate) fn queue_of(number: u32) -> Option<Queue>
     }
 }
 
-/// The node of a number.
+/// Every byte passes. The core checks that it is a node.
 pub(crate) fn node_of(number: u32) -> Option<u8>
     ensures { result ≡ node_of number }
 {
@@ -165,14 +144,13 @@ pub(crate) fn node_of(number: u32) -> Option<u8>
     }
 }
 
-/// The process whose AST is to be taken into a struct of this size.
+/// Checks the size of the struct that receives the AST.
 pub(crate) fn take_of(pid: u32, size: u32) -> Option<u32>
     ensures { result ≡ take_of pid size }
 {
     if size == AST_SIZE { Some(pid) } else { None }
 }
 
-// The lock that is named by an identification, or by the number of a status block.
 #[tactic(auto, unfolding(crate::specs::Words::which_of))]
 fn which_of(lock: u32, block: u32) -> Option<Which>
     ensures { result ≡ which_of lock block }
@@ -186,7 +164,7 @@ fn which_of(lock: u32, block: u32) -> Option<Which>
     }
 }
 
-// Whether every word is 0. Each is read, whatever those before it are: so several are compared at once.
+// It reads every word and never stops early, so the compiler can compare several words at once.
 fn is_blank(words: &[u32]) -> bool
     ensures { result ≡ is_blank words.now }
 {
@@ -197,14 +175,12 @@ fn is_blank(words: &[u32]) -> bool
     blank
 }
 
-// What is given where its mark is 1.
 fn given<T: Copy>(mark: u32, value: T) -> Option<T>
     ensures { result ≡ given mark value }
 {
     if mark == 1 { Some(value) } else { None }
 }
 
-/// The declaration.
 #[tactic(auto, unfolding(crate::specs::Words::declaration_of))]
 pub(crate) fn declaration_of(words: &VlmDeclaration) -> Option<Declaration>
     ensures { result ≡ declaration_of words.now }
@@ -227,7 +203,6 @@ pub(crate) fn declaration_of(words: &VlmDeclaration) -> Option<Declaration>
     })
 }
 
-/// The setting of a value.
 #[tactic(auto, unfolding(crate::specs::Words::setting_of))]
 pub(crate) fn setting_of(words: &VlmSetting) -> Option<ValueSetting>
     ensures { result ≡ setting_of words.now }
@@ -246,7 +221,6 @@ pub(crate) fn setting_of(words: &VlmSetting) -> Option<ValueSetting>
     })
 }
 
-// Whether it has its size, nothing behind its members, and numbers that fit.
 fn is_request(words: &VlmRequest) -> bool
     ensures { result ≡ is_request words.now }
 {
@@ -258,7 +232,6 @@ fn is_request(words: &VlmRequest) -> bool
         && words.has_bast <= 1
 }
 
-/// The new request.
 #[tactic(auto, unfolding(crate::specs::Words::request_of))]
 pub(crate) fn request_of(words: &VlmRequest, name: &[u8]) -> Option<NewRequest>
     ensures { result ≡ request_of words.now name.now }
@@ -281,7 +254,6 @@ pub(crate) fn request_of(words: &VlmRequest, name: &[u8]) -> Option<NewRequest>
     })
 }
 
-/// The conversion.
 #[tactic(auto, unfolding(crate::specs::Words::conversion_of))]
 pub(crate) fn conversion_of(words: &VlmRequest) -> Option<Conversion>
     ensures { result ≡ conversion_of words.now }
@@ -303,7 +275,6 @@ pub(crate) fn conversion_of(words: &VlmRequest) -> Option<Conversion>
     })
 }
 
-/// The dequeue.
 #[tactic(auto, unfolding(crate::specs::Words::dequeue_of))]
 pub(crate) fn dequeue_of(words: &VlmDequeue) -> Option<Dequeue>
     ensures { result ≡ dequeue_of words.now }

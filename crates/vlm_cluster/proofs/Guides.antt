@@ -34,11 +34,11 @@ tellings_in_turn : (items : List Item) (s : Standing) → AreInTurn (tellings it
 tellings_in_turn [] s = refl
 tellings_in_turn (x ∷ xs) s = tellings_in_turn xs s
 
--- what a worker that ends counts, one that ends early may count
-counted_early : (s : Standing) (size count : ℕ) (whole : Bool) → IsCounted s size count whole → IsCounted s size count false
-counted_early (shut_at n) size count whole is = is
-counted_early (open_at n) size count true is = (let e = is.0 in omega (arith, e), let e = is.0 in omega (arith, e))
-counted_early (open_at n) size count false is = is
+-- the count of a worker that ends is a possible count of a cancelled worker
+counted_cancelled : (s : Standing) (size count : ℕ) (whole : Bool) → IsCounted s size count whole → IsCounted s size count false
+counted_cancelled (shut_at n) size count whole is = is
+counted_cancelled (open_at n) size count true is = (let e = is.0 in omega (arith, e), let e = is.0 in omega (arith, e))
+counted_cancelled (open_at n) size count false is = is
 
 module _ {G : Type 0} (moves : Moves G) where
   chain_more : (es fs : List Event) (a b c : G) → Chain moves a es b → Chain moves b fs c → Chain moves a (es ++ fs) c
@@ -109,12 +109,12 @@ module _ {G : Type 0} (moves : Moves G) where
     counted = followed.counted;
   }
 
-  -- what ended may have ended early
-  pub followed_early : (o a : Point G) (size count : ℕ) (whole : Bool) → IsFollowed moves o a size count whole → IsFollowed moves o a size count false
-  followed_early o a size count whole followed = record {
+  -- what a gate said to a worker that ended, it may say to a cancelled one
+  pub followed_cancelled : (o a : Point G) (size count : ℕ) (whole : Bool) → IsFollowed moves o a size count whole → IsFollowed moves o a size count false
+  followed_cancelled o a size count whole followed = record {
     standing = followed.standing;
     guided = followed.guided;
-    counted = counted_early followed.standing size count whole followed.counted;
+    counted = counted_cancelled followed.standing size count whole followed.counted;
   }
 
   -- nothing was asked or told

@@ -1,6 +1,6 @@
 mod Accounting
 mod Assembled
-mod Dones
+mod Results
 mod Gated
 mod Guides
 mod Outcomes

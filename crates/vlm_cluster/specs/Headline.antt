@@ -1,4 +1,4 @@
--- What a run of lists comes to.
+-- What the report of a run says.
 use Rattle.std.specs.Prelude.{◌≡◌, ◌<◌, ◌≤◌, ◌+◌, ◌++◌, ℕ, Bool, true, false, IfErr, IfOk, Result, List, [], ◌∷◌, None, Option, Some, length, slice_get, take, ⊤}
 use Rattle.std.specs.declared.alloc.Global.{Global}
 use Rattle.std.specs.declared.vec.Vec.{Vec}
@@ -27,13 +27,13 @@ use Rattle.vlm_cluster.specs.Reports.{entries_of, parts_of}
 abbrev pub StepList : Type 0
 StepList = Vec Step Global
 
--- the items that a node is told
+-- a list of items
 abbrev pub Items : Type 0
 Items = Vec Item Global
 
--- what holds of every report: there is something for each list, and no more of it was posted than it has; the journal is
--- legal and leads to the core's state, the base of each of its parts says how many entries stand before it, by itself
--- the hub made takes alone, so it lost no node, and a node that has departed is answered so
+-- what holds of every report: it has items and a number of posts for each list, and no more posts than steps; the journal
+-- is legal and leads to the core's state; the base of each part is the number of entries before it; the hub's own entries
+-- are takes, so it lost no node; a node that has departed is answered so
 pub record IsReport (lists : List StepList) (r : Report) : Type 0 where
   pub counts : (length r.items.items ≡ length lists) × (length r.posted.items ≡ length lists)
   pub within : (k n : ℕ) (list : StepList) → slice_get lists k ≡ Some list → slice_get r.posted.items k ≡ Some n
@@ -43,7 +43,7 @@ pub record IsReport (lists : List StepList) (r : Report) : Type 0 where
   pub takes : HubTakesAlone (entries_of r)
   pub departed : (node : ℕ) → 0 < node → IsAnsweredDeparted node (entries_of r)
 
--- each node has asked for what was posted of its list and then for its departure, in order, and was told all that the
+-- each node has asked for the posted steps of its list and then for its departure, in order, and was told all that the
 -- journal tells it
 pub record AreServed (lists : List StepList) (r : Report) : Type 0 where
   pub report : IsReport lists r
@@ -51,7 +51,7 @@ pub record AreServed (lists : List StepList) (r : Report) : Type 0 where
       → asked (k + 1) (entries_of r) ≡ take n list.items ++ Leave (k + 1) ∷ []
   pub told : (k : ℕ) (items : Items) → slice_get r.items.items k ≡ Some items → items.items ≡ told (k + 1) (entries_of r)
 
--- each node has asked for the first of that, and was told the first of what the journal tells it
+-- the same in part: what each node has asked for, and what it was told, is a prefix of that
 pub record AreServedInPart (lists : List StepList) (r : Report) : Type 0 where
   pub report : IsReport lists r
   pub asked : (k n : ℕ) (list : StepList) → slice_get lists k ≡ Some list → slice_get r.posted.items k ≡ Some n
@@ -59,7 +59,7 @@ pub record AreServedInPart (lists : List StepList) (r : Report) : Type 0 where
   pub told : (k : ℕ) (items : Items) → slice_get r.items.items k ≡ Some items
       → IsPrefix items.items (told (k + 1) (entries_of r))
 
--- where memory was refused and something was started, that much was done
+-- if memory was refused after a worker was started, the lists were served in part
 abbrev pub IsCutShort : List StepList → Fault → Type 0
 IsCutShort lists (Memory None) = ⊤
 IsCutShort lists (Memory (Some r)) = AreServedInPart lists r
@@ -69,8 +69,8 @@ abbrev pub AreAllPosted : List StepList → Report → Type 0
 AreAllPosted lists r = (k n : ℕ) (list : StepList) → slice_get lists k ≡ Some list → slice_get r.posted.items k ≡ Some n
     → n ≡ length list.items
 
--- at a place of a journal: the entries before it are a run of the machine to a state from which those behind it go on,
--- and the fact holds of that run and that state
+-- at a place of a journal: the entries before it are a run of the machine to a state, from which the entries after it go
+-- on, and the fact holds of that run and that state
 pub record IsReached (P : History → State → Type 0) (before behind : List Entry) (last : State) : Type 0 where
   pub state : State
   pub legal : Journal before state
@@ -80,27 +80,27 @@ pub record IsReached (P : History → State → Type 0) (before behind : List En
 
 -- the fact holds at each place of a journal
 abbrev pub HoldsThroughout : (History → State → Type 0) → List Entry → State → Type 0
-HoldsThroughout P entries last = (before behind : List Entry) → entries ≡ before ++ behind → IsReached P before behind last
+HoldsThroughout P entries last = (before behind : List Entry) → entries ≡ before ++ behind
+    → IsReached P before behind last
 
 -- in each resource the held modes of any two locks are compatible, at each place of the journal
 abbrev pub ModesStayCompatible : List Entry → State → Type 0
 ModesStayCompatible entries last = HoldsThroughout (λ history state. HeldModesAreCompatible state) entries last
 
--- each accepted request is wanted and has not ended, or has ended once, at each place of the journal
+-- each accepted request is still wanted and has not ended, or has ended exactly once, at each place of the journal
 abbrev pub RequestsEndOnce : List Entry → State → Type 0
 RequestsEndOnce entries last = HoldsThroughout (λ history state. EachRequestEndsOnce history.endings state) entries last
 
--- each step that is not refused grants in the order of the queues, conversions before new requests, at each place of the
--- journal
+-- each step that is not refused grants in queue order, conversions before new requests, at each place of the journal
 abbrev pub GrantsKeepOrder : List Entry → State → Type 0
 GrantsKeepOrder entries last = HoldsThroughout
     (λ history state. (step : Step) (choice : Option Row) → IsChoice state step choice → step_refusal state step ≡ None
     → GrantsFollowQueueOrder state step choice)
     entries last
 
--- what serving lists comes to: a report that all was served, and posted where no gate ever stops; at each place of its
--- journal the held modes are compatible, each request ends once, and grants keep the order of the queues; or what was
--- done where memory was refused
+-- the result of serving lists: a report that all lists were served, and posted whole if no gate ever stops; at each place
+-- of its journal the held modes are compatible, each request ends once, and grants follow queue order; or, if memory was
+-- refused, what was done
 pub record IsServing (never_stops : Bool) (lists : List StepList) (result : Result Report Fault) : Type 0 where
   pub served : IfOk result (λ r. AreServed lists r)
   pub whole : never_stops ≡ true → IfOk result (λ r. AreAllPosted lists r)
@@ -110,14 +110,14 @@ pub record IsServing (never_stops : Bool) (lists : List StepList) (result : Resu
   pub cut_short : IfErr result (λ fault. IsCutShort lists fault)
 
 -- each list was posted as its gate said: the gate was told the items of the report, and let through what was posted,
--- which is all of the list or all before a stop
+-- which is the whole list or all steps before a stop
 abbrev pub AreGated : {G : Type 0} → Moves G → List G → List StepList → Report → Type 0
 AreGated {G} moves gates lists r = (k n : ℕ) (gate : G) (list : StepList) (items : Items)
     → slice_get gates k ≡ Some gate → slice_get lists k ≡ Some list
     → slice_get r.posted.items k ≡ Some n → slice_get r.items.items k ≡ Some items
     → (last : G) × IsFollowed moves (gate, []) (last, items.items) (length list.items) n true
 
--- the same of workers that may have ended early: the items of the report are the first of those that the gate was told
+-- the same of workers that may have been cancelled: the items of the report are a prefix of those that the gate was told
 abbrev pub AreGatedInPart : {G : Type 0} → Moves G → List G → List StepList → Report → Type 0
 AreGatedInPart {G} moves gates lists r = (k n : ℕ) (gate : G) (list : StepList) (items : Items)
     → slice_get gates k ≡ Some gate → slice_get lists k ≡ Some list
@@ -125,7 +125,7 @@ AreGatedInPart {G} moves gates lists r = (k n : ℕ) (gate : G) (list : StepList
     → (last : G) × (told : List Item) × IsPrefix items.items told
     × IsFollowed moves (gate, []) (last, told) (length list.items) n false
 
--- where memory was refused and something was started, that holds
+-- if memory was refused after a worker was started, that holds
 abbrev pub IsGatedFault : {G : Type 0} → Moves G → List G → List StepList → Fault → Type 0
 IsGatedFault moves gates lists (Memory None) = ⊤
 IsGatedFault moves gates lists (Memory (Some r)) = AreGatedInPart moves gates lists r

@@ -7,26 +7,26 @@ use Rattle.vlm_journal.specs.Told.{asked, told}
 use Rattle.vlm_ports.specs.declared.hub.Hub.{Hub}
 use Rattle.vlm_ports.specs.Hubs.{HubTakesAlone, asked_before, base, journal, rings, state, told_before}
 
--- the entries of the parts, one part behind another
+-- the entries of the parts, in order
 abbrev pub entries_in : List Part → List Entry
 entries_in [] = []
 entries_in (part ∷ parts) = part.entries.items ++ entries_in parts
 
--- each part has so many entries, or more
+-- each part has at least `every` entries
 abbrev pub HaveEnough : ℕ → List Part → Type 0
 HaveEnough every parts = All (λ part. every ≤ length part.entries.items) parts
 
--- the base of a part behind these entries: how many they are, or 2 ^ 64 - 1 where they are more
+-- the base of a part after these entries: their number, at most 2 ^ 64 - 1
 abbrev pub base_behind : List Entry → ℕ
 base_behind entries = min (length entries) (2 ^ 64 - 1)
 
--- the base of each part says how many entries stand before it
+-- the base of each part is the number of entries before it
 abbrev pub AreNumbered : List Part → Type 0
 AreNumbered parts = (k : ℕ) (part : Part) → slice_get parts k ≡ Some part
     → part.base ≡ base_behind (entries_in (take k parts))
 
--- the entries of these parts, and behind them those that the hub has written down since, are a legal journal that leads
--- to the hub's state, and by itself the hub made takes alone; what each node had asked for and was told before the last cut is what the parts say
+-- the entries of the parts and then of the hub's journal are a legal journal that leads to the hub's state; the hub's own
+-- entries are takes; what each node had asked for and was told before the last cut is what the parts say
 pub record IsAccounted (parts : List Part) (h : Hub) : Type 0 where
   pub legal : Journal (entries_in parts ++ journal h) (state h)
   pub base : base h ≡ base_behind (entries_in parts)

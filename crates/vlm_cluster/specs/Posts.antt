@@ -9,7 +9,7 @@ use Rattle.vlm_journal.specs.Journals.{IsPostOf}
 abbrev pub ArePostsOf : ℕ → List Step → Type 0
 ArePostsOf node list = All (λ step. IsPostOf node step) list
 
--- each node, from 1 on, may post each step of its list
+-- node k + 1 may post each step of list k
 abbrev pub AreListsOfPosts : List (Vec Step Global) → Type 0
 AreListsOfPosts lists = (k : ℕ) (list : Vec Step Global) → k < length lists
     → ArePostsOf (k + 1) (slice_index_or lists k list).items

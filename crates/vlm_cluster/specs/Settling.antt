@@ -1,4 +1,4 @@
--- What a hub says of a port that is settled.
+-- What a hub says of a settled port.
 use Rattle.std.specs.Prelude.{◌++◌, ℕ, List}
 use mathlib.Core.List.{IsPrefix}
 use Rattle.vlm_words.specs.declared.steps.Step.{Step}
@@ -13,19 +13,20 @@ use Rattle.vlm_ports.specs.Links.{Base}
 use Rattle.vlm_ports.specs.Ports.{posted, taken}
 use Rattle.vlm_ports.specs.Rings.{RingName}
 
--- what a settling leaves as it is
+-- what settling leaves unchanged
 abbrev pub standing : Hub → List (ℕ × RingName × RingName) × List Base × List Entry × State × ℕ
 standing h = (rings h, bases h, journal h, state h, base h)
 
--- all that a node has asked for, before the last cut and since
+-- all steps that a node has asked for, before the last cut and since
 abbrev pub asked_by : Hub → ℕ → List Step
 asked_by h node = asked_before h node ++ asked node (journal h)
 
--- all that a node is told, before the last cut and since
+-- all items that a node is told, before the last cut and since
 abbrev pub told_by : Hub → ℕ → List Item
 told_by h node = told_before h node ++ told node (journal h)
 
--- what the hub has made of the port's posts begins them, and what the port has taken begins what it is told
+-- the steps that the hub has made are a prefix of the port's posts, and the items that the port has taken are a prefix of
+-- what it is told
 pub record HasBegun (h : Hub) (p : Port) : Type 0 where
   pub asked : IsPrefix (asked_by h p.node) (posted p)
   pub told : IsPrefix (taken p) (told_by h p.node)

@@ -11,8 +11,8 @@ use Rattle.vlm_ports.specs.declared.port.Port.{Port}
 use Rattle.vlm_ports.specs.Hubs.{IsPortOf, journal}
 use Rattle.vlm_ports.specs.Ports.{identity, posted}
 use Rattle.vlm_ports.specs.Rings.{RingName}
-use Rattle.vlm_cluster.specs.declared.desk.Desk.{Desk}
-use Rattle.vlm_cluster.specs.declared.worker.Done.{Done}
+use Rattle.vlm_cluster.specs.declared.hub_driver.HubDriver.{HubDriver}
+use Rattle.vlm_cluster.specs.declared.worker.WorkerResult.{WorkerResult}
 use Rattle.vlm_cluster.specs.Gates.{IsFollowed, IsTold, Moves, Point}
 use Rattle.vlm_cluster.specs.Parts.{entries_in}
 
@@ -21,64 +21,65 @@ abbrev pub farewell : ℕ → Bool → List Step
 farewell node true = Leave node ∷ []
 farewell node false = []
 
--- what no settling and no taking changes of what a worker hands back: the port, what was posted on it, how much of the
--- list that was, and whether the departure was posted behind it
+-- what settling and taking leave unchanged in a worker's result: the port, the steps posted on it, how many of them are
+-- of the list, and whether the departure was posted after them
 pub record Work : Type 0 where
   pub port : ℕ × RingName × RingName
   pub posts : List Step
   pub count : ℕ
   pub left : Bool
 
--- the work that a worker hands back
-abbrev pub work_of : {G : Type 0} → Done G → Work
-work_of d = record { port = identity d.basket.port; posts = posted d.basket.port; count = d.posted; left = d.left }
+-- the work in a worker's result
+abbrev pub work_of : {G : Type 0} → WorkerResult G → Work
+work_of d = record { port = identity d.client.port; posts = posted d.client.port; count = d.posted; left = d.left }
 
--- the worker has posted so many steps of the list, and then the departure, if it has; all of them, if its gate stops it
--- never and it has left
+-- the worker has posted the first steps of the list, and then the departure if `left`; it has posted all steps if its
+-- gate never stops and it has left
 pub record IsWorkOn (never_stops : Bool) (port : Port) (list : List Step) (w : Work) : Type 0 where
   pub port_is : w.port ≡ identity port
   pub posts_are : w.posts ≡ take w.count list ++ farewell port.node w.left
   pub within : w.count ≤ length list
   pub whole : never_stops ≡ true → w.left ≡ true → w.count ≡ length list
 
--- all entries of the journal
-abbrev pub entries_at : Desk → List Entry
-entries_at desk = entries_in desk.parts.items ++ journal desk.hub
+-- all entries of the journal, in the parts and in the hub
+abbrev pub entries_at : HubDriver → List Entry
+entries_at driver = entries_in driver.parts.items ++ journal driver.hub
 
 -- each port was made with the hub
-abbrev pub ArePortsOf : {G : Type 0} → Hub → List (Done G) → Type 0
-ArePortsOf {G} h dones = (k : ℕ) (d : Done G) → k < length dones → IsPortOf h (slice_index_or dones k d).basket.port
+abbrev pub ArePortsOf : {G : Type 0} → Hub → List (WorkerResult G) → Type 0
+ArePortsOf {G} h results = (k : ℕ) (d : WorkerResult G) → k < length results
+    → IsPortOf h (slice_index_or results k d).client.port
 
--- what the journal asks for begins what was posted, and these items begin what it tells
+-- the node's steps in the journal are a prefix of its posts, and these items are a prefix of what the journal tells it
 pub record IsBegun (entries : List Entry) (w : Work) (items : List Item) : Type 0 where
   pub asked : IsPrefix (asked w.port.0 entries) w.posts
   pub told : IsPrefix items (told w.port.0 entries)
 
--- the departure was posted, what the journal asks for is what was posted, and these items are what it tells
+-- the departure was posted, the node's steps in the journal are its posts, and these items are what the journal tells it
 pub record IsWhole (entries : List Entry) (w : Work) (items : List Item) : Type 0 where
   pub left : w.left ≡ true
   pub asked : asked w.port.0 entries ≡ w.posts
   pub told : items ≡ told w.port.0 entries
 
--- so begun are the first of what is handed back
-abbrev pub AreBegun : {G : Type 0} → List Entry → List (Done G) → ℕ → Type 0
-AreBegun {G} entries dones n = (k : ℕ) (d : Done G) → k < n
-    → IsBegun entries (work_of (slice_index_or dones k d)) (slice_index_or dones k d).basket.items.items
+-- `IsBegun` holds of the first n results
+abbrev pub AreBegun : {G : Type 0} → List Entry → List (WorkerResult G) → ℕ → Type 0
+AreBegun {G} entries results n = (k : ℕ) (d : WorkerResult G) → k < n
+    → IsBegun entries (work_of (slice_index_or results k d)) (slice_index_or results k d).client.items.items
 
--- so whole are the first of what is handed back
-abbrev pub AreWhole : {G : Type 0} → List Entry → List (Done G) → ℕ → Type 0
-AreWhole {G} entries dones n = (k : ℕ) (d : Done G) → k < n
-    → IsWhole entries (work_of (slice_index_or dones k d)) (slice_index_or dones k d).basket.items.items
+-- `IsWhole` holds of the first n results
+abbrev pub AreWhole : {G : Type 0} → List Entry → List (WorkerResult G) → ℕ → Type 0
+AreWhole {G} entries results n = (k : ℕ) (d : WorkerResult G) → k < n
+    → IsWhole entries (work_of (slice_index_or results k d)) (slice_index_or results k d).client.items.items
 
--- the gate of a worker, and the items that it has taken
-abbrev pub point_of : {G : Type 0} → Done G → Point G
-point_of d = (d.gate, d.basket.items.items)
+-- a worker's gate, and the items that it has taken
+abbrev pub point_of : {G : Type 0} → WorkerResult G → Point G
+point_of d = (d.gate, d.client.items.items)
 
--- the worker has posted its list as its gate said, which it got in this state
-abbrev pub IsGatedWork : {G : Type 0} → Moves G → G → List Step → Done G → Type 0
+-- the worker has posted its list as its gate said, from the gate's first state on
+abbrev pub IsGatedWork : {G : Type 0} → Moves G → G → List Step → WorkerResult G → Type 0
 IsGatedWork moves gate list d = IsFollowed moves (gate, []) (point_of d) (length list) d.posted d.left
 
--- each worker's gate was told the items that were taken of its port, and was asked nothing
-abbrev pub AreTold : {G : Type 0} → Moves G → List (Done G) → List (Done G) → Type 0
-AreTold {G} moves old new = (k : ℕ) (d : Done G) → k < length old
+-- each worker's gate was told the items taken from its port, and was asked nothing
+abbrev pub AreTold : {G : Type 0} → Moves G → List (WorkerResult G) → List (WorkerResult G) → Type 0
+AreTold {G} moves old new = (k : ℕ) (d : WorkerResult G) → k < length old
     → IsTold moves (point_of (slice_index_or old k d)) (point_of (slice_index_or new k d))

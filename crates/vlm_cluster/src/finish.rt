@@ -1,4 +1,4 @@
-//! The report of a run, from what the workers hand back.
+//! Making the report of a run from the results of its workers.
 
 ghost use Rattle.std.specs.Prelude.{◌≡◌, ◌<◌, ◌≤◌, [], ℕ, IsTrue, length, map, replicate, slice_index, slice_index_or, vec_capacity, vec_len};
 ghost use Rattle.vlm_journal.specs.Journals.{Journal};
@@ -8,12 +8,13 @@ ghost use Rattle.vlm_cluster.specs.Parts.{AreNumbered, HaveEnough, IsAccounted};
 ghost use Rattle.vlm_cluster.specs.Reports.{entries_of, parts_of};
 ghost use Rattle.vlm_cluster.specs.Works.{ArePortsOf, IsBegun, IsWhole, entries_at, point_of, work_of};
 
-use crate::desk::Desk;
 use crate::gate::Gate;
+use crate::hub_driver::HubDriver;
+use crate::preallocated::ReportSpace;
 use crate::report::Report;
-use crate::settle::close;
+use crate::settlement::close;
 use crate::signals::Signals;
-use crate::worker::Done;
+use crate::worker::WorkerResult;
 use std::alloc::Global;
 use std::sync::Wait;
 use vlm_journal::entries::Item;
@@ -25,108 +26,114 @@ pub(crate) struct Finished {
     pub(crate) whole: bool,
 }
 
-/// Serves and takes what is left, and reports. It takes no memory but for items and entries.
+/// Serves and takes what is left on the rings, and makes the report. It allocates memory only for
+/// items and entries.
+// (inlined, LLVM works for minutes on how the hub moves)
+#[inline(never)]
 pub(crate) fn finish<G: Gate>(
     rt: &impl Wait,
     signals: &Signals,
-    desk: Desk,
-    dones: Vec<Done<G>>,
-    items: Vec<Vec<Item>>,
-    posted: Vec<usize>,
+    driver: HubDriver,
+    results: Vec<WorkerResult<G>>,
+    space: ReportSpace,
 ) -> Finished
-    requires ports { ArePortsOf desk.hub dones.items }
-    requires accounted { IsAccounted desk.parts.items desk.hub }
-    requires items { (vec_len items ≡ 0) × (vec_len dones ≤ vec_capacity items) }
-    requires posted { vec_len posted ≡ vec_len dones }
+    requires ports { ArePortsOf driver.hub results.items }
+    requires accounted { IsAccounted driver.parts.items driver.hub }
+    requires items { (vec_len space.items ≡ 0) × (vec_len results ≤ vec_capacity space.items) }
+    requires posted { vec_len space.posted ≡ vec_len results }
     ensures legal { Journal (entries_of result.report) result.report.core }
     ensures numbered { AreNumbered (parts_of result.report) }
     ensures takes { HubTakesAlone (entries_of result.report) }
-    ensures enough { HaveEnough desk.every result.report.parts.items }
-    ensures rest { IsTrue result.whole → length result.report.rest.entries.items < desk.every }
-    ensures counts { (vec_len result.report.items ≡ vec_len dones)
-        × (vec_len result.report.posted ≡ vec_len dones) }
-    ensures posted { (k : ℕ) (d : _) → k < vec_len dones
-        → slice_index result.report.posted.items k ≡ (slice_index_or dones.items k d).posted }
-    ensures begun { (k : ℕ) (d : _) (v : _) → k < vec_len dones
-        → IsBegun (entries_of result.report) (work_of (slice_index_or dones.items k d))
+    ensures enough { HaveEnough driver.every result.report.parts.items }
+    ensures rest { IsTrue result.whole → length result.report.rest.entries.items < driver.every }
+    ensures counts { (vec_len result.report.items ≡ vec_len results)
+        × (vec_len result.report.posted ≡ vec_len results) }
+    ensures posted { (k : ℕ) (d : _) → k < vec_len results
+        → slice_index result.report.posted.items k ≡ (slice_index_or results.items k d).posted }
+    ensures begun { (k : ℕ) (d : _) (v : _) → k < vec_len results
+        → IsBegun (entries_of result.report) (work_of (slice_index_or results.items k d))
         (slice_index_or result.report.items.items k v).items }
-    ensures whole { IsTrue result.whole → (k : ℕ) (d : _) (v : _) → k < vec_len dones
-        → IsWhole (entries_of result.report) (work_of (slice_index_or dones.items k d))
+    ensures whole { IsTrue result.whole → (k : ℕ) (d : _) (v : _) → k < vec_len results
+        → IsWhole (entries_of result.report) (work_of (slice_index_or results.items k d))
         (slice_index_or result.report.items.items k v).items }
-    ensures told { (k : ℕ) (d : _) (v : _) → k < vec_len dones
-        → IsToldOn (moves G.answers G.hears) (point_of (slice_index_or dones.items k d))
+    ensures told { (k : ℕ) (d : _) (v : _) → k < vec_len results
+        → IsToldOn (moves G.answers G.hears) (point_of (slice_index_or results.items k d))
         (slice_index_or result.report.items.items k v).items }
 {
-    let mut desk = desk;
-    let mut dones = dones;
-    let mut items = items;
-    let mut posted = posted;
-    let whole = close(rt, signals, &mut desk, dones.as_mut_slice());
-    note_posted(dones.as_slice(), posted.as_mut_slice());
-    take_items(dones, &mut items);
+    let mut driver = driver;
+    let mut results = results;
+    let ReportSpace {
+        mut items,
+        mut posted,
+    } = space;
+    let whole = close(rt, signals, &mut driver, results.as_mut_slice());
+    note_posted(results.as_slice(), posted.as_mut_slice());
+    take_items(results, &mut items);
     Finished {
-        report: desk.report(rt, items, posted),
+        report: driver.report(rt, items, posted),
         whole,
     }
 }
 
-/// The report where a later worker could not be started: the hub has made no turn, and nobody was
-/// told anything.
+/// Makes the report if a worker after the first could not be started. The hub has made no turn, so
+/// no node was told anything.
+#[inline(never)]
 pub(crate) fn give_up<G: Gate>(
     rt: &impl Wait,
     alloc: Global,
-    desk: Desk,
-    dones: &[Done<G>],
-    items: Vec<Vec<Item>>,
-    posted: Vec<usize>,
+    driver: HubDriver,
+    results: &[WorkerResult<G>],
+    space: ReportSpace,
 ) -> Report
-    requires quiet { entries_at desk ≡ [] }
-    requires accounted { IsAccounted desk.parts.items desk.hub }
-    requires items { (vec_len items ≡ 0) × (vec_len posted ≤ vec_capacity items) }
-    requires few { length dones.now ≤ vec_len posted }
-    requires posted { posted.items ≡ replicate (vec_len posted) 0 }
+    requires quiet { entries_at driver ≡ [] }
+    requires accounted { IsAccounted driver.parts.items driver.hub }
+    requires items { (vec_len space.items ≡ 0) × (vec_len space.posted ≤ vec_capacity space.items) }
+    requires few { length results.now ≤ vec_len space.posted }
+    requires posted { space.posted.items ≡ replicate (vec_len space.posted) 0 }
     ensures entries { entries_of result ≡ [] }
     ensures legal { Journal (entries_of result) result.core }
     ensures numbered { AreNumbered (parts_of result) }
     ensures takes { HubTakesAlone (entries_of result) }
-    ensures enough { HaveEnough desk.every result.parts.items }
-    ensures counts { (vec_len result.items ≡ vec_len posted)
-        × (vec_len result.posted ≡ vec_len posted) }
-    ensures items { (k : ℕ) (v : _) → k < vec_len posted
+    ensures enough { HaveEnough driver.every result.parts.items }
+    ensures counts { (vec_len result.items ≡ vec_len space.posted)
+        × (vec_len result.posted ≡ vec_len space.posted) }
+    ensures items { (k : ℕ) (v : _) → k < vec_len space.posted
         → (slice_index_or result.items.items k v).items ≡ [] }
-    ensures posted { (k : ℕ) (d : _) → k < length dones.now
-        → slice_index result.posted.items k ≡ (slice_index_or dones.now k d).posted }
-    ensures others { (k : ℕ) → length dones.now ≤ k → slice_index result.posted.items k ≡ 0 }
+    ensures posted { (k : ℕ) (d : _) → k < length results.now
+        → slice_index result.posted.items k ≡ (slice_index_or results.now k d).posted }
+    ensures others { (k : ℕ) → length results.now ≤ k → slice_index result.posted.items k ≡ 0 }
 {
-    let mut items = items;
-    let mut posted = posted;
+    let ReportSpace {
+        mut items,
+        mut posted,
+    } = space;
     for _ in 0..posted.len() {
         items.push_reserved(Vec::new(alloc));
     }
-    note_posted(dones, posted.as_mut_slice());
-    desk.report(rt, items, posted)
+    note_posted(results, posted.as_mut_slice());
+    driver.report(rt, items, posted)
 }
 
-// Notes how much each worker has posted.
-fn note_posted<G: Gate>(dones: &[Done<G>], posted: &mut [usize])
-    requires { length dones.now ≤ length posted.old }
-    ensures each { (k : ℕ) (d : _) → k < length dones.now
-        → slice_index posted.new k ≡ (slice_index_or dones.now k d).posted }
-    ensures others { (k : ℕ) → length dones.now ≤ k
+// Notes the number of steps that each worker has posted.
+fn note_posted<G: Gate>(results: &[WorkerResult<G>], posted: &mut [usize])
+    requires { length results.now ≤ length posted.old }
+    ensures each { (k : ℕ) (d : _) → k < length results.now
+        → slice_index posted.new k ≡ (slice_index_or results.now k d).posted }
+    ensures others { (k : ℕ) → length results.now ≤ k
         → slice_index posted.new k ≡ slice_index posted.old k }
 {
-    for at in 0..dones.len() {
-        posted[at] = dones[at].posted;
+    for at in 0..results.len() {
+        posted[at] = results[at].posted;
     }
 }
 
-// Takes the items out of what the workers hand back, in order.
-fn take_items<G: Gate>(dones: Vec<Done<G>>, items: &mut Vec<Vec<Item>>)
+// Moves the items out of the results, in order.
+fn take_items<G: Gate>(results: Vec<WorkerResult<G>>, items: &mut Vec<Vec<Item>>)
     requires none { vec_len items.old ≡ 0 }
-    requires room { vec_len dones ≤ vec_capacity items.old }
-    ensures { items.new.items ≡ map (λ d. d.basket.items) dones.items }
+    requires room { vec_len results ≤ vec_capacity items.old }
+    ensures { items.new.items ≡ map (λ d. d.client.items) results.items }
 {
-    for done in dones {
-        items.push_reserved(done.into_items());
+    for worker in results {
+        items.push_reserved(worker.into_items());
     }
 }

@@ -1,44 +1,45 @@
-//! Who says when a worker posts, and hears what it is told.
+//! The gate of a list: it decides when each step is posted, and hears each item.
 
 ghost use Rattle.std.specs.Prelude.{◌≡◌, ◌≢◌, Bool, true};
 
 use vlm_journal::entries::Item;
 
-/// What a worker is to do with the next step of its list.
+/// What a worker does with the next step of its list.
 #[derive(Clone, Copy, Debug, PartialEq, Eq)]
 pub enum Go {
-    /// It posts the step.
+    /// Posts the step.
     Post,
-    /// It asks again, and takes an item meanwhile.
+    /// Takes an item, if one has come, and asks again.
     Later,
-    /// It posts nothing more of its list, but its departure.
+    /// Posts no more steps of the list. The departure of the node comes next.
     Stop,
 }
 
-/// What a worker asks before it posts, and tells what it takes. A worker has one of its own.
+/// Decides when a worker posts, and hears each item that the worker takes. Each worker has its own gate.
 pub trait Gate: Drop {
     ghost use Rattle.std.specs.Prelude.{ℕ, ⊤};
     ghost use Rattle.vlm_journal.specs.declared.entries.Item.{Item};
     ghost use Rattle.vlm_cluster.specs.declared.gate.Go.{Go};
     ghost use Rattle.vlm_cluster.specs.declared.gate.Go.TheVariants.{Stop};
 
-    /// Whether no answer is [`Go::Stop`].
+    /// Whether `before` never answers [`Go::Stop`].
     ghost never_stops: { Bool };
 
-    /// In the first state, asked for this step, it gives this answer and is then in the second. A
-    /// gate that leaves this out says nothing of its answers.
+    /// `answers old n go new`: asked for step `n` in state `old`, the gate may answer `go`, which
+    /// leaves it in state `new`. The default says nothing.
     ghost answers: { Self → ℕ → Go → Self → Type 0 } = { λ _ _ _ _. ⊤ };
 
-    /// In the first state, told this item, it is then in the second. A gate may leave this out too.
+    /// `hears old item new`: told `item` in state `old`, the gate may come to state `new`. The default
+    /// says nothing.
     ghost hears: { Self → Item → Self → Type 0 } = { λ _ _ _. ⊤ };
 
-    /// Asked before post `n` of the list, from 0, and again for the same where it answers
-    /// [`Go::Later`]. The departure is not asked for.
+    /// The worker asks this before it posts step `n` of its list, counted from 0. After
+    /// [`Go::Later`] it asks for the same step again. It does not ask for the departure.
     fn before(&mut self, n: usize) -> Go
         ensures stops { Self.never_stops ≡ true → result ≢ Stop }
         ensures answers { Self.answers self.old n result self.new };
 
-    /// Told of each item that the worker takes, in order.
+    /// The worker calls this with each item that it takes, in order.
     fn after(&mut self, item: &Item)
         ensures { Self.hears self.old item.now self.new };
 }

@@ -1,5 +1,5 @@
-//! What holds throughout every journal. The functions do nothing but call the laws that they rest
-//! on: their contracts are the laws.
+//! Laws that hold at each place of every journal. The contract of each function is the law, and its
+//! body calls the laws that this one rests on.
 
 ghost use Rattle.std.specs.Prelude.{List};
 ghost use Rattle.vlm_words.specs.State.{State};
@@ -22,7 +22,7 @@ pub(crate) fn law_modes_stay_compatible()
     law_held_modes_are_compatible();
 }
 
-/// Each accepted request is wanted and has not ended, or has ended once.
+/// Each accepted request is still wanted and has not ended, or has ended exactly once.
 pub(crate) fn law_requests_end_once()
     ensures { (entries : List Entry) (last : State)
         → Journal entries last → RequestsEndOnce entries last }
@@ -32,7 +32,7 @@ pub(crate) fn law_requests_end_once()
     law_each_request_ends_once();
 }
 
-/// Each step that is not refused grants in the order of the queues.
+/// Each step that is not refused grants in queue order.
 pub(crate) fn law_grants_keep_order()
     ensures { (entries : List Entry) (last : State)
         → Journal entries last → GrantsKeepOrder entries last }

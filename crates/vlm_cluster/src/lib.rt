@@ -1,28 +1,28 @@
-//! Lists of steps from up to eight nodes, each posted by a worker in a thread of its own, while the
-//! hub turns in the caller's.
+//! Serves lists of steps from up to eight nodes. A worker thread posts each list, while the hub makes
+//! its turns in the caller's thread.
 //!
-//! [`serve_lists`] starts a worker for each list. A worker asks its [`Gate`] before each post,
-//! posts the list and then the departure of its node, and takes items until every post is answered.
-//! The hub cuts its journal into parts as it goes on. When all workers are over, what is left on
-//! the rings is served and taken, and the [`Report`] says what happened.
+//! [`serve_lists`] starts a worker for each list. The worker asks its [`Gate`] before each step, posts
+//! the list and then the departure of its node, and takes items until every post is answered. The hub
+//! cuts its journal into parts as it goes. When all workers have finished, the caller's thread serves
+//! and takes what is left on the rings. The [`Report`] says what happened.
 #![tactic(auto)]
 
-mod basket;
-mod desk;
+mod client;
 mod finish;
 mod gate;
+mod hub_driver;
 mod laws;
+mod lists;
 mod pause;
 mod posts;
+mod preallocated;
 mod report;
-mod room;
-mod serve;
-mod settle;
+mod settlement;
 mod signals;
 mod threads;
 mod worker;
 
 pub use gate::{Gate, Go};
+pub use lists::{serve_lists, serve_lists_over};
 pub use posts::posts_of;
 pub use report::{Fault, Report};
-pub use serve::{serve_lists, serve_lists_over};

@@ -1,4 +1,4 @@
-//! What a run comes to.
+//! The report of a run.
 
 ghost use Rattle.std.specs.Prelude.{◌≡◌};
 ghost use Rattle.vlm_journal.specs.Journals.{Journal};
@@ -7,7 +7,7 @@ ghost use Rattle.vlm_cluster.specs.Parts.{AreNumbered, HaveEnough, IsAccounted};
 ghost use Rattle.vlm_cluster.specs.Reports.{entries_of, parts_of};
 ghost use Rattle.vlm_cluster.specs.Works.{entries_at};
 
-use crate::desk::Desk;
+use crate::hub_driver::HubDriver;
 use std::sync::Wait;
 use vlm_core::Core;
 use vlm_journal::entries::{Item, Part};
@@ -15,29 +15,29 @@ use vlm_journal::entries::{Item, Part};
 /// What happened in a run.
 #[derive(Drop)]
 pub struct Report {
-    /// The parts that were cut off the journal, in order. Each has at least as many entries as was
-    /// asked for, and the rest has fewer where nothing was refused.
+    /// The parts cut off the journal, in order. Each has at least `every` entries. The rest has fewer
+    /// if nothing was refused.
     pub parts: Vec<Part>,
-    /// The rest of the journal, behind all parts.
+    /// The rest of the journal, after all parts.
     pub rest: Part,
-    /// For each list, what its worker was told, in order.
+    /// For each list, the items that its worker was told, in order.
     pub items: Vec<Vec<Item>>,
-    /// For each list, how many of its steps were posted, the departure not counted.
+    /// For each list, the number of its steps that were posted. The departure is not counted.
     pub posted: Vec<usize>,
-    /// The core, behind the last entry.
+    /// The core after the last entry.
     pub core: Core,
 }
 
-/// Why a run did not come to its end.
+/// Why a run failed.
 #[derive(Drop)]
 pub enum Fault {
-    /// Memory, or a thread, was refused. With no report nothing was started; else it is the report
-    /// of what was done.
+    /// Memory or a thread was refused. Without a report no worker was started. Otherwise the report
+    /// says what was done.
     Memory(Option<Report>),
 }
 
-impl Desk {
-    /// Cuts the rest off, and makes the report. It takes no memory.
+impl HubDriver {
+    /// Cuts the rest off the journal, and makes the report. It allocates nothing.
     pub(crate) fn report(self, rt: &impl Wait, items: Vec<Vec<Item>>, posted: Vec<usize>) -> Report
         requires { IsAccounted self.parts.items self.hub }
         ensures entries { entries_of result ≡ entries_at self }
@@ -49,7 +49,7 @@ impl Desk {
         ensures items { result.items ≡ items }
         ensures posted { result.posted ≡ posted }
     {
-        let Desk {
+        let HubDriver {
             mut hub,
             parts,
             every: _,
@@ -65,9 +65,9 @@ impl Desk {
         }
     }
 
-    /// Ends it with nothing to report.
+    /// Ends the hub without a report.
     pub(crate) fn close(self, rt: &impl Wait) {
-        let Desk {
+        let HubDriver {
             hub,
             parts: _,
             every: _,

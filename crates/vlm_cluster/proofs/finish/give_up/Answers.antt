@@ -1,6 +1,6 @@
 use Rattle.std.proofs.Common.{◌≡◌, ◌<◌, ℕ, List, [], length, get_or, drop, vec_len, arith, sym, subst, ap, ◌∙◌}
 use Rattle.vlm_cluster.specs.Headline.{Items}
-use Rattle.vlm_cluster.proofs.Dones.{after_lend, all_more, zeros}
+use Rattle.vlm_cluster.proofs.Results.{after_lend, all_more, zeros}
 use Rattle.vlm_cluster.proofs.finish.give_up.Goals as goal
 
 pub loop-preserved : goal.loop-preserved
@@ -22,17 +22,17 @@ returns-clause-items g c k v below =
 pub returns-clause-posted : goal.returns-clause-posted
 returns-clause-posted g c k d below =
     let ps : List ℕ = c.note_posted.new.posted in
-    let room : length ps ≡ c.args.posted.len = omega arith in
+    let room : length ps ≡ c.args.space.posted.len = omega arith in
     ap (λ v. get_or v.items k 0) c.report.ensures.posted
-    ∙ ap (λ (qs : List ℕ). get_or qs k 0) (after_lend c.args.posted.len ps (drop (length ps) c.args.posted.items) room)
+    ∙ ap (λ (qs : List ℕ). get_or qs k 0) (after_lend c.args.space.posted.len ps (drop (length ps) c.args.space.posted.items) room)
     ∙ c.note_posted.ensures.each k d below
 
 pub returns-clause-others : goal.returns-clause-others
 returns-clause-others g c k above =
     let ps : List ℕ = c.note_posted.new.posted in
-    let room : length ps ≡ c.args.posted.len = omega arith in
+    let room : length ps ≡ c.args.space.posted.len = omega arith in
     ap (λ v. get_or v.items k 0) c.report.ensures.posted
-    ∙ ap (λ (qs : List ℕ). get_or qs k 0) (after_lend c.args.posted.len ps (drop (length ps) c.args.posted.items) room)
+    ∙ ap (λ (qs : List ℕ). get_or qs k 0) (after_lend c.args.space.posted.len ps (drop (length ps) c.args.space.posted.items) room)
     ∙ c.note_posted.ensures.others k above
     ∙ ap (λ (qs : List ℕ). get_or qs k 0) (c.as_mut_slice.ensures.value ∙ c.requires.posted)
-    ∙ zeros (vec_len c.args.posted) k
+    ∙ zeros (vec_len c.args.space.posted) k

@@ -5,17 +5,17 @@ use Rattle.std.specs.declared.thread.PromisedHandle.{PromisedHandle}
 use Rattle.std.specs.declared.vec.Vec.{Vec}
 use Rattle.vlm_words.specs.declared.steps.Step.{Step}
 use Rattle.vlm_ports.specs.declared.port.Port.{Port}
-use Rattle.vlm_cluster.specs.declared.threads.Given.{Given}
-use Rattle.vlm_cluster.specs.declared.worker.Done.{Done}
-use Rattle.vlm_cluster.proofs.Dones.{all_more}
+use Rattle.vlm_cluster.specs.declared.threads.WorkerPromise.{WorkerPromise}
+use Rattle.vlm_cluster.specs.declared.worker.WorkerResult.{WorkerResult}
+use Rattle.vlm_cluster.proofs.Results.{all_more}
 use Rattle.vlm_cluster.proofs.threads.start_all.Goals as goal
 
 pub loop-preserved : goal.loop-preserved
 loop-preserved g c =
-    let at = c.loop.counter in let was = c.loop.invariant in let ports = c.args.ports.items in let lists = c.args.lists.items in
+    let at = c.loop.counter in let was = c.loop.invariant in let ports = c.args.inputs.ports.items in let lists = c.args.inputs.lists.items in
     let child = c.in-Ok.child in let old = c.loop.children.items in
-    let G = g.row.G.Denot in let gates : List G = c.args.gates.items in
-    let H = PromisedHandle (Done G) (Given G) in
+    let G = g.row.G.Denot in let gates : List G = c.args.inputs.gates.items in
+    let H = PromisedHandle (WorkerResult G) (WorkerPromise G) in
     let Q : ℕ → H → Type 0 = λ m h. (x : G) → h.promise.gate.value ≡ get_or gates m x in
     let P : ℕ → H → Type 0 = λ m h. (p : Port) (x : Vec Step Global) → (h.promise.port.value ≡ get_or ports m p) × (h.promise.list.value ≡ get_or lists m x) in
     let some_gate : at < length gates = (let n = c.requires.lens.0 in omega arith) in

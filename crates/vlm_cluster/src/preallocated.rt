@@ -1,0 +1,54 @@
+//! Memory that is allocated before any worker starts.
+
+ghost use Rattle.std.specs.Prelude.{◌≡◌, ◌≤◌, IfOk, replicate, vec_capacity, vec_len};
+
+use crate::gate::Gate;
+use crate::signals::Signals;
+use crate::threads::WorkerPromise;
+use crate::worker::WorkerResult;
+use std::alloc::{AllocError, Global};
+use std::sync::Arc;
+use std::thread::PromisedHandle;
+use vlm_journal::entries::Item;
+
+/// The memory of a run, except that of its items and entries.
+#[derive(Drop)]
+pub(crate) struct Preallocated<G: Gate> {
+    pub(crate) signals: Arc<Signals>,
+    /// Space for the handles of the workers.
+    pub(crate) children: Vec<PromisedHandle<WorkerResult<G>, WorkerPromise<G>>>,
+    /// Space for their results.
+    pub(crate) results: Vec<WorkerResult<G>>,
+    /// Space for the report.
+    pub(crate) space: ReportSpace,
+}
+
+/// Space for what a report says of each list.
+#[derive(Drop)]
+pub(crate) struct ReportSpace {
+    /// Space for the items of each list.
+    pub(crate) items: Vec<Vec<Item>>,
+    /// The number of steps posted of each list, 0 until it is noted.
+    pub(crate) posted: Vec<usize>,
+}
+
+impl<G: Gate> Preallocated<G> {
+    /// For `count` workers.
+    pub(crate) fn new(alloc: Global, count: usize) -> Result<Preallocated<G>, AllocError>
+        ensures children { IfOk result (λ r.
+            (vec_len r.children ≡ 0) × (count ≤ vec_capacity r.children)) }
+        ensures results { IfOk result (λ r. (vec_len r.results ≡ 0) × (count ≤ vec_capacity r.results)) }
+        ensures items { IfOk result (λ r. (vec_len r.space.items ≡ 0) × (count ≤ vec_capacity r.space.items)) }
+        ensures posted { IfOk result (λ r. r.space.posted.items ≡ replicate count 0) }
+    {
+        Ok(Preallocated {
+            signals: Arc::new(alloc, Signals::new())?,
+            children: Vec::with_capacity(alloc, count)?,
+            results: Vec::with_capacity(alloc, count)?,
+            space: ReportSpace {
+                items: Vec::with_capacity(alloc, count)?,
+                posted: vec![in alloc; 0; count]?,
+            },
+        })
+    }
+}
