@@ -13,7 +13,7 @@ use Rattle.vlm_words.specs.Flags.{flag_bits, has_flag, syncsts}
 use Rattle.vlm_words.specs.State.{Process, Resource, process_of}
 use Rattle.vlm_words.specs.Endings.{Ending, is_told}
 
--- the ASTs that are queued to a living process and not yet taken, the oldest first
+-- the pending ASTs of a process, oldest first; empty if the process does not live
 abbrev pub asts_of : List Process → ℕ → List Ast
 asts_of processes pid = option_map_or (λ p. p.asts) (process_of processes pid) []
 
@@ -21,46 +21,46 @@ asts_of processes pid = option_map_or (λ p. p.asts) (process_of processes pid) 
 abbrev pub oldest : List Ast → Option Ast
 oldest asts = slice_get asts 0
 
--- the ASTs but for the oldest
+-- the ASTs except the oldest
 abbrev pub later : List Ast → List Ast
 later asts = drop 1 asts
 
--- the process once its oldest AST is taken
+-- the process after its oldest AST is taken
 abbrev pub without_oldest_ast : Process → Process
 without_oldest_ast p = record p { asts = later p.asts }
 
--- the process once its oldest AST is taken, if it has this identification
+-- the oldest AST of the process is taken, if it has this identification
 unfoldable pub process_after_take : ℕ → Process → Process
 process_after_take pid p = if p.pid == pid then without_oldest_ast p else p
 
--- the oldest AST of the process with this identification is taken, and no other process is changed
+-- the oldest AST of this process is taken, and no other process changes
 abbrev pub processes_after_take : ℕ → List Process → List Process
 processes_after_take pid processes = map (process_after_take pid) processes
 
--- an AST, and the process that it is queued to
+-- an AST and the process it is queued to
 pub record Queued : Type 0 where
   pub pid : ℕ
   pub ast : Ast
 
--- the process with one more AST, behind the others
+-- the process with one more AST, at the end
 abbrev pub with_ast : Ast → Process → Process
 with_ast ast p = record p { asts = p.asts ++ ast ∷ [] }
 
--- the process once an AST is queued, if that is to it
+-- the AST is queued to the process, if it has this identification
 unfoldable pub process_after_queueing : ℕ → Ast → Process → Process
 process_after_queueing pid ast p = if p.pid == pid then with_ast ast p else p
 
--- an AST is queued to the process with this identification, and no other process is changed
+-- an AST is queued to this process, and no other process changes
 abbrev pub processes_after_queueing : ℕ → Ast → List Process → List Process
 processes_after_queueing pid ast processes = map (process_after_queueing pid ast) processes
 
--- ASTs are queued, one after the other, each to its process
+-- ASTs are queued one after another, each to its process
 abbrev pub processes_after_asts : List Queued → List Process → List Process
 processes_after_asts [] processes = processes
 processes_after_asts (q ∷ queued) processes =
     processes_after_asts queued (processes_after_queueing q.pid q.ast processes)
 
--- the AST of a lock's request for its process, if a routine is named for it
+-- the AST of a request, if the request names a routine of this kind
 abbrev pub asts_for : AstKind → Option ℕ → Request → ℕ → ℕ → List Queued
 asts_for kind None request lkid pid = []
 asts_for kind (Some routine) request lkid pid =
@@ -69,64 +69,64 @@ asts_for kind (Some routine) request lkid pid =
 
 -- ---- completions
 
--- the request is granted at once, and SYNCSTS lets the answer tell of that alone
+-- an immediate grant with SYNCSTS, which only the answer reports
 abbrev pub is_synchronous : Bool → Request → Bool
 is_synchronous at_once request = at_once && has_flag (flag_bits request.flags) syncsts
 
--- the completion AST of a lock's request that has ended, at once or later
+-- the completion AST of an ended request
 unfoldable pub completion_asts : Bool → Request → ℕ → ℕ → List Queued
 completion_asts at_once request lkid pid =
     if is_synchronous at_once request then []
     else asts_for Completion request.completion request lkid pid
 
--- the completion AST of a request that has ended so; a process that ends is told nothing
+-- the completion AST of an ending; a rundown queues no AST
 abbrev pub completions : Ending → List Queued
 completions ending =
     if is_told ending.how then completion_asts ending.at_once ending.request ending.lkid ending.pid
     else []
 
--- those of requests that have ended, in the order of their ends
+-- the completion ASTs of several endings, in order
 abbrev pub completions_of : List Ending → List Queued
 completions_of endings = flat_map completions endings
 
 -- ---- warnings
 
--- what is held keeps the request from being granted
+-- the request cannot be granted beside this held mode
 abbrev pub keeps_out : Mode → Option Request → Bool
 keeps_out mode None = false
 keeps_out mode (Some want) = not (is_compatible want.mode mode)
 
--- what is held, if anything is, keeps some queued request from being granted
+-- the held mode, if there is one, is incompatible with some queued request
 abbrev pub is_in_the_way : Option Request → List Row → List Row → Bool
 is_in_the_way None converting waiting = false
 is_in_the_way (Some held) converting waiting =
     list_any (λ row. keeps_out held.mode row.want) converting
     || list_any (λ row. keeps_out held.mode row.want) waiting
 
--- the lock of a granted row is to be warned: it is armed, and in the way of a queued request
+-- the granted lock is armed and blocks a queued request
 unfoldable pub is_to_warn : List Row → List Row → Row → Bool
 is_to_warn converting waiting row = row.armed && is_in_the_way row.held converting waiting
 
--- the blocking AST of what is held, if a routine is named for it
+-- the blocking AST of a held request, if it names a blocking routine
 abbrev pub blocking_asts : Option Request → ℕ → ℕ → List Queued
 blocking_asts None lkid pid = []
 blocking_asts (Some held) lkid pid = asts_for Blocking held.blocking held lkid pid
 
--- the warning of a granted row, if it is to be warned
+-- the blocking AST of a granted lock, if the lock is to be warned
 unfoldable pub row_warnings : List Row → List Row → Row → List Queued
 row_warnings converting waiting row =
     if is_to_warn converting waiting row then blocking_asts row.held row.lkid row.pid else []
 
--- the warnings of a resource, in the order of its granted queue
+-- the blocking ASTs of a resource, in the order of its granted queue
 unfoldable pub warnings : Resource → List Queued
 warnings r = flat_map (row_warnings r.converting r.waiting) r.granted
 
--- the row once it is warned: then it is armed no more
+-- a warned lock is disarmed
 unfoldable pub row_after_warning : List Row → List Row → Row → Row
 row_after_warning converting waiting row =
     if is_to_warn converting waiting row then record row { armed = false } else row
 
--- the resource once its granted locks are warned
+-- the resource after its granted locks are warned
 unfoldable pub resource_after_warning : Resource → Resource
 resource_after_warning r =
     record r { granted = map (row_after_warning r.converting r.waiting) r.granted }

@@ -1,4 +1,4 @@
--- Who waits in a circle, in words of its own, and what a search is to find.
+-- Waiting in a circle, and what a search finds, in words of their own.
 use Rattle.std.specs.Prelude.{◌≡◌, ◌≢◌, ◌≤◌, ◌⊎◌, ℕ, false, List, [], ◌∷◌, Any, Option, None, Some}
 use Rattle.vlm_words.specs.declared.locks.Request.{Request}
 use Rattle.vlm_words.specs.declared.locks.Row.{Row}
@@ -14,30 +14,29 @@ use Rattle.vlm_words.specs.Stepped.{Stepped}
 abbrev pub IsOneOf : List Row → Row → Type 0
 IsOneOf rows row = Any (λ other. other ≡ row) rows
 
--- in the queue the one stands, and the other somewhere behind it
+-- the first row comes before the second in the queue
 abbrev pub ComesBefore : Row → Row → List Row → Type 0
 ComesBefore first second [] = ⊥
 ComesBefore first second (row ∷ rows) =
     ((row ≡ first) × IsOneOf rows second) ⊎ ComesBefore first second rows
 
--- of two conversions, and of two new requests, one stands ahead by its queue; a conversion stands ahead of each new request
+-- the lock's request is ahead of the row's: earlier in the same queue, or a conversion before a waiting request
 abbrev pub IsAheadOf : Resource → Row → Row → Type 0
 IsAheadOf r lock row =
     ComesBefore lock row r.converting ⊎ (IsOneOf r.converting lock × IsOneOf r.waiting row)
     ⊎ ComesBefore lock row r.waiting
 
--- there is a request, and it is one that others count as waiting for
+-- there is a request, and it does not have NODLCKBLK
 abbrev pub IsWaitedFor : Option Request → Type 0
 IsWaitedFor None = ⊥
 IsWaitedFor (Some request) = has_flag (flag_bits request.flags) nodlckblk ≡ false
 
--- the lock holds a mode on the resource beside which this one may not be held
+-- the lock holds a mode on the resource that is incompatible with this one, by a request without NODLCKBLK
 abbrev pub KeepsOut : Resource → Mode → Row → Type 0
 KeepsOut r mode lock =
     (IsOneOf r.granted lock ⊎ IsOneOf r.converting lock) × (IsBeside mode lock.held → ⊥) × IsWaitedFor lock.held
 
--- the row converts or waits on the resource, and its request, unless it is with NODLCKWT, waits for another lock, which
--- keeps it out or is ahead of it
+-- the row's queued request, without NODLCKWT, waits for another lock, which keeps it out or is ahead of it
 pub record IsBlockedBy (r : Resource) (row lock : Row) : Type 0 where
   pub queued : IsOneOf r.converting row ⊎ IsOneOf r.waiting row
   pub request : Request
@@ -50,7 +49,7 @@ pub record IsBlockedBy (r : Resource) (row lock : Row) : Type 0 where
 abbrev pub IsBlocked : State → Row → Row → Type 0
 IsBlocked s row lock = Any (λ r. IsBlockedBy r row lock) s.resources
 
--- a request of the one process waits for a lock of the other
+-- a request of process pid waits for a lock of the other process
 pub record IsHeldUpBy (s : State) (pid other : ℕ) : Type 0 where
   pub row : Row
   pub lock : Row
@@ -58,36 +57,36 @@ pub record IsHeldUpBy (s : State) (pid other : ℕ) : Type 0 where
   pub owner : lock.pid ≡ other
   pub blocked : IsBlocked s row lock
 
--- this process waits for the first of the others, each of them for the next, and the last for the one where it ends
+-- the process waits for the first of the others, each of them for the next, and the last one for process `end`
 abbrev pub WaitsOnTo : State → ℕ → ℕ → List ℕ → Type 0
 WaitsOnTo s end pid [] = IsHeldUpBy s pid end
 WaitsOnTo s end pid (next ∷ others) = IsHeldUpBy s pid next × WaitsOnTo s end next others
 
--- no list of processes waits in a circle, each for the next and the last for the first
+-- there is no list of processes in which each waits for the next and the last for the first
 abbrev pub NobodyWaitsInACircle : State → Type 0
 NobodyWaitsInACircle s = (pid : ℕ) (others : List ℕ) → WaitsOnTo s pid pid others → ⊥
 
--- the owner of the lock is this process, or waits on to it
+-- the owner of the lock is this process, or waits for it through a chain
 abbrev pub ComesBackTo : State → ℕ → ℕ → Type 0
 ComesBackTo s pid owner = (owner ≡ pid) ⊎ ((others : List ℕ) × WaitsOnTo s pid owner others)
 
--- the request of the row waits for a lock from whose owner the waiting comes back to its own process
+-- the row's request waits for a lock whose owner is, or waits for, the row's own process
 pub record IsCaught (s : State) (row : Row) : Type 0 where
   pub lock : Row
   pub blocked : IsBlocked s row lock
   pub back : ComesBackTo s row.pid lock.pid
 
--- the request of the row is no later than that of the other
+-- the row's request is not later than the other's
 abbrev pub IsNoLater : Row → Row → Type 0
 IsNoLater row other =
     (first later : Request) → row.want ≡ Some first → other.want ≡ Some later → first.number ≤ later.number
 
--- the request of the row ends by deadlock
+-- the row's request ends by deadlock
 abbrev pub EndsByDeadlock : Row → List Ending → Type 0
 EndsByDeadlock row endings =
     Any (λ ending. (ending.how ≡ by_deadlock) × (ending.lkid ≡ row.lkid) × (Some ending.request ≡ row.want)) endings
 
--- the lock's request is caught, no request that is caught was accepted later, and it ends by deadlock
+-- the lock's request is caught, no caught request was accepted later, and it ends by deadlock
 pub record IsCaughtLast (s : State) (made : Stepped) (lkid : ℕ) : Type 0 where
   pub row : Row
   pub lock : row.lkid ≡ lkid
@@ -95,14 +94,14 @@ pub record IsCaughtLast (s : State) (made : Stepped) (lkid : ℕ) : Type 0 where
   pub last : (other : Row) → IsCaught s other → IsNoLater other row
   pub ended : EndsByDeadlock row made.endings
 
--- nothing is changed, no request ends, and nothing is queued
+-- nothing changes, no request ends, and nothing is queued
 pub record LeavesAll (s : State) (made : Stepped) : Type 0 where
   pub state : made.state ≡ s
   pub none_ends : made.endings ≡ []
   pub none_queued : made.queued ≡ []
 
--- what a search finds that answers this lock, or none: a request that is caught, the last of them, which it ends; or that
--- nobody waits in a circle, and then it leaves all as it was
+-- a search that answers a lock ends the last caught request; one that answers no lock finds no circle, and changes
+-- nothing
 abbrev pub FindsWhoIsCaught : State → Stepped → Option ℕ → Type 0
 FindsWhoIsCaught s made None = NobodyWaitsInACircle s × LeavesAll s made
 FindsWhoIsCaught s made (Some lkid) = IsCaughtLast s made lkid

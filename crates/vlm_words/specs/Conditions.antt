@@ -1,9 +1,9 @@
--- The numbers and names of the conditions that a service answers.
+-- The numbers and names of the conditions. The numbers are this project's own.
 use Rattle.std.specs.Prelude.{ℕ, List, codes}
 use Rattle.vlm_words.specs.declared.conditions.Cond.{Cond}
 use Rattle.vlm_words.specs.declared.conditions.Cond.TheVariants.{Normal, Synch, Notqueued, Abort, Cancel, Deadlock, Valnotvalid, Cancelgrant, Sublocks, Ivlockid, Cvtungrant, Parnotgrant, Exdepth, Exenqlm, Nolockid, Insfmem, Ivbuflen, Badparam, Unsupported, Nosyslck, Accvio, Nonexpr, Departed, Widenotvalid}
 
--- a condition's number
+-- the number of a condition, as a status block holds it
 abbrev pub condition_number : Cond → ℕ
 condition_number Normal = 1
 condition_number Synch = 2
@@ -30,7 +30,7 @@ condition_number Nonexpr = 22
 condition_number Departed = 23
 condition_number Widenotvalid = 24
 
--- a condition's name
+-- the name of a condition, as it is printed
 abbrev pub condition_name : Cond → List ℕ
 condition_name Normal = codes "NORMAL"
 condition_name Synch = codes "SYNCH"

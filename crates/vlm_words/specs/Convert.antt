@@ -1,4 +1,4 @@
--- The step that converts a lock to another mode.
+-- The step Convert: another mode of a granted lock.
 use Rattle.std.specs.Prelude.{ℕ, Bool, true, false, not, ◌&&◌, ◌||◌, ◌+◌, List, [], ◌∷◌, ◌++◌, map, find, Option, None, Some, if◌then◌else◌}
 use Rattle.vlm_words.specs.declared.conditions.Cond.TheVariants.{Badparam, Cvtungrant}
 use Rattle.vlm_words.specs.declared.conditions.Cond.{Cond}
@@ -17,25 +17,24 @@ use Rattle.vlm_words.specs.Grants.{fits, grant_endings, is_empty, resource_after
 use Rattle.vlm_words.specs.Rows.{is_lock_of, rows_without}
 use Rattle.vlm_words.specs.Checks.{caller_refusal, lock_refusal, named_lkid, or_else, queue_refusal, request_numbers_refusal, status_block_refusal, which_refusal}
 
--- an unknown flag
+-- BADPARAM for an unknown flag
 unfoldable pub convert_flags_refusal : Conversion → Option Cond
 convert_flags_refusal c = if is_known enq_bits c.flags then None else Some Badparam
 
--- at once: the mode fits beside all other locks, and with QUECVT no conversion is queued
+-- granted at once: the mode fits beside all other locks, and with QUECVT no conversion is queued
 unfoldable pub converts_at_once : Request → ℕ → Resource → Bool
 converts_at_once request lkid r =
     fits request.mode (rows_without lkid r.granted) r.converting
     && (not (has_flag (flag_bits request.flags) quecvt) || is_empty r.converting)
 
--- a conversion as it is admitted: the lock as it is granted on its resource, what is asked for, and whether
--- that is granted at once
+-- an admitted conversion: the granted lock and its resource, the request, and whether it is granted at once
 pub record ConversionAdmission : Type 0 where
   pub resource : Resource
   pub row : Row
   pub request : Request
   pub at_once : Bool
 
--- the conversion of the lock that is granted on this resource, or else as it is admitted later
+-- the admission of the lock if it is granted on this resource, else the one found later
 abbrev pub admission_or : Request → Resource → Option Row → Option ConversionAdmission
     → Option ConversionAdmission
 admission_or request r None later = later
@@ -47,17 +46,17 @@ admission_or request r (Some row) later =
       at_once = converts_at_once request row.lkid r;
     })
 
--- the conversion of a lock of this process, where it is granted
+-- the admission of a lock of this process, if it is granted on one of these resources
 abbrev pub admission_among : Request → ℕ → ℕ → List Resource → Option ConversionAdmission
 admission_among request pid lkid [] = None
 admission_among request pid lkid (r ∷ rest) =
     admission_or request r (find (is_lock_of pid lkid) r.granted) (admission_among request pid lkid rest)
 
--- the lock that is to convert
+-- the named lock
 abbrev pub convert_lkid : State → Conversion → ℕ
 convert_lkid s c = named_lkid s c.pid c.lock
 
--- what is asked for, under the next request number
+-- the request, under the next request number
 abbrev pub convert_request : State → Conversion → Request
 convert_request s c = record {
   number = s.next_request;
@@ -69,23 +68,22 @@ convert_request s c = record {
   param = c.param;
 }
 
--- the conversion as it is admitted; none where its lock is not granted
+-- the admission of the conversion, if its lock is granted
 unfoldable pub convert_admission : State → Conversion → Option ConversionAdmission
 convert_admission s c = admission_among (convert_request s c) c.pid (convert_lkid s c) s.resources
 
--- QUECVT may go with a conversion from what is held to the mode
+-- QUECVT may go with a conversion from the held mode to this one
 abbrev pub is_queued_legally_from : Option Request → Mode → Bool
 is_queued_legally_from None mode = false
 is_queued_legally_from (Some held) mode = is_queued_legally held.mode mode
 
--- QUECVT does not go with the conversion
+-- BADPARAM if QUECVT does not go with the two modes
 unfoldable pub pair_refusal : Conversion → Row → Option Cond
 pair_refusal c row =
     if has_flag c.flags quecvt && not (is_queued_legally_from row.held c.mode) then Some Badparam
     else None
 
--- the lock waits or converts already, QUECVT does not go with its conversion, the request numbers are used
--- up, or the conversion must not queue and is not granted at once
+-- CVTUNGRANT if the lock waits or converts already, else the refusals by QUECVT, request numbers and NOQUEUE
 abbrev pub admission_refusal : State → Conversion → Option ConversionAdmission → Option Cond
 admission_refusal s c None = Some Cvtungrant
 admission_refusal s c (Some a) =
@@ -106,21 +104,20 @@ convert_refusal s c =
 abbrev pub wanting_row : Row → Request → Row
 wanting_row row request = record row { want = Some request }
 
--- the end of the conversion, if it is granted at once
+-- the ending of the conversion, if it is granted at once
 abbrev pub conversion_endings : ConversionAdmission → List Ending
 conversion_endings a = if a.at_once then grant_endings true (wanting_row a.row a.request) else []
 
--- what that end makes of the resource's value block and of the processes
+-- the resource's value block and the processes, after that ending
 abbrev pub conversion_blocks : ConversionAdmission → List Process → Blocks
 conversion_blocks a processes =
     blocks_after (conversion_endings a) (blocks_with a.resource.value_block processes)
 
--- the resource but for a granted lock that leaves its queue
+-- the resource without a lock that leaves its granted queue
 abbrev pub resource_without_granted : ℕ → Resource → Resource
 resource_without_granted lkid r = record r { granted = rows_without lkid r.granted }
 
--- the lock of this row is granted at once, with this value block, or goes to the end of the conversion
--- queue
+-- the lock is granted at once, and the value block becomes this one; or it goes to the end of the conversion queue
 abbrev pub resource_after_conversion_of : Request → Bool → ℕ → ValueBlock → Resource → Option Row
     → Resource
 resource_after_conversion_of request at_once lkid block r None = r
@@ -132,18 +129,17 @@ resource_after_conversion_of request at_once lkid block r (Some row) =
       converting = r.converting ++ wanting_row row request ∷ [];
     }
 
--- what a conversion makes of a resource: only that of the lock is changed
+-- the change of a resource; it changes only the resource of the lock
 unfoldable pub resource_after_conversion : Request → Bool → ℕ → ℕ → ValueBlock → Resource → Resource
 resource_after_conversion request at_once pid lkid block r =
     resource_after_conversion_of request at_once lkid block r (find (is_lock_of pid lkid) r.granted)
 
--- the blocks once the conversion is accepted: its status block is written, and again if it is granted at
--- once
+-- the blocks after the conversion: its status block is marked pending, then its grant at once is written, if any
 unfoldable pub convert_blocks : State → Conversion → ConversionAdmission → Blocks
 convert_blocks s c a =
     conversion_blocks a (processes_after_acceptance c.pid c.block (convert_lkid s c) s.processes)
 
--- the lock converts, its status block is written, and the request number that it took is used up
+-- the change of a conversion: it writes processes and resources, and uses one request number
 unfoldable pub convert_change : State → Conversion → ConversionAdmission → State
 convert_change s c a = record s {
   processes = (convert_blocks s c a).processes;

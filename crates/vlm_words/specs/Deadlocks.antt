@@ -1,4 +1,4 @@
--- Who waits for whom, and which request ends where processes wait for each other in a circle.
+-- Who waits for whom, and the victim of a deadlock.
 use Rattle.std.specs.Prelude.{◌≡◌, ◌≢◌, ◌≤◌, ◌⊎◌, ◌++◌, ℕ, false, List, [], ◌∷◌, Any, Option, None, Some}
 use Rattle.std.specs.Option.{option_map_or}
 use Rattle.vlm_words.specs.declared.locks.Request.{Request}
@@ -8,40 +8,40 @@ use Rattle.vlm_words.specs.Modes.{is_compatible}
 use Rattle.vlm_words.specs.Flags.{flag_bits, has_flag, nodlckblk, nodlckwt}
 use Rattle.vlm_words.specs.State.{Resource, State}
 
--- the requests that are queued on a resource, in their order: all conversions stand before all new requests
+-- the queued rows of a resource, in order: all conversions before all waiting requests
 abbrev pub queue_of : Resource → List Row
 queue_of r = r.converting ++ r.waiting
 
--- the row is among these
+-- the row is one of these
 abbrev pub IsRowAmong : List Row → Row → Type 0
 IsRowAmong rows row = Any (λ other. other ≡ row) rows
 
--- the one stands in the queue before the other
+-- the first row is before the second in the queue
 pub record StandsBefore (queue : List Row) (first second : Row) : Type 0 where
   pub before : List Row
   pub behind : List Row
   pub queued : queue ≡ before ++ second ∷ behind
   pub first_among : IsRowAmong before first
 
--- what is held is not compatible with the mode, and the request that it is held by is without NODLCKBLK
+-- the held mode is incompatible with this mode, and its request does not have NODLCKBLK
 abbrev pub HoldsAgainst : Mode → Option Request → Type 0
 HoldsAgainst mode None = ⊥
 HoldsAgainst mode (Some held) =
     (is_compatible mode held.mode ≡ false) × (has_flag (flag_bits held.flags) nodlckblk ≡ false)
 
--- a request is wanted that those behind it wait for: it is without NODLCKBLK
+-- later requests wait for this wanted request: it does not have NODLCKBLK
 abbrev pub BlocksThoseBehind : Option Request → Type 0
 BlocksThoseBehind None = ⊥
 BlocksThoseBehind (Some want) = has_flag (flag_bits want.flags) nodlckblk ≡ false
 
--- the lock keeps this request of the other lock waiting: it is held on the resource in a mode that is not compatible
--- with the request's, or its own request stands before that one
+-- the lock keeps the row's request waiting, by a request without NODLCKBLK: it holds an incompatible mode, or is queued
+-- before the row
 abbrev pub KeepsWaiting : Resource → Request → Row → Row → Type 0
 KeepsWaiting r request row lock =
     (IsRowAmong (r.granted ++ r.converting) lock × HoldsAgainst request.mode lock.held)
     ⊎ (StandsBefore (queue_of r) lock row × BlocksThoseBehind lock.want)
 
--- on the resource the queued request of a row waits for the lock of another row
+-- on the resource, the queued request of the row waits for the lock
 pub record WaitsOn (r : Resource) (row lock : Row) : Type 0 where
   pub queued : IsRowAmong (queue_of r) row
   pub request : Request
@@ -50,11 +50,11 @@ pub record WaitsOn (r : Resource) (row lock : Row) : Type 0 where
   pub another : lock.lkid ≢ row.lkid
   pub kept : KeepsWaiting r request row lock
 
--- the queued request of a row waits for the lock of another row
+-- on some resource, the queued request of the row waits for the lock
 abbrev pub WaitsFor : State → Row → Row → Type 0
 WaitsFor s row lock = Any (λ r. WaitsOn r row lock) s.resources
 
--- a process waits for another, or for itself: one of its requests waits for a lock of the other
+-- a request of process pid waits for a lock of the other process, which may be the same
 pub record ProcessWaitsFor (s : State) (pid other : ℕ) : Type 0 where
   pub row : Row
   pub lock : Row
@@ -62,25 +62,24 @@ pub record ProcessWaitsFor (s : State) (pid other : ℕ) : Type 0 where
   pub holder : lock.pid ≡ other
   pub waits : WaitsFor s row lock
 
--- the list of processes that begins with this one and goes on with these ends with the last, and each process in it
--- waits for the next
+-- a list of processes leads from pid to last, and each process in it waits for the next
 abbrev pub LeadsTo : State → ℕ → List ℕ → ℕ → Type 0
 LeadsTo s pid [] last = pid ≡ last
 LeadsTo s pid (next ∷ others) last = ProcessWaitsFor s pid next × LeadsTo s next others last
 
--- the queued request of a row is deadlocked: there is a list of processes that begins with the owner of a lock that it
--- waits for and ends with its own, in which each waits for the next
+-- the row's request is deadlocked: a list of processes, each waiting for the next, leads from the owner of a lock
+-- that it waits for back to its own process
 pub record IsDeadlocked (s : State) (row : Row) : Type 0 where
   pub lock : Row
   pub waits : WaitsFor s row lock
   pub others : List ℕ
   pub leads : LeadsTo s lock.pid others row.pid
 
--- the number of the request that a row wants, 0 where it wants none
+-- the number of the wanted request, or 0
 abbrev pub wanted_number : Row → ℕ
 wanted_number row = option_map_or (λ request. request.number) row.want 0
 
--- the victim: none, and no queued request is deadlocked; or the row of the deadlocked request that was made last
+-- the victim is the deadlocked request with the greatest number, or there is no victim and no request is deadlocked
 abbrev pub IsVictim : State → Option Row → Type 0
 IsVictim s None = (row : Row) → IsDeadlocked s row → ⊥
 IsVictim s (Some victim) =

@@ -1,4 +1,4 @@
--- The step that declares a process.
+-- The step Declare: a new process.
 use Rattle.std.specs.Prelude.{ℕ, Bool, ◌&&◌, ◌+◌, ◌-◌, ◌*◌, not, nat_lt, nat_le, Option, None, Some, List, [], ◌∷◌, ◌++◌, slice_set, replicate, if◌then◌else◌}
 use Rattle.vlm_words.specs.declared.conditions.Cond.TheVariants.{Badparam, Departed}
 use Rattle.vlm_words.specs.declared.conditions.Cond.{Cond}
@@ -7,11 +7,11 @@ use Rattle.vlm_words.specs.State.{Node, Process, State, node_at}
 use Rattle.vlm_words.specs.StatusBlocks.{new_status_block}
 use Rattle.vlm_words.specs.Checks.{has_departed}
 
--- the number is that of a node, 1 to 8
+-- the number of a node, 1 to 8
 abbrev pub is_node : ℕ → Bool
 is_node node = nat_le 1 node && nat_le node 8
 
--- no such node, a departed one, or one that has given all its ordinals
+-- BADPARAM if there is no such node or its ordinals are used up, DEPARTED if the node has departed
 unfoldable pub declare_refusal : State → Declaration → Option Cond
 declare_refusal s d =
     if not (is_node d.node) then Some Badparam
@@ -20,11 +20,11 @@ declare_refusal s d =
     else (if nat_lt (node_at s.nodes d.node).declared 65535 then None else Some Badparam)
     )
 
--- the identification that the node's next process gets
+-- the identification of the node's next process
 abbrev pub next_pid : State → ℕ → ℕ
 next_pid s node = node * 65536 + ((node_at s.nodes node).declared + 1)
 
--- a process at its making, with new status blocks and no AST
+-- a new process: its status blocks are new, and no AST is pending
 abbrev pub new_process : ℕ → Declaration → Process
 new_process pid d = record {
   pid = pid;
@@ -35,16 +35,16 @@ new_process pid d = record {
   asts = [];
 }
 
--- the new process
+-- the process that the declaration makes
 abbrev pub declared_process : State → Declaration → Process
 declared_process s d = new_process (next_pid s d.node) d
 
--- the node has declared one more
+-- the node counts one more declared process
 abbrev pub nodes_after_declaration : List Node → ℕ → List Node
 nodes_after_declaration nodes node =
     slice_set nodes (node - 1) (record (node_at nodes node) { declared = (node_at nodes node).declared + 1 })
 
--- the process lives, and its node has declared one more
+-- the process lives, and its node counts one more
 unfoldable pub declare_change : State → Declaration → State
 declare_change s d = record s {
   nodes = nodes_after_declaration s.nodes d.node;

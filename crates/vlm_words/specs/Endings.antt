@@ -6,8 +6,7 @@ use Rattle.vlm_words.specs.declared.locks.Request.{Request}
 use Rattle.vlm_words.specs.declared.locks.Row.{Row}
 use Rattle.vlm_words.specs.declared.modes.Act.{Act}
 
--- a request is granted, which may return or write the value block, or ends with its lock, or is cancelled, or is the
--- victim of a deadlock, or ends with its process
+-- the ways to end: by grant, which may return or write the value block, or by abort, cancel, deadlock or rundown
 pub data How : Type 0 where
   by_grant : Act → How
   by_abort : How
@@ -15,8 +14,7 @@ pub data How : Type 0 where
   by_deadlock : How
   by_rundown : How
 
--- the end of a request of a lock: the lock and its process, the request, how it ends, and whether that is
--- at once, in the step that asks for it
+-- an ending: the lock, its process, the request, how it ends, and whether the step that made the request ends it
 pub record Ending : Type 0 where
   pub lkid : ℕ
   pub pid : ℕ
@@ -24,18 +22,17 @@ pub record Ending : Type 0 where
   pub how : How
   pub at_once : Bool
 
--- the end of what a lock wants; where it wants nothing, nothing ends
+-- the ending of a wanted request; empty if nothing is wanted
 abbrev pub wanted_endings : How → Bool → ℕ → ℕ → Option Request → List Ending
 wanted_endings how at_once lkid pid None = []
 wanted_endings how at_once lkid pid (Some request) =
     record { lkid = lkid; pid = pid; request = request; how = how; at_once = at_once } ∷ []
 
--- the end of what the lock of a row wants
+-- the ending of the request that a row wants
 abbrev pub row_endings : How → Bool → Row → List Ending
 row_endings how at_once row = wanted_endings how at_once row.lkid row.pid row.want
 
--- the status that an end writes where it returns no value block: NORMAL, ABORT, CANCEL, or DEADLOCK; none at the end
--- of the process
+-- the status that an ending writes unless it returns the value block; a rundown writes no status
 abbrev pub ending_status : How → Option Cond
 ending_status (by_grant act) = Some Normal
 ending_status by_abort = Some Abort
@@ -43,7 +40,7 @@ ending_status by_cancel = Some Cancel
 ending_status by_deadlock = Some Deadlock
 ending_status by_rundown = None
 
--- the process is told of the end of its request by an AST, but at its own end
+-- the process is notified of the ending; it is not of a rundown
 abbrev pub is_told : How → Bool
 is_told (by_grant act) = true
 is_told by_abort = true

@@ -1,10 +1,10 @@
--- The flag bits of requests and dequeues that are built.
+-- The flag bits of requests and dequeues.
 use Rattle.std.specs.Prelude.{ℕ, Bool, ◌==◌, ◌+◌}
 use Rattle.std.specs.Int.RustNames.{bit_and}
 use Rattle.vlm_words.specs.declared.flags.DeqFlags.{DeqFlags}
 use Rattle.vlm_words.specs.declared.flags.EnqFlags.{EnqFlags}
 
--- a grant returns the value block to the request's status block, or writes it from there
+-- a grant returns the value block to the status block, or a conversion writes it from there
 abbrev pub valblk : ℕ
 valblk = 1
 
@@ -12,11 +12,11 @@ valblk = 1
 abbrev pub noqueue : ℕ
 noqueue = 2
 
--- a request that is granted at once answers SYNCH
+-- a request that is granted at once answers SYNCH, and queues no completion AST
 abbrev pub syncsts : ℕ
 syncsts = 4
 
--- a root is in the system's domain, which takes a privilege
+-- a root is in the system's domain, which needs SYSLCK
 abbrev pub system : ℕ
 system = 8
 
@@ -24,47 +24,47 @@ system = 8
 abbrev pub expedite : ℕ
 expedite = 16
 
--- a conversion is granted at once only where none is queued
+-- a conversion is granted at once only if no conversion is queued
 abbrev pub quecvt : ℕ
 quecvt = 32
 
--- the request counts as waiting for nobody in a search for a deadlock
+-- in a search for a deadlock, the queued request waits for nobody
 abbrev pub nodlckwt : ℕ
 nodlckwt = 64
 
--- nobody counts as waiting for the request in a search for a deadlock, while it is queued and once it is granted
+-- in a search for a deadlock, nobody waits for the request, neither while it is queued nor once it is granted
 abbrev pub nodlckblk : ℕ
 nodlckblk = 128
 
--- with VALBLK, the value block is returned or written with its tail
+-- with VALBLK, the value block's tail is returned or written too
 abbrev pub wide : ℕ
 wide = 256
 
--- the bits of new requests and conversions that are built
+-- all flags of new requests and conversions
 abbrev pub enq_bits : ℕ
 enq_bits = valblk + noqueue + syncsts + system + expedite + quecvt + nodlckwt + nodlckblk + wide
 
--- all locks below a lock, or all of the caller, are given up
+-- gives up all locks below a lock, or with lock 0 all locks of the caller
 abbrev pub deqall : ℕ
 deqall = 1
 
--- a request is cancelled
+-- cancels a request
 abbrev pub cancel : ℕ
 cancel = 2
 
--- the value block is marked invalid
+-- marks the value block invalid as a lock that holds PW or EX goes
 abbrev pub invvalblk : ℕ
 invvalblk = 4
 
--- the bits of dequeues that are built
+-- all flags of dequeues
 abbrev pub deq_bits : ℕ
 deq_bits = deqall + cancel + invvalblk
 
--- the flag is among the bits
+-- the flag is set
 unfoldable pub has_flag : ℕ → ℕ → Bool
 has_flag bits flag = bit_and bits flag == flag
 
--- every bit is among those that are built
+-- every bit is a known flag
 unfoldable pub is_known : ℕ → ℕ → Bool
 is_known built bits = bit_and bits built == bits
 

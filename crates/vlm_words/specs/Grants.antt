@@ -1,4 +1,4 @@
--- How queued requests are granted: fits, grant, service.
+-- How queued requests are granted: what fits, a grant, the service of a resource.
 use Rattle.std.specs.Prelude.{Bool, true, false, ◌&&◌, List, [], ◌∷◌, ◌++◌, Option, None, Some, is_some, if◌then◌else◌}
 use Rattle.std.specs.List.{list_all}
 use Rattle.vlm_words.specs.declared.locks.Request.{Request}
@@ -12,56 +12,56 @@ use Rattle.vlm_words.specs.State.{Resource}
 use Rattle.vlm_words.specs.Endings.{Ending, row_endings}
 use Rattle.vlm_words.specs.Endings.How.{by_grant}
 
--- no lock stands in the queue
+-- the queue has no lock
 abbrev pub is_empty : List Row → Bool
 is_empty [] = true
 is_empty (row ∷ rows) = false
 
--- the mode may be held beside what the row holds, if it holds anything
+-- the mode is compatible with what the row holds, if it holds anything
 abbrev pub is_beside : Mode → Option Request → Bool
 is_beside mode None = true
 is_beside mode (Some held) = is_compatible mode held.mode
 
--- the mode fits: it is compatible with the held mode of every other row, granted or converting
+-- the mode fits: it is compatible with the held mode of each of these locks, granted or converting
 unfoldable pub fits : Mode → List Row → List Row → Bool
 fits mode granted converting =
     list_all (λ row. is_beside mode row.held) granted
     && list_all (λ row. is_beside mode row.held) converting
 
--- the request that a row wants fits beside the other rows; a row that wants nothing has none
+-- the wanted request fits beside these rows; false if nothing is wanted
 abbrev pub wanted_fits : Option Request → List Row → List Row → Bool
 wanted_fits None granted converting = false
 wanted_fits (Some request) granted converting = fits request.mode granted converting
 
--- a grant arms the lock where its request has a blocking routine
+-- a grant arms the lock if its request names a blocking routine, else it disarms the lock
 abbrev pub is_arming : Option Request → Bool
 is_arming None = false
 is_arming (Some request) = is_some request.blocking
 
--- the row holds what it wanted
+-- the row after its grant: it holds what it wanted
 abbrev pub granted_row : Row → Row
 granted_row row = record row { held = row.want; want = None; armed = is_arming row.want }
 
--- grant: the row goes to the end of the granted queue
+-- a grant: the row goes to the end of the granted queue
 abbrev pub resource_after_grant : Resource → Row → Resource
 resource_after_grant r row = record r { granted = r.granted ++ granted_row row ∷ [] }
 
--- what VALBLK does at a grant: a new request returns the value block, a conversion does as its table says
+-- what VALBLK does at a grant: a new request returns the value block, a conversion goes by the table
 abbrev pub valblk_act : Option Request → Mode → Act
 valblk_act None mode = Return
 valblk_act (Some held) mode = value_action held.mode mode
 
--- what the grant of a request does with the value block, by what is held before: nothing without VALBLK
+-- what a grant does with the value block, by what the lock held before; nothing without VALBLK
 unfoldable pub grant_act : Option Request → Option Request → Act
 grant_act held None = Nothing
 grant_act held (Some want) =
     if has_flag (flag_bits want.flags) valblk then valblk_act held want.mode else Nothing
 
--- the end that the grant of a row brings, at once or in the service of its resource
+-- the ending that a grant brings
 abbrev pub grant_endings : Bool → Row → List Ending
 grant_endings at_once row = row_endings (by_grant (grant_act row.held row.want)) at_once row
 
--- what the service of a resource comes to: the resource, and the ends of the requests that are granted
+-- the result of a service: the resource, and the endings of the granted requests
 pub record Service : Type 0 where
   pub resource : Resource
   pub endings : List Ending
@@ -70,11 +70,11 @@ pub record Service : Type 0 where
 abbrev pub no_service : Resource → Service
 no_service r = record { resource = r; endings = [] }
 
--- a row is granted, and then more is
+-- one grant, and then more of the service
 abbrev pub service_after_grant : Row → Service → Service
 service_after_grant row more = record more { endings = grant_endings false row ++ more.endings }
 
--- while the first converting row fits, it is granted
+-- grants the first conversion as long as it fits
 abbrev pub service_of_conversions : Resource → List Row → Service
 service_of_conversions r [] = no_service r
 service_of_conversions r (row ∷ rows) =
@@ -83,7 +83,7 @@ service_of_conversions r (row ∷ rows) =
     (service_of_conversions (record (resource_after_grant r row) { converting = rows }) rows)
     else no_service r
 
--- while the first waiting row fits, it is granted
+-- grants the first waiting request as long as it fits
 abbrev pub service_of_waiting : Resource → List Row → Service
 service_of_waiting r [] = no_service r
 service_of_waiting r (row ∷ rows) =
@@ -92,16 +92,16 @@ service_of_waiting r (row ∷ rows) =
     (service_of_waiting (record (resource_after_grant r row) { waiting = rows }) rows)
     else no_service r
 
--- once no conversion is queued, the waiting queue is served too
+-- serves the waiting queue, if no conversion is queued
 abbrev pub service_of_new_requests : Resource → Service
 service_of_new_requests r =
     if is_empty r.converting then service_of_waiting r r.waiting else no_service r
 
--- first one service, then another of what it leaves
+-- two services, one after the other
 abbrev pub service_then : Service → Service → Service
 service_then first later = record later { endings = first.endings ++ later.endings }
 
--- conversions first, then new requests, each queue up to the first that does not fit
+-- conversions first, then waiting requests; each queue up to the first that does not fit
 unfoldable pub service : Resource → Service
 service r =
     let conversions = service_of_conversions r r.converting

@@ -1,4 +1,4 @@
--- How a step's own change leaves the queues: in their order, and whoever joins one stands behind it.
+-- The law that a step's own change keeps each queue in order.
 use Rattle.std.specs.Prelude.{◌≡◌, ◌≤◌, ◌/◌, ◌==◌, ◌++◌, ℕ, Bool, true, false, List, [], ◌∷◌, All, Option, None, Some, length, if◌then◌else◌}
 use Rattle.std.specs.List.{AllZip, list_any}
 use Rattle.vlm_words.specs.declared.locks.Row.{Row}
@@ -11,17 +11,17 @@ use Rattle.vlm_words.specs.OwnLocks.{has_lock_among}
 use Rattle.vlm_words.specs.Laws.{IsSameResource}
 use Rattle.vlm_words.specs.Stepped.{step_change}
 
--- a lock of this identification is one of these processes'
+-- the lock belongs to one of these processes
 abbrev pub is_lock_of_one : (ℕ → Bool) → State → ℕ → Bool
 is_lock_of_one is_one s lkid = list_any (has_lock_among is_one lkid) s.resources
 
--- the lock is that of the row that is chosen, if one is
+-- the lock is the one chosen by a search, if there is one
 abbrev pub is_chosen_lock : Option Row → ℕ → Bool
 is_chosen_lock None lkid = false
 is_chosen_lock (Some chosen) lkid = lkid == chosen.lkid
 
--- the lock is one of the step's own: the one that it makes, or the one that it names, or one of the process that gives up
--- many or ends, or one of the node that departs, or the one that a search chooses
+-- the step's own locks: the lock that it makes or names; with DEQALL, a rundown or a departure all locks of the
+-- processes; for a search the victim
 abbrev pub is_own_lock : State → Step → Option Row → ℕ → Bool
 is_own_lock s (Declare d) choice lkid = false
 is_own_lock s (SetValue v) choice lkid = false
@@ -35,7 +35,7 @@ is_own_lock s (Leave node) choice lkid = is_lock_of_one (λ pid. pid / 65536 == 
 is_own_lock s (Search node) choice lkid = is_chosen_lock choice lkid
 is_own_lock s (Take pid) choice lkid = false
 
--- row by row: each stays in its order, but own locks may leave; and at most one own lock joins, behind all
+-- rows keep their order; only own locks leave, and at most one own lock joins, at the end
 pub data JoinsBehind (own : ℕ → Bool) : List Row → List Row → Type 0 where
   nobody_joins : JoinsBehind own [] []
   one_joins : {row : Row} → own row.lkid ≡ true → JoinsBehind own [] (row ∷ [])
@@ -44,21 +44,20 @@ pub data JoinsBehind (own : ℕ → Bool) : List Row → List Row → Type 0 whe
   row_leaves : {row : Row} {before after : List Row} → own row.lkid ≡ true → JoinsBehind own before after
       → JoinsBehind own (row ∷ before) after
 
--- the resource keeps its place, and each of its queues its order
+-- the resource is the same, and each of its queues keeps its order
 pub record KeepsOrder (own : ℕ → Bool) (before after : Resource) : Type 0 where
   pub same : IsSameResource before after
   pub granted : JoinsBehind own before.granted after.granted
   pub converting : JoinsBehind own before.converting after.converting
   pub waiting : JoinsBehind own before.waiting after.waiting
 
--- on a resource that is made nobody stands but an own lock
+-- a new resource has at most one lock in each queue, an own lock
 pub record HasOwnAlone (own : ℕ → Bool) (r : Resource) : Type 0 where
   pub granted : JoinsBehind own [] r.granted
   pub converting : JoinsBehind own [] r.converting
   pub waiting : JoinsBehind own [] r.waiting
 
--- a step's own change keeps the order of each queue of each resource, and makes at most one resource, behind
--- the others
+-- the step's change keeps the order of every queue, and makes at most one resource, at the end
 pub record ChangesKeepOrder (old : State) (step : Step) (choice : Option Row) : Type 0 where
   pub kept : List Resource
   pub made : List Resource

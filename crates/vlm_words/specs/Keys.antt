@@ -1,4 +1,4 @@
--- What resources are found by.
+-- The keys of resources.
 use Rattle.std.specs.Prelude.{◌≡◌, ◌+◌, ◌&&◌, ◌==◌, ℕ, Bool, false, nat_eq, refl}
 use Rattle.std.specs.Bool.{Decides}
 use Rattle.std.specs.Cmp.{unsigned_Decides}
@@ -11,15 +11,14 @@ use Rattle.vlm_words.specs.declared.resources.Key.{Key}
 use Rattle.vlm_words.specs.declared.resources.Key.TheVariants.{Root, Below}
 use Rattle.vlm_words.specs.Resources.{is_domain}
 
--- the two name the same resource
+-- the keys are equal
 abbrev pub is_same_key : Key → Key → Bool
 is_same_key (Root a name) (Root b other) = is_domain a b && pointwise nat_eq name other
 is_same_key (Root a name) (Below q other) = false
 is_same_key (Below p name) (Root b other) = false
 is_same_key (Below p name) (Below q other) = (p == q) && pointwise nat_eq name other
 
--- the space that the resource's name is in, as one number: the group, above all groups the system's domain, and above
--- that the parent resource
+-- the name space as one number: groups come first, the system's domain after them, and parent resources far above
 abbrev pub name_space : Key → ℕ
 name_space (Root (Group group) name) = group
 name_space (Root System name) = 65536
@@ -31,7 +30,7 @@ is_domain-Decides (Group a) System = (λ h. cc, λ e. cc)
 is_domain-Decides System (Group b) = (λ h. cc, λ e. cc)
 is_domain-Decides System System = (λ h. refl, λ e. refl)
 
--- two keys that are found the same are the same
+-- the comparison decides equality
 pub is_same_key-Decides : (a b : Key) → Decides (is_same_key a b) (a ≡ b)
 is_same_key-Decides (Root a name) (Root b other) = (
   λ h.

@@ -1,4 +1,4 @@
--- Which lock modes may be held together.
+-- The lock modes: compatibility, value blocks on a conversion, QUECVT.
 use Rattle.std.specs.Prelude.{ℕ, Bool, true, false, List, [], ◌∷◌, ◌==◌, ◌&&◌, ◌||◌, if◌then◌else◌}
 use Rattle.std.specs.List.{list_any}
 use Rattle.vlm_words.specs.declared.modes.Act.{Act}
@@ -6,7 +6,7 @@ use Rattle.vlm_words.specs.declared.modes.Act.TheVariants.{Nothing, Return, Writ
 use Rattle.vlm_words.specs.declared.modes.Mode.{Mode}
 use Rattle.vlm_words.specs.declared.modes.Mode.TheVariants.{Nl, Cr, Cw, Pr, Pw, Ex}
 
--- the place of a mode among the six, the weakest first
+-- the position of a mode, from 0 for the weakest to 5
 abbrev pub rank : Mode → ℕ
 rank Nl = 0
 rank Cr = 1
@@ -15,7 +15,7 @@ rank Pr = 3
 rank Pw = 4
 rank Ex = 5
 
--- the unordered pairs of modes that may be held together
+-- the compatible pairs, each in one order
 abbrev pub compatible_pairs : List (Mode × Mode)
 compatible_pairs =
     (Nl, Nl) ∷ (Nl, Cr) ∷ (Nl, Cw) ∷ (Nl, Pr) ∷ (Nl, Pw) ∷ (Nl, Ex)
@@ -29,11 +29,11 @@ abbrev pub is_pair_of : Mode → Mode → Mode × Mode → Bool
 is_pair_of a b pair =
     ((rank pair.0 == rank a) && (rank pair.1 == rank b)) || ((rank pair.0 == rank b) && (rank pair.1 == rank a))
 
--- two locks of one resource may be held in these modes
+-- two locks may hold one resource in these modes together
 unfoldable pub is_compatible : Mode → Mode → Bool
 is_compatible a b = list_any (is_pair_of a b) compatible_pairs
 
--- the conversions whose VALBLK returns the value block: the held mode, and the modes wanted
+-- the conversions that return the value block, held mode first
 abbrev pub returning_pairs : List (Mode × Mode)
 returning_pairs =
     (Nl, Nl) ∷ (Nl, Cr) ∷ (Nl, Cw) ∷ (Nl, Pr) ∷ (Nl, Pw) ∷ (Nl, Ex)
@@ -43,14 +43,14 @@ returning_pairs =
     ∷ (Pw, Ex)
     ∷ []
 
--- the conversions whose VALBLK writes it
+-- the conversions that write the value block, held mode first
 abbrev pub writing_pairs : List (Mode × Mode)
 writing_pairs =
     (Pw, Nl) ∷ (Pw, Cr) ∷ (Pw, Cw) ∷ (Pw, Pr) ∷ (Pw, Pw)
     ∷ (Ex, Nl) ∷ (Ex, Cr) ∷ (Ex, Cw) ∷ (Ex, Pr) ∷ (Ex, Pw) ∷ (Ex, Ex)
     ∷ []
 
--- the modes whose holder may write the value block as it gives its lock up
+-- the modes in which a lock may write the value block as it goes
 abbrev pub is_writing : Mode → Bool
 is_writing Nl = false
 is_writing Cr = false
@@ -59,7 +59,7 @@ is_writing Pr = false
 is_writing Pw = true
 is_writing Ex = true
 
--- the conversions that QUECVT may go with
+-- the conversions that QUECVT may go with, held mode first
 abbrev pub queued_pairs : List (Mode × Mode)
 queued_pairs =
     (Nl, Cr) ∷ (Nl, Cw) ∷ (Nl, Pr) ∷ (Nl, Pw) ∷ (Nl, Ex)
@@ -69,7 +69,7 @@ queued_pairs =
     ∷ (Pw, Ex)
     ∷ []
 
--- the pair is the held mode and the wanted mode, in this order
+-- the pair is this held mode and this wanted mode
 abbrev pub is_conversion : Mode → Mode → Mode × Mode → Bool
 is_conversion held want pair = (rank pair.0 == rank held) && (rank pair.1 == rank want)
 
@@ -79,6 +79,6 @@ value_action held want =
     if list_any (is_conversion held want) returning_pairs then Return
     else (if list_any (is_conversion held want) writing_pairs then Write else Nothing)
 
--- the conversion may be asked for with QUECVT
+-- QUECVT may go with the conversion
 unfoldable pub is_queued_legally : Mode → Mode → Bool
 is_queued_legally held want = list_any (is_conversion held want) queued_pairs

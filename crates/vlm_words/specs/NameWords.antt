@@ -1,4 +1,4 @@
--- The bytes of names as words, which keys are hashed by.
+-- The words that are hashed for a key.
 use Rattle.std.specs.Prelude.{ℕ, ◌+◌, ◌*◌, List, [], ◌∷◌, length, nat_le, slice_index, take, if◌then◌else◌}
 use Rattle.std.specs.Int.{w64, from_le_bytes}
 use Rattle.vlm_words.specs.declared.resources.Key.{Key}
@@ -6,7 +6,7 @@ use Rattle.vlm_words.specs.Keys.{name_space}
 use Rattle.vlm_words.specs.Padding.{padded}
 use Rattle.vlm_words.specs.Resources.{key_name}
 
--- the eight bytes from this index on as a word, the low byte first
+-- the eight bytes from this index on as a word, low byte first
 abbrev pub word_at : List ℕ → ℕ → ℕ
 word_at bytes at = from_le_bytes w64 (
     slice_index bytes at
@@ -20,21 +20,21 @@ word_at bytes at = from_le_bytes w64 (
     ∷ []
     )
 
--- the bytes of a name, in words of eight: the last begins one byte early, since 31 bytes are no four words
+-- the bytes of a name in four words; 31 bytes are one short, so the last word begins one byte early
 abbrev pub name_words : List ℕ → List ℕ
 name_words name = word_at (padded 31 name) 0 ∷ word_at (padded 31 name) 8 ∷ word_at (padded 31 name) 16 ∷ word_at (padded 31 name) 23 ∷ []
 
--- the space that a key's name is in and its length, and the name's words
+-- the name space with the length of the name, then the words of the name
 abbrev pub key_words : Key → List ℕ
 key_words key = (256 * name_space key + length (key_name key)) ∷ name_words (key_name key)
 
--- how many of these words are hashed: the others are zeros
+-- how many of these words are hashed; the words after them are zeros
 abbrev pub word_count : Key → ℕ
 word_count key =
     if nat_le (length (key_name key)) 8 then 2
     else if nat_le (length (key_name key)) 16 then 3
     else 5
 
--- what a key is hashed by
+-- the words that are hashed
 abbrev pub hashed_words : Key → List ℕ
 hashed_words key = take (word_count key) (key_words key)

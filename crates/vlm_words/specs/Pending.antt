@@ -1,19 +1,19 @@
--- The processes of a node that have an AST pending.
+-- The processes of a node with a pending AST.
 use Rattle.std.specs.Prelude.{◌≡◌, ◌<◌, ◌==◌, ◌&&◌, ℕ, nat_lt, true, Bool, List, length, find, All, AllPairs, Option}
 use Rattle.std.specs.Option.{option_map}
 use Rattle.vlm_words.specs.Declare.{is_node}
 use Rattle.vlm_words.specs.State.{Process, State}
 use Rattle.vlm_words.specs.Steps.{node_of_pid}
 
--- the process is one of the node, and has an AST pending
+-- the process is of the node and has a pending AST
 abbrev pub is_pending_on : ℕ → Process → Bool
 is_pending_on node p = (node_of_pid p.pid == node) && nat_lt 0 (length p.asts)
 
--- the identification of the first process of the node, in order of making, that has an AST pending
+-- the first process of the node, in the order of making, with a pending AST
 abbrev pub first_pending : ℕ → List Process → Option ℕ
 first_pending node processes = option_map (λ p. p.pid) (find (is_pending_on node) processes)
 
--- each living process is of one of the eight nodes, and those of a node stand by rising identification
+-- each living process is of a node from 1 to 8, and the identifications of a node's processes rise
 pub record ProcessesRise (s : State) : Type 0 where
   pub named : All (λ p. is_node (node_of_pid p.pid) ≡ true) s.processes
   pub rising : AllPairs (λ a b. node_of_pid a.pid ≡ node_of_pid b.pid → a.pid < b.pid) s.processes

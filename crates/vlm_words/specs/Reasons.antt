@@ -1,4 +1,4 @@
--- Why a step is refused: the rule of each condition, in words of its own.
+-- The law that a refusal has its reason: the rule of each condition, in words of its own.
 use Rattle.std.specs.Prelude.{◌≡◌, ◌≢◌, ◌<◌, ◌≤◌, ◌/◌, ◌^◌, ◌⊎◌, ℕ, true, false, List, [], ◌∷◌, ◌++◌, length, sum_by, All, Any, Option, None, Some, IsSome, ⊤}
 use Rattle.std.specs.Int.{bit_at}
 use Rattle.vlm_words.specs.declared.conditions.Cond.TheVariants.{Normal, Synch, Notqueued, Cancelgrant, Sublocks, Ivlockid, Cvtungrant, Parnotgrant, Exdepth, Exenqlm, Nolockid, Ivbuflen, Badparam, Unsupported, Nosyslck, Accvio, Nonexpr, Departed}
@@ -25,15 +25,15 @@ use Rattle.vlm_words.specs.Checks.{named_lkid}
 use Rattle.vlm_words.specs.Stepped.{stepped}
 use Rattle.vlm_words.specs.Laws.{ConvertsInTurn, IsAskedFor, IsFreeFor, IsGrantedAtOnce, StandsOn, locks_on}
 
--- the flags of new requests and conversions that are built
+-- the known flags of new requests and conversions
 abbrev pub request_flags : List ℕ
 request_flags = valblk ∷ noqueue ∷ syncsts ∷ system ∷ expedite ∷ quecvt ∷ nodlckwt ∷ nodlckblk ∷ wide ∷ []
 
--- the flags of dequeues that are built
+-- the known flags of dequeues
 abbrev pub dequeue_flags : List ℕ
 dequeue_flags = deqall ∷ cancel ∷ invvalblk ∷ []
 
--- some bit is set that is none of these flags'
+-- some set bit is not a bit of these flags
 pub record HasUnknownBit (flags : List ℕ) (bits : ℕ) : Type 0 where
   pub place : ℕ
   pub set : bit_at bits place ≡ 1
@@ -47,11 +47,11 @@ HasDeparted s node = (0 < node) × ((node_at s.nodes node).departed ≡ true)
 abbrev pub IsNobody : State → ℕ → Type 0
 IsNobody s pid = All (λ p. p.pid ≢ pid) s.processes
 
--- some living process has the identification, and this is so of it
+-- a living process has the identification, and P holds of it
 abbrev pub IsOfCaller : State → ℕ → (Process → Type 0) → Type 0
 IsOfCaller s pid P = (p : Process) × (process_of s.processes pid ≡ Some p) × P p
 
--- the process has no status block of this number; they are numbered from 1
+-- the process has no status block with this number; numbers begin at 1
 abbrev pub HasNoBlock : State → ℕ → ℕ → Type 0
 HasNoBlock s pid block = IsOfCaller s pid (λ p. (block ≡ 0) ⊎ (length p.blocks < block))
 
@@ -60,41 +60,41 @@ abbrev pub IsNamedByNoBlock : State → ℕ → Which → Type 0
 IsNamedByNoBlock s pid (Id lkid) = ⊥
 IsNamedByNoBlock s pid (Block number) = HasNoBlock s pid number
 
--- the process has a lock of this identification
+-- the process has a lock with this identification
 abbrev pub HasLock : State → ℕ → ℕ → Type 0
 HasLock s pid lkid = Any (StandsOn lkid pid) s.resources
 
--- the lock of this identification and this process is among the rows
+-- the lock of this process is among the rows
 abbrev pub IsAmong : ℕ → ℕ → List Row → Type 0
 IsAmong lkid pid rows = Any (λ row. (row.lkid ≡ lkid) × (row.pid ≡ pid)) rows
 
--- and it is granted
+-- the lock of this process is granted on some resource
 abbrev pub IsGrantedSomewhere : State → ℕ → ℕ → Type 0
 IsGrantedSomewhere s pid lkid = Any (λ r. IsAmong lkid pid r.granted) s.resources
 
--- the caller's node has departed, or nobody is the caller
+-- the caller's node has departed, or no living process is the caller
 abbrev pub CallerBreaks : State → ℕ → Cond → Type 0
 CallerBreaks s pid Departed = HasDeparted s (pid / 65536)
 CallerBreaks s pid Nonexpr = IsNobody s pid
 CallerBreaks s pid cond = ⊥
 
--- which rules a declaration breaks
+-- the rules that a declaration breaks
 abbrev pub DeclarationBreaks : State → Declaration → Cond → Type 0
 DeclarationBreaks s d Badparam = (d.node ≡ 0) ⊎ (8 < d.node) ⊎ (65535 ≤ (node_at s.nodes d.node).declared)
 DeclarationBreaks s d Departed = HasDeparted s d.node
 DeclarationBreaks s d cond = ⊥
 
--- which rules the setting of a value breaks
+-- the rules that a SetValue breaks
 abbrev pub SettingBreaks : State → ValueSetting → Cond → Type 0
 SettingBreaks s v Accvio = HasNoBlock s v.pid v.block
 SettingBreaks s v cond = CallerBreaks s v.pid cond
 
--- the parent lock that a new request names, 0 for none
+-- the named parent lock, or 0
 abbrev pub named_parent : State → NewRequest → ℕ
 named_parent s e = named_lkid s e.pid e.parent
 
--- which rules a new request breaks: some of its arguments are bad; its parent lock is none of its caller's, waits,
--- or stands on the lowest level; its root wants a privilege; or it has no room, no numbers, or not its turn
+-- the rules that a new request breaks: bad arguments, a bad parent lock, a missing privilege, no quota or numbers
+-- left, or NOQUEUE
 abbrev pub RequestBreaks : State → NewRequest → Cond → Type 0
 RequestBreaks s e Badparam = HasUnknownBit request_flags e.flags
 RequestBreaks s e Accvio = HasNoBlock s e.pid e.block ⊎ IsNamedByNoBlock s e.pid e.parent
@@ -119,7 +119,7 @@ RequestBreaks s e cond = CallerBreaks s e.pid cond
 abbrev pub named_lock : State → Conversion → ℕ
 named_lock s c = named_lkid s c.pid c.lock
 
--- QUECVT does not go with a conversion from what is held
+-- QUECVT does not go with a conversion from the held mode
 abbrev pub IsNotQueuedFrom : Option Request → Mode → Type 0
 IsNotQueuedFrom None mode = ⊤
 IsNotQueuedFrom (Some held) mode = is_queued_legally held.mode mode ≡ false
@@ -132,8 +132,8 @@ IsNotQueuedLegally s c =
     Any (λ row. ((row.lkid ≡ named_lock s c) × (row.pid ≡ c.pid)) × IsNotQueuedFrom row.held c.mode) r.granted)
     s.resources
 
--- which rules a conversion breaks: some of its arguments are bad; its lock is none of its caller's, or waits or
--- converts; or it has no number, or not its turn
+-- the rules that a conversion breaks: bad arguments, a lock that is not the caller's or not granted, no numbers left,
+-- or NOQUEUE
 abbrev pub ConversionBreaks : State → Conversion → Cond → Type 0
 ConversionBreaks s c Badparam =
     HasUnknownBit request_flags c.flags ⊎ IsNotQueuedLegally s c
@@ -151,8 +151,8 @@ ConversionBreaks s c cond = CallerBreaks s c.pid cond
 abbrev pub named_by_dequeue : State → Dequeue → ℕ
 named_by_dequeue s d = named_lkid s d.pid d.lock
 
--- which rules a dequeue breaks: some of its arguments are bad; its lock is none of its caller's, where it does not ask
--- for all of them; it cancels a granted lock; or it gives up one that has sublocks without these
+-- the rules that a dequeue breaks: bad arguments, a lock that is not the caller's, a cancel of a granted lock, or
+-- sublocks
 abbrev pub DequeueBreaks : State → Dequeue → Cond → Type 0
 DequeueBreaks s d Badparam =
     HasUnknownBit dequeue_flags d.flags
@@ -168,7 +168,7 @@ DequeueBreaks s d Sublocks =
     × Any (λ r. Any (λ row. row.parent ≡ named_by_dequeue s d) (r.granted ++ r.converting ++ r.waiting)) s.resources
 DequeueBreaks s d cond = CallerBreaks s d.pid cond
 
--- which rules a departure breaks, or a search: it names no node, or one that has departed
+-- the rules that a departure or a search breaks: there is no such node, or it has departed
 abbrev pub DepartureBreaks : State → ℕ → Cond → Type 0
 DepartureBreaks s node Badparam = (node ≡ 0) ⊎ (8 < node)
 DepartureBreaks s node Departed = HasDeparted s node
@@ -186,13 +186,13 @@ Breaks s (Leave node) cond = DepartureBreaks s node cond
 Breaks s (Search node) cond = DepartureBreaks s node cond
 Breaks s (Take pid) cond = CallerBreaks s pid cond
 
--- what an accepted request answers: SYNCH where it is granted at once and SYNCSTS asks for that, else NORMAL
+-- an accepted request answers SYNCH if it has SYNCSTS and is granted at once, else NORMAL
 abbrev pub IsAcceptedWith : ℕ → Type 0 → Cond → Type 0
 IsAcceptedWith flags AtOnce cond =
     ((cond ≡ Synch) × (has_flag flags syncsts ≡ true) × AtOnce)
     ⊎ ((cond ≡ Normal) × (has_flag flags syncsts ≡ true → AtOnce → ⊥))
 
--- the answer is that of a step of this kind that is accepted, and whose request is granted at once or not
+-- the answer is an acceptance of this kind of step
 abbrev pub IsAcceptance : Step → Type 0 → Answer → Type 0
 IsAcceptance (Declare d) AtOnce (process_answer pid) = ⊤
 IsAcceptance (SetValue v) AtOnce (Plain Normal) = ⊤
@@ -205,14 +205,14 @@ IsAcceptance (Search node) AtOnce (Victim lkid) = ⊤
 IsAcceptance (Take pid) AtOnce (Taken ast) = ⊤
 IsAcceptance step AtOnce answer = ⊥
 
--- the step breaks no rule, and is accepted
+-- the step breaks no rule and is accepted
 pub record IsAccepted (old : State) (step : Step) (choice : Option Row) : Type 0 where
   pub keeps : (cond : Cond) → Breaks old step cond → ⊥
   pub answered :
       IsAcceptance step (IsGrantedAtOnce old.next_request (stepped old step choice).endings)
       (stepped old step choice).answer
 
--- the step breaks a rule, is told the condition of that rule, and changes nothing
+-- the step breaks a rule, is answered the condition of that rule, and changes nothing
 pub record IsRefused (old : State) (step : Step) (choice : Option Row) : Type 0 where
   pub told : Cond
   pub breaks : Breaks old step told
@@ -220,7 +220,6 @@ pub record IsRefused (old : State) (step : Step) (choice : Option Row) : Type 0 
   pub unchanged : (stepped old step choice).state ≡ old
   pub none_ends : (stepped old step choice).endings ≡ []
 
--- a step is accepted, or it is refused for a reason; where it breaks more than one rule, the law does not say which
--- condition it is told
+-- a step is accepted, or refused for a reason; if it breaks several rules, the law leaves open which one answers
 abbrev pub RefusalHasItsReason : State → Step → Option Row → Type 0
 RefusalHasItsReason old step choice = IsAccepted old step choice ⊎ IsRefused old step choice

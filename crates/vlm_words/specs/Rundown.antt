@@ -1,4 +1,4 @@
--- The steps that end processes: the rundown of one, and the departure of a node with all that it declared.
+-- The steps Rundown and Leave, which end processes.
 use Rattle.std.specs.Prelude.{ℕ, Bool, true, false, not, ◌==◌, ◌-◌, List, map, filter, slice_set, Option, None, Some, if◌then◌else◌}
 use Rattle.vlm_words.specs.declared.conditions.Cond.TheVariants.{Badparam, Departed}
 use Rattle.vlm_words.specs.declared.conditions.Cond.{Cond}
@@ -13,7 +13,7 @@ use Rattle.vlm_words.specs.Declare.{is_node}
 
 -- ---- the end of processes
 
--- what becomes of a lock whose process ends: it goes, and where it is held at PW or EX its value block is marked invalid
+-- a lock whose process ends goes; if it holds PW or EX, it marks the value block invalid
 abbrev pub rundown_of : ℕ → Withdrawal
 rundown_of lkid = record {
   lkid = lkid;
@@ -25,19 +25,19 @@ rundown_of lkid = record {
   invalidates = true;
 }
 
--- what becomes of all locks of these processes, by rising identification
+-- the withdrawals of all locks of these processes, by rising identification
 abbrev pub rundowns : (ℕ → Bool) → State → List Withdrawal
 rundowns is_one s = map rundown_of (own_lkids is_one s)
 
--- the requests of these processes end
+-- the endings of their requests
 abbrev pub rundown_endings : (ℕ → Bool) → State → List Ending
 rundown_endings is_one s = withdrawn_endings (rundowns is_one s) s.resources
 
--- the processes but for these; with them go their status blocks and their ASTs
+-- the processes except these, which go with their status blocks and ASTs
 abbrev pub processes_but : (ℕ → Bool) → List Process → List Process
 processes_but is_one processes = filter (λ p. not (is_one p.pid)) processes
 
--- these processes are gone, with all their locks, and this has become of the nodes
+-- the state after these processes and all their locks are gone
 unfoldable pub state_after_rundown : (ℕ → Bool) → List Node → State → State
 state_after_rundown is_one nodes s = record s {
   nodes = nodes;
@@ -47,27 +47,27 @@ state_after_rundown is_one nodes s = record s {
 
 -- ---- the rundown of a process
 
--- the check of a rundown: its process lives, on a node that has not departed
+-- the check of a rundown: DEPARTED or NONEXPR
 abbrev pub rundown_refusal : State → ℕ → Option Cond
 rundown_refusal s pid = caller_refusal s pid
 
--- the process is the one that ends
+-- the rundown is of this process
 abbrev pub is_ended_by : ℕ → ℕ → Bool
 is_ended_by pid other = other == pid
 
 -- ---- the departure of a node
 
--- no such node, or one that has departed before
+-- BADPARAM if there is no such node, DEPARTED if it has departed before
 unfoldable pub leave_refusal : State → ℕ → Option Cond
 leave_refusal s node =
     if not (is_node node) then Some Badparam
     else (if has_departed s.nodes node then Some Departed else None)
 
--- the process is one of the node
+-- the process is of the node
 abbrev pub is_of_node : ℕ → ℕ → Bool
 is_of_node node pid = node_of_pid pid == node
 
--- the node has departed
+-- the node is noted as departed
 abbrev pub nodes_after_departure : List Node → ℕ → List Node
 nodes_after_departure nodes node =
     slice_set nodes (node - 1) (record (node_at nodes node) { departed = true })

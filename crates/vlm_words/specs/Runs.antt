@@ -7,19 +7,18 @@ use Rattle.vlm_words.specs.Asts.{Queued}
 use Rattle.vlm_words.specs.State.{State, start}
 use Rattle.vlm_words.specs.Stepped.{Outcome, outcome_endings, outcome_queued}
 
--- what happened in a run, in order: the steps, what each was answered, the requests that ended, and the ASTs that
--- were queued
+-- what happened in a run, in order: steps, answers, endings, and queued ASTs
 pub record History : Type 0 where
   pub steps : List Step
   pub answers : List Answer
   pub endings : List Ending
   pub queued : List Queued
 
--- nothing has happened
+-- the history of an empty run
 abbrev pub no_history : History
 no_history = record { steps = []; answers = []; endings = []; queued = [] }
 
--- one step more, with its answer, the requests that end in it, and the ASTs that it queues
+-- the history after one more step
 abbrev pub history_after : History → Step → Answer → List Ending → List Queued → History
 history_after h step answer endings queued = record {
   steps = h.steps ++ step ∷ [];
@@ -28,18 +27,18 @@ history_after h step answer endings queued = record {
   queued = h.queued ++ queued;
 }
 
--- from this state the history leads to a state: each of its steps is an outcome in the state before it
+-- a run from this state: each step is an outcome in the state before it
 pub data RunFrom (first : State) : History → State → Type 0 where
   begin : RunFrom first no_history first
   next : {history : History} {old new : State} {step : Step} {answer : Answer}
       → RunFrom first history old → (outcome : Outcome old step new answer)
       → RunFrom first (history_after history step answer (outcome_endings outcome) (outcome_queued outcome)) new
 
--- a run of the machine begins at its start
+-- a run from the start of the machine
 abbrev pub Run : History → State → Type 0
 Run history last = RunFrom start history last
 
--- a legal run: begun in this state, the steps may get these answers and leave that state
+-- a legal run of these steps with these answers leads from the first state to the last
 pub record Legal (first : State) (steps : List Step) (answers : List Answer) (last : State) : Type 0 where
   pub history : History
   pub run : RunFrom first history last

@@ -1,4 +1,4 @@
--- The step that searches for a deadlock.
+-- The step Search: ends one deadlocked request.
 use Rattle.std.specs.Prelude.{ℕ, true, false, ◌≡◌, List, [], ◌∷◌, Option, None, Some}
 use Rattle.std.specs.Option.{option_map}
 use Rattle.vlm_words.specs.declared.conditions.Cond.{Cond}
@@ -10,17 +10,17 @@ use Rattle.vlm_words.specs.Withdrawals.{Withdrawal, state_after_withdrawals, wit
 use Rattle.vlm_words.specs.Rundown.{leave_refusal}
 use Rattle.vlm_words.specs.Deadlocks.{IsVictim}
 
--- a search is refused where the departure of its node would be: there is no such node, or it has departed before
+-- BADPARAM if there is no such node, DEPARTED if it has departed
 abbrev pub search_refusal : State → ℕ → Option Cond
 search_refusal s node = leave_refusal s node
 
--- what a search chooses: the victim, and where it is refused nothing
+-- the choice of a search: the victim, if there is one; nothing if the search is refused
 abbrev pub IsSearchedFor : Option Cond → State → Option Row → Type 0
 IsSearchedFor None s choice = IsVictim s choice
 IsSearchedFor (Some refusal) s choice = choice ≡ None
 
--- what becomes of the victim's lock: its request ends, and with it a lock that waits; one that converts stays at what it
--- holds; the value block stays as it is
+-- the victim's request ends by deadlock; a waiting lock goes, a converting lock stays, and the value block does not
+-- change
 abbrev pub deadlock_of : ℕ → Withdrawal
 deadlock_of lkid = record {
   lkid = lkid;
@@ -41,10 +41,10 @@ victim_withdrawals (Some victim) = deadlock_of victim.lkid ∷ []
 abbrev pub victim_lkid : Option Row → Option ℕ
 victim_lkid choice = option_map (λ victim. victim.lkid) choice
 
--- the request that ends in the step: that of the victim
+-- the ending of the victim's request
 abbrev pub search_endings : State → Option Row → List Ending
 search_endings s choice = withdrawn_endings (victim_withdrawals choice) s.resources
 
--- the victim is withdrawn; without one nothing changes
+-- the victim is withdrawn; without a victim nothing changes
 unfoldable pub search_change : State → Option Row → State
 search_change s choice = state_after_withdrawals (victim_withdrawals choice) s

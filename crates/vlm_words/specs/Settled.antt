@@ -1,4 +1,4 @@
--- What a sweep has nothing to do on, and how it goes from one resource to the next.
+-- Settled resources, which a sweep does not change.
 use Rattle.std.specs.Prelude.{◌≡◌, false, List, [], ◌∷◌, ◌++◌, if◌then◌else◌}
 use Rattle.std.specs.List.{AllByRecursion}
 use Rattle.vlm_words.specs.State.{Process, Resource}
@@ -6,7 +6,7 @@ use Rattle.vlm_words.specs.Asts.{has_to_warn}
 use Rattle.vlm_words.specs.Grants.{no_service, service}
 use Rattle.vlm_words.specs.Sweeps.{blocks_after_service, is_vacant, processes_after_service, resource_after_service, resources_after_sweep, service_asts, sweep_asts, sweep_endings}
 
--- nothing can be granted on the resource, nobody is to be warned, and a lock is left on it
+-- nothing can be granted, nobody is to be warned, and some lock is left
 pub record IsSettled (r : Resource) : Type 0 where
   pub served : service r ≡ no_service r
   pub warned : has_to_warn r ≡ false
@@ -16,8 +16,8 @@ pub record IsSettled (r : Resource) : Type 0 where
 abbrev pub unless_vacant : Resource → List Resource
 unless_vacant r = if is_vacant r then [] else r ∷ []
 
--- a sweep goes on with this resource, once those before it are settled: it serves and warns it, and drops it if no lock is
--- left on it; with that it is settled, and the sweep of what is left is what is left of the sweep
+-- a sweep whose first resources are settled serves and warns this resource, drops it if no lock is left, and goes on
+-- as a sweep of the result; what is left of this resource is settled
 pub record IsSweptNext (processes : List Process) (before : List Resource) (r : Resource) (after : List Resource) : Type 0 where
   pub resources :
       resources_after_sweep processes (before ++ r ∷ after)
@@ -33,7 +33,7 @@ pub record IsSweptNext (processes : List Process) (before : List Resource) (r : 
       ≡ service_asts r ++ sweep_asts (before ++ (unless_vacant (resource_after_service processes r) ++ after))
   pub settled : AllByRecursion IsSettled (unless_vacant (resource_after_service processes r))
 
--- a sweep has nothing to do on these resources
+-- a sweep changes nothing on these resources
 pub record IsUnswept (processes : List Process) (all : List Resource) : Type 0 where
   pub resources : resources_after_sweep processes all ≡ all
   pub statuses : processes_after_service processes all ≡ processes

@@ -1,4 +1,4 @@
--- Where the lock of an accepted request stands, and with what.
+-- The law that the lock of an accepted request is as its request says.
 use Rattle.std.specs.Prelude.{◌≡◌, ◌⊎◌, ℕ, Any, Option, None, Some}
 use Rattle.vlm_words.specs.declared.conditions.Cond.{Cond}
 use Rattle.vlm_words.specs.declared.locks.Request.{Request}
@@ -12,7 +12,7 @@ use Rattle.vlm_words.specs.Checks.{named_lkid}
 use Rattle.vlm_words.specs.Stepped.{IsChoice, stepped}
 use Rattle.vlm_words.specs.Laws.{IsAskedFor, IsSameResource}
 
--- what a new request asks for, under this number
+-- the request of a new lock, with this number
 abbrev pub new_request : ℕ → NewRequest → Request
 new_request number e = record {
   number = number;
@@ -24,7 +24,7 @@ new_request number e = record {
   param = e.param;
 }
 
--- what a conversion asks for, under this number
+-- the request of a conversion, with this number
 abbrev pub new_conversion : ℕ → Conversion → Request
 new_conversion number c = record {
   number = number;
@@ -36,7 +36,7 @@ new_conversion number c = record {
   param = c.param;
 }
 
--- the row is that of this lock of this process, made under this parent lock, holds this and wants that
+-- the row has this lock, process, parent lock, held request and wanted request
 pub record IsRow (lkid pid parent : ℕ) (held want : Option Request) (row : Row) : Type 0 where
   pub lock : row.lkid ≡ lkid
   pub process : row.pid ≡ pid
@@ -44,14 +44,14 @@ pub record IsRow (lkid pid parent : ℕ) (held want : Option Request) (row : Row
   pub holds : row.held ≡ held
   pub wants : row.want ≡ want
 
--- the lock stands on the resource: it is granted and holds the request, or it waits for it and holds nothing
+-- the new lock is granted and holds the request, or it waits and wants the request
 abbrev pub StandsNew : ℕ → ℕ → ℕ → Request → Resource → Type 0
 StandsNew lkid pid parent request r =
     Any (IsRow lkid pid parent (Some request) None) r.granted
     ⊎ Any (IsRow lkid pid parent None (Some request)) r.waiting
 
--- the lock of an accepted new request stands on the resource that is asked for, as its caller's, under the parent
--- lock that is named, with the whole request that is asked for
+-- the lock of an accepted new request is on the resource asked for, is the caller's, is under the named parent lock,
+-- and has the whole request
 abbrev pub NewLocksStandAsAskedFor : State → Type 0
 NewLocksStandAsAskedFor old = (e : NewRequest) (choice : Option Row) (cond : Cond) (lkid : ℕ)
     → IsChoice old (Enq e) choice → (stepped old (Enq e) choice).answer ≡ Lock cond lkid
@@ -59,15 +59,14 @@ NewLocksStandAsAskedFor old = (e : NewRequest) (choice : Option Row) (cond : Con
     × StandsNew lkid e.pid (named_lkid old e.pid e.parent) (new_request old.next_request e) r)
     (stepped old (Enq e) choice).state.resources
 
--- the lock of this row stands on the resource: it is granted and holds the request, or it waits for it and holds
--- what it held
+-- the lock is granted and holds the request, or it converts, holds what it held, and wants the request
 abbrev pub StandsConverted : Row → Request → Resource → Type 0
 StandsConverted was request r =
     Any (IsRow was.lkid was.pid was.parent (Some request) None) r.granted
     ⊎ Any (IsRow was.lkid was.pid was.parent was.held (Some request)) r.converting
 
--- the lock of an accepted conversion was granted, to its caller, and stands on the same resource now, with the whole
--- request that is asked for
+-- the lock of an accepted conversion was granted and is the caller's; it is on the same resource, with the whole
+-- request
 abbrev pub ConvertedLocksStandAsAskedFor : State → Type 0
 ConvertedLocksStandAsAskedFor old = (c : Conversion) (choice : Option Row) (cond : Cond) (lkid : ℕ)
     → IsChoice old (Convert c) choice → (stepped old (Convert c) choice).answer ≡ Lock cond lkid

@@ -1,4 +1,4 @@
--- What the plain lock machine keeps.
+-- The state of the plain machine.
 use Rattle.std.specs.Prelude.{ℕ, Bool, false, List, [], Option, ◌==◌, ◌-◌, find, slice_index_or, replicate}
 use Rattle.vlm_words.specs.declared.asts.Ast.{Ast}
 use Rattle.vlm_words.specs.declared.blocks.Block.{Block}
@@ -6,8 +6,8 @@ use Rattle.vlm_words.specs.declared.locks.Row.{Row}
 use Rattle.vlm_words.specs.declared.resources.Domain.{Domain}
 use Rattle.vlm_words.specs.declared.resources.ValueBlock.{ValueBlock}
 
--- a resource: its place in the tree (its parent's serial, 0 for a root, and how many levels it is below its
--- root), its value block, and its three queues of locks
+-- a resource: its place in the tree (the parent's serial or 0, and the levels below its root), its value block, and
+-- its three queues
 pub record Resource : Type 0 where
   pub serial : ℕ
   pub parent : ℕ
@@ -19,7 +19,7 @@ pub record Resource : Type 0 where
   pub converting : List Row
   pub waiting : List Row
 
--- a living process, with its status blocks and the ASTs that are queued to it and not yet taken
+-- a living process; its ASTs are those that are pending, oldest first
 pub record Process : Type 0 where
   pub pid : ℕ
   pub group : ℕ
@@ -28,13 +28,13 @@ pub record Process : Type 0 where
   pub blocks : List Block
   pub asts : List Ast
 
--- how many processes a node has declared so far, and whether it has departed
+-- a node: how many processes it has declared, ended ones included, and whether it has departed
 pub record Node : Type 0 where
   pub declared : ℕ
   pub departed : Bool
 
--- the machine between two steps: resources by rising serial, living processes in order of making,
--- the eight nodes, and the numbers that come next
+-- the machine between two steps: the eight nodes, the living processes in the order of making, the resources by
+-- rising serial, and the next numbers
 pub record State : Type 0 where
   pub nodes : List Node
   pub processes : List Process
@@ -43,11 +43,11 @@ pub record State : Type 0 where
   pub next_request : ℕ
   pub next_serial : ℕ
 
--- a node that has declared nothing and has not departed
+-- a node before its first declaration
 abbrev pub new_node : Node
 new_node = record { declared = 0; departed = false }
 
--- nothing is there yet, and each number to come is 1
+-- the state at the start: nothing exists, and each next number is 1
 abbrev pub start : State
 start = record {
   nodes = replicate 8 new_node;
@@ -58,7 +58,7 @@ start = record {
   next_serial = 1;
 }
 
--- a node's number is 1 to 8
+-- the node with this number, 1 to 8
 abbrev pub node_at : List Node → ℕ → Node
 node_at nodes node = slice_index_or nodes (node - 1) new_node
 

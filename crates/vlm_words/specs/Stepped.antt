@@ -1,4 +1,4 @@
--- One step of the plain lock machine, and what else a step may come to.
+-- One step of the plain machine, and the outcomes of a step.
 use Rattle.std.specs.Prelude.{◌≡◌, ◌⊎◌, ⊤, ℕ, Bool, List, [], ◌++◌, Option, None, Some, IsSome}
 use Rattle.std.proofs.Common.{inl, inr}
 use Rattle.vlm_words.specs.declared.conditions.Cond.TheVariants.{Normal, Badparam, Insfmem}
@@ -23,19 +23,18 @@ use Rattle.vlm_words.specs.Dequeue.{deq_change, deq_endings, deq_refusal}
 use Rattle.vlm_words.specs.Search.{IsSearchedFor, search_change, search_endings, search_refusal, victim_lkid}
 use Rattle.vlm_words.specs.Rundown.{is_ended_by, is_of_node, leave_refusal, nodes_after_departure, rundown_endings, rundown_refusal, state_after_rundown}
 
--- what a step comes to: the state that it leaves, its answer, the requests that end in it, and the ASTs that it
--- queues
+-- the result of a step: the new state, the answer, the endings, and the queued ASTs
 pub record Stepped : Type 0 where
   pub state : State
   pub answer : Answer
   pub endings : List Ending
   pub queued : List Queued
 
--- a refusal leaves everything as it was
+-- a refusal changes nothing
 abbrev pub refused : State → Cond → Stepped
 refused s refusal = record { state = s; answer = Plain refusal; endings = []; queued = [] }
 
--- the change of a conversion; where its lock is not granted a check has refused it
+-- the change of a conversion; without an admission a check has already refused the step
 abbrev pub conversion_change : State → Conversion → Option ConversionAdmission → Stepped
 conversion_change s c None = refused s Badparam
 conversion_change s c (Some a) = record {
@@ -45,7 +44,7 @@ conversion_change s c (Some a) = record {
   queued = completions_of (conversion_endings a);
 }
 
--- the end of these processes, with what has become of the nodes
+-- the end of these processes
 abbrev pub end_of_processes : (ℕ → Bool) → List Node → State → Stepped
 end_of_processes is_one nodes s = record {
   state = state_after_rundown is_one nodes s;
@@ -54,7 +53,7 @@ end_of_processes is_one nodes s = record {
   queued = completions_of (rundown_endings is_one s);
 }
 
--- why the checks of a step refuse it, if they do
+-- the refusal of a step by its checks, if there is one
 abbrev pub step_refusal : State → Step → Option Cond
 step_refusal s (Declare d) = declare_refusal s d
 step_refusal s (SetValue v) = set_refusal s v
@@ -66,13 +65,12 @@ step_refusal s (Leave node) = leave_refusal s node
 step_refusal s (Search node) = search_refusal s node
 step_refusal s (Take pid) = take_refusal s pid
 
--- what a step chooses, a row or none: a search chooses the victim, and no other kind chooses
+-- the choice of a step: a search chooses its victim, no other step chooses
 abbrev pub IsChoice : State → Step → Option Row → Type 0
 IsChoice s (Search node) choice = IsSearchedFor (search_refusal s node) s choice
 IsChoice s step choice = choice ≡ None
 
--- the change of a step that no check refuses, before its sweep, with its answer, the requests that it ends itself
--- and their completions
+-- the change of a step that no check refuses, before its sweep, with its own endings and their completions
 abbrev pub step_change : State → Step → Option Row → Stepped
 step_change s (Declare d) choice = record {
   state = declare_change s d;
@@ -115,7 +113,7 @@ step_change s (Take pid) choice = record {
   queued = [];
 }
 
--- the sweep after a change: each resource is served and warned, and dropped if it has no lock
+-- the sweep after a change
 abbrev pub stepped_after_sweep : Stepped → Stepped
 stepped_after_sweep change = record {
   state = state_after_sweep change.state;
@@ -124,20 +122,20 @@ stepped_after_sweep change = record {
   queued = change.queued ++ sweep_asts change.state.resources;
 }
 
--- a refusal, or else the change and its sweep
+-- the refusal, or the change and its sweep
 abbrev pub refused_or : Option Cond → State → Stepped → Stepped
 refused_or None s change = stepped_after_sweep change
 refused_or (Some refusal) s change = refused s refusal
 
--- the step of the plain machine: checks in order, then the change, and the sweep
+-- a step of the plain machine: the checks in order, then the change, then the sweep
 abbrev pub stepped : State → Step → Option Row → Stepped
 stepped s step choice = refused_or (step_refusal s step) s (step_change s step choice)
 
--- a conversion names a routine, for whose AST it may want memory
+-- the conversion names a routine, so it may need memory for an AST
 abbrev pub NamesRoutine : Conversion → Type 0
 NamesRoutine c = IsSome c.ast ⊎ IsSome c.bast
 
--- the kinds of step that may want memory
+-- the kinds of step that may need memory
 abbrev pub MayWantMemory : Step → Type 0
 MayWantMemory (Declare d) = ⊤
 MayWantMemory (SetValue v) = ⊥
@@ -149,30 +147,30 @@ MayWantMemory (Leave node) = ⊥
 MayWantMemory (Search node) = ⊥
 MayWantMemory (Take pid) = ⊥
 
--- the step is made, with what it chooses
+-- the step is made, with some choice
 pub record IsMade (old : State) (step : Step) (new : State) (answer : Answer) : Type 0 where
   pub choice : Option Row
   pub chosen : IsChoice old step choice
   pub state : new ≡ (stepped old step choice).state
   pub answered : answer ≡ (stepped old step choice).answer
 
--- a growth was refused, of a step that no check refuses: nothing is changed
+-- no check refuses the step, but memory is refused, and nothing changes
 pub record IsShortOfMemory (old : State) (step : Step) (new : State) (answer : Answer) : Type 0 where
   pub may : MayWantMemory step
   pub accepted : step_refusal old step ≡ None
   pub state : new ≡ old
   pub answered : answer ≡ Plain Insfmem
 
--- what a step may come to: it is made, or a growth that it wanted was refused
+-- the outcomes of a step: it is made, or memory is refused
 abbrev pub Outcome : State → Step → State → Answer → Type 0
 Outcome old step new answer = IsMade old step new answer ⊎ IsShortOfMemory old step new answer
 
--- the requests that end in an outcome: those of the step if it is made
+-- the endings of an outcome
 abbrev pub outcome_endings : {old : State} {step : Step} {new : State} {answer : Answer} → Outcome old step new answer → List Ending
 outcome_endings {old} {step} (inl made) = (stepped old step made.choice).endings
 outcome_endings (inr short) = []
 
--- the ASTs that are queued in an outcome: those of the step if it is made
+-- the ASTs that an outcome queues
 abbrev pub outcome_queued : {old : State} {step : Step} {new : State} {answer : Answer} → Outcome old step new answer → List Queued
 outcome_queued {old} {step} (inl made) = (stepped old step made.choice).queued
 outcome_queued (inr short) = []

@@ -1,4 +1,4 @@
--- Which node a step is of.
+-- The node of a step.
 use Rattle.std.specs.Prelude.{ℕ, ◌/◌}
 use Rattle.vlm_words.specs.declared.steps.Step.{Step}
 use Rattle.vlm_words.specs.declared.steps.Step.TheVariants.{Declare, SetValue, Enq, Convert, Deq, Rundown, Leave, Search, Take}
@@ -7,7 +7,7 @@ use Rattle.vlm_words.specs.declared.steps.Step.TheVariants.{Declare, SetValue, E
 abbrev pub node_of_pid : ℕ → ℕ
 node_of_pid pid = pid / 65536
 
--- the node that a step is of
+-- the node that makes the step
 abbrev pub node_of : Step → ℕ
 node_of (Declare d) = d.node
 node_of (SetValue s) = node_of_pid s.pid

@@ -7,22 +7,22 @@ use Rattle.vlm_words.specs.Asts.{Queued, completions_of, resource_after_warning,
 use Rattle.vlm_words.specs.Effects.{Blocks, blocks_after, blocks_after_asts, blocks_with, with_value_block}
 use Rattle.vlm_words.specs.Grants.{is_empty, service}
 
--- what the service of a resource writes: its value block, and status blocks; its grants queue their completions, and
--- behind them those locks are warned that are in the way of what is queued still
+-- the value block and the processes after the service of a resource: first its grants with their completions, then
+-- its warnings
 unfoldable pub blocks_after_service : List Process → Resource → Blocks
 blocks_after_service processes r =
     blocks_after_asts (warnings (service r).resource)
     (blocks_after (service r).endings (blocks_with r.value_block processes))
 
--- the resource once it is served and its granted locks are warned, with this value block
+-- the resource after its service and warnings, with this value block
 abbrev pub served_with : ValueBlock → Resource → Resource
 served_with block r = resource_after_warning (with_value_block block (service r).resource)
 
--- the resource once it is served and warned, with the value block that its grants leave
+-- the resource after its service and warnings
 abbrev pub resource_after_service : List Process → Resource → Resource
 resource_after_service processes r = served_with (blocks_after_service processes r).value_block r
 
--- every resource is served and warned, in its turn
+-- every resource is served and warned, in order
 abbrev pub resources_after_service : List Process → List Resource → List Resource
 resources_after_service processes [] = []
 resources_after_service processes (r ∷ rest) =
@@ -35,28 +35,28 @@ processes_after_service processes [] = processes
 processes_after_service processes (r ∷ rest) =
     processes_after_service (blocks_after_service processes r).processes rest
 
--- no lock is left on the resource
+-- no lock is on the resource
 abbrev pub is_vacant : Resource → Bool
 is_vacant r = is_empty r.granted && is_empty r.converting && is_empty r.waiting
 
--- sweep: every resource is served and warned, and dropped if it has no lock
+-- the sweep: every resource is served and warned, and dropped if no lock is left
 unfoldable pub resources_after_sweep : List Process → List Resource → List Resource
 resources_after_sweep processes resources =
     filter (λ r. not (is_vacant r)) (resources_after_service processes resources)
 
--- the ASTs that the service of a resource queues: the completions of its grants, and then its warnings
+-- the ASTs of one service: the completions of the grants, then the warnings
 unfoldable pub service_asts : Resource → List Queued
 service_asts r = completions_of (service r).endings ++ warnings (service r).resource
 
--- the ASTs that are queued in a sweep, resource by resource
+-- the ASTs of a sweep, resource by resource
 unfoldable pub sweep_asts : List Resource → List Queued
 sweep_asts resources = flat_map service_asts resources
 
--- the requests that end in a sweep, resource by resource
+-- the endings of a sweep, resource by resource
 unfoldable pub sweep_endings : List Resource → List Ending
 sweep_endings resources = flat_map (λ r. (service r).endings) resources
 
--- the state once it is swept
+-- the state after the sweep
 abbrev pub state_after_sweep : State → State
 state_after_sweep s = record s {
   processes = processes_after_service s.processes s.resources;

@@ -1,4 +1,4 @@
--- Where the resource of a new request stands in the tree, and the checks of that.
+-- The place of a new request's resource in the tree, and its checks.
 use Rattle.std.specs.Prelude.{ℕ, Bool, List, false, not, ◌&&◌, ◌==◌, ◌+◌, Option, None, Some, nat_lt, find, if◌then◌else◌}
 use Rattle.std.specs.Option.{option_map_or}
 use Rattle.std.specs.List.{list_any}
@@ -14,23 +14,23 @@ use Rattle.vlm_words.specs.State.{Resource, State, process_of}
 use Rattle.vlm_words.specs.Rows.{is_lock_of}
 use Rattle.vlm_words.specs.Checks.{holds_lock, lock_refusal, named_lkid, or_else}
 
--- the identification of the parent lock that is named, 0 for none
+-- the named parent lock, or 0
 abbrev pub parent_lkid : State → NewRequest → ℕ
 parent_lkid s e = named_lkid s e.pid e.parent
 
--- the resource on which the lock of this identification stands, if it is named as a parent
+-- the resource of the parent lock, if a parent lock is named
 unfoldable pub parent_resource : State → ℕ → ℕ → Option Resource
 parent_resource s pid lkid = if lkid == 0 then None else find (holds_lock pid lkid) s.resources
 
--- the UIC group of the caller
+-- the caller's UIC group
 abbrev pub caller_group : State → ℕ → ℕ
 caller_group s pid = option_map_or (λ p. p.group) (process_of s.processes pid) 0
 
--- a root is in the system's domain where SYSTEM asks for that, else in its caller's group
+-- the domain of a root: the system's with SYSTEM, else the caller's group
 abbrev pub root_domain : State → ℕ → ℕ → Domain
 root_domain s pid flags = if has_flag flags system then System else Group (caller_group s pid)
 
--- below a parent resource, in its domain and one level lower; else a root in this domain
+-- a sub-resource: in the parent's domain, one level lower; without a parent a root in this domain
 abbrev pub site_below : Domain → List ℕ → Option Resource → Site
 site_below domain name None = record { key = Root domain name; domain = domain; level = 0 }
 site_below domain name (Some parent) = record {
@@ -39,23 +39,23 @@ site_below domain name (Some parent) = record {
   level = parent.level + 1;
 }
 
--- where the resource of the request stands
+-- the site of the resource
 abbrev pub enq_site : State → NewRequest → Site
 enq_site s e =
     site_below (root_domain s e.pid e.flags) e.name (parent_resource s e.pid (parent_lkid s e))
 
--- the parent lock waits; one that converts counts as granted
+-- PARNOTGRANT if the parent lock waits; a converting lock counts as granted
 unfoldable pub waiting_refusal : ℕ → ℕ → Option Resource → Option Cond
 waiting_refusal pid lkid None = None
 waiting_refusal pid lkid (Some parent) =
     if list_any (is_lock_of pid lkid) parent.waiting then Some Parnotgrant else None
 
--- the resource would stand below the lowest level
+-- EXDEPTH if the parent lock's resource is on the lowest level
 unfoldable pub depth_refusal : Option Resource → Option Cond
 depth_refusal None = None
 depth_refusal (Some parent) = if nat_lt parent.level 15 then None else Some Exdepth
 
--- a parent is named that is no lock of the caller, that waits, or that stands on the lowest level
+-- the refusals of a named parent lock: IVLOCKID, PARNOTGRANT, EXDEPTH
 unfoldable pub parent_refusal : State → ℕ → ℕ → Option Cond
 parent_refusal s pid lkid =
     if lkid == 0 then None
@@ -67,12 +67,12 @@ parent_refusal s pid lkid =
 abbrev pub has_syslck : State → ℕ → Bool
 has_syslck s pid = option_map_or (λ p. p.syslck) (process_of s.processes pid) false
 
--- SYSTEM asks for a root in the system's domain, and its caller has not the privilege
+-- NOSYSLCK for a root with SYSTEM, if the caller lacks the privilege
 unfoldable pub privilege_refusal : State → ℕ → ℕ → ℕ → Option Cond
 privilege_refusal s pid flags parent =
     if (parent == 0) && has_flag flags system && not (has_syslck s pid) then Some Nosyslck else None
 
--- why the resource of a request with these flags cannot stand below the lock, or, where 0 is named, as a root
+-- the refusals of the site, in their order
 unfoldable pub site_refusal : State → ℕ → ℕ → ℕ → Option Cond
 site_refusal s pid flags parent =
     or_else (parent_refusal s pid parent) (privilege_refusal s pid flags parent)

@@ -1,5 +1,5 @@
--- What becomes of locks that are withdrawn, in three phases: their requests end, then they leave what they
--- leave in value blocks, and then they go, or stay at what they hold.
+-- Withdrawals of locks, in three phases: all requests end, then the value blocks are written, then the locks go or
+-- stay.
 use Rattle.std.specs.Prelude.{ℕ, Bool, false, ◌&&◌, ◌||◌, ◌==◌, List, [], ◌∷◌, ◌++◌, map, flat_map, Option, None, Some, if◌then◌else◌}
 use Rattle.std.specs.List.{list_any}
 use Rattle.vlm_words.specs.declared.locks.Request.{Request}
@@ -12,9 +12,9 @@ use Rattle.vlm_words.specs.Endings.{Ending, How, row_endings}
 use Rattle.vlm_words.specs.Effects.{blocks_after, blocks_with}
 use Rattle.vlm_words.specs.Rows.{rows_of, rows_without}
 
--- what is to become of a lock: how its request ends where it waits and where it converts, whether a converting
--- lock stays at what it holds, and what a lock that may write leaves in the value block: a value, if one is
--- given, with a tail or without one, and whether all of it is then marked invalid
+-- a withdrawal: how the lock's request ends if it waits or converts, whether a converting lock stays, and what a lock
+-- that holds PW or EX writes to the value block: a value with or without a tail, and whether it marks the value block
+-- invalid
 pub record Withdrawal : Type 0 where
   pub lkid : ℕ
   pub waiting : How
@@ -26,11 +26,11 @@ pub record Withdrawal : Type 0 where
 
 -- ---- the requests end
 
--- the requests of this lock in a queue end so
+-- the request of this lock ends, if the lock is in this queue
 abbrev pub queue_endings : How → ℕ → List Row → List Ending
 queue_endings how lkid rows = flat_map (row_endings how false) (rows_of lkid rows)
 
--- the request of the lock ends on the resource where it is queued
+-- the request of the lock ends, if it is queued on this resource
 abbrev pub withdrawal_endings : Withdrawal → Resource → List Ending
 withdrawal_endings w r =
     queue_endings w.converting w.lkid r.converting ++ queue_endings w.waiting w.lkid r.waiting
@@ -40,38 +40,38 @@ abbrev pub withdrawn_endings : List Withdrawal → List Resource → List Ending
 withdrawn_endings withdrawals resources =
     flat_map (λ w. flat_map (withdrawal_endings w) resources) withdrawals
 
--- the processes after the ends of requests that touch no value block
+-- the processes after endings that do not touch a value block
 abbrev pub processes_after : List Ending → List Process → List Process
 processes_after endings processes =
     (blocks_after endings (blocks_with new_value_block processes)).processes
 
--- ---- what is left in value blocks
+-- ---- the value blocks
 
--- what is held may write the value block, if anything is held
+-- what is held is PW or EX, so it may write the value block
 abbrev pub is_writer : Option Request → Bool
 is_writer None = false
 is_writer (Some held) = is_writing held.mode
 
--- the lock is among the rows, and may write the value block
+-- the lock is among the rows, and holds PW or EX
 abbrev pub has_writer : ℕ → List Row → Bool
 has_writer lkid rows = list_any (λ row. (row.lkid == lkid) && is_writer row.held) rows
 
--- the value block once a value is given up, with a tail or without one, if there is a value
+-- a given value is written, with or without a tail
 abbrev pub value_block_after_gift : Option (List ℕ) → Option (List ℕ) → ValueBlock → ValueBlock
 value_block_after_gift None tail block = block
 value_block_after_gift (Some value) tail block = written_value_block value tail block
 
--- the value block as a writer leaves it: a given value is written, and then all of it may be marked invalid
+-- a given value is written, then the value block may be marked invalid
 abbrev pub value_block_after_writer : Withdrawal → ValueBlock → ValueBlock
 value_block_after_writer w block =
     if w.invalidates then invalid_value_block (value_block_after_gift w.value w.tail block)
     else value_block_after_gift w.value w.tail block
 
--- the lock holds PW or EX, granted or converting
+-- the lock holds PW or EX on the resource, granted or converting
 abbrev pub is_held_by_writer : ℕ → Resource → Bool
 is_held_by_writer lkid r = has_writer lkid r.granted || has_writer lkid r.converting
 
--- the resource as the lock leaves it; only one that is held at PW or EX touches the value block
+-- the resource after the lock's write; only a lock that holds PW or EX writes
 abbrev pub resource_after_writer : Withdrawal → Resource → Resource
 resource_after_writer w r =
     if is_held_by_writer w.lkid r then record r { value_block = value_block_after_writer w r.value_block }
@@ -79,7 +79,7 @@ resource_after_writer w r =
 
 -- ---- the locks go or stay
 
--- the resource but for this lock
+-- the resource without this lock
 unfoldable pub resource_without : ℕ → Resource → Resource
 resource_without lkid r = record r {
   granted = rows_without lkid r.granted;
@@ -87,12 +87,11 @@ resource_without lkid r = record r {
   waiting = rows_without lkid r.waiting;
 }
 
--- the row wants nothing any more, and holds what it held, armed as before
+-- the row wants nothing, holds what it held, and is armed as before
 abbrev pub row_after_cancel : Row → Row
 row_after_cancel row = record row { want = None }
 
--- a queued conversion is given up: its lock goes to the end of the granted queue; a waiting request goes
--- with its lock
+-- a converting lock goes to the end of the granted queue; a waiting lock goes
 unfoldable pub resource_after_cancel : ℕ → Resource → Resource
 resource_after_cancel lkid r = record r {
   granted = r.granted ++ map row_after_cancel (rows_of lkid r.converting);
@@ -100,25 +99,25 @@ resource_after_cancel lkid r = record r {
   waiting = rows_without lkid r.waiting;
 }
 
--- the lock goes, or a converting one stays
+-- the lock goes, or its request is cancelled
 abbrev pub resource_after_going : Withdrawal → Resource → Resource
 resource_after_going w r =
     if w.stays then resource_after_cancel w.lkid r else resource_without w.lkid r
 
 -- ---- all of them
 
--- each of these withdrawals, in their order, makes its change of the resource
+-- one change for each withdrawal, in order
 abbrev pub resource_after_each : (Withdrawal → Resource → Resource) → List Withdrawal → Resource → Resource
 resource_after_each change [] r = r
 resource_after_each change (w ∷ withdrawals) r = resource_after_each change withdrawals (change w r)
 
--- the resource once all have left what they leave in its value block, and then all have gone or stay
+-- the resource after all withdrawals: first every write, then every lock goes or stays
 abbrev pub resource_after_withdrawals : List Withdrawal → Resource → Resource
 resource_after_withdrawals withdrawals r =
     resource_after_each resource_after_going withdrawals
     (resource_after_each resource_after_writer withdrawals r)
 
--- the requests of these locks end, and the locks are gone from every queue, or only their requests are
+-- the state after all withdrawals: the requests of these locks end, and the locks go or stay
 abbrev pub state_after_withdrawals : List Withdrawal → State → State
 state_after_withdrawals withdrawals s = record s {
   processes = processes_after (withdrawn_endings withdrawals s.resources) s.processes;

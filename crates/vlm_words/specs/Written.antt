@@ -1,4 +1,4 @@
--- What a step writes into status blocks, and of which processes.
+-- The law that a step writes only the status blocks that are named.
 use Rattle.std.specs.Prelude.{◌≡◌, ◌<◌, ◌+◌, ◌/◌, ◌==◌, ◌&&◌, not, filter, ◌⊎◌, ◌++◌, ℕ, Bool, true, false, List, [], ◌∷◌, map, length, replicate, slice_index_or, Any, Option, None, Some, unwrap_or, if◌then◌else◌}
 use Rattle.vlm_words.specs.declared.blocks.Block.{Block}
 use Rattle.vlm_words.specs.declared.conditions.Cond.TheVariants.{Normal, Abort, Cancel, Deadlock, Valnotvalid, Widenotvalid}
@@ -16,11 +16,11 @@ use Rattle.vlm_words.specs.Endings.{Ending, How}
 use Rattle.vlm_words.specs.Endings.How.{by_abort, by_cancel, by_deadlock, by_grant, by_rundown}
 use Rattle.vlm_words.specs.Stepped.{stepped}
 
--- a status block that nothing was written to
+-- a new status block
 abbrev pub blank_block : Block
 blank_block = record { status = 0; lkid = 0; value = replicate 16 0; tail = replicate 48 0 }
 
--- the process as it is declared
+-- the process that a declaration asks for
 abbrev pub process_asked_for : ℕ → Declaration → Process
 process_asked_for pid d = record {
   pid = pid;
@@ -31,13 +31,12 @@ process_asked_for pid d = record {
   asts = [];
 }
 
--- the process but for its notices: its status blocks and its ASTs
+-- the process without its status blocks and ASTs
 abbrev pub without_notices : Process → Process
 without_notices p = record p { blocks = []; asts = [] }
 
--- an accepted declaration adds its process behind the others, and changes none; a rundown takes its process away, and
--- a departure those of its node; any other step leaves the processes as they are, in their order; all but for their
--- status blocks and their ASTs
+-- an accepted declaration adds its process at the end, a rundown removes its process, a departure those of its node;
+-- otherwise processes change only in status blocks and ASTs
 abbrev pub ProcessesAfter : Step → Answer → List Process → List Process → Type 0
 ProcessesAfter (Declare d) (process_answer pid) before after =
     after ≡ before ++ process_asked_for pid d ∷ []
@@ -47,15 +46,15 @@ ProcessesAfter (Leave node) (Plain Normal) before after =
     map without_notices after ≡ map without_notices (filter (λ p. not (p.pid / 65536 == node)) before)
 ProcessesAfter step answer before after = map without_notices after ≡ map without_notices before
 
--- the step names the status block of this number of this process
+-- the step names this status block of this process
 abbrev pub names_block : Step → ℕ → ℕ → Bool
 names_block (SetValue v) pid number = (v.pid == pid) && (v.block == number)
 names_block (Enq e) pid number = (e.pid == pid) && (e.block == number)
 names_block (Convert c) pid number = (c.pid == pid) && (c.block == number)
 names_block step pid number = false
 
--- what the step itself makes of a block that it names: one whose value is set, and its tail where one is given, or that
--- of a pending request for the lock that is answered; a refused step makes nothing of it
+-- what the step itself makes of a block that it names: the set value, or pending for the answered lock; a refused
+-- step changes nothing
 abbrev pub block_named : Step → Answer → Block → Block
 block_named (SetValue v) (Plain Normal) block =
     record block { value = v.value; tail = unwrap_or v.tail block.tail }
@@ -63,23 +62,22 @@ block_named (Enq e) (Lock cond lkid) block = record block { status = 0; lkid = l
 block_named (Convert c) (Lock cond lkid) block = record block { status = 0; lkid = lkid }
 block_named step answer block = block
 
--- the ended request is of this process, and names its status block of this number
+-- the ending is of a request of this process that named this block
 abbrev pub is_end_for : ℕ → ℕ → Ending → Bool
 is_end_for pid number ending = (ending.pid == pid) && (ending.request.block == number)
 
--- the later of two ends, if there is one
+-- the later of two endings, if there is one
 abbrev pub later_end : Option Ending → Option Ending → Option Ending
 later_end None earlier = earlier
 later_end (Some ending) earlier = Some ending
 
--- the last of the ended requests that names the status block
+-- the last ending for the status block
 abbrev pub last_end : ℕ → ℕ → List Ending → Option Ending
 last_end pid number [] = None
 last_end pid number (ending ∷ endings) =
     later_end (last_end pid number endings) (if is_end_for pid number ending then Some ending else None)
 
--- the status that tells how a request ended: a grant is told by NORMAL, or by VALNOTVALID or WIDENOTVALID where it
--- returns the value block; no block of a living process tells of a rundown
+-- the status that an ending leaves; a rundown leaves no status, since its process is gone
 abbrev pub TellsHow : How → ℕ → Type 0
 TellsHow (by_grant Return) status =
     (status ≡ condition_number Normal) ⊎ (status ≡ condition_number Valnotvalid)
@@ -91,32 +89,32 @@ TellsHow by_cancel status = status ≡ condition_number Cancel
 TellsHow by_deadlock status = status ≡ condition_number Deadlock
 TellsHow by_rundown status = ⊥
 
--- the status of a block tells how the last request ended that names it; where none did, it stays
+-- the status is of the last ending for the block; without one it stays
 abbrev pub TellsLast : Option Ending → ℕ → ℕ → Type 0
 TellsLast None before after = after ≡ before
 TellsLast (Some ending) before after = TellsHow ending.how after
 
--- some request that names the status block is granted, and its grant returns the value block
+-- some grant returns the value block to this status block
 abbrev pub IsReturnedTo : ℕ → ℕ → List Ending → Type 0
 IsReturnedTo pid number endings =
     Any (λ ending. (ending.pid ≡ pid) × (ending.request.block ≡ number) × (ending.how ≡ by_grant Return)) endings
 
--- some such request has the flag WIDE
+-- some grant returns the value block with its tail to this status block
 abbrev pub IsReturnedWideTo : ℕ → ℕ → List Ending → Type 0
 IsReturnedWideTo pid number endings =
     Any (λ ending. (ending.pid ≡ pid) × (ending.request.block ≡ number) × (ending.how ≡ by_grant Return)
     × (has_flag (flag_bits ending.request.flags) wide ≡ true)) endings
 
--- what ended requests make of a status block: its status tells of the last, its lock stays, and so does its value
--- part where no value block is returned to it, and its tail where none is returned wide
+-- endings change the status of a block, its value part only by a return, its tail only by a wide return, and never
+-- its lock
 pub record IsLeftByEnds (pid number : ℕ) (endings : List Ending) (before after : Block) : Type 0 where
   pub status : TellsLast (last_end pid number endings) before.status after.status
   pub lkid : after.lkid ≡ before.lkid
   pub value : (IsReturnedTo pid number endings → ⊥) → after.value ≡ before.value
   pub tail : (IsReturnedWideTo pid number endings → ⊥) → after.tail ≡ before.tail
 
--- the blocks of a process after a step that gets this answer and in which these requests end: each is what the
--- step itself makes of it if it is named, and then what the ends make of that; block 1 stands at 0
+-- the blocks of a process after a step: first what the step makes of a named block, then what the endings make of it;
+-- block 1 is at index 0
 pub record BlocksAfter (step : Step) (answer : Answer) (endings : List Ending) (pid : ℕ) (before after : List Block) : Type 0 where
   pub many : length after ≡ length before
   pub each : (k : ℕ) → k < length before
@@ -125,7 +123,7 @@ pub record BlocksAfter (step : Step) (answer : Answer) (endings : List Ending) (
       else slice_index_or before k blank_block)
       (slice_index_or after k blank_block)
 
--- a step writes the status blocks that it names, and those that the requests name that end in it, and no other
+-- a step writes the status blocks that it names, and the blocks of the requests that end in it, and no other
 pub record WritesNamedBlocks (old : State) (step : Step) (choice : Option Row) : Type 0 where
   pub processes :
       ProcessesAfter step (stepped old step choice).answer old.processes (stepped old step choice).state.processes

@@ -1,23 +1,23 @@
-//! ASTs as records that are taken.
+//! The ASTs that are queued to processes.
 
 /// Why an AST is queued.
 #[derive(Clone, Copy, Debug, PartialEq, Eq)]
 pub enum AstKind {
     /// A request of the process ended.
     Completion,
-    /// A lock of the process blocks somebody else's request.
+    /// A lock of the process blocks a queued request, which may be of the same process.
     Blocking,
 }
 
-/// An AST of a process: which routine is to run, and with what.
+/// One pending AST: the routine to run, and its parameter.
 #[derive(Clone, Copy, Debug, PartialEq, Eq)]
 pub struct Ast {
-    /// Why it is queued.
+    /// Whether a request ended or a lock blocks.
     pub kind: AstKind,
-    /// The routine that the request named.
+    /// The number of the routine that the request named.
     pub routine: u32,
-    /// The parameter that the request gave for it.
+    /// The parameter that the request gave. Both its routines share it.
     pub param: u32,
-    /// The lock that it is about.
+    /// The lock whose request ended, or the lock that blocks.
     pub lkid: u32,
 }

@@ -3,21 +3,21 @@
 ghost use Rattle.std.specs.Prelude.{◌≡◌};
 ghost use Rattle.vlm_words.specs.StatusBlocks.{new_status_block};
 
-/// A lock status block of a process.
+/// A status block of a process. Requests name it by its number, and their ends write it.
 #[derive(Clone, Copy, Debug, PartialEq, Eq)]
 pub struct Block {
-    /// 0 while a request is pending, else the number of the condition that it ended with.
+    /// The number of the last end's condition, or 0 while a request is pending and before the first end.
     pub status: u8,
-    /// The lock of the request that was accepted last, or 0.
+    /// The lock of the last accepted request that named this block, or 0.
     pub lkid: u32,
-    /// The value block.
+    /// The value part: what SetValue wrote or a grant returned, and what a conversion writes from.
     pub value: [u8; 16],
-    /// The tail of a wide value block.
+    /// The tail of the value part, for requests with WIDE.
     pub tail: [u8; 48],
 }
 
 impl Block {
-    /// A status block at its making: no request, no lock, and a value block and a tail of zeros.
+    /// A new status block: all zeros.
     pub fn new() -> Block
         ensures { result ≡ new_status_block }
     {

@@ -1,71 +1,70 @@
-//! The conditions that a service answers, or that a status block shows.
+//! The conditions: what a step is answered, and what a status block shows.
 
 ghost use Rattle.std.specs.Prelude.{◌≡◌};
 ghost use Rattle.vlm_words.specs.Conditions.{condition_number, condition_name};
 
-/// A condition.
+/// A condition. ABORT, CANCEL, DEADLOCK, VALNOTVALID and WIDENOTVALID appear only in status blocks.
 #[derive(Clone, Copy, Debug, PartialEq, Eq)]
 pub enum Cond {
-    /// Done; in a status block, a request was granted.
+    /// The step was done. In a status block: the request was granted.
     Normal = 1,
     /// A request with SYNCSTS was granted at once.
     Synch,
     /// A request with NOQUEUE could not be granted at once.
     Notqueued,
-    /// A request ended with its lock.
+    /// A queued request ended because its lock was given up, or because a waiting request was cancelled.
     Abort,
     /// A queued conversion was cancelled.
     Cancel,
-    /// A request was the victim of a deadlock search.
+    /// The request was the victim of a search for a deadlock.
     Deadlock,
     /// A request was granted, and the value block that it returned is invalid.
     Valnotvalid,
-    /// The lock to be cancelled is granted.
+    /// The lock is granted, so it has no request to cancel.
     Cancelgrant,
-    /// The lock to be given up has locks below it.
+    /// The lock to be given up has sublocks.
     Sublocks,
-    /// The identification is not that of a lock of the caller.
+    /// The identification is not a lock of the caller.
     Ivlockid,
-    /// The lock to be converted is waiting or converting.
+    /// The lock to be converted waits or converts already.
     Cvtungrant,
-    /// The lock of the parent is waiting.
+    /// The parent lock waits.
     Parnotgrant,
-    /// The resource would stand too deep below its root.
+    /// The parent lock's resource is on the lowest level.
     Exdepth,
-    /// The process has as many locks as its quota.
+    /// The process has as many locks as its quota (ENQLM).
     Exenqlm,
     /// The identifications or the request numbers are used up.
     Nolockid,
-    /// A growth was refused memory.
+    /// Memory was refused, and nothing was changed.
     Insfmem,
-    /// The resource's name has no byte, or more than 31.
+    /// The resource name has no byte, or more than 31.
     Ivbuflen,
-    /// A flag, a number or an argument that is none.
+    /// An unknown flag, a node out of range or out of ordinals, or arguments that do not go together.
     Badparam,
     /// EXPEDITE at a mode other than NL.
     Unsupported,
     /// SYSTEM on a root without the privilege SYSLCK.
     Nosyslck,
-    /// The process has no status block of this number.
+    /// The process has no status block with this number.
     Accvio,
     /// No living process has the identification.
     Nonexpr,
-    /// The node has departed (this project's own).
+    /// The node has departed (own).
     Departed,
-    /// A request was granted, and of the wide value block that it returned the tail alone is invalid (this
-    /// project's own).
+    /// A request was granted. Of the value block that it returned with WIDE, only the tail is invalid (own).
     Widenotvalid,
 }
 
 impl Cond {
-    /// The condition's number, 1 to 24, as a status block holds it (this project's own).
+    /// The number of the condition, 1 to 24, as a status block holds it (own).
     pub fn number(self) -> u8
         ensures { result ≡ condition_number self }
     {
         self as u8
     }
 
-    /// The condition's name, as it is printed: the original's without `SS$_`.
+    /// The name of the condition, as it is printed: the name of VMS without `SS$_`.
     pub fn text(self) -> &'static str
         ensures { result.now ≡ condition_name self }
     {

@@ -1,4 +1,4 @@
-//! The flags of requests and dequeues, as far as they are built.
+//! The flags of requests and of dequeues.
 
 ghost use Rattle.std.specs.Prelude.{◌≡◌, ⊤, [], ◌∷◌, codes};
 ghost use Rattle.vlm_words.specs.Flags.{cancel, deq_flag_bits, deqall, expedite, flag_bits, has_flag, invvalblk, nodlckblk, nodlckwt, noqueue, quecvt, syncsts, system, valblk, wide};
@@ -11,25 +11,25 @@ pub struct EnqFlags(u16);
 
 bitflag_items! {
     impl EnqFlags: u16 {
-        /// A grant returns the resource's value block to the request's status block, or writes it from
-        /// there.
+        /// A grant returns the resource's value block to the request's status block. A conversion may write it from
+        /// there instead, by its two modes.
         const VALBLK = 1;
         /// A request that cannot be granted at once is refused.
         const NOQUEUE = 2;
-        /// A request that is granted at once answers SYNCH.
+        /// A request that is granted at once answers SYNCH, and queues no completion AST.
         const SYNCSTS = 4;
-        /// A root is in the system's domain and not in its caller's group. That takes SYSLCK.
+        /// A root is in the system's domain, not in its caller's group. The caller needs SYSLCK.
         const SYSTEM = 8;
         /// A new request at NL is granted at once, whatever is queued.
         const EXPEDITE = 16;
-        /// A conversion is granted at once only where none is queued.
+        /// A conversion is granted at once only if no conversion is queued.
         const QUECVT = 32;
-        /// The request counts as waiting for nobody in a search for a deadlock.
+        /// In a search for a deadlock, the queued request waits for nobody.
         const NODLCKWT = 64;
-        /// Nobody counts as waiting for the request in a search for a deadlock, while it is queued and once
-        /// it is granted.
+        /// In a search for a deadlock, nobody waits for the request, neither while it is queued nor once it is
+        /// granted.
         const NODLCKBLK = 128;
-        /// With VALBLK, what is returned or written are the value block's 64 bytes (this project's own).
+        /// With VALBLK, all 64 bytes of the value block are returned or written (own).
         const WIDE = 256;
     }
 }
@@ -61,7 +61,7 @@ impl Flags for EnqFlags {
 }
 
 impl EnqFlags {
-    /// Whether the flag is among these.
+    /// Whether this set contains the flag.
     #[tactic(auto, unfolding(crate::specs::Flags::has_flag))]
     pub fn has(self, flag: EnqFlags) -> bool
         ensures { result ≡ has_flag (flag_bits self) (flag_bits flag) }
@@ -76,11 +76,11 @@ pub struct DeqFlags(u16);
 
 bitflag_items! {
     impl DeqFlags: u16 {
-        /// All locks below a lock, or all of the caller, are given up.
+        /// Gives up all locks below a lock, or with lock 0 all locks of the caller.
         const DEQALL = 1;
-        /// A request is cancelled instead of its lock given up.
+        /// Cancels the request. A converting lock stays.
         const CANCEL = 2;
-        /// The value block of a resource on which the lock holds PW or EX is marked invalid.
+        /// A lock that holds PW or EX marks the value block invalid as it goes.
         const INVVALBLK = 4;
     }
 }
@@ -109,7 +109,7 @@ impl Flags for DeqFlags {
 }
 
 impl DeqFlags {
-    /// Whether the flag is among these.
+    /// Whether this set contains the flag.
     #[tactic(auto, unfolding(crate::specs::Flags::has_flag))]
     pub fn has(self, flag: DeqFlags) -> bool
         ensures { result ≡ has_flag (deq_flag_bits self) (deq_flag_bits flag) }

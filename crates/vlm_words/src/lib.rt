@@ -1,8 +1,7 @@
-//! The words of the lock manager, its tables, and the definitions that every contract cites.
+//! The types and tables of the lock manager, and the definition of the plain machine that every contract cites.
 //!
-//! Nothing here takes memory. `specs/` says what the plain lock machine is: three queues for each
-//! resource, the checks of each step in their order, and the sweep that ends it. [`laws`] says what
-//! holds after every run of that machine.
+//! Nothing here takes memory. `specs/` defines the plain machine: three queues for each resource, the checks of each
+//! step in their order, and the sweep that ends it. [`laws`] says what holds after every run of that machine.
 #![tactic(auto)]
 
 pub mod asts;

@@ -1,12 +1,12 @@
-//! Locks as rows of a resource's queues.
+//! Locks, and the requests that they hold and want.
 
 use crate::flags::EnqFlags;
 use crate::modes::Mode;
 
-/// What a process asked for: a new lock or a conversion that was accepted.
+/// An accepted request: a new lock or a conversion.
 #[derive(Clone, Copy)]
 pub struct Request {
-    /// The number of the request, from 1, rising with each that is accepted.
+    /// The number of the request. Numbers rise from 1, and each accepted request has its own.
     pub number: u64,
     /// The completion routine.
     pub completion: Option<u32>,
@@ -14,27 +14,27 @@ pub struct Request {
     pub blocking: Option<u32>,
     /// The parameter of both routines.
     pub param: u32,
-    /// How it is asked for.
+    /// The flags. Later grants and searches read them too.
     pub flags: EnqFlags,
-    /// The mode that is asked for.
+    /// The requested mode.
     pub mode: Mode,
-    /// The number of the caller's status block.
+    /// The number of the status block that its end writes.
     pub block: u8,
 }
 
-/// A lock. It stands in one queue of one resource.
+/// The state of a lock. Each lock is in one queue of one resource.
 #[derive(Clone, Copy)]
 pub struct Row {
-    /// The lock's identification.
+    /// The identification of the lock.
     pub lkid: u32,
-    /// The process that owns it.
+    /// The process that owns the lock.
     pub pid: u32,
-    /// The lock of the parent resource that it was made under, or 0.
+    /// The parent lock, or 0.
     pub parent: u32,
-    /// Whether a blocking AST is still to come for the granted request.
+    /// Whether the granted request names a blocking routine that has not been queued since the grant.
     pub armed: bool,
-    /// The request that was granted last, kept while a conversion waits.
+    /// The last granted request. It stays while a conversion waits, and is missing while a new lock waits.
     pub held: Option<Request>,
-    /// The request that waits.
+    /// The queued request, if there is one.
     pub want: Option<Request>,
 }

@@ -3,7 +3,7 @@
 ghost use Rattle.std.specs.Prelude.{◌≡◌, ◌<◌};
 ghost use Rattle.vlm_words.specs.Modes.{is_compatible, is_queued_legally, rank, value_action};
 
-/// A lock mode, the weakest first.
+/// A lock mode, from weak to strong.
 #[derive(Clone, Copy)]
 pub enum Mode {
     /// Null: interest without access.
@@ -21,7 +21,7 @@ pub enum Mode {
 }
 
 impl Mode {
-    /// Its place among the six, from 0 for the weakest.
+    /// The position of the mode, from 0 for the weakest to 5.
     pub fn rank(self) -> usize
         ensures rank { result ≡ rank self }
         ensures below { result < 6 }
@@ -41,7 +41,7 @@ const Y: bool = true;
 
 const N: bool = false;
 
-// In each table the rows and the columns are the modes by rank.
+// The rows and columns of each table are the modes by rank.
 const COMPATIBLE: [[bool; 6]; 6] = [
     // NL CR CW PR PW EX
     [Y, Y, Y, Y, Y, Y], // NL
@@ -52,7 +52,7 @@ const COMPATIBLE: [[bool; 6]; 6] = [
     [Y, N, N, N, N, N], // EX
 ];
 
-/// Whether two locks of one resource may be held in these modes.
+/// Whether two locks may hold one resource in these modes together.
 #[tactic(auto, unfolding(crate::specs::Modes::is_compatible))]
 pub fn compatible(a: Mode, b: Mode) -> bool
     ensures { result ≡ is_compatible a b }
@@ -63,11 +63,11 @@ pub fn compatible(a: Mode, b: Mode) -> bool
 /// What VALBLK does on a conversion.
 #[derive(Clone, Copy)]
 pub enum Act {
-    /// The value block stays, and is not shown.
+    /// The value block is neither returned nor written.
     Nothing,
     /// The resource's value block is returned to the status block.
     Return,
-    /// The value block of the status block is written to the resource.
+    /// The status block's value part is written to the resource's value block.
     Write,
 }
 
@@ -77,7 +77,7 @@ const W: Act = Act::Write;
 
 const O: Act = Act::Nothing;
 
-// by the held mode, then by the wanted one
+// Rows are held modes, columns wanted modes.
 const VALUE_ACTIONS: [[Act; 6]; 6] = [
     // NL CR CW PR PW EX
     [R, R, R, R, R, R], // NL
@@ -88,8 +88,7 @@ const VALUE_ACTIONS: [[Act; 6]; 6] = [
     [W, W, W, W, W, W], // EX
 ];
 
-/// What VALBLK does on a conversion from the held to the wanted mode (after the $ENQ table of value
-/// blocks; where they differ this project's own stands).
+/// What VALBLK does on a conversion from the held to the wanted mode, after the table of $ENQ.
 #[tactic(auto, unfolding(crate::specs::Modes::value_action))]
 pub fn value_action(held: Mode, want: Mode) -> Act
     ensures { result ≡ value_action held want }
@@ -97,7 +96,7 @@ pub fn value_action(held: Mode, want: Mode) -> Act
     VALUE_ACTIONS[held.rank()][want.rank()]
 }
 
-// by the held mode, then by the wanted one
+// Rows are held modes, columns wanted modes.
 const QUEUED_LEGALLY: [[bool; 6]; 6] = [
     // NL CR CW PR PW EX
     [N, Y, Y, Y, Y, Y], // NL
@@ -108,7 +107,7 @@ const QUEUED_LEGALLY: [[bool; 6]; 6] = [
     [N, N, N, N, N, N], // EX
 ];
 
-/// Whether a conversion from the held to the wanted mode may be asked for with QUECVT.
+/// Whether QUECVT may go with a conversion from the held to the wanted mode.
 #[tactic(auto, unfolding(crate::specs::Modes::is_queued_legally))]
 pub fn quecvt_legal(held: Mode, want: Mode) -> bool
     ensures { result ≡ is_queued_legally held want }

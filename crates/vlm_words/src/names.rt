@@ -1,4 +1,4 @@
-//! Names of resources, as they are given and as they are accepted.
+//! The names of resources, before and after their check.
 
 ghost use Rattle.std.specs.Cmp.Lexicographic.{pointwise};
 ghost use Rattle.std.specs.Prelude.{◌≡◌, true, length, nat_eq, take};
@@ -29,7 +29,7 @@ impl Model for Name {
 }
 
 impl Name {
-    /// The name that the bytes are. IVBUFLEN where there are none, or more than 31 ($ENQ, resnam).
+    /// The bytes as a name. IVBUFLEN if there are 0 bytes, or more than 31.
     #[tactic(auto, unfolding(crate::specs::Names::name_of))]
     pub fn new(bytes: &[u8]) -> Result<Name, Cond>
         ensures { result ≡ name_of bytes.now }
@@ -44,7 +44,7 @@ impl Name {
         }
     }
 
-    /// The name as four words of eight bytes, the low byte first, padded with zeros. A name has at most 31 bytes, so the
+    /// The name as four words of eight bytes, low byte first, padded with zeros. A name has at most 31 bytes, so the
     /// last word begins at byte 23 and shares that byte with the third.
     pub fn words(&self) -> [u64; 4]
         ensures { result ≡ name_words self.now }
@@ -57,21 +57,21 @@ impl Name {
         ]
     }
 
-    /// Whether the names are the same.
+    /// Whether the names are equal. It compares whole words.
     pub fn is_same(&self, other: &Name) -> bool
         ensures { result ≡ pointwise nat_eq self.now other.now }
     {
         self.text.is_same(&other.text)
     }
 
-    /// How many bytes the name has.
+    /// The number of bytes, 1 to 31.
     pub fn len(&self) -> u8
         ensures { result ≡ length self.now }
     {
         self.text.len()
     }
 
-    /// The name's bytes.
+    /// The bytes without the padding.
     pub fn bytes(&self) -> &[u8]
         ensures { result.now ≡ self.now }
     {
@@ -79,8 +79,7 @@ impl Name {
     }
 }
 
-/// A resource name as a caller gives it, before it is checked: at most 32 bytes, of a longer text
-/// the first 32, which no name has.
+/// A resource name as the caller gives it, unchecked. It keeps at most 32 bytes: a longer name is refused anyway.
 #[derive(Clone, Copy)]
 pub struct NameArg {
     text: Text<32>,
@@ -97,7 +96,7 @@ impl Model for NameArg {
 }
 
 impl NameArg {
-    /// The first 32 bytes, or all where there are no more.
+    /// Keeps the first 32 bytes, or all if there are fewer.
     pub fn of(bytes: &[u8]) -> NameArg
         ensures { result ≡ take 32 bytes.now }
     {
@@ -106,14 +105,14 @@ impl NameArg {
         }
     }
 
-    /// Whether its bytes are a name: there are 1 to 31 of them.
+    /// Whether the bytes are a name: 1 to 31 of them.
     pub fn is_name(&self) -> bool
         ensures { result ≡ is_name self.now }
     {
         0 < self.text.len() && self.text.len() <= 31
     }
 
-    /// The name that was given, which `is_name` has found to be one.
+    /// The name, after `is_name` has accepted it.
     pub fn checked(&self) -> Name
         requires { is_name self.now ≡ true }
         ensures { result ≡ self.now }
@@ -123,7 +122,7 @@ impl NameArg {
         }
     }
 
-    /// The name that was given. IVBUFLEN where its bytes are no name.
+    /// The name. IVBUFLEN if the bytes are not a name.
     #[tactic(auto, unfolding(crate::specs::Names::name_of))]
     pub fn name(&self) -> Result<Name, Cond>
         ensures { result ≡ name_of self.now }

@@ -1,4 +1,4 @@
-//! Where a resource stands, its value block, and its three queues.
+//! The place of a resource in its tree, its value block, and its three queues.
 
 ghost use Rattle.std.specs.Prelude.{◌≡◌, ◌<◌, ◌^◌};
 ghost use Rattle.vlm_words.specs.Keys.{name_space};
@@ -9,7 +9,7 @@ ghost use Rattle.vlm_words.specs.ValueBlocks.{invalid_value_block, new_value_blo
 use crate::conditions::Cond;
 use crate::names::Name;
 
-/// The space of names that a root resource is in.
+/// The name space of a root. Sub-resources are in the domain of their root.
 #[derive(Clone, Copy, PartialEq, Eq)]
 pub enum Domain {
     /// The names of one UIC group.
@@ -18,7 +18,7 @@ pub enum Domain {
     System,
 }
 
-/// Where a resource stands: no two resources have one key.
+/// What a resource is found by. No two resources have one key.
 #[derive(Clone, Copy)]
 pub enum Key {
     /// A root, by its domain and its name.
@@ -27,12 +27,12 @@ pub enum Key {
     Below(u32, Name),
 }
 
-/// Where a resource stands: under which key, in which domain, and how many levels below its root.
+/// Where a resource is: its key, its domain, and its level below the root.
 #[derive(Clone, Copy)]
 pub struct Site {
-    /// Where it is found.
+    /// What it is found by.
     pub key: Key,
-    /// A sub-resource is in its root's.
+    /// The domain of its root.
     pub domain: Domain,
     /// 0 for a root, at most 15.
     pub level: u8,
@@ -58,7 +58,7 @@ impl Key {
         }
     }
 
-    /// The words that a key is hashed by: first its name space and the length of its name, then the words of the name.
+    /// The words that are hashed for a key: its name space with the length of the name, then the words of the name.
     pub fn words(&self) -> [u64; 5]
         ensures { result ≡ key_words self.now }
     {
@@ -68,7 +68,7 @@ impl Key {
         [space, first, second, third, last]
     }
 
-    /// How many of these words are to be hashed: the others are zeros.
+    /// How many of these words to hash. The words after them are zeros.
     pub fn word_count(&self) -> usize
         ensures { result ≡ word_count self.now }
     {
@@ -79,7 +79,7 @@ impl Key {
         }
     }
 
-    // The space that the resource's name is in, as a number of its own.
+    // The name space as one number. Groups, the system's domain and parent resources have ranges of their own.
     fn name_space(&self) -> u64
         ensures space { result ≡ name_space self.now }
         ensures below { result < 2 ^ 33 }
@@ -122,22 +122,22 @@ impl Eq for Key {
     ghost laws = { decided is_same_key is_same_key-Decides };
 }
 
-/// The value block of a resource: 16 bytes, the tail of 48 more that makes it wide (this project's own), and
-/// whether each is valid. The tail is valid only where the 16 bytes are.
+/// The value block of a resource: a value of 16 bytes, a tail of 48 (own), and a mark for each that says whether it
+/// is valid. The tail is valid only if the value is.
 #[derive(Clone, Copy)]
 pub struct ValueBlock {
-    /// Its bytes, valid or not.
+    /// The 16 bytes, valid or not.
     pub value: [u8; 16],
-    /// Whether the bytes are what the last writer meant.
+    /// False after a writer marked the value block invalid, until the next write.
     pub valid: bool,
-    /// The bytes of its tail, valid or not.
+    /// The 48 bytes of the tail, valid or not.
     pub tail: [u8; 48],
-    /// Whether the tail is what the last writer meant.
+    /// False after a write of 16 bytes too, since the tail belonged to the overwritten value.
     pub tail_valid: bool,
 }
 
 impl ValueBlock {
-    /// The value block of a new resource: zeros, all of them valid.
+    /// A new value block: zeros, all valid.
     pub fn new() -> ValueBlock
         ensures { result ≡ new_value_block }
     {
@@ -149,8 +149,8 @@ impl ValueBlock {
         }
     }
 
-    /// Writes the 16 bytes, and the tail where one is given. What is written is valid. Without a tail the old one
-    /// stays, and is invalid.
+    /// Writes the value, and the tail if one is given. What is written becomes valid. Without a given tail the old
+    /// one keeps its bytes and becomes invalid.
     pub fn write(&mut self, value: [u8; 16], tail: Option<[u8; 48]>)
         ensures { self.new ≡ written_value_block value tail self.old }
     {
@@ -162,7 +162,7 @@ impl ValueBlock {
         }
     }
 
-    /// Marks all of it invalid; the bytes stay.
+    /// Marks value and tail invalid. The bytes stay.
     pub fn invalidate(&mut self)
         ensures { self.new ≡ invalid_value_block self.old }
     {
@@ -170,8 +170,8 @@ impl ValueBlock {
         self.tail_valid = false;
     }
 
-    /// The status of a request that it is returned to: VALNOTVALID where the 16 bytes are invalid, else WIDENOTVALID
-    /// where the tail is, which a wide return alone sees, and else NORMAL.
+    /// The status of a grant that returns this value block: VALNOTVALID if the value is invalid; else WIDENOTVALID if
+    /// the tail is, for a wide return; else NORMAL.
     pub fn return_status(&self, wide: bool) -> Cond
         ensures { result ≡ return_status wide self.now }
     {
@@ -185,13 +185,13 @@ impl ValueBlock {
     }
 }
 
-/// A queue of a resource.
+/// A queue of a resource. Each queue is first in, first out.
 #[derive(Clone, Copy, PartialEq, Eq)]
 pub enum Queue {
-    /// Locks that hold a mode and want no other.
+    /// Locks that hold a mode and want nothing.
     Granted,
-    /// Locks that hold a mode and wait for another.
+    /// Locks that hold a mode and want another.
     Conversion,
-    /// Locks that hold nothing yet.
+    /// Locks that hold nothing and want a mode.
     Waiting,
 }

@@ -8,8 +8,8 @@ use crate::conditions::Cond;
 use crate::modes::Mode;
 use crate::names::NameArg;
 
-/// A lock, named by its identification, or by what stands in a status block of the caller when the
-/// step is taken.
+/// A lock, named by its identification or by a status block of the caller. A block names the lock whose
+/// identification is in it when the step is made.
 #[derive(Clone, Copy)]
 pub enum Which {
     /// Its identification.
@@ -18,7 +18,7 @@ pub enum Which {
     Block(u8),
 }
 
-/// A process is declared.
+/// The step that makes a process.
 #[derive(Clone, Copy)]
 pub struct Declaration {
     /// Its node, 1 to 8.
@@ -27,110 +27,109 @@ pub struct Declaration {
     pub group: u16,
     /// Whether it has the privilege SYSLCK.
     pub syslck: bool,
-    /// How many locks it may have.
+    /// How many locks it may have, waiting ones included (ENQLM).
     pub quota: u16,
     /// How many status blocks it has, numbered from 1.
     pub blocks: u8,
 }
 
-/// The value part of a status block is set.
+/// The step that writes the value part of a status block.
 #[derive(Clone, Copy)]
 pub struct ValueSetting {
     /// The caller.
     pub pid: u32,
     /// The number of the status block, from 1.
     pub block: u8,
-    /// What its value part is to hold.
+    /// The new value part.
     pub value: [u8; 16],
-    /// What its tail is to hold; without one it stays.
+    /// The new tail. If it is missing, the old tail stays.
     pub tail: Option<[u8; 48]>,
 }
 
-/// A new lock is asked for ($ENQ).
+/// The step that asks for a new lock ($ENQ).
 #[derive(Clone, Copy)]
 pub struct NewRequest {
     /// The caller.
     pub pid: u32,
-    /// The mode that is asked for.
+    /// The requested mode.
     pub mode: Mode,
-    /// The name of the resource.
+    /// The name of the resource, not checked yet.
     pub name: NameArg,
     /// The number of the status block, from 1.
     pub block: u8,
-    /// The lock of the parent resource; the identification 0 for none.
+    /// The parent lock. Identification 0 names no parent.
     pub parent: Which,
-    /// The bits of the flags, unknown ones too.
+    /// The flag bits, unknown ones included.
     pub flags: u16,
     /// The completion routine.
     pub ast: Option<u32>,
     /// The blocking routine.
     pub bast: Option<u32>,
-    /// The parameter of both.
+    /// The parameter for both routines.
     pub param: u32,
 }
 
-/// A lock is to be held in another mode ($ENQ with LCK$M_CONVERT).
+/// The step that asks for another mode of a granted lock ($ENQ with LCK$M_CONVERT).
 #[derive(Clone, Copy)]
 pub struct Conversion {
     /// The caller.
     pub pid: u32,
     /// The lock to convert.
     pub lock: Which,
-    /// The mode that is asked for.
+    /// The requested mode.
     pub mode: Mode,
     /// The number of the status block, from 1.
     pub block: u8,
-    /// The bits of the flags, unknown ones too.
+    /// The flag bits, unknown ones included.
     pub flags: u16,
     /// The completion routine.
     pub ast: Option<u32>,
     /// The blocking routine.
     pub bast: Option<u32>,
-    /// The parameter of both.
+    /// The parameter for both routines.
     pub param: u32,
 }
 
-/// A lock is given up, or a request is cancelled ($DEQ).
+/// The step that gives up locks, or cancels a request ($DEQ).
 #[derive(Clone, Copy)]
 pub struct Dequeue {
     /// The caller.
     pub pid: u32,
-    /// The lock to give up.
+    /// The lock to give up. With DEQALL: the lock whose sublocks go, or 0 for all locks of the caller.
     pub lock: Which,
-    /// The value block to write.
+    /// The value to write to the value block, if the lock holds PW or EX.
     pub value: Option<[u8; 16]>,
-    /// The tail to write with it, which makes the write one of 64 bytes.
+    /// The tail to write with the value.
     pub tail: Option<[u8; 48]>,
-    /// The bits of the flags, unknown ones too.
+    /// The flag bits, unknown ones included.
     pub flags: u16,
 }
 
-/// One event of the lock machine.
+/// One event. The machine makes it whole, or refuses it and changes nothing.
 #[derive(Clone, Copy)]
 pub enum Step {
-    /// A process is declared.
+    /// Makes a process.
     Declare(Declaration),
-    /// The value part of a status block is set.
+    /// Writes the value part of a status block, and its tail if one is given.
     SetValue(ValueSetting),
-    /// A new lock is asked for.
+    /// Asks for a new lock.
     Enq(NewRequest),
-    /// Another mode of a granted lock is asked for.
+    /// Asks for another mode of a granted lock.
     Convert(Conversion),
-    /// A lock is given up, or a request is cancelled.
+    /// Gives up locks, or cancels a request.
     Deq(Dequeue),
-    /// A process ends, with all that it has.
+    /// Ends a process: its locks, status blocks and ASTs go.
     Rundown(u32),
-    /// A node departs, with all its processes.
+    /// A node departs: all its processes end.
     Leave(u8),
-    /// A deadlock is searched for, at the wish of a node.
+    /// Searches the whole machine for a deadlock. Any node may ask.
     Search(u8),
-    /// The first AST of a process is taken.
+    /// Takes the oldest AST of a process.
     Take(u32),
 }
 
 impl Step {
-    /// The node that the step is of: the one that it names, or the upper half of the identification
-    /// of its process (this project's own).
+    /// The node that makes the step: the named node, or the upper half of the caller's identification (own).
     pub fn node(&self) -> u16
         ensures { result ≡ node_of self.now }
     {
@@ -146,24 +145,23 @@ impl Step {
     }
 }
 
-// The upper half of a process's identification.
 fn node_of_pid(pid: u32) -> u16
     ensures { result ≡ pid / 65536 }
 {
     (pid / 65536) as u16
 }
 
-/// What a step is answered.
+/// The answer to a step.
 #[derive(Clone, Copy, Debug, PartialEq, Eq)]
 pub enum Answer {
-    /// An accepted declaration: the new process.
+    /// A declaration was accepted. It made this process.
     Process(u32),
-    /// An accepted request, NORMAL or SYNCH, and its lock.
+    /// A request was accepted, by NORMAL or SYNCH, for this lock.
     Lock(Cond, u32),
-    /// A search: the lock whose request was ended, if there was a deadlock.
+    /// A search was made. It ended the request of this lock, or found no deadlock.
     Victim(Option<u32>),
-    /// The AST that was taken, if one was pending.
+    /// A Take was made: the AST, if one was pending.
     Taken(Option<Ast>),
-    /// Everything else, and every refusal.
+    /// All other answers, and every refusal.
     Plain(Cond),
 }

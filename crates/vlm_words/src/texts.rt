@@ -1,4 +1,4 @@
-//! Short texts that are copied as a whole.
+//! Short texts of a fixed capacity.
 
 ghost use Rattle.std.specs.Cmp.Lexicographic.{pointwise};
 ghost use Rattle.std.specs.Prelude.{◌≡◌, ◌≤◌, ◌+◌, length, nat_eq, take};
@@ -8,11 +8,12 @@ ghost use Rattle.vlm_words.specs.Padding.{padded};
 use std::hash::{Hash, Hasher};
 use std::marker::Model;
 
-/// At most `N` bytes, in place, and at most 255.
+/// At most `N` bytes, at most 255, kept in place. A copy copies all `N`.
 #[derive(Clone, Copy)]
 pub struct Text<const N: usize> {
-    // the bytes, and zeros behind them
+    // the bytes, then zeros
     cells: [u8; N],
+    // how many of the cells are bytes of the text
     len: u8,
 }
 
@@ -36,7 +37,7 @@ impl<const N: usize> Model for Text<N> {
 }
 
 impl<const N: usize> Text<N> {
-    /// The first `N` bytes, or all where there are no more.
+    /// Keeps the first `N` bytes, or all if there are fewer.
     pub fn of(bytes: &[u8]) -> Self
         requires { N ≤ 255 }
         ensures { result ≡ take N bytes.now }
@@ -50,14 +51,14 @@ impl<const N: usize> Text<N> {
         }
     }
 
-    /// How many bytes the text has.
+    /// The number of bytes.
     pub fn len(&self) -> u8
         ensures { result ≡ length self.now }
     {
         self.len
     }
 
-    /// The eight bytes from this index on as a word, the low byte first. Past the end of the text the bytes are zeros.
+    /// The eight bytes from this index on as a word, low byte first. After the end of the text the bytes are zeros.
     pub fn word(&self, at: usize) -> u64
         requires { at + 8 ≤ N }
         ensures { result ≡ word_at (padded N self.now) at }
@@ -75,7 +76,7 @@ impl<const N: usize> Text<N> {
         ])
     }
 
-    /// The text's bytes.
+    /// The bytes without the padding.
     pub fn bytes(&self) -> &[u8]
         ensures { result.now ≡ self.now }
     {
@@ -84,7 +85,7 @@ impl<const N: usize> Text<N> {
 }
 
 impl Text<32> {
-    /// The same text in one byte less, where it fits. Its cells are copied as a whole, whatever its length.
+    /// The same text with a smaller capacity. It copies a fixed number of bytes, so it needs no loop.
     pub fn narrowed(&self) -> Text<31>
         requires { length self.now ≤ 31 }
         ensures { result ≡ self.now }
@@ -99,7 +100,7 @@ impl Text<32> {
 }
 
 impl Text<31> {
-    /// Whether the texts are the same. Four words have all the cells of a text.
+    /// Whether the texts are equal. Four words cover all 31 cells, so the length of the text does not matter.
     pub fn is_same(&self, other: &Text<31>) -> bool
         ensures { result ≡ pointwise nat_eq self.now other.now }
     {
@@ -140,7 +141,7 @@ impl<const N: usize> Hash for Text<N> {
 
     ghost respects_eq = { (same_Alike (λ text. text ∷ []) bytes_decides).fed };
 
-    // In one write: a hasher takes whole words of it in at once.
+    // One write: a hasher then takes whole words at once.
     fn hash<H: Hasher>(&self, state: &mut H) {
         state.write(self.bytes());
     }
