@@ -8,14 +8,14 @@ use Rattle.vlm_records.specs.declared.handles.Place.TheVariants.{Queued}
 use Rattle.vlm_records.specs.Armed.{is_listed}
 use Rattle.vlm_store.specs.Records.{Records, StoredLock, locks_at}
 
--- the locks among these whose rows are listed, in their order
+-- the locks in this list of armed locks, in their order
 abbrev pub armed_among : Armed → List StoredLock → List StoredLock
 armed_among which locks = filter (λ k. is_listed which k.row) locks
 
--- the list of armed locks of the resource, the first in line first
+-- a list of armed locks of the resource, in the order of the granted queue
 abbrev pub armed_at : Armed → ℕ → Records → List StoredLock
 armed_at which res s = armed_among which (locks_at (Queued res Granted) s)
 
--- a lock of this handle is in the list
+-- the lock with this handle is in the list
 abbrev pub IsArmedAt : Armed → ℕ → ℕ → Records → Type 0
 IsArmedAt which res at s = (row : Row) × IsIn (record { at = at; row = row }) (armed_at which res s)

@@ -1,4 +1,4 @@
--- Keys with their hashes, and what the index of resources keeps of both.
+-- Keys with their hashes.
 use Rattle.std.specs.Prelude.{◌≡◌, ◌&&◌, ◌==◌, ℕ, Bool, Option}
 use Rattle.std.specs.Bool.{Decides}
 use Rattle.std.specs.Cmp.{unsigned_Decides}
@@ -14,15 +14,15 @@ use Rattle.vlm_records.specs.declared.queues.Queues.{Queues}
 use Rattle.vlm_records.specs.declared.resources.Resource.{Resource}
 use Rattle.vlm_store.specs.declared.hashed.HashedKey.{HashedKey}
 
--- the two are one key with one hash
+-- the same key with the same hash
 abbrev pub is_same_hashed : HashedKey → HashedKey → Bool
 is_same_hashed a b = (a.hash == b.hash) && is_same_key a.key b.key
 
--- what is hashed of a hashed key: its hash alone
+-- only the hash is fed to the hasher
 abbrev pub hashed_input : HashedKey → HashWrites
 hashed_input k = fed.u32 k.hash
 
--- two that are found the same are the same
+-- the comparison decides equality
 pub is_same_hashed-Decides : (a b : HashedKey) → Decides (is_same_hashed a b) (a ≡ b)
 is_same_hashed-Decides a b = (
   λ h.
@@ -43,6 +43,6 @@ hashed hash key = record { key = key; hash = hash key }
 abbrev pub hashed_in : Resource → HashedKey
 hashed_in r = record { key = r.key; hash = r.hash }
 
--- those of the resource under a handle
+-- the key and the hash of the resource with this handle
 abbrev pub hashed_at : Queues → ℕ → Option HashedKey
 hashed_at q res = option_map hashed_in (get q.resources res)

@@ -1,4 +1,4 @@
--- How many locks hold each mode.
+-- The numbers of locks that hold each mode.
 use Rattle.std.specs.Prelude.{ℕ, List, count_by}
 use Rattle.vlm_words.specs.declared.locks.Row.{Row}
 use Rattle.vlm_tallies.specs.Tallies.{by_mode, is_mode}

@@ -1,4 +1,4 @@
--- The processes with their own locks, each lock with those below it.
+-- The processes with their own locks, and each lock with its sublocks.
 use Rattle.std.specs.Prelude.{ℕ, false, List, [], map, Option, None, Some}
 use Rattle.slab.specs.Slab.{Slab, get}
 use Rattle.vlm_links.specs.declared.lists.LinkedList.{LinkedList}
@@ -10,44 +10,44 @@ use Rattle.vlm_records.specs.declared.resources.InOrder.{InOrder}
 use Rattle.vlm_records.specs.Kin.{below_handles, own_handles, plain_process, process_links}
 use Rattle.vlm_store.specs.Records.{OwnLock, StoredProcess}
 
--- a process without its locks: what its record tells, and how many ASTs it is owed
+-- a process without its locks: its record, and how many ASTs are due
 pub record ProcessFace : Type 0 where
   pub plain : PlainProcess
   pub due : ℕ
 
--- what a process shows besides its locks
+-- the face of a process
 abbrev pub process_face : Process → ProcessFace
 process_face p = record { plain = plain_process p; due = p.asts.due }
 
--- what is told of a process that is not there
+-- the face of a missing process
 abbrev pub no_process : ProcessFace
 no_process = record { plain = record { pid = 0; group = 0; syslck = false; quota = 0; blocks = []; asts = [] }; due = 0 }
 
--- what stands under a handle, or what is told of nothing
+-- the face of the process in a place of the slab
 abbrev pub process_face_in : Option Process → ProcessFace
 process_face_in None = no_process
 process_face_in (Some p) = process_face p
 
--- what stands under each handle of a process, its locks, the locks below each, and the order of making
+-- for each handle a process and its locks, for each lock its sublocks, and the processes in the order of making
 pub record Holding : Type 0 where
   pub faces : ℕ → ProcessFace
   pub own : ℕ → List ℕ
   pub below : ℕ → List ℕ
   pub order : List ℕ
 
--- a lock among those of its process
+-- a lock of a process, with its sublocks
 abbrev pub own_of : Holding → ℕ → OwnLock
 own_of h at = record { at = at; sublocks = h.below at }
 
--- a process under its handle, with these locks of its own
+-- a process with its handle and these locks of its own
 abbrev pub faced : ℕ → ProcessFace → List OwnLock → StoredProcess
 faced at face own = record { at = at; process = face.plain; due = face.due; own = own }
 
--- a process under its handle
+-- the process with this handle
 abbrev pub process_under : Holding → ℕ → StoredProcess
 process_under h at = faced at (h.faces at) (map (own_of h) (h.own at))
 
--- what a caller sees of the processes
+-- the processes that a caller sees
 unfoldable pub processes_of : Holding → List StoredProcess
 processes_of h = map (process_under h) h.order
 

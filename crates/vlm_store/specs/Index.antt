@@ -1,4 +1,4 @@
--- An index finds each record by its label, and nothing else.
+-- Indexes: they find each record by its label, and nothing else.
 use Rattle.std.specs.Prelude.{◌≡◌, ℕ, List, Option, Some}
 use Rattle.vlm_links.specs.declared.hashing.HashKeys.{HashKeys}
 use Rattle.vlm_links.specs.Hashing.{hash_of}
@@ -10,12 +10,12 @@ use Rattle.vlm_words.specs.NameWords.{hashed_words}
 abbrev pub hash_key : HashKeys → Key → ℕ
 hash_key keys key = hash_of keys (hashed_words key)
 
--- what is found is labelled so, and what is labelled is found
+-- every find is right, and every labelled record is found
 pub record Indexes {K : Type 0} (found : K → Option ℕ) (label : ℕ → Option K) : Type 0 where
   pub sound : (k : K) (at : ℕ) → found k ≡ Some at → label at ≡ Some k
   pub complete : (k : K) (at : ℕ) → label at ≡ Some k → found k ≡ Some at
 
--- a table finds each record by its number, and nothing else, and has room for the number of each
+-- the table finds each record by its number and nothing else, and has room for the number of each
 pub record IsTable (rows : List (List (Option ℕ))) (label : ℕ → Option ℕ) : Type 0 where
   pub indexes : Indexes (handle_of rows) label
   pub room : (at number : ℕ) → label at ≡ Some number → HasRoomFor rows number

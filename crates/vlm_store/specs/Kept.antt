@@ -1,4 +1,4 @@
--- What the fields of the store keep, and what they show.
+-- The store's invariant, and the records that its fields show.
 use Rattle.std.specs.Prelude.{ℕ, List, [], Option, None}
 use Rattle.slab.specs.Slab.{ContainsKey}
 use Rattle.vlm_store.specs.Index.{hash_key}
@@ -31,21 +31,21 @@ rooms_shown s = record {
   processes = room_of s.processes [];
 }
 
--- the processes, the room, and how a key is hashed
+-- the processes, the room and the keys that the fields show
 abbrev pub beside_shown : Inside → Beside
 beside_shown s = record { processes = processes_shown s; room = rooms_shown s; keys = s.keys }
 
--- what the fields show to a caller
+-- the records that a caller sees
 abbrev pub records_shown : Inside → Records
 records_shown s = records_of (tables s.queues s.order (beside_shown s))
 
--- what the index of resources finds under a key
+-- the resource that the index finds by a key
 abbrev pub found_in : Inside → Key → Option ℕ
 found_in s key = found_by s.resource_index s.queues.resources (hashed (hash_key s.keys) key)
 
--- each lock stands in the three lists that it notes and, if its request is queued, in the line, each resource counts its
--- locks and lists the armed ones among the granted, resources and processes stand in their orders, each index finds just what is there, and marked are just the
--- processes that live, and those with an AST pending
+-- the invariant of a store: each lock is in the lists that it notes, and in the line exactly if its request is
+-- queued; each resource counts its locks and lists the armed ones; resources and processes are in their orders; each
+-- index finds exactly what exists; the marks are exactly the living processes, and those with a pending AST
 pub record IsKept (s : Inside) : Type 0 where
   pub placed : IsPlaced s.queues None
   pub tallied : IsTallied s.queues None

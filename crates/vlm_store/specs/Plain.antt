@@ -1,10 +1,10 @@
--- The records as the plain machine keeps them.
+-- The records as the plain machine has them.
 use Rattle.std.specs.Prelude.{List, map}
 use Rattle.vlm_words.specs.Resources.{key_name, key_parent}
 use Rattle.vlm_words.specs.State.{Process, Resource}
 use Rattle.vlm_store.specs.Records.{Records, StoredResource, rows_of_locks}
 
--- the resource without its handle, and its locks without theirs
+-- the resource and its locks without handles
 abbrev pub plain_resource : StoredResource → Resource
 plain_resource r = record {
   serial = r.serial;
@@ -18,10 +18,10 @@ plain_resource r = record {
   waiting = rows_of_locks r.waiting;
 }
 
--- the resources without their handles, in order of making
+-- the resources without handles, in the order of making
 abbrev pub plain_resources : Records → List Resource
 plain_resources s = map plain_resource s.resources
 
--- the processes without their handles and locks, in order of making
+-- the processes without handles and locks, in the order of making
 abbrev pub plain_processes : Records → List Process
 plain_processes s = map (λ p. p.process) s.processes

@@ -1,4 +1,4 @@
--- The locks whose requests are queued, and a walk along their list.
+-- The queued locks of all resources, and a walk over them.
 use Rattle.std.specs.Prelude.{◌≡◌, ◌==◌, ℕ, true, List, [], ◌∷◌, Option, None, Some, if◌then◌else◌}
 use Rattle.std.specs.Option.{ForSome}
 use Rattle.slab.specs.Slab.{Slab}
@@ -11,21 +11,21 @@ use Rattle.vlm_records.specs.declared.locks.Lock.{Lock}
 use Rattle.vlm_records.specs.Line.{is_queued, line_handles, line_links}
 use Rattle.vlm_store.specs.Records.{Records, locks_at}
 
--- a lock of this handle stands in a conversion or waiting queue
+-- the lock with this handle is in a conversion queue or a waiting queue
 abbrev pub IsQueued : ℕ → Records → Type 0
 IsQueued at s = (place : Place) × (row : Row) × ((is_queued place ≡ true) × IsIn (record { at = at; row = row }) (locks_at place s))
 
--- each of these is the handle of such a lock
+-- each of these handles is a queued lock
 abbrev pub AreQueued : List ℕ → Records → Type 0
 AreQueued handles s = (at : ℕ) → IsIn at handles → IsQueued at s
 
--- the handle and those that follow it, or none
+-- the handles from this one on; empty without one
 abbrev pub handles_on : Option ℕ → List ℕ → List ℕ
 handles_on None handles = []
 handles_on (Some at) [] = []
 handles_on (Some at) (first ∷ rest) = if first == at then first ∷ rest else handles_on (Some at) rest
 
--- the list is linked, and what comes next is of it
+-- the list is linked, and the next lock of the walk is in it
 pub record IsOnLine (locks : Slab Lock) (line : LinkedList InLine) (next : Option ℕ) : Type 0 where
   pub linked : IsLinked line_links locks line
   pub listed : ForSome next (λ at. IsIn at (line_handles locks line))

@@ -1,5 +1,5 @@
--- What the store shows: resources with their queues, locks, and processes with their own locks, each under
--- its handle.
+-- What the store shows to a caller: resources with their queues of locks, and processes with their own locks, each
+-- with its handle.
 use Rattle.std.specs.Prelude.{◌≡◌, ◌<◌, ◌≤◌, ◌/◌, ℕ, Bool, true, false, not, ◌==◌, ◌&&◌, ◌+◌, ◌-◌, count_by, sum_by, List, [], ◌∷◌, ◌++◌, map, filter, find, flat_map, Option, None, Some, IsSome, if◌then◌else◌}
 use Rattle.std.specs.Option.{option_map_or}
 use Rattle.vlm_links.specs.declared.hashing.HashKeys.{HashKeys}
@@ -25,12 +25,12 @@ use Rattle.vlm_records.specs.declared.handles.Place.TheVariants.{Queued}
 use Rattle.vlm_records.specs.declared.processes.Authorization.{Authorization}
 use Rattle.vlm_words.specs.declared.resources.ValueBlock.{ValueBlock}
 
--- a lock under its handle
+-- a lock with its handle
 pub record StoredLock : Type 0 where
   pub at : ℕ
   pub row : Row
 
--- a resource under its handle, with its three queues
+-- a resource with its handle and its three queues
 pub record StoredResource : Type 0 where
   pub at : ℕ
   pub serial : ℕ
@@ -42,50 +42,48 @@ pub record StoredResource : Type 0 where
   pub converting : List StoredLock
   pub waiting : List StoredLock
 
--- a lock among those of its process, with the handles of the locks that were made under it
+-- a lock of a process, with the handles of its sublocks
 pub record OwnLock : Type 0 where
   pub at : ℕ
   pub sublocks : List ℕ
 
--- a process under its handle, how many ASTs it is owed beyond those that are queued to it, and its own locks in order
--- of making
+-- a process with its handle, the number of its due ASTs, and its locks in the order of making; due are the ASTs that
+-- it may still get, without those that are pending
 pub record StoredProcess : Type 0 where
   pub at : ℕ
   pub process : Process
   pub due : ℕ
   pub own : List OwnLock
 
--- the room for records of one kind: how many more their table takes with no allocation, the handle that the next
--- one gets, and how many more each part of the index takes with no allocation. Processes have no such index:
--- `IsBesideOne` says of which there is room for one more
+-- the room for one kind of record: how many more its slab takes without an allocation, the handle of the next one,
+-- and how many more each part of its index takes; processes have no such index, see `IsBesideOne`
 pub record Room : Type 0 where
   pub slots : ℕ
   pub next_handle : ℕ
   pub finds : List ℕ
 
--- the room for locks, for resources and for processes
+-- the room for locks, resources and processes
 pub record Rooms : Type 0 where
   pub locks : Room
   pub resources : Room
   pub processes : Room
 
--- the resources in order of making, the processes in order of making, what room there is for more, and how the index
--- hashes a key
+-- the resources and the processes in the order of making, the room for more, and the keys of the hash
 pub record Records : Type 0 where
   pub resources : List StoredResource
   pub processes : List StoredProcess
   pub room : Rooms
   pub keys : HashKeys
 
--- no room at all
+-- no room
 abbrev pub no_room : Room
 no_room = record { slots = 0; next_handle = 0; finds = [] }
 
--- nothing is stored
+-- an empty store
 abbrev pub nothing : HashKeys → Records
 nothing keys = record { resources = []; processes = []; room = record { locks = no_room; resources = no_room; processes = no_room }; keys = keys }
 
--- a resource at its making
+-- a new resource
 abbrev pub new_stored_resource : ℕ → ℕ → Site → StoredResource
 new_stored_resource at serial site = record {
   at = at;
@@ -105,41 +103,41 @@ queued Granted r = r.granted
 queued Conversion r = r.converting
 queued Waiting r = r.waiting
 
--- the resource of this handle, if there is one
+-- the resource with this handle, if there is one
 abbrev pub resource_at : ℕ → List StoredResource → Option StoredResource
 resource_at res resources = find (λ r. r.at == res) resources
 
--- there is a resource of this handle
+-- the resource with this handle exists
 abbrev pub HasResource : ℕ → Records → Type 0
 HasResource res s = IsSome (resource_at res s.resources)
 
--- the resource of the place is there
+-- the resource of the place exists
 abbrev pub HasPlace : Place → Records → Type 0
 HasPlace (Queued res queue) s = HasResource res s
 
--- the locks at a place, the first in line first
+-- the locks at a place, in the order of its queue
 abbrev pub locks_at : Place → Records → List StoredLock
 locks_at (Queued res queue) s = option_map_or (queued queue) (resource_at res s.resources) []
 
--- a lock with this handle and row stands somewhere
+-- a lock with this handle and row exists
 abbrev pub Stores : Records → ℕ → Row → Type 0
 Stores s at row = (place : Place) × IsIn (record { at = at; row = row }) (locks_at place s)
 
--- a lock of this handle stands somewhere
+-- a lock with this handle exists
 abbrev pub IsStored : ℕ → Records → Type 0
 IsStored at s = (row : Row) × Stores s at row
 
--- the two rows are those of one lock
+-- both rows are of one lock
 pub record IsSameLock (a b : Row) : Type 0 where
   pub lkid : a.lkid ≡ b.lkid
   pub pid : a.pid ≡ b.pid
   pub parent : a.parent ≡ b.parent
 
--- the handle is that of a stored lock, which the row fits
+-- the handle is a lock, and the row is of the same lock
 abbrev pub IsRowOf : ℕ → Row → Records → Type 0
 IsRowOf at row s = (was : Row) × (Stores s at was × IsSameLock was row)
 
--- the handle of the lock with this identification, or none where no lock has it
+-- the handle of the lock with this identification, or there is no such lock
 abbrev pub FindsLock : Records → ℕ → Option ℕ → Type 0
 FindsLock s lkid None = (at : ℕ) (row : Row) → Stores s at row → ¬ (row.lkid ≡ lkid)
 FindsLock s lkid (Some at) = (row : Row) × (Stores s at row × (row.lkid ≡ lkid))
@@ -148,16 +146,16 @@ FindsLock s lkid (Some at) = (row : Row) × (Stores s at row × (row.lkid ≡ lk
 abbrev pub IsNewLock : ℕ → Records → Type 0
 IsNewLock lkid s = FindsLock s lkid None
 
--- where the resource under this key is stored, or none where there is none
+-- the handle of the resource with this key, or there is no such resource
 abbrev pub FindsResource : Records → Key → Option ℕ → Type 0
 FindsResource s key None = (r : StoredResource) → IsIn r s.resources → ¬ (r.key ≡ key)
 FindsResource s key (Some at) = (r : StoredResource) × (IsIn r s.resources × (r.at ≡ at) × (r.key ≡ key))
 
--- no resource stands under this key
+-- no resource has this key
 abbrev pub IsNewKey : Key → Records → Type 0
 IsNewKey key s = FindsResource s key None
 
--- the same queue
+-- the queues are the same
 abbrev pub is_queue : Queue → Queue → Bool
 is_queue Granted Granted = true
 is_queue Granted Conversion = false
@@ -169,15 +167,15 @@ is_queue Waiting Granted = false
 is_queue Waiting Conversion = false
 is_queue Waiting Waiting = true
 
--- the same place
+-- the places are the same
 abbrev pub is_place : Place → Place → Bool
 is_place (Queued a p) (Queued b q) = (a == b) && is_queue p q
 
--- the list but for the lock of this handle
+-- the locks except this one
 abbrev pub without_lock : ℕ → List StoredLock → List StoredLock
 without_lock at locks = filter (λ k. not (k.at == at)) locks
 
--- a resource whose queues are changed
+-- a resource with changed queues
 abbrev pub resource_with : (Place → List StoredLock → List StoredLock) → StoredResource → StoredResource
 resource_with change r = record r {
   granted = change (Queued r.at Granted) r.granted;
@@ -185,40 +183,40 @@ resource_with change r = record r {
   waiting = change (Queued r.at Waiting) r.waiting;
 }
 
--- the records, each list of locks changed
+-- the records with changed queues
 abbrev pub with_lists : (Place → List StoredLock → List StoredLock) → Records → Records
 with_lists change s = record s { resources = map (resource_with change) s.resources }
 
--- a change of lists: the lock of this handle leaves its own
+-- a change of queues: the lock leaves its queue
 abbrev pub leaving : ℕ → Place → List StoredLock → List StoredLock
 leaving at place locks = without_lock at locks
 
--- a change of lists: a lock leaves its own, and joins at the end of one
+-- a change of queues: the lock leaves its queue and joins one at the end
 abbrev pub moving : Place → StoredLock → Place → List StoredLock → List StoredLock
 moving to lock place locks =
     if is_place place to then without_lock lock.at locks ++ lock ∷ [] else without_lock lock.at locks
 
--- a change of lists: a lock that stood in none joins at the end of one
+-- a change of queues: a new lock joins one at the end
 abbrev pub joining : Place → StoredLock → Place → List StoredLock → List StoredLock
 joining to lock place locks = if is_place place to then locks ++ lock ∷ [] else locks
 
--- a lock that is armed no more
+-- the lock is disarmed
 abbrev pub disarmed : StoredLock → StoredLock
 disarmed k = record k { row = record k.row { armed = false } }
 
--- a change of lists: the lock of this handle is armed no more, and stays where it stands
+-- a change of queues: the lock is disarmed and keeps its place
 abbrev pub disarming : ℕ → Place → List StoredLock → List StoredLock
 disarming at place locks = map (λ k. if k.at == at then disarmed k else k) locks
 
--- a change of the resource of this handle alone
+-- a change of the resource with this handle
 abbrev pub on_resource : ℕ → (StoredResource → StoredResource) → List StoredResource → List StoredResource
 on_resource res change resources = map (λ r. if r.at == res then change r else r) resources
 
--- the resources but for the one of this handle
+-- the resources except this one
 abbrev pub without_resource : ℕ → List StoredResource → List StoredResource
 without_resource res resources = filter (λ r. not (r.at == res)) resources
 
--- no lock stands in a queue of the resource
+-- the resource has no lock
 abbrev pub IsIdle : ℕ → Records → Type 0
 IsIdle res s = (queue : Queue) → locks_at (Queued res queue) s ≡ []
 
@@ -227,21 +225,21 @@ abbrev pub first_at : List StoredLock → Option ℕ
 first_at [] = None
 first_at (k ∷ rest) = Some k.at
 
--- the handle of the lock that follows the one of this handle, if there is one
+-- the handle of the lock after this one, if there is one
 abbrev pub at_after : ℕ → List StoredLock → Option ℕ
 at_after at [] = None
 at_after at (k ∷ rest) = if k.at == at then first_at rest else at_after at rest
 
--- the rows of locks
+-- the rows of the locks
 abbrev pub rows_of_locks : List StoredLock → List Row
 rows_of_locks locks = map (λ k. k.row) locks
 
--- the locks but for the one that asks
+-- the locks except the asking one
 abbrev pub but_asking : Option ℕ → List StoredLock → List StoredLock
 but_asking None locks = locks
 but_asking (Some asking) locks = without_lock asking locks
 
--- the mode fits beside the locks that hold one here, but for the one that asks
+-- the mode fits beside the locks of the resource, except the asking one
 abbrev pub fits_beside : Mode → Option ℕ → StoredResource → Bool
 fits_beside mode asking r = fits mode (rows_of_locks (but_asking asking r.granted)) (rows_of_locks (but_asking asking r.converting))
 
@@ -250,12 +248,12 @@ abbrev pub first_resource_at : List StoredResource → Option ℕ
 first_resource_at [] = None
 first_resource_at (r ∷ rest) = Some r.at
 
--- the handle of the resource made after the one of this handle, if there is one
+-- the handle of the resource after this one, if there is one
 abbrev pub resource_at_after : ℕ → List StoredResource → Option ℕ
 resource_at_after res [] = None
 resource_at_after res (r ∷ rest) = if r.at == res then first_resource_at rest else resource_at_after res rest
 
--- a lock more at the end of a queue
+-- one more lock at the end of a queue
 abbrev pub joined_by : Queue → StoredLock → StoredResource → StoredResource
 joined_by Granted lock r = record r { granted = r.granted ++ lock ∷ [] }
 joined_by Conversion lock r = record r { converting = r.converting ++ lock ∷ [] }
@@ -263,23 +261,23 @@ joined_by Waiting lock r = record r { waiting = r.waiting ++ lock ∷ [] }
 
 -- ---- processes
 
--- the process of this handle, if there is one
+-- the process with this handle, if there is one
 abbrev pub process_at : ℕ → List StoredProcess → Option StoredProcess
 process_at at processes = find (λ p. p.at == at) processes
 
--- there is a process of this handle
+-- the process with this handle exists
 abbrev pub HasProcess : ℕ → Records → Type 0
 HasProcess at s = IsSome (process_at at s.processes)
 
--- what a process may do
+-- group, quota and privilege of a process
 abbrev pub authorization_of : Process → Authorization
 authorization_of p = record { group = p.group; quota = p.quota; syslck = p.syslck }
 
--- the handle is that of the living process with this identification
+-- the handle is the living process with this identification
 abbrev pub IsProcess : ℕ → ℕ → Records → Type 0
 IsProcess at pid s = (p : StoredProcess) × (IsIn p s.processes × (p.at ≡ at) × (p.process.pid ≡ pid))
 
--- the handle of the living process with this identification, or none where there is none
+-- the handle of the living process with this identification, or there is no such process
 abbrev pub FindsProcess : Records → ℕ → Option ℕ → Type 0
 FindsProcess s pid None = (p : StoredProcess) → IsIn p s.processes → ¬ (p.process.pid ≡ pid)
 FindsProcess s pid (Some at) = IsProcess at pid s
@@ -288,84 +286,84 @@ FindsProcess s pid (Some at) = IsProcess at pid s
 abbrev pub IsNewProcess : ℕ → Records → Type 0
 IsNewProcess pid s = FindsProcess s pid None
 
--- a process at its making, without locks
+-- a new process, without locks
 abbrev pub new_stored_process : ℕ → ℕ → Declaration → StoredProcess
 new_stored_process at pid d = record { at = at; process = new_process pid d; due = 0; own = [] }
 
--- a process that is changed; what it is owed and its locks stay
+-- a change of a process; its due ASTs and its locks stay
 abbrev pub changed_process : (Process → Process) → StoredProcess → StoredProcess
 changed_process change p = record p { process = change p.process }
 
--- a change of the record of this handle alone
+-- a change of the record with this handle
 abbrev pub on_stored : ℕ → (StoredProcess → StoredProcess) → List StoredProcess → List StoredProcess
 on_stored at change processes = map (λ p. if p.at == at then change p else p) processes
 
--- a change of the process of this handle alone; what it is owed and its locks stay
+-- a change of the process with this handle; its due ASTs and its locks stay
 abbrev pub on_process : ℕ → (Process → Process) → List StoredProcess → List StoredProcess
 on_process at change processes = on_stored at (changed_process change) processes
 
--- a process that is owed so many ASTs more
+-- this many more ASTs are due
 abbrev pub owed_more : ℕ → StoredProcess → StoredProcess
 owed_more count p = record p { due = p.due + count }
 
--- a process that is owed so many ASTs less
+-- this many fewer ASTs are due
 abbrev pub owed_less : ℕ → StoredProcess → StoredProcess
 owed_less count p = record p { due = p.due - count }
 
--- a process once an AST that it is owed is queued to it, behind the others
+-- one due AST is queued, at the end
 abbrev pub with_owed_ast : Ast → StoredProcess → StoredProcess
 with_owed_ast ast p = record p { process = with_ast ast p.process; due = p.due - 1 }
 
--- the processes but for the one of this handle
+-- the processes except this one
 abbrev pub without_process : ℕ → List StoredProcess → List StoredProcess
 without_process at processes = filter (λ p. not (p.at == at)) processes
 
--- a lock more below its parent, if it has one
+-- one more sublock of the parent lock, if there is a parent lock
 abbrev pub with_sublock : Option ℕ → ℕ → OwnLock → OwnLock
 with_sublock None lock own = own
 with_sublock (Some parent) lock own =
     if own.at == parent then record own { sublocks = own.sublocks ++ lock ∷ [] } else own
 
--- a lock at its making, among those of its process
+-- a new lock of a process, without sublocks
 abbrev pub new_own : ℕ → List OwnLock
 new_own lock = record { at = lock; sublocks = [] } ∷ []
 
--- a process once a lock is made that has this owner and this parent
+-- the process after a lock with this owner and parent lock was made
 abbrev pub process_with_lock : ℕ → Option ℕ → ℕ → StoredProcess → StoredProcess
 process_with_lock owner parent lock p = record p {
   own = map (with_sublock parent lock) p.own ++ (if p.at == owner then new_own lock else []);
 }
 
--- a lock but for one below it
+-- the lock without one of its sublocks
 abbrev pub without_sublock : ℕ → OwnLock → OwnLock
 without_sublock lock own = record own { sublocks = without lock own.sublocks }
 
--- a process once a lock is gone
+-- the process after a lock is gone
 abbrev pub process_without_lock : ℕ → StoredProcess → StoredProcess
 process_without_lock lock p = record p {
   own = map (without_sublock lock) (filter (λ own. not (own.at == lock)) p.own);
 }
 
--- a new lock of this owner and below this parent, at the end of the list of a place
+-- the records with a new lock at the end of a queue, of its owner's locks and of its parent's sublocks
 abbrev pub with_new_lock : ℕ → Row → ℕ → Option ℕ → Place → Records → Records
 with_new_lock at row owner parent to s =
     record (with_lists (joining to (record { at = at; row = row })) s) {
       processes = map (process_with_lock owner parent at) s.processes;
     }
 
--- a lock is gone, from its queue, from those of its process, and from below its parent
+-- the records without a lock, in its queue, its process and its parent's sublocks
 abbrev pub without_stored_lock : ℕ → Records → Records
 without_stored_lock at s = record s {
   resources = map (resource_with (leaving at)) s.resources;
   processes = map (process_without_lock at) s.processes;
 }
 
--- no lock stands below the one of this handle
+-- the lock has no sublocks
 abbrev pub HasNoSublocks : ℕ → Records → Type 0
 HasNoSublocks at s = (p : StoredProcess) (own : OwnLock) → IsIn p s.processes → IsIn own p.own
     → own.at ≡ at → own.sublocks ≡ []
 
--- the parent that the row of a new lock names is stored under this handle; 0 names none
+-- the handle of the parent lock that the row names; without a handle the row names 0
 abbrev pub IsParentOf : Option ℕ → Row → Records → Type 0
 IsParentOf None row s = row.parent ≡ 0
 IsParentOf (Some parent) row s = (up : Row) × (Stores s parent up × (up.lkid ≡ row.parent))
@@ -374,19 +372,19 @@ IsParentOf (Some parent) row s = (up : Row) × (Stores s parent up × (up.lkid �
 abbrev pub own_at : ℕ → Records → List OwnLock
 own_at at s = option_map_or (λ p. p.own) (process_at at s.processes) []
 
--- the handles of the locks of a process, in order of making
+-- the handles of the locks of a process, in the order of making
 abbrev pub own_handles_at : ℕ → Records → List ℕ
 own_handles_at at s = map (λ own. own.at) (own_at at s)
 
--- the lock of this handle among those of its process, if there is one
+-- the lock with this handle, if it is among these
 abbrev pub own_of_handle : ℕ → List OwnLock → Option OwnLock
 own_of_handle at locks = find (λ own. own.at == at) locks
 
--- the handles of the locks that stand below the one of this handle, in order of making
+-- the handles of the sublocks of a lock, in the order of making
 abbrev pub sublocks_at : ℕ → Records → List ℕ
 sublocks_at at s = option_map_or (λ own. own.sublocks) (own_of_handle at (flat_map (λ p. p.own) s.processes)) []
 
--- the lock of this handle stands below no other
+-- the lock is not a sublock
 abbrev pub HasNoParent : ℕ → Records → Type 0
 HasNoParent at s = (parent : ℕ) → ¬ IsIn at (sublocks_at parent s)
 
@@ -394,7 +392,7 @@ HasNoParent at s = (parent : ℕ) → ¬ IsIn at (sublocks_at parent s)
 abbrev pub owned_among : ℕ → List StoredLock → ℕ
 owned_among pid locks = count_by (λ k. k.row.pid == pid) locks
 
--- how many locks of the process stand on the resource
+-- how many locks of the process are on the resource
 abbrev pub owned_on : ℕ → StoredResource → ℕ
 owned_on pid r = owned_among pid r.granted + owned_among pid r.converting + owned_among pid r.waiting
 
@@ -402,83 +400,82 @@ owned_on pid r = owned_among pid r.granted + owned_among pid r.converting + owne
 abbrev pub owned_by : ℕ → Records → ℕ
 owned_by pid s = sum_by (owned_on pid) s.resources
 
--- the process of this handle has no lock
+-- the process has no locks
 abbrev pub HasNoLocks : ℕ → Records → Type 0
 HasNoLocks at s = own_at at s ≡ []
 
--- a process but for its notices, which tell it of its requests: its status blocks, its ASTs, and how many more it is
--- owed
+-- the process without its notices: its status blocks, its pending ASTs, and its due ASTs
 abbrev pub but_notices : StoredProcess → StoredProcess
 but_notices p = record p { process = record p.process { blocks = []; asts = [] }; due = 0 }
 
--- status blocks are written, ASTs are owed, queued, forgiven or taken, and nothing else
+-- only status blocks and ASTs, pending or due, may change
 pub record SameButNotices (old new : Records) : Type 0 where
   pub resources : new.resources ≡ old.resources
   pub processes : map but_notices new.processes ≡ map but_notices old.processes
   pub room : new.room ≡ old.room
   pub keys : new.keys ≡ old.keys
 
--- how many ASTs the living process with this identification is owed, beyond those that are queued to it
+-- how many ASTs are due to the living process with this identification; 0 if it does not live
 abbrev pub due_of : ℕ → Records → ℕ
 due_of pid s = option_map_or (λ p. p.due) (find (λ p. p.process.pid == pid) s.processes) 0
 
--- each process is owed as many ASTs as it was
+-- the due ASTs of each process stay
 abbrev pub DuesStay : Records → Records → Type 0
 DuesStay old new = (pid : ℕ) → due_of pid new ≡ due_of pid old
 
--- what the process with this identification is owed changes so, and what each other is owed stays
+-- the number of due ASTs changes for this process, and stays for every other
 abbrev pub DueChanges : ℕ → (ℕ → ℕ) → Records → Records → Type 0
 DueChanges pid change old new =
     (other : ℕ) → due_of other new ≡ (if other == pid then change (due_of other old) else due_of other old)
 
 -- ---- room
 
--- one more record needs no allocation, and a handle is left for it
+-- one more record needs no allocation, and a handle is left
 pub record HasSlot (room : Room) : Type 0 where
   pub slot : 0 < room.slots
   pub handle : room.next_handle ≤ LAST_HANDLE
 
--- nor does the index need one for this number
+-- one more record with this number needs no allocation, in its slab or its index
 pub record HasRoom (number : ℕ) (room : Room) : Type 0 where
   pub slot : HasSlot room
   pub find : 0 < spare_for room.finds number
 
--- there is room for one more lock, with this identification
+-- there is room for one more lock with this identification
 abbrev pub HasRoomForLock : ℕ → Records → Type 0
 HasRoomForLock lkid s = HasRoom lkid s.room.locks
 
--- there is room for one more resource, whose key has this hash
+-- there is room for one more resource whose key has this hash
 abbrev pub HasRoomForResource : ℕ → Records → Type 0
 HasRoomForResource hash s = HasRoom hash s.room.resources
 
--- a living process of the same node has an ordinal among the same 64, or a later one: so a mark of this one has room
+-- a living process of the same node has an ordinal in the same 64 or later ones, so there is room to mark this one
 abbrev pub IsBesideOne : ℕ → Records → Type 0
 IsBesideOne pid s = (p : StoredProcess)
     × (IsIn p s.processes × (p.process.pid / 65536 ≡ pid / 65536) × (pid / 64 ≤ p.process.pid / 64))
 
--- there is room for one more process with this identification, but for its status blocks
+-- there is room for one more process, its status blocks excepted
 pub record HasRoomForProcess (pid : ℕ) (s : Records) : Type 0 where
   pub record_room : HasSlot s.room.processes
   pub mark : IsBesideOne pid s
 
--- there is as much room as there was, or more
+-- the room is the same or more
 pub record IsNoLess (old new : Room) : Type 0 where
   pub slots : old.slots ≤ new.slots
   pub next_handle : new.next_handle ≡ old.next_handle
   pub finds : KeepsSpares old.finds new.finds
 
--- one more record uses up one slot at most
+-- one more record uses at most one place
 pub record IsTaken (old new : Room) : Type 0 where
   pub slots : old.slots ≤ new.slots + 1
   pub finds : UsesOneSpare old.finds new.finds
 
--- a removed record leaves its slot, and so its handle. Of the index no more is known than that it keeps its room
+-- a removed record gives its place back; of the index it is only known that it keeps its room
 pub record IsGivenBack (old new : Room) : Type 0 where
   pub slots : new.slots ≡ old.slots + 1
   pub next_handle : new.next_handle ≤ LAST_HANDLE
   pub finds : KeepsSpares old.finds new.finds
 
--- nothing is changed, but that there may be more room
+-- nothing is changed, except that there may be more room
 pub record IsUnchanged (old new : Records) : Type 0 where
   pub same : new ≡ record old { room = new.room }
   pub locks : IsNoLess old.room.locks new.room.locks
@@ -499,31 +496,31 @@ with_process_room room s = record s { room = record s.room { processes = room } 
 
 -- ---- what holds between the calls
 
--- no two of the handles are the same
+-- no two locks have one handle
 abbrev pub AreApart : List StoredLock → Type 0
 AreApart [] = Unit {0}
 AreApart (k ∷ rest) = ((row : Row) → ¬ IsIn (record { at = k.at; row = row }) rest) × AreApart rest
 
--- the relation holds between each one and every one before it
+-- the relation holds between each item and every earlier one
 abbrev pub EachTwo : {A : Type 0} → (A → A → Type 0) → List A → Type 0
 EachTwo R [] = Unit {0}
 EachTwo {A} R (first ∷ rest) = ((other : A) → IsIn other rest → R other first) × EachTwo R rest
 
--- no two of the resources have one handle
+-- no two resources have one handle
 abbrev pub AreResourcesApart : List StoredResource → Type 0
 AreResourcesApart = EachTwo (λ (other r : StoredResource). ¬ (other.at ≡ r.at))
 
--- no two of the processes have one handle, or one identification
+-- no two processes have one handle or one identification
 abbrev pub AreProcessesApart : List StoredProcess → Type 0
 AreProcessesApart =
     EachTwo (λ (other p : StoredProcess). ¬ (other.at ≡ p.at) × ¬ (other.process.pid ≡ p.process.pid))
 
--- no two of the locks of a process have one handle
+-- no two locks of a process have one handle
 abbrev pub AreOwnApart : List OwnLock → Type 0
 AreOwnApart = EachTwo (λ (other own : OwnLock). ¬ (other.at ≡ own.at))
 
--- the locks of a process are those whose rows name it, and the locks below a lock those whose rows name it
--- as their parent
+-- the locks of a process are those whose rows name it, and the sublocks of a lock are those whose rows name it as
+-- their parent
 pub record AreOwned (s : Records) : Type 0 where
   pub owned : (at : ℕ) (row : Row) → Stores s at row
       → (p : StoredProcess) × (own : OwnLock) × (IsIn p s.processes × (p.process.pid ≡ row.pid) × IsIn own p.own × (own.at ≡ at))
@@ -534,8 +531,8 @@ pub record AreOwned (s : Records) : Type 0 where
   pub named : (at : ℕ) (row : Row) → Stores s at row → ¬ (row.parent ≡ 0)
       → (p : StoredProcess) × (own : OwnLock) × (up : Row) × (IsIn p s.processes × IsIn own p.own × IsIn at own.sublocks × Stores s own.at up × (up.lkid ≡ row.parent))
 
--- each handle is that of one record, no lock stands at two places, no two locks have one identification and no two
--- resources one key, and the locks of a process are those whose rows name it, each once
+-- what holds in any state: each handle is one record, no lock is at two places, identifications and keys are unique,
+-- and the locks of a process are those that name it
 pub record IsSound (s : Records) : Type 0 where
   pub resources_apart : AreResourcesApart s.resources
   pub locks_apart : (place : Place) → AreApart (locks_at place s)

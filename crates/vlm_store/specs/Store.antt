@@ -1,4 +1,4 @@
--- The fields of the store as tables, and what a caller sees of the tables.
+-- The fields of the store as tables, and the records that the tables show.
 use Rattle.std.specs.Prelude.{ℕ, List, map, Option}
 use Rattle.std.specs.Option.{option_map}
 use Rattle.slab.specs.Slab.{Slab, get}
@@ -15,8 +15,8 @@ use Rattle.vlm_records.specs.declared.resources.InOrder.{InOrder}
 use Rattle.vlm_store.specs.Records.{Records, Room, Rooms, StoredLock, StoredProcess, StoredResource}
 use Rattle.vlm_records.specs.Shown.{Face, face_in, handles_at, lkid_of, order_links, room_in, rows}
 
--- what stands under each handle, the handles at each place, the resources in order of making, the processes, what room
--- there is, and how the index hashes a key
+-- the tables: rows and resources by handle, handles by place, the resources in the order of making, the processes,
+-- the room and the keys
 pub record Layout : Type 0 where
   pub rows : ℕ → Row
   pub faces : ℕ → Face
@@ -26,21 +26,21 @@ pub record Layout : Type 0 where
   pub room : Rooms
   pub keys : HashKeys
 
--- what stands beside the locks and the resources: the processes, what room there is, and how the index hashes a key
+-- the tables besides locks and resources
 pub record Beside : Type 0 where
   pub processes : List StoredProcess
   pub room : Rooms
   pub keys : HashKeys
 
--- the room in a slab, and in an index whose parts take so many more
+-- the room in a slab, and in an index whose parts take these numbers more
 abbrev pub room_of : {T : Type 0} → Slab T → List ℕ → Room
 room_of nodes finds = record { slots = (room_in nodes).0; next_handle = (room_in nodes).1; finds = finds }
 
--- a lock under its handle
+-- the lock with this handle
 abbrev pub under_handle : (ℕ → Row) → ℕ → StoredLock
 under_handle rows at = record { at = at; row = rows at }
 
--- a resource under its handle
+-- the resource with this handle
 abbrev pub resource_of : Layout → ℕ → StoredResource
 resource_of l r = record {
   at = r;
@@ -54,7 +54,7 @@ resource_of l r = record {
   waiting = map (under_handle l.rows) (l.handles (Queued r Waiting));
 }
 
--- what a caller sees of the tables
+-- the records that the tables show
 unfoldable pub records_of : Layout → Records
 records_of l = record {
   resources = map (resource_of l) l.order;
@@ -75,10 +75,10 @@ tables q order beside = record {
   keys = beside.keys;
 }
 
--- the identification of the lock under a handle
+-- the identification of the lock with this handle
 abbrev pub lkid_at : Queues → ℕ → Option ℕ
 lkid_at q at = option_map lkid_of (get q.locks at)
 
--- the key of the resource under a handle
+-- the key of the resource with this handle
 abbrev pub key_at : Queues → ℕ → Option Key
 key_at q res = option_map (λ r. r.key) (get q.resources res)

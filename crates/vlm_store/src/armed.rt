@@ -1,4 +1,4 @@
-//! The armed locks of each resource.
+//! Walks over the armed locks of a resource. Each call takes constant time.
 
 ghost use Rattle.std.specs.Prelude.{◌≡◌};
 ghost use Rattle.vlm_store.specs.Armed.{IsArmedAt, armed_at};
@@ -8,7 +8,7 @@ use crate::store::Store;
 use vlm_records::{Armed, LockAt, ResAt};
 
 impl Store {
-    /// The handle of the first lock of a list of armed locks of a resource, if there is one.
+    /// The first lock in a list of armed locks of a resource, if there is one.
     pub fn first_armed(&self, res: ResAt, which: Armed) -> Option<LockAt>
         requires { HasResource res self.now }
         ensures { result ≡ first_at (armed_at which res self.now) }
@@ -17,7 +17,7 @@ impl Store {
         Some(LockAt::of(at))
     }
 
-    /// The handle of the lock that follows one in a list of armed locks of a resource, if there is one.
+    /// The lock after this one in a list of armed locks of a resource, if there is one.
     pub fn next_armed(&self, res: ResAt, which: Armed, lock: LockAt) -> Option<LockAt>
         requires there { HasResource res self.now }
         requires armed { IsArmedAt which res lock self.now }

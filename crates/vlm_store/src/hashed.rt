@@ -1,14 +1,12 @@
-//! A key with its hash.
+//! The key of a resource with its hash.
 
 use std::hash::{Hash, Hasher};
 use vlm_words::resources::Key;
 
-/// The key of a resource with its hash under the store's keys, so that it is hashed once.
+/// A key with its hash under the store's keys, so that the key is hashed only once.
 #[derive(Clone, Copy)]
 pub(crate) struct HashedKey {
-    /// Where the resource stands.
     pub key: Key,
-    /// The hash of the key.
     pub hash: u32,
 }
 
@@ -40,7 +38,7 @@ impl Hash for HashedKey {
 
     ghost respects_eq = { (same_Alike hashed_input is_same_hashed-Decides).fed };
 
-    // Nothing but the hash is fed on, and that fast: nobody foresees the hash of a name who doesn't know the keys.
+    // Feeds only the hash, which is cheap. That is safe: nobody can foresee the hash of a name without the keys.
     fn hash<H: Hasher>(&self, state: &mut H) {
         state.write_u32(self.hash);
     }

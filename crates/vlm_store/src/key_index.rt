@@ -14,17 +14,17 @@ use vlm_links::{LAST_HANDLE, PartedIndex, reserve_slot};
 use vlm_records::{ResAt, Resource, ResourceKind};
 use vlm_words::resources::Key;
 
-/// Finds resources by their keys. It has hashes of 32 bits; the keys are in the records. Of several resources with one
-/// hash, the last one is found by the hash, and the others by their keys. There are few of these, since nobody can
-/// choose names with equal hashes.
+/// Finds resources by their keys. The index has hashes of 32 bits; the keys are in the records. If several resources
+/// have one hash, `last` leads to the last one made, and `others` finds the rest by their keys. There are few of
+/// these, since nobody can choose names with equal hashes without the keys of the hash.
 pub(crate) struct KeyIndex {
-    // the resource of each hash; of several, the last one made
+    // the resource of each hash; if several have it, the last one made
     last: PartedIndex<ResourceKind>,
-    // the others, by their keys
+    // all other resources, by their keys; nearly always empty
     others: IndexMap<HashedKey, ResAt>,
 }
 
-// Written out, a drop is one call to each owner of an index.
+// Written out: a drop is then one call in each owner of an index.
 impl Drop for KeyIndex {
     fn drop(self) {
         let KeyIndex { last: _, others: _ } = self;
@@ -32,7 +32,7 @@ impl Drop for KeyIndex {
 }
 
 impl KeyIndex {
-    /// No resources. It takes no memory.
+    /// An empty index. It takes no memory.
     pub fn new(alloc: Global) -> Self
         ensures { FindsNothing result }
     {
@@ -42,7 +42,7 @@ impl KeyIndex {
         }
     }
 
-    // Makes room for one more resource with this hash, where there is none.
+    // Makes room for one more resource with this hash, if there is no room.
     fn reserve(&mut self, hash: u32) -> Result<(), AllocError>
         ensures same { IsSame self.old self.new }
         ensures room { KeepsSpares (spares_in self.old) (spares_in self.new) }
@@ -53,7 +53,6 @@ impl KeyIndex {
         self.others.reserve(1)
     }
 
-    /// The handle of the resource with this key and hash.
     pub fn get(&self, resources: &Slab<Resource>, key: &Key, hash: u32) -> Option<ResAt>
         requires { (at : ℕ) → last_of self.now hash ≡ Some at → ContainsKey resources.now at }
         ensures { result ≡ found_by self.now resources.now (record { key = key.now; hash = hash }) }
@@ -70,7 +69,7 @@ impl KeyIndex {
         self.others.get(&found).copied()
     }
 
-    /// Adds a resource with this hash. If another has the hash, that one moves to the others.
+    /// Adds a resource. If another resource has the same hash, that one moves to `others`.
     pub fn insert(&mut self, resources: &Slab<Resource>, at: ResAt, hash: u32)
         requires room { 0 < spare_for (spares_in self.old) hash }
         requires there { (before : ℕ) → last_of self.old hash ≡ Some before
@@ -84,7 +83,6 @@ impl KeyIndex {
         }
     }
 
-    /// Takes a resource out.
     pub fn remove(&mut self, resource: &Resource)
         ensures leaves { Leaves (hashed_in resource.now) self.old self.new }
         ensures room { KeepsSpares (spares_in self.old) (spares_in self.new) }
@@ -100,8 +98,8 @@ impl KeyIndex {
     }
 }
 
-/// Makes room for one more resource, and for its hash in the index, where there is none. It is refused as `reserve_slot`
-/// is.
+/// Makes room for one more resource and its hash. If memory is refused, nothing is changed, except that there may be
+/// more room.
 pub(crate) fn reserve_keyed(
     resources: &mut Slab<Resource>,
     index: &mut KeyIndex,

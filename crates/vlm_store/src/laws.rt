@@ -1,5 +1,4 @@
-//! What holds of the records, and of the store's calls together. The functions do nothing: their contracts
-//! are the laws.
+//! Laws of the records, in any state. Each law is a function that does nothing: its contract is the law.
 
 ghost use Rattle.std.specs.Prelude.{◌≡◌, ℕ, Option, [], ◌∷◌, ◌++◌, map};
 ghost use Rattle.vlm_words.specs.declared.locks.Row.{Row};
@@ -11,16 +10,15 @@ ghost use Rattle.vlm_store.specs.Records.{Records, HasProcess, HasResource, IsSo
 
 use crate::store::Store;
 
-/// Each handle is that of one record, no lock stands at two places, no two locks have one identification and
-/// no two resources one key, and the locks of a process are those that name it. The readers say so too; this
-/// says it where a step reads nothing.
+/// Each handle is one record, no lock is at two places, identifications and keys are unique, and the locks of a
+/// process are those that name it. Most readers say so too; this law is for steps that call no reader.
 pub fn law_records_are_sound(store: &Store)
     ensures { IsSound store.now }
 {
     let _queues = &store.queues;
 }
 
-/// A lock, a resource or a process that was not there is added and removed again: all is as it was.
+/// A lock, resource or process that is added and removed again leaves the records as they were.
 pub fn law_removal_undoes_an_addition()
     ensures lock { (s : Records) (at : ℕ) (row : Row) (owner : ℕ) (parent : Option ℕ) (to : Place)
         → IsSound s → ¬ IsStored at s
@@ -36,7 +34,7 @@ pub fn law_removal_undoes_an_addition()
         } ≡ s }
 {}
 
-/// A new lock of a queue joins it at the end, and no other queue changes.
+/// A new lock joins one queue at its end, and no other queue changes.
 pub fn law_a_new_lock_joins_one_queue()
     ensures { (s : Records) (at : ℕ) (row : Row) (owner : ℕ) (parent : Option ℕ) (res : ℕ) (queue : Queue)
         → with_new_lock at row owner parent (Place.Queued res queue) s

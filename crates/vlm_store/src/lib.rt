@@ -1,18 +1,17 @@
-//! The store of the lock machine: its records, each found by its identification or its key.
+//! The store of the lock machine: every record, found by its identification or its key.
 //!
 //! # Implementation
 //!
-//! What the records are, and how their lists run through them, stands in `vlm_records`. A `Store` has the three slabs of
-//! them, and the orders of making. Three indexes lead to the handles, by identification or by the key of a resource.
-//! What it shows are `Records`: no links, but lists of records under their handles.
+//! A `Store` has three slabs: locks, resources and processes. `vlm_records` has the records and the lists through
+//! them. Three indexes lead to handles: from the identification of a lock, from the key of a resource, and from the
+//! identification of a process. A caller sees no links: contracts speak of `Records`, plain lists of records with
+//! their handles.
 //!
-//! Beside the indexes stand marks: of each node the processes that live, and those that have an AST pending, so that the
-//! first of them is found without a walk.
+//! Two sets of marks find the first living process of a node, and the first with a pending AST, without a walk.
 //!
-//! A slab and its index grow where one more record is to be added and there is no room, before anything is
-//! changed. Nothing else takes memory, but for the status blocks that a new process is given, and the room for
-//! the ASTs that a process is owed; the room for the mark of a new process is made with its record. Neither slab nor
-//! index nor the marks shrink.
+//! A slab and its index grow if one more record is added and there is no room, before anything is changed. Three
+//! other things take memory: the status blocks of a new process, its marks, and the room for ASTs that a process is
+//! owed. Nothing shrinks.
 #![tactic(auto)]
 
 mod armed;

@@ -1,4 +1,4 @@
-//! The neighbours of a lock among those of its process, and among those below its parent.
+//! Walks over the locks of a process, and over the sublocks of a lock. Each call takes constant time.
 
 ghost use Rattle.std.specs.Prelude.{◌≡◌, ℕ, None};
 ghost use Rattle.vlm_links.specs.Lists.{IsIn, first_handle, handle_after, handle_before, last_handle};
@@ -8,7 +8,7 @@ use crate::store::Store;
 use vlm_records::{LockAt, ProcAt};
 
 impl Store {
-    /// The handle of the first lock that a process made, of those that it has, if it has any.
+    /// The first lock of a process, in the order of making, if it has any.
     pub fn first_own(&self, process: ProcAt) -> Option<LockAt>
         requires { HasProcess process self.now }
         ensures { result ≡ first_handle (own_handles_at process self.now) }
@@ -18,7 +18,7 @@ impl Store {
         Some(LockAt::of(at))
     }
 
-    /// The handle of the last lock that a process made, of those that it has, if it has any.
+    /// The last lock of a process, in the order of making, if it has any.
     pub fn last_own(&self, process: ProcAt) -> Option<LockAt>
         requires { HasProcess process self.now }
         ensures { result ≡ last_handle (own_handles_at process self.now) }
@@ -28,7 +28,7 @@ impl Store {
         Some(LockAt::of(at))
     }
 
-    /// The handle of the lock that its process made next after this one, if there is one.
+    /// The next lock of the same process, in the order of making, if there is one.
     pub fn next_own(&self, lock: LockAt) -> Option<LockAt>
         requires { IsStored lock self.now }
         ensures { (process : ℕ) → IsIn lock (own_handles_at process self.now)
@@ -40,7 +40,7 @@ impl Store {
         Some(LockAt::of(at))
     }
 
-    /// The handle of the lock that its process made last before this one, if there is one.
+    /// The previous lock of the same process, in the order of making, if there is one.
     pub fn previous_own(&self, lock: LockAt) -> Option<LockAt>
         requires { IsStored lock self.now }
         ensures { (process : ℕ) → IsIn lock (own_handles_at process self.now)
@@ -52,7 +52,7 @@ impl Store {
         Some(LockAt::of(at))
     }
 
-    /// The handle of the first lock that was made under this one, of those that are there, if there are any.
+    /// The first sublock of a lock, in the order of making, if it has any.
     pub fn first_sublock(&self, lock: LockAt) -> Option<LockAt>
         requires { IsStored lock self.now }
         ensures { result ≡ first_handle (sublocks_at lock self.now) }
@@ -62,7 +62,7 @@ impl Store {
         Some(LockAt::of(at))
     }
 
-    /// The handle of the lock that was made next after this one under the same parent, if there is one.
+    /// The next sublock of the same parent lock, in the order of making, if there is one.
     pub fn next_sublock(&self, lock: LockAt) -> Option<LockAt>
         requires { IsStored lock self.now }
         ensures after { (parent : ℕ) → IsIn lock (sublocks_at parent self.now)

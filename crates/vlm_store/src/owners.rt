@@ -1,4 +1,4 @@
-//! The processes of the store, and the locks of each.
+//! The processes: their records, status blocks, ASTs and numbers of locks.
 
 ghost use Rattle.std.specs.Prelude.{◌≡◌, ◌<◌, ◌≤◌, ℕ, [], ◌∷◌, ◌++◌, length, replicate, slice_get, IfOk, IfSome, IsOk, OnErr, OnOk};
 ghost use Rattle.std.specs.Bool.{OnFalse, OnTrue};
@@ -21,7 +21,7 @@ use vlm_words::blocks::Block;
 use vlm_words::steps::Declaration;
 
 impl Store {
-    /// Where the living process with this identification is.
+    /// The living process with this identification, if there is one.
     pub fn process(&self, pid: u32) -> Option<ProcAt>
         ensures found { FindsProcess self.now pid result }
         ensures there { IfSome result (λ at. HasProcess at self.now) }
@@ -31,22 +31,22 @@ impl Store {
         Some(ProcAt::of(slot))
     }
 
-    /// The least identification of the processes of a node, 1 to 8, that live, if one does.
+    /// The first living process of a node: the least identification. Nodes are 1 to 8.
     pub fn first_of(&self, node: u8) -> Option<u32>
         ensures { IsFirstLiving node self.now.processes result }
     {
         self.living.first(node)
     }
 
-    /// So many new status blocks, for a process that is to be added.
+    /// New status blocks for a process that is to be added.
     pub fn new_status_blocks(&self, count: u8) -> Result<Vec<Block>, AllocError>
         ensures { IfOk result (λ blocks. blocks.items ≡ replicate count new_status_block) }
     {
         vec![in self.alloc; Block::new(); usize::from(count)]
     }
 
-    /// Adds a process with these new status blocks and without locks, the last in order of making. Where memory
-    /// is refused, or no handle is left, nothing is changed but that there may be more room.
+    /// Adds a process without locks, last in the order of making. If memory is refused or no handle is left, nothing
+    /// is changed, except that there may be more room.
     pub fn add_process(
         &mut self,
         pid: u32,
@@ -75,7 +75,7 @@ impl Store {
         Ok(ProcAt::of(slot))
     }
 
-    /// Removes a process that has no locks, with its status blocks. The others keep their order. Its slot is free again.
+    /// Removes a process that has no locks, with its status blocks and ASTs. The other processes keep their order.
     pub fn remove_process(&mut self, at: ProcAt)
         requires there { HasProcess at self.old }
         requires idle { HasNoLocks at self.old }
@@ -90,7 +90,7 @@ impl Store {
         self.pending.unmark(pid);
     }
 
-    /// The record of a process: what it may do, its status blocks, of which block n stands at n - 1, and its ASTs.
+    /// The record of a process. Status block n is at index n - 1.
     pub fn process_record(&self, at: ProcAt) -> &Process
         requires { HasProcess at self.now }
         ensures authorization { IfSome (process_at at self.now.processes)
@@ -104,7 +104,7 @@ impl Store {
         &self.processes[at.slot()]
     }
 
-    /// The record of the process at an index, from 0, in order of making. None past the last. It walks to that index.
+    /// The process at an index, from 0, in the order of making. It walks to that index.
     pub fn nth_process(&self, index: usize) -> Option<&Process>
         ensures { option_map (λ p. plain_process p.now) result
             ≡ slice_get (plain_processes self.now) index }
@@ -113,7 +113,7 @@ impl Store {
         Some(&self.processes[at])
     }
 
-    /// Puts a status block of a process in the place of the one with this number, from 1, if it is there.
+    /// Replaces the status block with this number, from 1, if there is one.
     pub fn set_status_block(&mut self, at: ProcAt, number: u8, block: Block)
         requires { HasProcess at self.old }
         ensures { self.new ≡ record self.old {
@@ -123,8 +123,7 @@ impl Store {
         self.processes[at.slot()].put_status_block(number, block);
     }
 
-    /// Writes the status of the status block with this number, from 1, of a process, if it is there. The rest of it
-    /// stays.
+    /// Writes the status of the status block with this number, from 1, if there is one. The rest of the block stays.
     pub fn set_status(&mut self, at: ProcAt, number: u8, status: u8)
         requires { HasProcess at self.old }
         ensures { self.new ≡ record self.old {
@@ -135,8 +134,8 @@ impl Store {
         self.processes[at.slot()].set_status(number, status);
     }
 
-    /// Writes the status and the lock of a process's status block with this number, from 1, if it is there. Status 0
-    /// means that the request is pending. The value part and the tail stay.
+    /// Writes status and lock of the status block with this number, from 1, if there is one. Status 0 means that the
+    /// request is pending. Value part and tail stay.
     pub fn set_request(&mut self, at: ProcAt, number: u8, status: u8, lkid: u32)
         requires { HasProcess at self.old }
         ensures { self.new ≡ record self.old {
@@ -159,8 +158,8 @@ impl Store {
         self.processes[at.slot()].take_ast(&mut self.pending)
     }
 
-    /// Makes room for so many more ASTs of a process than are queued to it and owed, and owes them. Where memory is
-    /// refused nothing is changed.
+    /// Makes room for this many more ASTs of a process, and counts them as due. If memory is refused, nothing is
+    /// changed.
     pub fn owe(&mut self, at: ProcAt, count: usize) -> Result<(), AllocError>
         requires { HasProcess at self.old }
         ensures owed { OnOk result (self.new ≡ record self.old {
@@ -173,7 +172,7 @@ impl Store {
         self.processes[at.slot()].asts.owe(alloc, count)
     }
 
-    /// Queues an AST that a process is owed, behind those that are queued to it.
+    /// Queues one of the ASTs that a process is owed, at the end. It takes no memory.
     pub fn queue_ast(&mut self, at: ProcAt, ast: Ast)
         requires there { HasProcess at self.old }
         requires owed { IfSome (process_at at self.old.processes) (λ p. 0 < p.due) }
@@ -184,7 +183,7 @@ impl Store {
         self.processes[at.slot()].queue_ast(&mut self.pending, ast);
     }
 
-    /// Of the ASTs that a process is owed so many will not come: their room is free again.
+    /// Gives back the room of this many due ASTs, which will not come.
     pub fn forgive(&mut self, at: ProcAt, count: usize)
         requires there { HasProcess at self.old }
         requires owed { IfSome (process_at at self.old.processes) (λ p. count ≤ p.due) }
@@ -195,7 +194,7 @@ impl Store {
         self.processes[at.slot()].asts.forgive(count);
     }
 
-    /// How many locks a process has, in whichever queue.
+    /// How many locks a process has, waiting ones included.
     pub fn lock_count(&self, at: ProcAt) -> usize
         requires { HasProcess at self.now }
         ensures own { result ≡ length (own_at at self.now) }
@@ -204,7 +203,7 @@ impl Store {
         self.processes[at.slot()].own.len(&self.queues.locks)
     }
 
-    /// Whether a lock stands below this one.
+    /// Whether a lock has sublocks.
     pub fn has_sublocks(&self, lock: LockAt) -> bool
         requires { IsStored lock self.now }
         ensures none { OnFalse result (HasNoSublocks lock self.now) }

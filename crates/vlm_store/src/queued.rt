@@ -1,4 +1,4 @@
-//! The locks whose requests are queued, of all resources.
+//! A walk over all queued locks.
 
 ghost use Rattle.std.specs.Prelude.{ℕ};
 ghost use Rattle.std.specs.Iterator.{YieldsFirst, item_count};
@@ -11,14 +11,14 @@ use std::marker::Model;
 use vlm_links::LinkedList;
 use vlm_records::{InLine, Lock, LockAt};
 
-/// A walk along the locks whose requests are queued. It is seen as the list of those that are left.
+/// A walk over the locks whose requests are queued. Its model is the list of the locks that are left.
 #[derive(Drop)]
 pub struct QueuedLocks<'a> {
-    // the records through which the list runs
+    // the records that the list runs through
     locks: &'a Slab<Lock>,
-    // the list of all of them
+    // the list of all queued locks
     line: LinkedList<InLine>,
-    // the one that comes next, if one is left
+    // the next lock of the walk, if one is left
     next: Option<usize>,
 }
 
@@ -50,7 +50,7 @@ impl<'a> Iterator for QueuedLocks<'a> {
 }
 
 impl Store {
-    /// The locks whose requests are queued, of all resources, in the order in which they were queued.
+    /// All locks whose requests are queued, on any resource, in the order in which they were queued.
     pub fn queued_locks(&self) -> QueuedLocks<'_>
         ensures queued { AreQueued result self.now }
         ensures all { (at : ℕ) → IsQueued at self.now → IsIn at result }

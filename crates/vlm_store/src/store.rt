@@ -1,4 +1,4 @@
-//! The store.
+//! The store: its fields, and its locks and resources.
 
 ghost use Rattle.std.specs.Prelude.{◌≡◌, ◌||◌, [], ◌∷◌, ◌++◌, length, map, IfOk, IfSome, IsOk, OnErr, OnOk};
 ghost use Rattle.std.specs.List.{list_any};
@@ -25,35 +25,36 @@ use vlm_records::{
 use vlm_words::modes::Mode;
 use vlm_words::resources::{Key, Queue, Site, ValueBlock};
 
-/// The records of the machine. Each call takes constant time but for the growth of an add.
+/// All records of the machine. A call takes constant time, except those that make room (`reserve_lock`,
+/// `reserve_resource`, `add_process`, `new_status_blocks`, `owe`), and `nth_process`, which walks.
 pub struct Store {
-    // where status blocks are made; slabs and indexes have it too
+    // makes status blocks and the room for ASTs; slabs and indexes have a copy
     pub(crate) alloc: Global,
-    // the locks and the resources, and the lists of locks that are queues
+    // the locks and the resources
     pub(crate) queues: Queues,
-    // the locks whose requests are queued, of all resources
+    // the locks whose requests are queued, on all resources
     pub(crate) line: LinkedList<InLine>,
-    // the resources in order of making
+    // the resources in the order of making
     order: LinkedList<InOrder>,
-    // the living processes, each with its status blocks
+    // the living processes
     pub(crate) processes: Slab<Process>,
-    // the processes in order of making
+    // the living processes in the order of making
     pub(crate) process_order: LinkedList<InOrder>,
-    // where the lock of each identification is
+    // the handle of each lock, by its identification
     lock_index: PartedIndex<LockKind>,
-    // where the resource of each key is, which `keys` hash; others choose the names in it
+    // the handle of each resource, by its key
     resource_index: KeyIndex,
-    // where the process of each identification is
+    // the handle of each living process, by its identification
     pub(crate) process_index: HandleTable,
-    // how the key of a resource is hashed
+    // the keys of the hash for resources; callers choose names, so nobody should foresee their hashes
     keys: HashKeys,
-    // the processes that live, node by node
+    // for each node, its living processes
     pub(crate) living: NodeMarks,
-    // those that have an AST pending, node by node
+    // for each node, its processes with a pending AST
     pub(crate) pending: NodeMarks,
 }
 
-// Written out, a drop is one call to each owner of a store.
+// Written out: a drop is then one call in each owner of a store.
 impl Drop for Store {
     fn drop(self) {
         let Store {
@@ -86,15 +87,16 @@ impl Model for Store {
 }
 
 impl Store {
-    /// An empty store, whose index of names hashes by fixed keys. It keeps the allocator and takes no memory.
+    /// An empty store that hashes names by fixed keys. It takes no memory.
     pub fn new(alloc: Global) -> Store
         ensures { result ≡ record (nothing result.keys) { room = result.room } }
     {
         Store::with_keys(alloc, HashKeys::fixed())
     }
 
-    /// An empty store, whose index of names hashes by these keys: identifications are given in order, and nobody chooses
-    /// them. It keeps the allocator and takes no memory.
+    /// An empty store that hashes names by these keys. Callers choose names, so a caller who knows the keys could
+    /// choose names with equal hashes; identifications need no keys, since the machine gives them. It takes no
+    /// memory.
     pub fn with_keys(alloc: Global, keys: HashKeys) -> Store
         ensures { result ≡ record (nothing result.keys) { room = result.room } }
     {
@@ -117,7 +119,7 @@ impl Store {
         }
     }
 
-    /// Where the lock of this identification is.
+    /// The lock with this identification, if there is one.
     pub fn lock(&self, lkid: u32) -> Option<LockAt>
         ensures found { FindsLock self.now lkid result }
         ensures sound { IsSound self.now }
@@ -125,7 +127,7 @@ impl Store {
         self.lock_index.get(lkid)
     }
 
-    /// How the index hashes a key: who looks a resource up and then adds it asks once.
+    /// The hash of a key. Compute it once for a lookup and an add.
     pub fn hash_of(&self, key: &Key) -> u32
         ensures { result ≡ hash_key self.now.keys key.now }
     {
@@ -133,7 +135,7 @@ impl Store {
         self.keys.hash_of(&words[..key.word_count()])
     }
 
-    /// Where the resource under this key, which is hashed so, is.
+    /// The resource with this key, if there is one.
     pub fn resource(&self, key: &Key, hash: u32) -> Option<ResAt>
         requires { hash ≡ hash_key self.now.keys key.now }
         ensures found { FindsResource self.now key.now result }
@@ -143,7 +145,7 @@ impl Store {
         self.resource_index.get(&self.queues.resources, key, hash)
     }
 
-    /// The record of a lock: what it holds and wants, where it stands, and whose it is.
+    /// The record of a lock: its row, its queue, its owner, its parent lock.
     pub fn lock_record(&self, lock: LockAt) -> &Lock
         requires { IsStored lock self.now }
         ensures row { Stores self.now lock result.now.row }
@@ -157,7 +159,7 @@ impl Store {
         &self.queues.locks[lock.slot()]
     }
 
-    /// Makes room for one more lock, which has this identification, where there is none.
+    /// Makes room for one more lock with this identification, if there is no room.
     pub fn reserve_lock(&mut self, lkid: u32) -> Result<(), AllocError>
         ensures unchanged { IsUnchanged self.old self.new }
         ensures room { OnOk result (HasRoomForLock lkid self.new) }
@@ -166,8 +168,8 @@ impl Store {
         reserve_one(&mut self.queues.locks, &mut self.lock_index, lkid)
     }
 
-    /// Adds a lock, the last in the list of a place, of its process's locks, and of those below its parent.
-    /// `reserve_lock` made the room.
+    /// Adds a lock to the end of a queue, of its process's locks, and of its parent's sublocks. `reserve_lock` made
+    /// the room.
     pub fn add_lock_reserved(
         &mut self,
         row: &StoredRow,
@@ -200,8 +202,7 @@ impl Store {
         at
     }
 
-    /// Takes a lock from where it stands, writes what it holds and wants, and puts it at the end of the
-    /// list of a place.
+    /// Moves a lock to the end of a queue, and writes its row. The old and the new queue may be the same.
     pub fn move_lock(&mut self, lock: LockAt, row: &StoredRow, to: Place)
         requires lock { IsRowOf lock row.now self.old }
         requires there { HasPlace to self.old }
@@ -214,7 +215,7 @@ impl Store {
         join_line(&mut self.queues.locks, &mut self.line, at, &to);
     }
 
-    /// A lock is armed no more, and stays where it stands.
+    /// Disarms a lock, which keeps its place.
     pub fn disarm(&mut self, lock: LockAt)
         requires { IsStored lock self.old }
         ensures { self.new ≡ with_lists (disarming lock) self.old }
@@ -222,9 +223,8 @@ impl Store {
         self.queues.disarm(lock.slot());
     }
 
-    /// Removes a lock below which no other stands: from its queue, from the locks of its process, and from
-    /// those below its parent. Its slot is free again; the index may have to grow for the next
-    /// one.
+    /// Removes a lock without sublocks: from its queue, its process's locks, and its parent's sublocks. The index may
+    /// have to grow for the next lock.
     pub fn remove_lock(&mut self, lock: LockAt)
         requires stored { IsStored lock self.old }
         requires childless { HasNoSublocks lock self.old }
@@ -247,7 +247,7 @@ impl Store {
         self.lock_index.remove(row.lkid());
     }
 
-    /// Makes room for one more resource, whose key is hashed so, where there is none.
+    /// Makes room for one more resource whose key has this hash, if there is no room.
     pub fn reserve_resource(&mut self, hash: u32) -> Result<(), AllocError>
         ensures unchanged { IsUnchanged self.old self.new }
         ensures room { OnOk result (HasRoomForResource hash self.new) }
@@ -256,8 +256,8 @@ impl Store {
         reserve_keyed(&mut self.queues.resources, &mut self.resource_index, hash)
     }
 
-    /// Adds a resource without locks, whose key is hashed so, the last in order of making, with a valid value block of
-    /// zeros. `reserve_resource` made the room.
+    /// Adds a resource without locks, last in the order of making, with a value block of zeros, all valid.
+    /// `reserve_resource` made the room.
     pub fn add_resource_reserved(&mut self, serial: u32, site: &Site, hash: u32) -> ResAt
         requires room { HasRoomForResource hash self.old }
         requires new { IsNewKey site.now.key self.old }
@@ -277,7 +277,7 @@ impl Store {
         res
     }
 
-    /// The handle of the first lock at a place, if there is one.
+    /// The first lock of a queue, if there is one.
     pub fn first(&self, place: Place) -> Option<LockAt>
         requires { HasPlace place self.now }
         ensures first { result ≡ first_at (locks_at place self.now) }
@@ -287,7 +287,7 @@ impl Store {
         Some(LockAt::of(at))
     }
 
-    /// The handle of the lock that follows one where it stands, if there is one.
+    /// The next lock in the queue of this lock, if there is one.
     pub fn next(&self, lock: LockAt) -> Option<LockAt>
         requires { IsStored lock self.now }
         ensures { (place : Place) (row : Row)
@@ -299,7 +299,7 @@ impl Store {
         Some(LockAt::of(at))
     }
 
-    /// The handle of the lock that one follows where it stands, if there is one.
+    /// The previous lock in the queue of this lock, if there is one.
     pub fn previous(&self, lock: LockAt) -> Option<LockAt>
         requires { IsStored lock self.now }
         ensures { (place : Place) (row : Row)
@@ -311,14 +311,14 @@ impl Store {
         Some(LockAt::of(at))
     }
 
-    /// How many resources there are.
+    /// How many resources exist.
     pub fn resource_count(&self) -> usize
         ensures { result ≡ length self.now.resources }
     {
         self.order.len(&self.queues.resources)
     }
 
-    /// How many locks there are, of all processes.
+    /// How many locks exist, of all processes.
     pub fn total_locks(&self) -> usize
         ensures { result ≡ lock_total self.now }
     {
@@ -332,7 +332,7 @@ impl Store {
         self.process_order.len(&self.processes)
     }
 
-    /// The handle of the first resource in order of making, if there is one.
+    /// The first resource in the order of making, if there is one.
     pub fn first_resource(&self) -> Option<ResAt>
         ensures first { result ≡ first_resource_at self.now.resources }
         ensures sound { IsSound self.now }
@@ -341,7 +341,7 @@ impl Store {
         Some(ResAt::of(at))
     }
 
-    /// The handle of the resource made after one, if there is one.
+    /// The next resource in the order of making, if there is one.
     pub fn next_resource(&self, res: ResAt) -> Option<ResAt>
         requires { HasResource res self.now }
         ensures { result ≡ resource_at_after res self.now.resources }
@@ -350,7 +350,7 @@ impl Store {
         Some(ResAt::of(at))
     }
 
-    /// The record of a resource: its serial, where it stands, and its value block.
+    /// The record of a resource: its serial, its site, its value block.
     pub fn resource_record(&self, res: ResAt) -> &Resource
         requires { HasResource res self.now }
         ensures serial { IfSome (resource_at res self.now.resources)
@@ -378,7 +378,8 @@ impl Store {
         self.queues.set_value_block(res.slot(), value_block);
     }
 
-    /// Removes a resource in whose queues no lock stands. The others keep their order. Its slot is free again; the index may have to grow for the next one.
+    /// Removes a resource without locks. The others keep their order. The index may have to grow for the next
+    /// resource.
     // Kept out of line: inlined, it would cost registers in steps that remove nothing.
     #[inline(never)]
     pub fn remove_resource(&mut self, res: ResAt)
@@ -393,8 +394,8 @@ impl Store {
         self.queues.remove_resource(&mut self.order, res.slot());
     }
 
-    /// Whether the mode is compatible with what every lock of the resource holds, granted or converting,
-    /// but for the lock that asks.
+    /// Whether the mode fits: it is compatible with the held mode of every lock, granted or converting, except the
+    /// asking lock. It reads counts, not locks.
     #[inline(always)]
     pub fn can_hold(&self, res: ResAt, mode: Mode, asking: Option<LockAt>) -> bool
         requires there { HasResource res self.now }
@@ -405,8 +406,7 @@ impl Store {
         self.queues.fits(res, mode, asking)
     }
 
-    /// Whether a lock that holds this mode keeps some queued request of the resource from being granted. It reads
-    /// counts alone.
+    /// Whether this held mode is incompatible with a queued request of the resource. It reads counts, not locks.
     pub fn is_in_the_way(&self, res: ResAt, held: Mode) -> bool
         requires { HasResource res self.now }
         ensures { IfSome (resource_at res self.now.resources) (λ r. result
@@ -416,7 +416,8 @@ impl Store {
         self.queues.resources[res.slot()].tally.keeps_out(held)
     }
 
-    /// How many locks of the resource hold each mode, granted or converting, from NL to EX. It reads counts alone.
+    /// How many locks of the resource hold each mode, from NL to EX, granted or converting. It reads counts, not
+    /// locks.
     pub fn held_counts(&self, res: ResAt) -> [u32; 6]
         requires { HasResource res self.now }
         ensures { IfSome (resource_at res self.now.resources) (λ r. result
@@ -425,7 +426,7 @@ impl Store {
         self.queues.resources[res.slot()].tally.held()
     }
 
-    /// How many locks stand in a queue of the resource. It reads the length of the list.
+    /// How many locks are in a queue of the resource. It reads the length of the list.
     pub fn queue_length(&self, res: ResAt, queue: Queue) -> u32
         requires { HasResource res self.now }
         ensures { IfSome (resource_at res self.now.resources) (λ r. result
