@@ -19,19 +19,19 @@ use Rattle.vlm_records.specs.declared.queues.Queues.{Queues}
 use Rattle.vlm_records.specs.declared.resources.Resource.{Resource}
 use Rattle.vlm_records.specs.Shown.{IsPlaced, IsTallied, handles_at, handles_but, no_list, noted, rows}
 
--- ---- which rows a list has
+-- ---- the rows in a list
 
 -- the rank of the highest mode that is not in a list
 abbrev pub floor : Armed → ℕ
 floor AboveNl = 0
 floor AboveCr = 1
 
--- the rank of a mode that is held, 0 where none is
+-- the rank of the held mode; 0 without one
 abbrev pub held_rank : Option Request → ℕ
 held_rank None = 0
 held_rank (Some held) = rank held.mode
 
--- the rank of the mode that a row holds while it is armed, 0 where it is not
+-- the rank of the held mode if the row is armed, else 0
 abbrev pub armed_rank : Row → ℕ
 armed_rank row = if row.armed then held_rank row.held else 0
 
@@ -39,7 +39,7 @@ armed_rank row = if row.armed then held_rank row.held else 0
 abbrev pub is_listed : Armed → Row → Bool
 is_listed which row = nat_lt (floor which) (armed_rank row)
 
--- ---- where a list is
+-- ---- the list of a resource
 
 -- the other list
 abbrev pub other_list : Armed → Armed
@@ -51,12 +51,12 @@ abbrev pub kind_of : Armed → Type 0
 kind_of AboveNl = InAboveNl
 kind_of AboveCr = InAboveCr
 
--- the neighbours of a lock in a list
+-- the links of a lock in a list
 abbrev pub armed_links : Armed → Lock → Links
 armed_links AboveNl l = l.in_above_nl
 armed_links AboveCr l = l.in_above_cr
 
--- the lock with other neighbours in a list
+-- the lock with other links in a list
 abbrev pub with_armed_links : Armed → Lock → Links → Lock
 with_armed_links AboveNl l pair = record l { in_above_nl = pair }
 with_armed_links AboveCr l pair = record l { in_above_cr = pair }
@@ -71,7 +71,7 @@ abbrev pub with_list : (which : Armed) → LinkedList (kind_of which) → Resour
 with_list AboveNl list r = record r { armed_above_nl = list }
 with_list AboveCr list r = record r { armed_above_cr = list }
 
--- the list of a resource, an empty one where there is no resource
+-- the list of a resource; an empty list without a resource
 abbrev pub armed_list_in : (which : Armed) → Option Resource → LinkedList (kind_of which)
 armed_list_in which None = no_list
 armed_list_in which (Some r) = list_of which r
@@ -82,20 +82,20 @@ granted_on (Queued res Granted) = Some res
 granted_on (Queued res Conversion) = None
 granted_on (Queued res Waiting) = None
 
--- the resource in whose list a lock stands: the one on which it is granted, if its row is listed
+-- the resource in whose list the lock is: its own, if it is granted and its row is listed
 abbrev pub armed_of : Armed → Lock → Option ℕ
 armed_of which l = if is_listed which l.row then granted_on l.place else None
 
--- the same, read off the record of a lock if there is one
+-- the same for the lock in a place of the slab
 abbrev pub armed_on : Armed → Option Lock → Option ℕ
 armed_on which None = None
 armed_on which (Some l) = armed_of which l
 
--- the handles among these whose rows are listed, in their order
+-- the handles whose rows are listed, in their order
 abbrev pub armed_handles : Armed → (ℕ → Row) → List ℕ → List ℕ
 armed_handles which rows handles = filter (λ k. is_listed which (rows k)) handles
 
--- the handle is the last of these, and none of the others
+-- the handle is the last one, and is there only once
 abbrev pub IsLast : ℕ → List ℕ → Type 0
 IsLast at handles = handles ≡ without at handles ++ at ∷ []
 
@@ -104,26 +104,27 @@ module _ (which : Armed) (q : Queues) where
   abbrev pub armed_list : ℕ → LinkedList (kind_of which)
   armed_list res = armed_list_in which (get q.resources res)
 
-  -- the handles of that list, in its order
+  -- the handles in that list, in its order
   abbrev pub armed_list_handles : ℕ → List ℕ
   armed_list_handles res = handles_of (armed_links which) q.locks (armed_list res)
 
-  -- the granted locks of a resource that are listed, but for one, in the order of the granted queue
+  -- the granted locks of a resource that belong in the list, except one, in the order of the granted queue
   abbrev pub armed_granted : Option ℕ → ℕ → List ℕ
   armed_granted out res = armed_handles which (rows q) (handles_but q out (Queued res Granted))
 
-  -- each list is linked, and holds just the granted locks of its resource that are listed, in the order of the granted
-  -- queue, but for one lock that is taken out
+  -- the list of each resource is linked and has exactly the granted locks that belong in it, in the order of the
+  -- granted queue, except one lock that was taken out
   pub record IsArmed (out : Option ℕ) : Type 0 where
     pub linked : (res : ℕ) → IsLinked (armed_links which) q.locks (armed_list res)
     pub order : (res : ℕ) → armed_list_handles res ≡ armed_granted out res
 
 module _ (q : Queues) where
-  -- the lock stands last at the place that it notes
+  -- the lock is the last one in the queue that it notes
   abbrev pub StandsLast : ℕ → Type 0
   StandsLast at = (place : Place) → noted q at ≡ Some place → IsLast at (handles_at q place)
 
-  -- each lock stands at the place that it notes, each resource counts its locks, and lists the armed ones among the granted
+  -- the invariant of the queues: each lock is in the queue that it notes, each resource counts its locks, and lists
+  -- those that are armed
   pub record IsLaidOut : Type 0 where
     pub placed : IsPlaced q None
     pub tallied : IsTallied q None

@@ -1,4 +1,4 @@
--- What stays as the locks of a resource leave their lists, join them and are counted.
+-- What stays while the locks of a resource leave lists, join lists and are counted.
 use Rattle.std.specs.Prelude.{◌≡◌, ◌≢◌, ◌+◌, ℕ, None, [], ◌∷◌, ◌++◌}
 use Rattle.slab.specs.Slab.{Slab, get}
 use Rattle.vlm_links.specs.Lists.{without}
@@ -11,14 +11,14 @@ use Rattle.vlm_records.specs.declared.queues.Queues.{Queues}
 use Rattle.vlm_records.specs.declared.resources.Resource.{Resource}
 use Rattle.vlm_records.specs.Shown.{IsPlaced, IsTallied, SameBut, but_armed, but_counted, but_in_armed, but_requeued, but_tally, handles_at, room_in, rows, share_of, tally_in}
 
--- each lock and each resource shows what it showed, and both have the room that they had
+-- these parts of locks and resources stay, and the room stays
 pub record Keeps (of_lock : Lock → Lock) (of_resource : Resource → Resource) (old new : Queues) : Type 0 where
   pub kin : SameBut of_lock old.locks new.locks
   pub rest : SameBut of_resource old.resources new.resources
   pub locks_room : room_in new.locks ≡ room_in old.locks
   pub resources_room : room_in new.resources ≡ room_in old.resources
 
--- each lock stands where it stood, with its row, as one leaves the armed locks of its resource or joins them
+-- every queue and every row stays, while a lock leaves or joins the lists of armed locks
 pub record KeepsPlaces (old new : Queues) : Type 0 where
   pub placed : IsPlaced new None
   pub tallied : IsTallied new None
@@ -26,26 +26,26 @@ pub record KeepsPlaces (old new : Queues) : Type 0 where
   pub rows : (other : ℕ) → rows new other ≡ rows old other
   pub records : Keeps but_in_armed but_armed old new
 
--- the counts of resources alone are written
+-- only the counts of resources change
 pub record WritesCounts (old new : Queues) : Type 0 where
   pub locks : new.locks ≡ old.locks
   pub rest : SameBut but_tally old.resources new.resources
   pub resources_room : room_in new.resources ≡ room_in old.resources
 
--- a lock at this place is counted with another row
+-- a lock in this queue is counted with another row
 pub record Recounts (place : Place) (was now : Row) (old new : Slab Resource) : Type 0 where
   pub change : (count : Count) (mode : Mode) (res : ℕ)
       → how_many count (tally_in (get new res)) mode + share_of (weight_of count mode) place res was
       ≡ how_many count (tally_in (get old res)) mode + share_of (weight_of count mode) place res now
 
--- the record of one lock alone is written, and there what it holds and wants, or its place
+-- only the row or the place of one lock changes
 pub record WritesLock (at : ℕ) (old new : Queues) : Type 0 where
   pub others : (other : ℕ) → other ≢ at → get new.locks other ≡ get old.locks other
   pub kin : SameBut but_requeued old.locks new.locks
   pub resources : new.resources ≡ old.resources
   pub locks_room : room_in new.locks ≡ room_in old.locks
 
--- one lock has another row, and stands where it stood
+-- one lock has another row and keeps its place
 pub record Rewrites (at : ℕ) (now : Row) (old new : Queues) : Type 0 where
   pub placed : IsPlaced new None
   pub tallied : IsTallied new None
@@ -54,7 +54,7 @@ pub record Rewrites (at : ℕ) (now : Row) (old new : Queues) : Type 0 where
   pub rows : (other : ℕ) → other ≢ at → rows new other ≡ rows old other
   pub kept : Keeps but_requeued but_counted old new
 
--- one lock has another row, and stands at the end of a list
+-- one lock has another row and is at the end of a queue
 pub record Requeues (at : ℕ) (now : Row) (to : Place) (old new : Queues) : Type 0 where
   pub placed : IsPlaced new None
   pub tallied : IsTallied new None

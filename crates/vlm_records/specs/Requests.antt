@@ -1,4 +1,4 @@
--- The parts in which a request is kept.
+-- The parts of a packed request.
 use Rattle.std.specs.Prelude.{ℕ, Option, None, Some}
 use Rattle.vlm_words.specs.declared.locks.Request.{Request}
 use Rattle.vlm_words.specs.declared.modes.Mode.TheVariants.{Nl}
@@ -7,7 +7,7 @@ use Rattle.vlm_records.specs.declared.rows.Kept.{Kept}
 use Rattle.vlm_records.specs.declared.rows.Kept.TheVariants.{Nothing, Neither, Completion, Blocking, Both}
 use Rattle.vlm_records.specs.declared.rows.Routines.{Routines}
 
--- a request with these routines, if it names any
+-- the request with these parts and routines
 abbrev pub request_with : ℕ → Option ℕ → Option ℕ → Routines → Asked → Request
 request_with number completion blocking routines asked = record {
   number = number;
@@ -19,7 +19,7 @@ request_with number completion blocking routines asked = record {
   block = asked.block;
 }
 
--- the completion routine of the request that is kept in these parts, if it names one
+-- the completion routine of a packed request, if it names one
 abbrev pub completion_shown : Kept → Routines → Option ℕ
 completion_shown Nothing routines = None
 completion_shown Neither routines = None
@@ -27,7 +27,7 @@ completion_shown Completion routines = Some routines.completion
 completion_shown Blocking routines = None
 completion_shown Both routines = Some routines.completion
 
--- and its blocking routine
+-- the blocking routine of a packed request, if it names one
 abbrev pub blocking_shown : Kept → Routines → Option ℕ
 blocking_shown Nothing routines = None
 blocking_shown Neither routines = None
@@ -35,7 +35,7 @@ blocking_shown Completion routines = None
 blocking_shown Blocking routines = Some routines.blocking
 blocking_shown Both routines = Some routines.blocking
 
--- the request that is kept in these parts, if there is one
+-- the request that the parts show, if there is one
 abbrev pub request_shown : Kept → ℕ → Routines → Asked → Option Request
 request_shown Nothing number routines asked = None
 request_shown Neither number routines asked = Some (request_with number None None routines asked)
@@ -50,22 +50,22 @@ named_routines (Some completion) None = Completion
 named_routines None (Some blocking) = Blocking
 named_routines (Some completion) (Some blocking) = Both
 
--- whether there is a request, and which of its routines it names
+-- whether there is a request, and which routines it names
 abbrev pub kept_of : Option Request → Kept
 kept_of None = Nothing
 kept_of (Some request) = named_routines request.completion request.blocking
 
--- the number of a request, 0 where there is none
+-- the number of a request; 0 without one
 abbrev pub number_kept : Option Request → ℕ
 number_kept None = 0
 number_kept (Some request) = request.number
 
--- the number of a routine, 0 where none is named
+-- the number of a routine; 0 without one
 abbrev pub routine_kept : Option ℕ → ℕ
 routine_kept None = 0
 routine_kept (Some routine) = routine
 
--- the routines of a request and their parameter, 0 for what there is not
+-- the routines and the parameter of a request; zeros for what is missing
 abbrev pub routines_kept : Option Request → Routines
 routines_kept None = record { completion = 0; blocking = 0; param = 0 }
 routines_kept (Some request) = record {
@@ -74,7 +74,7 @@ routines_kept (Some request) = record {
   param = request.param;
 }
 
--- how a request is asked for: at NL and with no flag where there is none
+-- flags, mode and status block of a request; NL and zeros without one
 abbrev pub asked_kept : Option Request → Asked
 asked_kept None = record { flags = record { 0 = 0 }; mode = Nl; block = 0 }
 asked_kept (Some request) = record { flags = request.flags; mode = request.mode; block = request.block }

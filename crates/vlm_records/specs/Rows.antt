@@ -1,10 +1,10 @@
--- The parts in which the row of a lock is kept.
+-- The parts of a packed row.
 use Rattle.std.specs.Prelude.{◌≡◌}
 use Rattle.vlm_words.specs.declared.locks.Row.{Row}
 use Rattle.vlm_records.specs.declared.rows.StoredRow.TheInside.{Inside}
 use Rattle.vlm_records.specs.Requests.{asked_kept, kept_of, number_kept, request_shown, routines_kept}
 
--- the row that is kept in these parts
+-- the row that the parts show
 abbrev pub row_shown : Inside → Row
 row_shown r = record {
   lkid = r.lkid;
@@ -15,7 +15,7 @@ row_shown r = record {
   want = request_shown r.want_kept r.want_number r.want_routines r.want_asked;
 }
 
--- the parts in which a row is kept
+-- the packed form of a row
 abbrev pub packed : Row → Inside
 packed row = record {
   held_number = number_kept row.held;
@@ -32,6 +32,6 @@ packed row = record {
   armed = row.armed;
 }
 
--- the parts are those in which the row that they show is kept: where there is no request they are all zero
+-- the parts are packed: a missing request is all zeros
 abbrev pub IsPacked : Inside → Type 0
 IsPacked r = packed (row_shown r) ≡ r

@@ -38,41 +38,41 @@ queue_list Granted r = r.granted
 queue_list Conversion r = r.converting
 queue_list Waiting r = r.waiting
 
--- the resource with another list of a queue
+-- the resource with another list in a queue
 abbrev pub with_queue_list : Queue → LinkedList InQueue → Resource → Resource
 with_queue_list Granted list r = record r { granted = list }
 with_queue_list Conversion list r = record r { converting = list }
 with_queue_list Waiting list r = record r { waiting = list }
 
--- what a look-up that finds nothing gives
+-- the row of a missing lock
 abbrev pub no_row : Row
 no_row = record { lkid = 0; pid = 0; parent = 0; held = None; want = None; armed = false }
 
--- the place of a lock where its place is left out
+-- the place of a lock whose place is left out
 abbrev pub no_place : Place
 no_place = Queued 0 Granted
 
--- what stands under a handle, read off the record if there is one
+-- the row of the lock in a place of the slab
 abbrev pub row_in : Option Lock → Row
 row_in None = no_row
 row_in (Some l) = l.row
 
--- the place that the record of a lock notes
+-- the place that the lock in a place of the slab notes
 abbrev pub noted_in : Option Lock → Option Place
 noted_in None = None
 noted_in (Some l) = Some l.place
 
--- the list of a queue, an empty one where there is no resource
+-- the list of a queue; an empty list without a resource
 abbrev pub list_in : Queue → Option Resource → LinkedList InQueue
 list_in queue None = no_list
 list_in queue (Some r) = queue_list queue r
 
--- the counts of a resource, none where there is no resource
+-- the counts of the resource in a place of the slab
 abbrev pub tally_in : Option Resource → Tally
 tally_in None = no_tally
 tally_in (Some r) = r.tally
 
--- the links of a lock in its list, and of a resource in the order of making
+-- the links of a lock in its queue
 abbrev pub queue_links : Lock → Links
 queue_links l = l.in_queue
 
@@ -80,35 +80,35 @@ queue_links l = l.in_queue
 abbrev pub order_links : Resource → Links
 order_links r = r.in_order
 
--- the lock with other neighbours in its list
+-- the lock with other links in its queue
 abbrev pub with_queue_links : Lock → Links → Lock
 with_queue_links l pair = record l { in_queue = pair }
 
--- the resource with other neighbours in the order of making
+-- the resource with other links in the order of making
 abbrev pub with_order_links : Resource → Links → Resource
 with_order_links r pair = record r { in_order = pair }
 
--- records but for a part of them
+-- the resource without its queues
 abbrev pub but_lists : Resource → Resource
 but_lists r = record r { granted = no_list; converting = no_list; waiting = no_list }
 
--- a resource but for its counts
+-- the resource without its counts
 abbrev pub but_tally : Resource → Resource
 but_tally r = record r { tally = no_tally }
 
--- a resource but for its value block
+-- the resource without its value block
 abbrev pub but_value_block : Resource → Resource
 but_value_block r = record r { value_block = new_value_block }
 
--- a resource but for its queues and counts
+-- the resource without queues and counts
 abbrev pub but_counted : Resource → Resource
 but_counted r = but_tally (but_lists r)
 
--- a resource but for the lists of its armed locks
+-- the resource without its lists of armed locks
 abbrev pub but_armed : Resource → Resource
 but_armed r = record r { armed_above_nl = no_list; armed_above_cr = no_list }
 
--- a resource but for its lists and counts
+-- the resource without all its lists and counts
 abbrev pub but_queues : Resource → Resource
 but_queues r = but_armed (but_counted r)
 
@@ -116,43 +116,43 @@ but_queues r = but_armed (but_counted r)
 abbrev pub lkid_of : Lock → ℕ
 lkid_of l = l.row.lkid
 
--- a lock but for the place that it notes
+-- the lock without its place
 abbrev pub but_place : Lock → Lock
 but_place l = record l { place = no_place }
 
--- a lock but for what it holds and wants
+-- the lock without its row
 abbrev pub but_row : Lock → Lock
 but_row l = record l { row = no_row }
 
--- no neighbours
+-- empty links
 abbrev pub no_links : Links
 no_links = record { prev = None; next = None }
 
--- what of a row never changes, as its lock is converted and granted
+-- what never changes in a row: lock, process and parent lock
 abbrev pub named_row : Row → Row
 named_row row = record no_row { lkid = row.lkid; pid = row.pid; parent = row.parent }
 
--- a lock but for its queue, and what it holds and wants there
+-- the lock without its queue and the changing part of its row
 abbrev pub but_requeued : Lock → Lock
 but_requeued l = record l { row = named_row l.row; place = no_place; in_queue = no_links }
 
--- a lock but for its neighbours among the armed locks of its resource
+-- the lock without its links in lists of armed locks
 abbrev pub but_in_armed : Lock → Lock
 but_in_armed l = record l { in_above_nl = no_links; in_above_cr = no_links }
 
--- a lock but for its neighbours among those whose requests are queued
+-- the lock without its links in the line
 abbrev pub but_in_line : Lock → Lock
 but_in_line l = record l { in_line = no_links }
 
--- a lock but for the lists in which it stands as it is queued and granted, and what it holds and wants there
+-- the lock without its lists on a resource, the line, and the changing part of its row
 abbrev pub but_queued : Lock → Lock
 but_queued l = but_in_line (but_in_armed (but_requeued l))
 
--- a lock but for the lists in which it stands beside those of its resource, and its sublocks
+-- the lock without its links in the line, its process and its parent's sublocks, and without its own sublocks
 abbrev pub but_kin : Lock → Lock
 but_kin l = but_in_line (record l { of_process = no_links; of_parent = no_links; sublocks = no_list })
 
--- a lock at its making, but for the lists of a resource: in no list of its process or its parent, and without sublocks
+-- a new lock that is in no list, without the changing part of its row
 abbrev pub new_lock : Row → ℕ → Option ℕ → Lock
 new_lock row owner parent = record {
   row = named_row row;
@@ -168,24 +168,24 @@ new_lock row owner parent = record {
   sublocks = no_list;
 }
 
--- how many more records a slab takes with no allocation, and the handle that the next one gets
+-- how many more records a slab takes without an allocation, and the handle of the next one
 unfoldable pub room_in : {T : Type 0} → Slab T → ℕ × ℕ
 room_in nodes = (nodes.capacity - slab_len nodes, nodes.vacant_key)
 
--- every record shows what it showed
+-- this part of every record stays
 abbrev pub SameBut : {T X : Type 0} → (T → X) → Slab T → Slab T → Type 0
 SameBut part old new = (handle : ℕ) → option_map part (get new handle) ≡ option_map part (get old handle)
 
--- the resource of the place is there
+-- the resource of the place exists
 abbrev pub IsThere : Slab Resource → Place → Type 0
 IsThere resources (Queued res queue) = ContainsKey resources res
 
 module _ (q : Queues) where
-  -- the row, and the place, that a lock's record notes
+  -- the row of the lock with this handle
   abbrev pub rows : ℕ → Row
   rows at = row_in (get q.locks at)
 
-  -- the place that a lock's record notes
+  -- the place that the lock with this handle notes
   abbrev pub noted : ℕ → Option Place
   noted at = noted_in (get q.locks at)
 
@@ -193,30 +193,30 @@ module _ (q : Queues) where
   abbrev pub list_at : Place → LinkedList InQueue
   list_at (Queued res queue) = list_in queue (get q.resources res)
 
-  -- the handles at a place, the first in line first
+  -- the handles at a place, in the order of its queue
   abbrev pub handles_at : Place → List ℕ
   handles_at place = handles_of queue_links q.locks (list_at place)
 
-  -- the handles at a place, but for the lock that is out
+  -- the handles at a place, except one lock that was taken out
   abbrev pub handles_but : Option ℕ → Place → List ℕ
   handles_but None place = handles_at place
   handles_but (Some out) place = without out (handles_at place)
 
-  -- each list is linked, and holds those locks that note its place, but for one that is taken out
+  -- each queue is linked and has exactly the locks that note it, except one lock that was taken out
   abbrev pub IsPlaced : Option ℕ → Type 0
   IsPlaced out = IsFamily queue_links noted_in q.locks list_at out
 
-  -- what the locks in the queues of a resource weigh together, but for one
+  -- the sum of a weight over the locks of a resource, except one lock
   abbrev pub shares : (Queue → Row → ℕ) → Option ℕ → ℕ → ℕ
   shares weight out res =
       total (weight Granted) rows (handles_but out (Queued res Granted))
       + (total (weight Conversion) rows (handles_but out (Queued res Conversion)) + total (weight Waiting) rows (handles_but out (Queued res Waiting)))
 
-  -- each resource counts its locks, mode by mode, but for one
+  -- each resource counts its locks by mode, except one lock
   pub record IsTallied (out : Option ℕ) : Type 0 where
     pub counts : (count : Count) (res : ℕ) (mode : Mode) → how_many count (tally_in (get q.resources res)) mode ≡ shares (weight_of count mode) out res
 
--- the mode is compatible with what each lock under these handles holds
+-- the mode is compatible with the held mode of each of these locks
 abbrev pub handles_fit : Mode → (ℕ → Row) → List ℕ → List ℕ → Bool
 handles_fit mode rows granted converting =
     list_all (λ k. is_beside mode (rows k).held) granted && list_all (λ k. is_beside mode (rows k).held) converting
@@ -225,7 +225,7 @@ handles_fit mode rows granted converting =
 abbrev pub share_of : (Queue → Row → ℕ) → Place → ℕ → Row → ℕ
 share_of weight (Queued at queue) res row = if at == res then weight queue row else 0
 
--- a resource without its queues
+-- a resource without its lists and counts
 pub record Face : Type 0 where
   pub serial : ℕ
   pub domain : Domain
@@ -234,19 +234,19 @@ pub record Face : Type 0 where
   pub level : ℕ
   pub value_block : ValueBlock
 
--- what a resource shows besides its queues
+-- the face of a resource
 abbrev pub face_of : Resource → Face
 face_of r = record { serial = r.serial; domain = r.domain; key = r.key; hash = r.hash; level = r.level; value_block = r.value_block }
 
--- what a look-up that finds nothing gives
+-- the face of a missing resource
 abbrev pub no_face : Face
 no_face = record { serial = 0; domain = System; key = Below 0 (replicate 1 0); hash = 0; level = 0; value_block = new_value_block }
 
--- what stands under a handle, or what is told of nothing
+-- the face of the resource in a place of the slab
 abbrev pub face_in : Option Resource → Face
 face_in None = no_face
 face_in (Some r) = face_of r
 
--- a resource at its making, whose key hashes so
+-- the face of a new resource whose key has this hash
 abbrev pub new_face : ℕ → Site → ℕ → Face
 new_face serial site hash = record { serial = serial; domain = site.domain; key = site.key; hash = hash; level = site.level; value_block = new_value_block }

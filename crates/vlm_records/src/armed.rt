@@ -1,4 +1,4 @@
-//! The lists of armed locks of each resource, as locks leave them and join them.
+//! Locks join and leave the lists of armed locks of their resource.
 
 ghost use Rattle.std.specs.Prelude.{◌≤◌, ℕ, None, Option, Some};
 ghost use Rattle.slab.specs.Slab.{ContainsKey};
@@ -12,7 +12,7 @@ use crate::queues::Queues;
 use vlm_links::LAST_HANDLE;
 
 impl Queues {
-    // Takes a lock off a list of armed locks, if it is in it.
+    // Takes a lock out of a list of armed locks, if it is in the list.
     // Kept out of line: few locks are armed.
     #[inline(never)]
     fn leave_list(&mut self, which: Armed, at: usize)
@@ -31,7 +31,7 @@ impl Queues {
         self.resources[res.slot()].unlink_armed(&mut self.locks, which, at);
     }
 
-    // Puts a lock that stands last in its queue at the end of a list of armed locks, if it belongs there.
+    // Puts a lock, the last in its queue, at the end of a list of armed locks, if it belongs there.
     // Kept out of line, as `leave_list` is.
     #[inline(never)]
     fn join_list(&mut self, which: Armed, at: usize)
@@ -52,7 +52,7 @@ impl Queues {
         self.resources[res.slot()].push_back_armed(&mut self.locks, which, at);
     }
 
-    /// Takes a lock off the armed locks of its resource, if it is among them.
+    /// Takes a lock out of both lists of armed locks, if it is armed.
     pub(crate) fn leave_armed(&mut self, at: usize)
         requires laid_out { IsLaidOut self.old }
         requires present { ContainsKey self.old.locks at }
@@ -66,8 +66,7 @@ impl Queues {
         self.leave_list(Armed::AboveCr, at);
     }
 
-    /// Puts a lock that stands last in its list at the end of the armed locks of its resource, if it is
-    /// granted and armed.
+    /// Puts a lock, the last in its queue, at the end of the lists of armed locks that it belongs in.
     pub(crate) fn join_armed(&mut self, at: usize)
         requires placed { IsPlaced self.old None }
         requires tallied { IsTallied self.old None }

@@ -1,4 +1,4 @@
-//! The locks of each resource, counted by their modes.
+//! The counts of a resource's locks by mode.
 
 ghost use Rattle.std.specs.Prelude.{◌≡◌, None, Some};
 ghost use Rattle.std.specs.Option.{ForSome};
@@ -19,7 +19,7 @@ use vlm_words::locks::Request;
 use vlm_words::modes::Mode;
 use vlm_words::resources::Queue;
 
-// The mode that a lock at this place holds on the resource, if it holds one.
+// The request that the lock holds on this resource; nothing if the lock is on another resource or waits.
 fn held_on(res: ResAt, place: &Place, row: &StoredRow) -> Option<Request>
     ensures { (mode : Mode) → one_if (is_mode mode result)
         ≡ share_of (weight_of of_held mode) place.now res row.now }
@@ -35,7 +35,7 @@ fn held_on(res: ResAt, place: &Place, row: &StoredRow) -> Option<Request>
 }
 
 impl Queues {
-    /// Counts a lock out of the queue in which it stands.
+    /// Counts a lock out of its queue.
     pub(crate) fn count_out(&mut self, at: usize)
         requires placed { IsPlaced self.old None }
         requires present { ContainsKey self.old.locks at }
@@ -48,7 +48,7 @@ impl Queues {
         self.resources[res.slot()].tally.remove(queue, &row.row());
     }
 
-    /// Counts a lock into the queue in which it stands.
+    /// Counts a lock into its queue.
     pub(crate) fn count_in(&mut self, at: usize)
         requires placed { IsPlaced self.old None }
         requires present { ContainsKey self.old.locks at }
@@ -81,8 +81,8 @@ impl Queues {
         tally.add(queue, &row.row());
     }
 
-    /// Whether the mode is compatible with what each lock of a resource holds, but for the lock that
-    /// asks.
+    /// Whether the mode is compatible with the held mode of every lock of a resource, except the asking lock. It
+    /// reads counts, not locks.
     // Inlined: its caller reads the same lock and resource.
     #[inline(always)]
     pub fn fits(&self, res: ResAt, mode: Mode, asking: Option<LockAt>) -> bool

@@ -1,4 +1,4 @@
-//! The kinds of handles, where a lock stands, and the lists of armed locks.
+//! The handles of records, the place of a lock, and the kinds of lists of armed locks.
 
 ghost use Rattle.std.specs.Prelude.{◌≡◌};
 ghost use Rattle.vlm_records.specs.Armed.{floor};
@@ -7,31 +7,31 @@ ghost use Rattle.vlm_records.specs.declared.handles.Place.{Place};
 use vlm_links::At;
 use vlm_words::resources::Queue;
 
-/// The kind of a handle of a lock.
+/// Marks handles of locks.
 pub struct LockKind;
 
-/// The kind of a handle of a resource.
+/// Marks handles of resources.
 pub struct ResourceKind;
 
-/// The kind of a handle of a living process.
+/// Marks handles of processes.
 pub struct ProcessKind;
 
-/// The handle of a lock record.
+/// The handle of a lock, in four bytes.
 pub type LockAt = At<LockKind>;
 
-/// The handle of a resource record.
+/// The handle of a resource, in four bytes.
 pub type ResAt = At<ResourceKind>;
 
-/// The handle of a process record.
+/// The handle of a process, in four bytes.
 pub type ProcAt = At<ProcessKind>;
 
-/// A list of armed locks of a resource. NL is in nobody's way. CR is only in the way of EX, and then so is each armed lock
-/// above NL. Otherwise only armed locks above CR can be in the way.
+/// A list of armed locks of a resource. A step that warns walks one of the two lists: above NL if a queued request
+/// wants EX, else above CR. NL is compatible with every mode, and CR with every mode except EX.
 #[derive(Clone, Copy)]
 pub enum Armed {
-    /// Those that hold more than NL.
+    /// The armed granted locks that hold more than NL.
     AboveNl,
-    /// Those that hold more than CR.
+    /// The armed granted locks that hold more than CR.
     AboveCr,
 }
 
@@ -47,17 +47,16 @@ impl Armed {
     }
 }
 
-/// Where a lock stands.
+/// Where a lock is.
 #[derive(Clone, Copy)]
 pub enum Place {
-    /// In a queue of a resource.
+    /// In this queue of this resource.
     Queued(ResAt, Queue),
 }
 
 impl Place {
     ghost use Rattle.vlm_records.specs.Line.{is_queued};
 
-    /// The resource, and its queue in which a lock at this place stands.
     pub fn parts(&self) -> (ResAt, Queue)
         ensures { self.now ≡ Place.Queued result.0 result.1 }
     {

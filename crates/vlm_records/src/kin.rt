@@ -1,4 +1,4 @@
-//! The locks among those of their processes, and below their parents.
+//! Locks join and leave the list of their process, and the sublocks of their parent lock.
 
 ghost use Rattle.std.specs.Prelude.{◌≡◌, ◌≢◌, ◌≤◌, ℕ, Some, None, [], ◌∷◌, ◌++◌};
 ghost use Rattle.slab.specs.Slab.{get, ContainsKey};
@@ -12,7 +12,7 @@ use crate::processes::Process;
 use slab::Slab;
 use vlm_links::LAST_HANDLE;
 
-/// Takes a lock off the locks of its process.
+/// Takes a lock out of the list of its process.
 pub fn leave_process(
     processes: &mut Slab<Process>,
     locks: &mut Slab<Lock>,
@@ -33,7 +33,7 @@ pub fn leave_process(
     processes[owner.slot()].own.unlink(locks, at);
 }
 
-/// Puts a new lock at the end of the locks of its process.
+/// Puts a new lock at the end of the list of its process.
 pub fn join_process(processes: &mut Slab<Process>, locks: &mut Slab<Lock>, at: usize, owner: ProcAt)
     requires owned { IsOwned processes.old locks.old (Some at) }
     requires owner { owner_in (get locks.old at) ≡ Some owner }
@@ -55,7 +55,7 @@ pub fn join_process(processes: &mut Slab<Process>, locks: &mut Slab<Lock>, at: u
     processes[owner.slot()].own.push_back(locks, at);
 }
 
-/// Takes a lock off the locks below its parent, if it has one.
+/// Takes a lock out of the sublocks of its parent lock, if it has one.
 pub fn leave_parent(locks: &mut Slab<Lock>, at: usize, parent: Option<LockAt>)
     requires below { IsBelow locks.old None }
     requires parent { parent_in (get locks.old at) ≡ parent }
@@ -74,7 +74,7 @@ pub fn leave_parent(locks: &mut Slab<Lock>, at: usize, parent: Option<LockAt>)
     locks[parent.slot()].sublocks = sublocks;
 }
 
-/// Puts a new lock at the end of the locks below its parent, if it has one.
+/// Puts a new lock at the end of the sublocks of its parent lock, if it has one.
 pub fn join_parent(locks: &mut Slab<Lock>, at: usize, parent: Option<LockAt>)
     requires below { IsBelow locks.old (Some at) }
     requires parent { parent_in (get locks.old at) ≡ parent }

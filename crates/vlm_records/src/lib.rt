@@ -1,24 +1,25 @@
-//! The records of the lock machine, and how their lists run through them.
+//! The records of the lock machine, and the lists that run through them.
 //!
 //! # Implementation
 //!
-//! Three slabs have the records of locks, resources and processes. A handle is a record's slot in its slab,
-//! in four bytes (`At`): it is good until the record is removed, and may then be given to another.
+//! Three slabs have the records of locks, resources and processes. A handle (`At`) is a place in a slab, in four
+//! bytes. It is valid until its record is removed; after that another record may get it.
 //!
-//! A lock names its queue (`place`), its process (`owner`) and its parent, if it has one. It is in a list of each, by a
-//! pair of links of its own. The ends of these lists are in the other records: three queues in a resource, own locks in
-//! a process, sublocks in a lock. Three more lists have only some locks: the armed locks of a resource above NL and above CR, in
-//! the order of its granted queue, and the line, which has the queued locks of all resources. Resources and processes are linked in
-//! order of making.
+//! A lock is in one queue of a resource, in the list of its process and, if it has a parent lock, in the sublocks of
+//! that lock. For each list it has a pair of links. The ends of the lists are in the other records. Three more lists
+//! have only some locks: the armed locks of a resource above NL, those above CR, both in the order of the granted
+//! queue, and the line, which has the queued locks of all resources. Resources and processes are linked in the order
+//! of making.
 //!
-//! A resource counts its locks in a tally. A lock that moves leaves the armed locks, is counted out, is linked anew, is
-//! counted in, and joins the end of the armed locks if it is armed. A lock that is granted again, was last in its queue
-//! and stays armed or not as it was, keeps its links: only its row and the counts change.
+//! A resource counts its locks by mode in a tally. A lock that moves leaves the armed locks, is counted out, is
+//! linked anew, is counted in, and joins the armed locks again if it is armed. One case is shorter: a granted lock
+//! that is last in its queue, and goes to the end of that queue with the same armed rank, keeps its links. Only its
+//! row and the counts change.
 //!
-//! `Queues` has the slabs of locks and resources, and the lists of a resource (`queues`, `counts`, `armed`). The lists
-//! of own locks and of sublocks are linked beside it (`kin`), since the slab of processes is its owner's, as are the line
-//! (`line`) and the two orders of making. Nothing here takes memory, and nothing finds a record by its identification or its key: there
-//! is room for what is added, and who calls has the handle.
+//! `Queues` has the slabs of locks and resources, and links the lists of a resource (`queues`, `counts`, `armed`).
+//! The store has the slab of processes, the line, and the two orders of making, so functions beside `Queues` link
+//! their lists and the sublocks (`kin`, `line`). Nothing here takes memory or looks a record up: the caller made the
+//! room, and has the handle.
 #![tactic(auto)]
 
 mod armed;

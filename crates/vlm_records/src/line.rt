@@ -1,4 +1,4 @@
-//! The locks whose requests are queued, as they join their list and leave it.
+//! Locks join and leave the line, the list of all queued locks.
 
 ghost use Rattle.std.specs.Prelude.{◌≡◌, ◌≤◌, None, Some};
 ghost use Rattle.slab.specs.Slab.{get, ContainsKey};
@@ -10,7 +10,7 @@ use crate::locks::{InLine, Lock};
 use slab::Slab;
 use vlm_links::{LAST_HANDLE, LinkedList};
 
-/// Removes a lock of this place from the list of queued requests, if it is there.
+/// Takes a lock out of the line, if its place is a conversion or waiting queue.
 pub fn leave_line(locks: &mut Slab<Lock>, line: &mut LinkedList<InLine>, at: usize, place: &Place)
     requires line { IsLine locks.old line.old None }
     requires noted { noted_in (get locks.old at) ≡ Some place.now }
@@ -23,7 +23,7 @@ pub fn leave_line(locks: &mut Slab<Lock>, line: &mut LinkedList<InLine>, at: usi
     }
 }
 
-/// Appends a lock of this place to the list of queued requests, if its request is queued.
+/// Puts a lock at the end of the line, if its place is a conversion or waiting queue.
 pub fn join_line(locks: &mut Slab<Lock>, line: &mut LinkedList<InLine>, at: usize, place: &Place)
     requires line { IsLine locks.old line.old (Some at) }
     requires noted { noted_in (get locks.old at) ≡ Some place.now }

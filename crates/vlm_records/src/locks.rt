@@ -7,56 +7,56 @@ use crate::rows::StoredRow;
 use vlm_links::{Linked, LinkedList, Links, MaybeAt};
 use vlm_words::resources::Queue;
 
-/// The lists of locks that are queues.
+/// Marks the queues of resources.
 pub struct InQueue;
 
-/// The list of the granted locks of a resource that are armed and hold more than NL, in the order in which they were
-/// granted.
+/// Marks the lists of armed granted locks that hold more than NL, in the order of the granted queue.
 pub struct InAboveNl;
 
-/// The list of those of them that hold more than CR, in the same order.
+/// Marks the lists of armed granted locks that hold more than CR, in the same order.
 pub struct InAboveCr;
 
-/// The list of the locks whose requests are queued, of all resources, in the order in which they joined.
+/// Marks the line: the queued locks of all resources, in the order of queueing.
 pub struct InLine;
 
-/// The list of the locks of a process, in order of making.
+/// Marks the lists of the locks of a process, in the order of making.
 pub struct OfProcess;
 
-/// The list of the locks below a lock, in order of making.
+/// Marks the lists of the sublocks of a lock, in the order of making.
 pub struct OfParent;
 
-/// A lock, and where it stands.
+/// The record of a lock, at most 144 bytes. It is in two to five lists, and has a pair of links for each kind of
+/// list.
 #[derive(Clone, Copy)]
 pub struct Lock {
     /// What it holds and wants.
     pub row: StoredRow,
-    /// The queue in which it stands.
+    /// Its queue.
     pub place: Place,
-    // its neighbours there
+    // its neighbours in that queue
     pub(crate) in_queue: Links,
-    // its neighbours among the armed locks of its resource that hold more than NL, if it is one of them
+    // its neighbours in the armed locks above NL, if it is one of them
     pub(crate) in_above_nl: Links,
-    // its neighbours among those that hold more than CR, if it is one of them
+    // its neighbours in the armed locks above CR, if it is one of them
     pub(crate) in_above_cr: Links,
-    // its neighbours among the locks whose requests are queued, if its own is
+    // its neighbours in the line, if its request is queued
     pub(crate) in_line: Links,
     /// The process that owns it.
     pub owner: ProcAt,
-    // its neighbours among that process's locks
+    // its neighbours in the locks of its process
     pub(crate) of_process: Links,
-    /// The lock that it was made under, if its row names one.
+    /// Its parent lock, if it has one.
     pub parent: MaybeAt<LockKind>,
-    // its neighbours among that lock's sublocks
+    // its neighbours in the sublocks of its parent lock, if it has one
     pub(crate) of_parent: Links,
-    /// The locks that were made under it and are there still.
+    /// Its sublocks, the direct ones only.
     pub sublocks: LinkedList<OfParent>,
 }
 
 impl Lock {
     ghost use Rattle.vlm_records.specs.Armed.{armed_of};
 
-    /// The resource in whose list of armed locks it belongs, if it does.
+    /// The resource whose list of armed locks it belongs in, if any.
     #[inline(always)]
     pub(crate) fn armed_on(&self, which: Armed) -> Option<ResAt>
         ensures { result ≡ armed_of which self.now }

@@ -1,4 +1,4 @@
-//! What is pending for a process: its ASTs as they are queued and taken, and the mark that says that it has one.
+//! The ASTs of a process, and the mark that it has one pending.
 
 ghost use Rattle.std.specs.Prelude.{◌≡◌, ◌<◌, ◌-◌, ◌++◌, ◌∷◌, [], drop, slice_get};
 ghost use Rattle.vlm_records.specs.Pending.{IsToldOf, OtherMarksStay};
@@ -8,7 +8,7 @@ use vlm_marks::NodeMarks;
 use vlm_words::asts::Ast;
 
 impl Process {
-    /// Takes the oldest AST, if there is one, and with the last the process's mark.
+    /// Takes the oldest AST, if there is one. With the last AST the process's mark goes too.
     pub fn take_ast(&mut self, pending: &mut NodeMarks) -> Option<Ast>
         requires { IsToldOf self.old pending.old }
         ensures taken { result ≡ slice_get self.old.asts.pending 0 }
@@ -25,7 +25,7 @@ impl Process {
         taken
     }
 
-    /// Queues an AST that the process is owed, behind the others, and marks it.
+    /// Queues a due AST at the end, and marks the process.
     pub fn queue_ast(&mut self, pending: &mut NodeMarks, ast: Ast)
         requires told { IsToldOf self.old pending.old }
         requires owed { 0 < self.old.asts.due }

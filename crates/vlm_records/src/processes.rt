@@ -18,36 +18,36 @@ use vlm_links::{LAST_HANDLE, Linked, LinkedList, Links};
 use vlm_words::blocks::Block;
 use vlm_words::steps::Declaration;
 
-/// What a process may do, as it was declared.
+/// The group, quota and privilege of a process, as declared.
 #[derive(Clone, Copy)]
 pub struct Authorization {
     /// Its UIC group.
     pub group: u16,
-    /// How many locks it may have, those that wait too.
+    /// How many locks it may have, waiting ones included (ENQLM).
     pub quota: u16,
     /// Whether it has the privilege SYSLCK.
     pub syslck: bool,
 }
 
-/// A living process.
+/// The record of a living process.
 #[derive(Drop)]
 pub struct Process {
-    /// Its identification, by which it is found.
+    /// Its identification, node x 65,536 + ordinal.
     pub pid: u32,
-    /// What it may do.
+    /// Its group, quota and privilege.
     pub authorization: Authorization,
-    /// Its status blocks: block n stands at n - 1.
+    /// Its status blocks. Block n is at index n - 1.
     pub blocks: Vec<Block>,
-    /// The ASTs that are queued to it and not yet taken, and room for those that it is owed.
+    /// Its pending ASTs, oldest first, and room for its due ASTs.
     pub asts: AstQueue,
-    /// Its locks in order of making, those that wait too.
+    /// Its locks in the order of making, waiting ones included.
     pub own: LinkedList<OfProcess>,
-    // the processes declared before and after it
+    // the previous and the next process in the order of making
     pub(crate) in_order: Links,
 }
 
 impl Process {
-    /// The process that a declaration makes, with these new status blocks and without locks.
+    /// A new process: without locks and ASTs, with these status blocks.
     pub fn new(pid: u32, declaration: &Declaration, blocks: Vec<Block>) -> Self
         requires { blocks.items ≡ (new_process pid declaration.now).blocks }
         ensures plain { plain_process result ≡ new_process pid declaration.now }
@@ -68,7 +68,7 @@ impl Process {
         }
     }
 
-    /// Puts a status block in the place of the one with this number, from 1, if it is there.
+    /// Replaces the status block with this number, from 1, if there is one.
     pub fn put_status_block(&mut self, number: u8, block: Block)
         ensures plain { plain_process self.new
             ≡ process_with_block number block (plain_process self.old) }
@@ -84,7 +84,7 @@ impl Process {
         }
     }
 
-    /// Writes the status of the status block with this number, from 1, if it is there. The rest of it stays.
+    /// Writes the status of the status block with this number, from 1, if there is one. The rest of the block stays.
     pub fn set_status(&mut self, number: u8, status: u8)
         ensures plain { plain_process self.new
             ≡ with_changed_block number (with_status status) (plain_process self.old) }
@@ -100,8 +100,8 @@ impl Process {
         }
     }
 
-    /// Writes the status and the lock of the status block with this number, from 1, if it is there. Status 0 means that
-    /// the request is pending. The value part and the tail stay.
+    /// Writes status and lock of the status block with this number, from 1, if there is one. Status 0 means that the
+    /// request is pending. Value part and tail stay.
     pub fn set_request(&mut self, number: u8, status: u8, lkid: u32)
         ensures plain { plain_process self.new
             ≡ with_changed_block number (requested status lkid) (plain_process self.old) }
@@ -119,7 +119,7 @@ impl Process {
     }
 }
 
-/// Takes a new process in, the last in the order of making. There is room for it.
+/// Adds a process, last in the order of making. The caller made the room.
 pub fn put_in(
     processes: &mut Slab<Process>,
     order: &mut LinkedList<InOrder>,
@@ -144,7 +144,7 @@ pub fn put_in(
     at
 }
 
-/// Removes a process, and takes it out of the order of making.
+/// Removes a process, also from the order of making.
 pub fn take_out(processes: &mut Slab<Process>, order: &mut LinkedList<InOrder>, at: usize)
     requires linked { IsLinked process_links processes.old order.old }
     requires listed { IsIn at (handles_of process_links processes.old order.old) }

@@ -1,4 +1,4 @@
-//! The locks in their lists.
+//! The queues of resources, and the moves of locks between them.
 
 ghost use Rattle.std.specs.Prelude.{◌≡◌, ◌≢◌, ◌≤◌, ◌+◌, ℕ, false, None, Some, [], ◌∷◌, ◌++◌};
 ghost use Rattle.std.specs.Bool.{OnTrue};
@@ -19,16 +19,15 @@ use slab::Slab;
 use vlm_links::{LAST_HANDLE, LinkedList, Links, MaybeAt};
 use vlm_words::resources::Queue;
 
-/// The locks, each in one queue of a resource.
+/// The locks and the resources. Each lock is in one queue of a resource.
 #[derive(Drop)]
 pub struct Queues {
-    /// All locks.
+    /// All locks, of all processes.
     pub locks: Slab<Lock>,
-    /// All resources, those in whose queues no lock stands too.
+    /// All resources, also those that have no lock yet or no lock left.
     pub resources: Slab<Resource>,
 }
 
-// Whether both places are the granted queue of one resource.
 fn is_same_grant(from: &Place, to: &Place) -> bool
     ensures { OnTrue result (from.now ≡ to.now) }
 {
@@ -42,7 +41,7 @@ fn is_same_grant(from: &Place, to: &Place) -> bool
 }
 
 impl Queues {
-    /// The list of a place, an empty one where its resource is not there.
+    /// The list of a place; an empty list if the resource does not exist.
     pub fn list(&self, place: Place) -> LinkedList<InQueue>
         ensures { result ≡ list_at self.now place }
     {
@@ -53,7 +52,6 @@ impl Queues {
         }
     }
 
-    // Takes a lock off the list of a place.
     fn unlink_from(&mut self, at: usize, place: &Place)
         requires listed { Lists queue_links self.old.locks (list_at self.old place.now) at }
         requires there { IsThere self.old.resources place.now }
@@ -71,7 +69,6 @@ impl Queues {
         self.resources[res.slot()].unlink(&mut self.locks, queue, at);
     }
 
-    // Appends a lock that is in no list to the list of a place.
     fn link_to(&mut self, at: usize, place: &Place)
         requires linked { IsLinked queue_links self.old.locks (list_at self.old place.now) }
         requires present { ContainsKey self.old.locks at }
@@ -92,7 +89,7 @@ impl Queues {
         self.resources[res.slot()].push_back(&mut self.locks, queue, at);
     }
 
-    // Takes a lock off the list in which it stands.
+    // Takes a lock out of its queue. Its record still notes the queue.
     fn take_off(&mut self, at: usize)
         requires placed { IsPlaced self.old None }
         requires present { ContainsKey self.old.locks at }
@@ -106,7 +103,7 @@ impl Queues {
         self.unlink_from(at, &place);
     }
 
-    // Puts a lock that is in no list at the end of that of the place that it notes.
+    // Puts a lock that is in no queue at the end of the queue that its record notes.
     fn push_at(&mut self, at: usize, place: &Place)
         requires placed { IsPlaced self.old (Some at) }
         requires noted { noted self.old at ≡ Some place.now }
@@ -123,7 +120,7 @@ impl Queues {
         self.link_to(at, place);
     }
 
-    // Puts a lock that is in no list at the end of one.
+    // Notes a queue in a lock's record, and puts the lock at the end of that queue.
     fn put_at(&mut self, at: usize, place: Place)
         requires placed { IsPlaced self.old (Some at) }
         requires present { ContainsKey self.old.locks at }
@@ -140,7 +137,6 @@ impl Queues {
         self.push_at(at, &place);
     }
 
-    // Notes in its record where a lock stands.
     fn set_place(&mut self, at: usize, place: Place)
         requires { ContainsKey self.old.locks at }
         ensures here { noted self.new at ≡ Some place }
@@ -150,7 +146,6 @@ impl Queues {
         self.locks[at].place = place;
     }
 
-    // Writes what a lock holds and wants.
     fn write_row(&mut self, at: usize, row: &StoredRow)
         requires present { ContainsKey self.old.locks at }
         requires named { named_row (rows self.old at) ≡ named_row row.now }
@@ -161,7 +156,6 @@ impl Queues {
         self.locks[at].row = *row;
     }
 
-    // Whether a lock is the last of its list.
     fn is_last(&self, at: usize) -> bool
         requires placed { IsPlaced self.now None }
         requires present { ContainsKey self.now.locks at }
@@ -171,8 +165,8 @@ impl Queues {
         self.list(place).next(&self.locks, at).is_none()
     }
 
-    // Whether a lock is granted, last in its queue, and is to go to the end of that queue, armed as it is: it
-    // keeps its links.
+    // Whether a move changes no link: the lock is granted, is last in its queue, goes to the end of that queue, and
+    // keeps its armed rank.
     fn stays(&self, at: usize, row: &StoredRow, to: &Place) -> bool
         requires placed { IsPlaced self.now None }
         requires present { ContainsKey self.now.locks at }
@@ -186,7 +180,7 @@ impl Queues {
             && self.is_last(at)
     }
 
-    // Gives a lock another row and leaves it in its queue. The list of armed locks is not touched.
+    // Gives a lock another row in its place. The lists of armed locks must not change.
     fn rewrite(&mut self, at: usize, row: &StoredRow)
         requires placed { IsPlaced self.old None }
         requires tallied { IsTallied self.old None }
@@ -198,7 +192,7 @@ impl Queues {
         self.write_row(at, row);
     }
 
-    // Gives a lock another row, and puts it at the end of a list. It is not among the armed ones of its resource.
+    // Gives a lock another row and moves it to the end of a queue. The lock is in no list of armed locks.
     fn requeue(&mut self, at: usize, row: &StoredRow, to: Place)
         requires placed { IsPlaced self.old None }
         requires tallied { IsTallied self.old None }
@@ -215,7 +209,7 @@ impl Queues {
         self.count_in(at);
     }
 
-    /// Gives a lock another row, and puts it at the end of a list.
+    /// Gives a lock another row and moves it to the end of a queue, which may be its own.
     pub fn move_to(&mut self, at: usize, row: &StoredRow, to: Place)
         requires laid_out { IsLaidOut self.old }
         requires present { ContainsKey self.old.locks at }
@@ -240,7 +234,7 @@ impl Queues {
         }
     }
 
-    /// A lock is armed no more, and stays where it stands.
+    /// Disarms a lock, which keeps its place.
     pub fn disarm(&mut self, at: usize)
         requires laid_out { IsLaidOut self.old }
         requires present { ContainsKey self.old.locks at }
@@ -256,8 +250,8 @@ impl Queues {
         self.rewrite(at, &row);
     }
 
-    /// Adds a lock at the end of a list, which is not yet among those of its process and its parent. There
-    /// is room for it.
+    /// Adds a lock at the end of a queue. The caller made the room, and adds the lock to its process, its parent lock
+    /// and the line.
     pub fn add(
         &mut self,
         row: &StoredRow,
@@ -309,7 +303,7 @@ impl Queues {
         at
     }
 
-    /// Removes a lock, wherever it stands.
+    /// Removes a lock with its record. The caller has taken it out of all lists that are not of its resource.
     pub fn remove(&mut self, at: usize)
         requires laid_out { IsLaidOut self.old }
         requires present { ContainsKey self.old.locks at }

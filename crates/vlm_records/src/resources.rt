@@ -17,37 +17,37 @@ use vlm_links::{LAST_HANDLE, Linked, LinkedList, Links};
 use vlm_tallies::Tally;
 use vlm_words::resources::{Domain, Key, Queue, Site, ValueBlock};
 
-/// The list of the resources, and that of the processes, in order of making.
+/// Marks the order of making, of resources and of processes.
 pub struct InOrder;
 
-/// A resource with its queues.
+/// The record of a resource, at most 240 bytes.
 #[derive(Clone, Copy)]
 pub struct Resource {
-    /// The number of its making, from 1.
+    /// Its serial: the number of its making, from 1.
     pub serial: u32,
-    /// Its domain: a sub-resource is in its root's.
+    /// The domain of its root.
     pub domain: Domain,
-    /// The key under which it is found.
+    /// The key that it is found by.
     pub key: Key,
-    /// The hash of its key under the store's keys, so that its removal need not hash it again.
+    /// The hash of its key. It is kept, so that a removal need not hash the key again.
     pub hash: u32,
-    /// Its level: 0 for a root, at most 15.
+    /// 0 for a root, at most 15.
     pub level: u8,
-    /// Its value block, which its locks hand on.
+    /// Its value block, valid or not.
     pub value_block: ValueBlock,
-    // the locks that hold a mode and want no other
+    // the locks that hold a mode and want nothing; a lock whose request is granted or cancelled joins at the end
     pub(crate) granted: LinkedList<InQueue>,
-    // the locks that hold a mode and want another, the first in line first
+    // the locks that hold a mode and want another, oldest request first
     pub(crate) converting: LinkedList<InQueue>,
-    // the locks that want a mode and hold none, the first in line first
+    // the locks that hold nothing and want a mode, oldest request first
     pub(crate) waiting: LinkedList<InQueue>,
-    // those of the granted locks that are armed and hold more than NL, in the order of the granted queue
+    // the granted locks that are armed and hold more than NL, in the order of the granted queue
     pub(crate) armed_above_nl: LinkedList<InAboveNl>,
-    // those of them that hold more than CR
+    // the granted locks that are armed and hold more than CR, in the same order
     pub(crate) armed_above_cr: LinkedList<InAboveCr>,
-    /// The locks of the three queues, counted by the modes that they hold and want.
+    /// Counts of its locks by mode: those that hold each mode, and those that want it.
     pub tally: Tally,
-    // the resources made before and after it
+    // the previous and the next resource in the order of making
     pub(crate) in_order: Links,
 }
 
@@ -74,7 +74,6 @@ impl Linked<InOrder> for Resource {
 impl Resource {
     ghost use Rattle.vlm_records.specs.Shown.{queue_links, queue_list, with_queue_links, with_queue_list};
 
-    /// The list of a queue.
     pub(crate) fn list(&self, queue: Queue) -> LinkedList<InQueue>
         ensures { result ≡ queue_list queue self.now }
     {
@@ -85,7 +84,6 @@ impl Resource {
         }
     }
 
-    /// Takes a lock off a queue.
     pub(crate) fn unlink(&mut self, locks: &mut Slab<Lock>, queue: Queue, at: usize)
         requires { Lists queue_links locks.old (queue_list queue self.old) at }
         ensures linked { IsLinked queue_links locks.new (queue_list queue self.new) }
@@ -104,7 +102,7 @@ impl Resource {
         }
     }
 
-    /// Puts a lock that is in no list at the end of a queue.
+    /// Puts a lock that is in no queue at the end of this one.
     pub(crate) fn push_back(&mut self, locks: &mut Slab<Lock>, queue: Queue, at: usize)
         requires linked { IsLinked queue_links locks.old (queue_list queue self.old) }
         requires present { ContainsKey locks.old at }
@@ -126,7 +124,7 @@ impl Resource {
         }
     }
 
-    /// Takes a lock off a list of armed locks.
+    /// Takes a lock out of a list of armed locks.
     #[inline(always)]
     pub(crate) fn unlink_armed(&mut self, locks: &mut Slab<Lock>, which: Armed, at: usize)
         requires { Lists (armed_links which) locks.old (list_of which self.old) at }
@@ -145,7 +143,7 @@ impl Resource {
         }
     }
 
-    /// Puts a lock that is not in a list of armed locks at the end of it.
+    /// Puts a lock that is not in this list of armed locks at its end.
     #[inline(always)]
     pub(crate) fn push_back_armed(&mut self, locks: &mut Slab<Lock>, which: Armed, at: usize)
         requires linked { IsLinked (armed_links which) locks.old (list_of which self.old) }
@@ -167,7 +165,7 @@ impl Resource {
         }
     }
 
-    /// The handle of the first lock of a list of armed locks, if there is one.
+    /// The first lock in a list of armed locks, if there is one.
     pub fn first_armed(&self, locks: &Slab<Lock>, which: Armed) -> Option<usize>
         requires { IsLinked (armed_links which) locks.now (list_of which self.now) }
         ensures { result ≡ first_handle (handles_of (armed_links which) locks.now (list_of which self.now)) }
@@ -178,7 +176,7 @@ impl Resource {
         }
     }
 
-    /// The handle of the lock that follows one in a list of armed locks, if there is one.
+    /// The lock after this one in a list of armed locks, if there is one.
     pub fn next_armed(&self, locks: &Slab<Lock>, which: Armed, at: usize) -> Option<usize>
         requires { Lists (armed_links which) locks.now (list_of which self.now) at }
         ensures { result ≡ handle_after at (handles_of (armed_links which) locks.now (list_of which self.now)) }
@@ -191,7 +189,7 @@ impl Resource {
 }
 
 impl Queues {
-    /// Adds a resource without locks, the last in the order of making, for which there is room.
+    /// Adds a resource without locks, last in the order of making. The caller made the room.
     pub fn add_resource(
         &mut self,
         order: &mut LinkedList<InOrder>,
@@ -236,7 +234,7 @@ impl Queues {
         at
     }
 
-    /// Removes a resource in whose queues no lock stands.
+    /// Removes a resource without locks.
     pub fn remove_resource(&mut self, order: &mut LinkedList<InOrder>, res: usize)
         requires laid_out { IsLaidOut self.old }
         requires linked { IsLinked order_links self.old.resources order.old }

@@ -1,4 +1,4 @@
-//! The row of a lock, as its record keeps it.
+//! The row of a lock in packed form.
 
 ghost use Rattle.std.specs.Prelude.{◌≡◌, ℕ, None, false};
 ghost use Rattle.vlm_words.specs.Convert.{wanting_row};
@@ -15,23 +15,23 @@ use vlm_words::flags::EnqFlags;
 use vlm_words::locks::{Request, Row};
 use vlm_words::modes::Mode;
 
-// Whether there is a request, and which of its routines it names. A routine may have any number, so none of
-// these says that there is no routine.
+// Which routines a request names, if there is a request. Every number is a valid routine, so no number can say that
+// there is no routine.
 #[derive(Clone, Copy)]
 enum Kept {
-    // There is no request.
+    // there is no request
     Nothing,
-    // It names no routine.
+    // a request without routines
     Neither,
-    // It names a completion routine alone.
+    // only a completion routine
     Completion,
-    // It names a blocking routine alone.
+    // only a blocking routine
     Blocking,
-    // It names both.
+    // both routines
     Both,
 }
 
-// The routines of a request, 0 for one that it does not name, and their parameter.
+// The routines of a request and their parameter. A routine that the request does not name is 0.
 #[derive(Clone, Copy)]
 struct Routines {
     completion: u32,
@@ -39,7 +39,7 @@ struct Routines {
     param: u32,
 }
 
-// How a request is asked for.
+// The flags, mode and status block of a request.
 #[derive(Clone, Copy)]
 struct Asked {
     flags: EnqFlags,
@@ -47,21 +47,28 @@ struct Asked {
     block: u8,
 }
 
-/// The row of a lock in 64 bytes: the parts of what it holds and of what it wants stand side by side, those
-/// of one size together, so that nothing lies unused between them.
+/// The row of a lock in 64 bytes. A `Row` with its two requests takes 96 bytes, and each function that hands it on
+/// copies it. Here the parts of both requests are grouped by size, so that there is no padding between them, and a
+/// caller can read a single field.
 #[derive(Clone, Copy)]
 pub struct StoredRow {
+    // the numbers of the two requests; 0 without a request
     held_number: u64,
     want_number: u64,
+    // their routines and parameters; zeros without a request
     held_routines: Routines,
     want_routines: Routines,
+    // the lock, its process, and its parent lock or 0
     lkid: u32,
     pid: u32,
     parent: u32,
+    // their flags, modes and status blocks; zeros and NL without a request
     held_asked: Asked,
     want_asked: Asked,
+    // whether there is a held request and a wanted one, and which routines each names
     held_kept: Kept,
     want_kept: Kept,
+    // whether the held request may still bring a blocking AST
     armed: bool,
 }
 
@@ -81,7 +88,6 @@ impl Model for StoredRow {
     ghost inverse_ok = { λ r h. h };
 }
 
-// Which parts of a request there are.
 fn kept_of(request: &Option<Request>) -> Kept
     ensures { result ≡ kept_of request.now }
 {
@@ -96,7 +102,6 @@ fn kept_of(request: &Option<Request>) -> Kept
     }
 }
 
-// The number of a request, as it is kept.
 fn number_kept(request: &Option<Request>) -> u64
     ensures { result ≡ number_kept request.now }
 {
@@ -106,7 +111,6 @@ fn number_kept(request: &Option<Request>) -> u64
     }
 }
 
-// The routines of a request, as they are kept.
 fn routines_kept(request: &Option<Request>) -> Routines
     ensures { result ≡ routines_kept request.now }
 {
@@ -124,7 +128,6 @@ fn routines_kept(request: &Option<Request>) -> Routines
     }
 }
 
-// How a request is asked for, as it is kept.
 fn asked_kept(request: &Option<Request>) -> Asked
     ensures { result ≡ asked_kept request.now }
 {
@@ -142,7 +145,6 @@ fn asked_kept(request: &Option<Request>) -> Asked
     }
 }
 
-// The completion routine that a request names, from the parts in which it is kept.
 fn completion_shown(kept: Kept, routines: &Routines) -> Option<u32>
     ensures { result ≡ completion_shown kept routines.now }
 {
@@ -152,7 +154,6 @@ fn completion_shown(kept: Kept, routines: &Routines) -> Option<u32>
     }
 }
 
-// The blocking routine that a request names, from the parts in which it is kept.
 fn blocking_shown(kept: Kept, routines: &Routines) -> Option<u32>
     ensures { result ≡ blocking_shown kept routines.now }
 {
@@ -162,7 +163,8 @@ fn blocking_shown(kept: Kept, routines: &Routines) -> Option<u32>
     }
 }
 
-// A request from the parts in which it is kept. Each part is made by itself, so that who reads one pays for no other.
+// A request from its parts. Each part is computed by itself, so a caller that reads one part does not pay for the
+// others.
 fn request_shown(kept: Kept, number: u64, routines: &Routines, asked: &Asked) -> Option<Request>
     ensures { result ≡ request_shown kept number routines.now asked.now }
 {
@@ -180,7 +182,7 @@ fn request_shown(kept: Kept, number: u64, routines: &Routines, asked: &Asked) ->
     })
 }
 
-// Whether a request is one that arms its lock as it is granted: it names a blocking routine.
+// Whether the grant of this request arms its lock: it names a blocking routine.
 fn is_arming(kept: Kept) -> bool
     ensures { (number : ℕ) (routines : Routines) (asked : Asked)
         → result ≡ is_arming (request_shown kept number routines asked) }
@@ -192,7 +194,7 @@ fn is_arming(kept: Kept) -> bool
 }
 
 impl StoredRow {
-    /// Keeps a row.
+    /// Packs a row.
     pub fn of(row: &Row) -> Self
         ensures { result ≡ row.now }
     {
@@ -212,7 +214,7 @@ impl StoredRow {
         }
     }
 
-    /// The row that is kept.
+    /// Unpacks the row.
     pub fn row(&self) -> Row
         ensures { result ≡ self.now }
     {
@@ -226,7 +228,7 @@ impl StoredRow {
         }
     }
 
-    /// The lock's identification.
+    /// The identification of the lock.
     pub fn lkid(&self) -> u32
         ensures { result ≡ self.now.lkid }
     {
@@ -240,21 +242,22 @@ impl StoredRow {
         self.pid
     }
 
-    /// The lock that it was made under, or 0.
+    /// The parent lock, or 0.
     pub fn parent(&self) -> u32
         ensures { result ≡ self.now.parent }
     {
         self.parent
     }
 
-    /// Whether a blocking AST is still to come for the granted request.
+    /// Whether the held request names a blocking routine that has not been queued since the grant.
     pub fn is_armed(&self) -> bool
         ensures { result ≡ self.now.armed }
     {
         self.armed
     }
 
-    /// The rank of the mode that it holds while it is armed, 0 where it is not.
+    /// The rank of the held mode if the lock is armed, else 0. NL has rank 0 too: no list of armed locks has such a
+    /// lock.
     #[inline(always)]
     pub(crate) fn armed_rank(&self) -> usize
         ensures { result ≡ armed_rank self.now }
@@ -265,7 +268,7 @@ impl StoredRow {
         self.held_asked.mode.rank()
     }
 
-    /// The request that was granted last.
+    /// The last granted request, if there is one.
     pub fn held(&self) -> Option<Request>
         ensures { result ≡ self.now.held }
     {
@@ -277,7 +280,7 @@ impl StoredRow {
         )
     }
 
-    /// How many routines the request that waits names, if there is one.
+    /// How many routines the wanted request names, 0 to 2.
     pub fn wanted_routines(&self) -> usize
         ensures { result ≡ routines_of self.now.want }
     {
@@ -288,7 +291,7 @@ impl StoredRow {
         }
     }
 
-    /// The request that waits.
+    /// The queued request, if there is one.
     pub fn want(&self) -> Option<Request>
         ensures { result ≡ self.now.want }
     {
@@ -300,7 +303,7 @@ impl StoredRow {
         )
     }
 
-    /// The row once it holds what it wanted.
+    /// The row after its grant: it holds what it wanted, and is armed if that names a blocking routine.
     pub fn granted(&self) -> Self
         ensures { result ≡ granted_row self.now }
     {
@@ -314,7 +317,7 @@ impl StoredRow {
         }
     }
 
-    /// The row as it wants a request, and holds what it held.
+    /// The row with this wanted request. It holds what it held.
     pub fn wanting(&self, request: &Request) -> Self
         ensures { result ≡ wanting_row self.now request.now }
     {
@@ -328,7 +331,7 @@ impl StoredRow {
         }
     }
 
-    /// The row as it wants nothing, and holds what it held.
+    /// The row without its wanted request. It holds what it held.
     pub fn without_want(&self) -> Self
         ensures { result ≡ record self.now { want = None } }
     {
@@ -341,7 +344,7 @@ impl StoredRow {
         }
     }
 
-    /// The row as it is armed no more.
+    /// The row after its blocking AST is queued.
     pub fn disarmed(&self) -> Self
         ensures { result ≡ record self.now { armed = false } }
     {
