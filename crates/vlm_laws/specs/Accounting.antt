@@ -1,4 +1,4 @@
--- What becomes of the ASTs that are queued.
+-- The law that what is queued is taken or pending.
 use Rattle.std.specs.Prelude.{◌≡◌, ◌≢◌, ◌==◌, ◌++◌, ℕ, List, [], ◌∷◌, All, Option, None, Some, if◌then◌else◌}
 use Rattle.vlm_words.specs.declared.asts.Ast.{Ast}
 use Rattle.vlm_words.specs.declared.locks.Row.{Row}
@@ -11,28 +11,28 @@ use Rattle.vlm_words.specs.Taking.{queued_to}
 use Rattle.vlm_words.specs.Stepped.{IsChoice, stepped}
 use Rattle.vlm_words.specs.Runs.{History}
 
--- the AST that a step with this answer gives to the process: that which a take of the process answers
+-- the AST that a Take of this process answers in the step
 abbrev pub taken_in : ℕ → Step → Answer → List Ast
 taken_in pid (Take process) (Taken (Some ast)) = if process == pid then ast ∷ [] else []
 taken_in pid step answer = []
 
--- the ASTs that the takes of the process answered, in their order
+-- the ASTs that the Takes of the process answered, in order
 abbrev pub taken_by : ℕ → List Step → List Answer → List Ast
 taken_by pid (step ∷ steps) (answer ∷ answers) = taken_in pid step answer ++ taken_by pid steps answers
 taken_by pid steps answers = []
 
--- no declaration was answered with this identification
+-- no declaration answered this identification
 abbrev pub IsNeverDeclared : ℕ → List Answer → Type 0
 IsNeverDeclared pid answers = All (λ answer. answer ≢ process_answer pid) answers
 
--- what was taken is a first part of what was queued, and these are the others, which are lost
+-- the first of the queued ASTs were taken; the others are lost
 pub record IsTakenButFor (queued taken : List Ast) : Type 0 where
   pub lost : List Ast
   pub all : queued ≡ taken ++ lost
 
--- the ASTs that were queued to a living process are those that it took, and behind them those that are pending, in
--- the order in which they were queued; of those that were queued to a process that has ended it took the first, the
--- others went with it, and no step queues it one more; none was queued to a process that was never declared
+-- a living process took the first of the ASTs that were queued to it, and the others are pending; an ended process
+-- took the first, the others are lost, and no step queues it more; a process that was never declared was queued
+-- nothing
 pub record WhatIsQueuedIsTakenOrPending (history : History) (last : State) : Type 0 where
   pub living : (pid : ℕ) (p : Process) → process_of last.processes pid ≡ Some p
       → queued_to pid history.queued ≡ taken_by pid history.steps history.answers ++ p.asts

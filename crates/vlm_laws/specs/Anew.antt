@@ -1,4 +1,4 @@
--- That no identification of a process is given twice.
+-- The law that no identification is given twice.
 use Rattle.std.specs.Prelude.{◌≡◌, ℕ, Option}
 use Rattle.vlm_words.specs.declared.locks.Row.{Row}
 use Rattle.vlm_words.specs.declared.steps.Answer.TheVariants.{Process as process_answer}
@@ -8,7 +8,7 @@ use Rattle.vlm_words.specs.Stepped.{IsChoice, stepped}
 use Rattle.vlm_words.specs.Runs.{History}
 use Rattle.vlm_laws.specs.Accounting.{IsNeverDeclared}
 
--- the identification that a step answers for a new process, no step before it answered, also for none that has ended
+-- the identification that a declaration answers was answered by no earlier declaration
 abbrev pub GivesNoneTwice : History → State → Type 0
 GivesNoneTwice history last =
     (step : Step) (choice : Option Row) → IsChoice last step choice → (pid : ℕ)

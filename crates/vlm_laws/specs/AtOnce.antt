@@ -1,4 +1,4 @@
--- Which requests are to be granted at once.
+-- The law that what fits is granted at once.
 use Rattle.std.specs.Prelude.{◌≡◌, ℕ, Any, Option}
 use Rattle.vlm_words.specs.declared.conditions.Cond.{Cond}
 use Rattle.vlm_words.specs.declared.locks.Row.{Row}
@@ -11,7 +11,7 @@ use Rattle.vlm_words.specs.State.{State}
 use Rattle.vlm_words.specs.Laws.{ConvertsInTurn, EntersInTurn, IsGrantedAtOnce, Stands}
 use Rattle.vlm_words.specs.Stepped.{IsChoice, stepped}
 
--- the step is accepted: it is answered the lock of this identification
+-- the step is accepted, and answers this lock
 abbrev pub IsAcceptedFor : ℕ → State → Step → Option Row → Type 0
 IsAcceptedFor lkid old step choice = (cond : Cond) × ((stepped old step choice).answer ≡ Lock cond lkid)
 
@@ -19,8 +19,8 @@ IsAcceptedFor lkid old step choice = (cond : Cond) × ((stepped old step choice)
 abbrev pub GrantsAtOnce : State → Step → Option Row → Type 0
 GrantsAtOnce old step choice = IsGrantedAtOnce old.next_request (stepped old step choice).endings
 
--- an accepted new request that is expedited at NL, or fits where nobody is queued, is granted at once; and so is an
--- accepted conversion that fits beside all other locks of its resource, with QUECVT where no conversion is queued
+-- an accepted new request that fits with nobody queued, or is expedited at NL, is granted at once; so is an accepted
+-- conversion that fits, with QUECVT if no conversion is queued
 pub record WhatFitsIsGrantedAtOnce (old : State) : Type 0 where
   pub requests : (e : NewRequest) (choice : Option Row) (lkid : ℕ) → IsChoice old (Enq e) choice
       → IsAcceptedFor lkid old (Enq e) choice

@@ -1,4 +1,4 @@
--- Which completion ASTs the ends of requests have.
+-- The law that each request completes once.
 use Rattle.std.specs.Prelude.{◌≡◌, ◌&&◌, ◌||◌, ℕ, Bool, true, false, List, [], ◌∷◌, Option, None, Some, filter, flat_map, if◌then◌else◌}
 use Rattle.vlm_words.specs.declared.asts.AstKind.{AstKind}
 use Rattle.vlm_words.specs.declared.asts.AstKind.TheVariants.{Completion, Blocking}
@@ -7,20 +7,20 @@ use Rattle.vlm_words.specs.Endings.{Ending, How}
 use Rattle.vlm_words.specs.Endings.How.{by_abort, by_cancel, by_deadlock, by_grant, by_rundown}
 use Rattle.vlm_words.specs.Asts.{Queued}
 
--- the AST is a completion, and no warning
+-- the AST is a completion
 abbrev pub tells_completion : AstKind → Bool
 tells_completion Completion = true
 tells_completion Blocking = false
 
--- what was queued is a completion
+-- the queued AST is a completion
 abbrev pub is_completion : Queued → Bool
 is_completion q = tells_completion q.ast.kind
 
--- the answer told the end: the request is granted at once, and asks for that by SYNCSTS
+-- an immediate grant with SYNCSTS, which only the answer reports
 abbrev pub is_told_by_answer : Ending → Bool
 is_told_by_answer ending = ending.at_once && has_flag (flag_bits ending.request.flags) syncsts
 
--- the request ends with its process, which nobody tells
+-- the request ends by rundown
 abbrev pub ends_with_its_process : How → Bool
 ends_with_its_process (by_grant act) = false
 ends_with_its_process by_abort = false
@@ -28,8 +28,8 @@ ends_with_its_process by_cancel = false
 ends_with_its_process by_deadlock = false
 ends_with_its_process by_rundown = true
 
--- the call of a routine for the end of a request, if one is named: queued to the process of the lock, with the
--- parameter of the request and the identification of the lock
+-- the completion of an ending, if a routine is named: for the lock's process, with the request's parameter and the
+-- lock
 abbrev pub call_of : Option ℕ → Ending → List Queued
 call_of None ending = []
 call_of (Some routine) ending =
@@ -39,13 +39,12 @@ call_of (Some routine) ending =
     }
     ∷ []
 
--- the completion of an ending: the call of its request's completion routine, unless the answer told the end or the
--- process ended
+-- the completion of an ending; a rundown and an immediate grant with SYNCSTS have no completion
 abbrev pub completion_of : Ending → List Queued
 completion_of ending =
     if ends_with_its_process ending.how || is_told_by_answer ending then []
     else call_of ending.request.completion ending
 
--- the completions that were queued are those of the endings, each once and in their order
+-- the queued completions are the completions of the endings, each once, in their order
 pub record EachRequestCompletesOnce (endings : List Ending) (queued : List Queued) : Type 0 where
   pub completions : filter is_completion queued ≡ flat_map completion_of endings

@@ -1,4 +1,4 @@
--- Which nodes have departed, and what is so from then on.
+-- The laws of departed nodes.
 use Rattle.std.specs.Prelude.{◌≡◌, ◌≢◌, ◌↔◌, ◌/◌, ℕ, List, All}
 use Rattle.vlm_words.specs.declared.conditions.Cond.TheVariants.{Departed, Normal}
 use Rattle.vlm_words.specs.declared.steps.Answer.TheVariants.{Plain}
@@ -11,7 +11,7 @@ use Rattle.vlm_words.specs.Stepped.{Outcome}
 use Rattle.vlm_words.specs.Runs.{History}
 use Rattle.vlm_laws.specs.Happened.{HasHappened, IsRefusal}
 
--- the step is one of the node: it names the node, or a process of it
+-- the step names the node, or a process of the node
 abbrev pub IsStepOf : ℕ → Step → Type 0
 IsStepOf node (Declare d) = d.node ≡ node
 IsStepOf node (SetValue v) = v.pid / 65536 ≡ node
@@ -23,16 +23,16 @@ IsStepOf node (Leave other) = other ≡ node
 IsStepOf node (Search other) = other ≡ node
 IsStepOf node (Take pid) = pid / 65536 ≡ node
 
--- the step is the departure of the node, and it is accepted
+-- the step is the accepted departure of the node
 abbrev pub IsDeparture : ℕ → Step → Answer → Type 0
 IsDeparture node step answer = (step ≡ Leave node) × (answer ≡ Plain Normal)
 
--- among these steps, which got these answers, is the departure of the node
+-- the run has an accepted departure of the node
 abbrev pub HasLeft : ℕ → List Step → List Answer → Type 0
 HasLeft node steps answers = HasHappened (IsDeparture node) steps answers
 
--- a node has departed just where its departure was accepted; each step of such a node is answered DEPARTED, and no other
--- step is
+-- a node has departed exactly if its departure was accepted; each step of it is answered DEPARTED, and no other step
+-- is
 pub record DepartedNodesAreToldSo (history : History) (last : State) : Type 0 where
   pub departed : (node : ℕ) → HasDeparted last node ↔ HasLeft node history.steps history.answers
   pub told : (node : ℕ) → HasLeft node history.steps history.answers
@@ -42,7 +42,7 @@ pub record DepartedNodesAreToldSo (history : History) (last : State) : Type 0 wh
   pub only : (step : Step) (new : State) → Outcome last step new (Plain Departed)
       → (node : ℕ) × IsStepOf node step × HasLeft node history.steps history.answers
 
--- no living process is of a node that has departed
+-- no living process is of a departed node
 abbrev pub NoneLivesOnDepartedNodes : History → State → Type 0
 NoneLivesOnDepartedNodes history last = (node : ℕ)
     → HasLeft node history.steps history.answers → All (λ p. p.pid / 65536 ≢ node) last.processes

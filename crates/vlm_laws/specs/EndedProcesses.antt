@@ -1,4 +1,4 @@
--- Which processes have ended, and what is so from then on.
+-- The law of ended processes.
 use Rattle.std.specs.Prelude.{◌≡◌, ◌≢◌, ◌/◌, ◌⊎◌, ℕ, List, [], All, Option}
 use Rattle.vlm_words.specs.declared.asts.Ast.{Ast}
 use Rattle.vlm_words.specs.declared.conditions.Cond.TheVariants.{Departed, Nonexpr, Normal}
@@ -24,16 +24,16 @@ IsStepOfProcess pid (Leave node) = ⊥
 IsStepOfProcess pid (Search node) = ⊥
 IsStepOfProcess pid (Take process) = process ≡ pid
 
--- the step is the rundown of the process or the departure of its node, and it is accepted
+-- the step is the accepted rundown of the process, or the accepted departure of its node
 abbrev pub IsEndOf : ℕ → Step → Answer → Type 0
 IsEndOf pid step answer = ((step ≡ Rundown pid) ⊎ (step ≡ Leave (pid / 65536))) × (answer ≡ Plain Normal)
 
--- among these steps, which got these answers, is the end of the process
+-- the run has an accepted rundown of the process, or departure of its node
 abbrev pub HasEnded : ℕ → List Step → List Answer → Type 0
 HasEnded pid steps answers = HasHappened (IsEndOf pid) steps answers
 
--- no process that lives has the identification of one that has ended; each step of it is refused by NONEXPR or
--- DEPARTED, so that it takes no AST; and nothing is queued to it
+-- no living process has the identification of an ended one; each step of it is refused by NONEXPR or DEPARTED, and
+-- nothing is queued to it
 pub record EndedProcessesAreToldNoMore (history : History) (last : State) : Type 0 where
   pub gone : (pid : ℕ) → HasEnded pid history.steps history.answers → All (λ p. p.pid ≢ pid) last.processes
   pub refused : (pid : ℕ) → HasEnded pid history.steps history.answers

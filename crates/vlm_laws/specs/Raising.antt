@@ -1,4 +1,4 @@
--- How many ASTs a process may come to have.
+-- The laws of how many ASTs a process may get.
 use Rattle.std.specs.Prelude.{◌≡◌, ◌≤◌, ◌==◌, ◌+◌, ℕ, List, ◌∷◌, Option, Some, length, if◌then◌else◌}
 use Rattle.vlm_words.specs.declared.locks.Row.{Row}
 use Rattle.vlm_words.specs.declared.steps.Answer.TheVariants.{Lock}
@@ -11,27 +11,26 @@ use Rattle.vlm_words.specs.Taking.{queued_to}
 use Rattle.vlm_words.specs.Stepped.{stepped}
 use Rattle.vlm_words.specs.Runs.{History}
 
--- how many routines an accepted step names for ASTs of the process: those of its own request
+-- how many routines the process's own request names, if the step accepts it
 abbrev pub routines_asked : ℕ → Step → Answer → ℕ
 routines_asked pid (Enq e) (Lock cond lkid) = if e.pid == pid then routines_named e.ast e.bast else 0
 routines_asked pid (Convert c) (Lock cond lkid) = if c.pid == pid then routines_named c.ast c.bast else 0
 routines_asked pid step answer = 0
 
--- a process that lives has no more ASTs after a step, pending and due together, than it had before, and one for each
--- routine that it names in the step, where that is a request of its own that is accepted
+-- the ASTs of a living process, pending and due together, grow at most by the routines of its own accepted request
 pub record OnlyOwnRequestsRaiseDues (old : State) (step : Step) (choice : Option Row) : Type 0 where
   pub room : (pid : ℕ) (before after : Process) → process_of old.processes pid ≡ Some before
       → process_of (stepped old step choice).state.processes pid ≡ Some after
       → length after.asts + due pid (stepped old step choice).state.resources
       ≤ length before.asts + due pid old.resources + routines_asked pid step (stepped old step choice).answer
 
--- how many routines the process named in its accepted requests among these steps, which got these answers
+-- how many routines the process named in its accepted requests
 abbrev pub routines_named_in : ℕ → List Step → List Answer → ℕ
 routines_named_in pid (step ∷ steps) (answer ∷ answers) =
     routines_asked pid step answer + routines_named_in pid steps answers
 routines_named_in pid steps answers = 0
 
--- no more ASTs were queued to a process than it named routines in its accepted requests
+-- no process was queued more ASTs than it named routines in its accepted requests
 abbrev pub NoMoreIsQueuedThanNamed : History → Type 0
 NoMoreIsQueuedThanNamed history = (pid : ℕ)
     → length (queued_to pid history.queued) ≤ routines_named_in pid history.steps history.answers

@@ -1,5 +1,5 @@
-//! What holds of every run of the plain machine. The functions do nothing, but that some call a law that they rest on:
-//! their contracts are the laws.
+//! Laws of whole runs of the plain machine. Each law is a function that does nothing but call a law that it rests on,
+//! if there is one: its contract is the law.
 
 ghost use Rattle.std.specs.Prelude.{◌≡◌, ℕ, true, Option};
 ghost use Rattle.vlm_words.specs.declared.locks.Row.{Row};
@@ -31,10 +31,9 @@ ghost use Rattle.vlm_laws.specs.TakenBelow.{AbortsByRisingIdentification, TakesT
 
 use vlm_words::laws::law_asts_are_taken_in_order;
 
-/// No AST is lost but with its process, and none comes from nowhere: what was queued to a living process, from the
-/// start of the run, is what its takes answered, and behind it what is pending, in the order of queueing. Of what was
-/// queued to a process that has ended its takes answered the first, and no step queues it any more. Nothing was queued
-/// to a process that was never declared.
+/// The ASTs that were queued to a living process are those that its Takes answered, followed by those that are
+/// pending, in the order of queueing. An ended process took the first of what was queued to it, and gets no more.
+/// Nothing was queued to a process that was never declared.
 pub fn law_what_is_queued_is_taken_or_pending()
     ensures { (history : History) (last : State) → Run history last
         → WhatIsQueuedIsTakenOrPending history last }
@@ -42,24 +41,21 @@ pub fn law_what_is_queued_is_taken_or_pending()
     law_asts_are_taken_in_order();
 }
 
-/// No process gets the identification of another of the run, also not of one that has ended: what a declaration
-/// answers, no declaration before it answered.
+/// A declaration gives an identification that no earlier declaration of the run gave.
 pub fn law_no_identification_is_given_twice()
     ensures { (history : History) (last : State) → Run history last
         → GivesNoneTwice history last }
 {}
 
-/// Each request that ends has its completion once: the completions that were queued, in their order, are those of
-/// the endings, in theirs. An ending has one where its request names a completion routine, unless it is granted at
-/// once and asks by SYNCSTS that the answer alone tells of that.
+/// An ending whose request names a completion routine queues exactly one completion, in the order of the endings.
+/// Exceptions are an immediate grant with SYNCSTS and an end by rundown.
 pub fn law_a_request_completes_once()
     ensures { (history : History) (last : State) → Run history last
         → EachRequestCompletesOnce history.endings history.queued }
 {}
 
-/// A process gets room for ASTs by its own requests alone. The ASTs that are pending for it and those that its locks
-/// may still bring are together no more after a step than before, but for the routines that the step names, where it
-/// is a new request or a conversion of that process that is accepted. So what is queued was due.
+/// The ASTs of a process, pending and due together, grow only by the routines that its own accepted request names. So
+/// every AST that is queued was due.
 pub fn law_only_own_requests_raise_what_is_due()
     ensures { (history : History) (old : State) → Run history old
         → (step : Step) (choice : Option Row)
@@ -68,63 +64,56 @@ pub fn law_only_own_requests_raise_what_is_due()
     law_asts_are_taken_in_order();
 }
 
-/// No warning comes from nowhere: each blocking AST that was queued calls the blocking routine of a request that was
-/// granted to the lock that it tells of, with the parameter of that request, and is queued to the lock's process.
+/// A blocking AST calls the blocking routine of a request that was granted to its lock, with that request's
+/// parameter, and goes to the lock's process.
 pub fn law_a_warning_calls_what_a_granted_request_named()
     ensures { (history : History) (last : State) → Run history last
         → WarningsAreOfGrants history.endings history.queued }
 {}
 
-/// No more ASTs were queued to a process, from the start of the run, than it named routines in its requests that
-/// were accepted.
+/// No process is queued more ASTs than its accepted requests named routines.
 pub fn law_no_more_is_queued_than_was_named()
     ensures { (history : History) (last : State) → Run history last
         → NoMoreIsQueuedThanNamed history }
 {}
 
-/// Each grant is warned at most once. The warnings of a lock that were queued, from the start of the run, and the one
-/// that is still to come while it is armed, are together no more than the grants to it that name a blocking routine. So
-/// a lock that was never granted with such a routine is never warned.
+/// Each grant is warned at most once, and only if its request named a blocking routine. The law counts: the warnings
+/// of a lock so far, and one more while it is armed, are at most its grants with a blocking routine.
 pub fn law_a_grant_is_warned_at_most_once()
     ensures { (history : History) (last : State) → Run history last
         → EachGrantIsWarnedAtMostOnce history last }
 {}
 
-/// No warning is forgotten: a lock that is held, granted or converting, under a request that names a blocking routine is
-/// armed, or was warned since that request was granted to it, by a call of that routine with the request's parameter.
+/// A lock that is held under a request that names a blocking routine is armed, or was warned since that grant, by
+/// that routine with the request's parameter.
 pub fn law_a_grant_is_armed_or_was_warned()
     ensures { (history : History) (last : State) → (run : Run history last)
         → EachGrantIsArmedOrWarned run }
 {}
 
-/// No lock is warned for nothing: each blocking AST that a step queues goes to the process of the lock that it tells
-/// of. Once the step is done that lock stands granted in a mode that keeps out some request that is queued on its
-/// resource.
+/// In any state: a lock that a step warns is granted, after the step, in a mode that is incompatible with some queued
+/// request of its resource. The AST goes to the lock's process.
 pub fn law_a_warned_lock_is_in_the_way()
     ensures { (s : State) (step : Step) (choice : Option Row)
         → WarnedLocksAreInTheWay (stepped s step choice) }
 {}
 
-/// A node that has departed does not come back: from its accepted departure on, to the end of the run, each step of the
-/// node or of a process of it, a second departure too, is answered DEPARTED. Such a step changes nothing, ends no
-/// request and queues nothing. No step is answered DEPARTED but that of a node whose departure was accepted. A node has
-/// departed in the state behind the run just where its departure was accepted in it.
+/// A departed node does not come back. After its accepted departure each step of the node, a second departure
+/// included, is answered DEPARTED, and changes, ends and queues nothing. No other step is answered DEPARTED. A node
+/// has departed exactly if its departure was accepted in the run.
 pub fn law_a_departed_node_is_answered_departed()
     ensures { (history : History) (last : State) → Run history last
         → DepartedNodesAreToldSo history last }
 {}
 
-/// No process of a departed node lives: from the accepted departure of a node on, to the end of the run, no living
-/// process is of that node.
+/// No living process is of a departed node.
 pub fn law_no_process_of_a_departed_node_lives()
     ensures { (history : History) (last : State) → Run history last
         → NoneLivesOnDepartedNodes history last }
 {}
 
-/// A process that has ended is told no more: from its accepted rundown, or the accepted departure of its node, to the
-/// end of the run, no living process has its identification, and so nothing is pending to it. Each step of it is
-/// answered NONEXPR or DEPARTED, changes nothing, ends no request and queues nothing; a take of it answers no AST. No
-/// step of another queues anything to it.
+/// After its accepted rundown, or the accepted departure of its node, no living process has the identification. Each
+/// step of the process is answered NONEXPR or DEPARTED and changes nothing, and nothing is queued to it.
 pub fn law_an_ended_process_is_told_no_more()
     ensures { (history : History) (last : State) → Run history last
         → EndedProcessesAreToldNoMore history last }
@@ -132,9 +121,9 @@ pub fn law_an_ended_process_is_told_no_more()
     law_what_is_queued_is_taken_or_pending();
 }
 
-/// A dequeue with DEQALL takes the locks that it is to take and no other: where it names no lock all of its caller, and
-/// else those from which a chain of parent locks leads to the one that it names, all of which are its caller's. What is
-/// left before the sweep stands where it stood, as it was and in its order.
+/// A Deq with DEQALL takes all locks of its caller, or those below the lock it names, sublocks of sublocks too, and
+/// no other. All locks that it takes are the caller's. Before the sweep the other locks are as they were, in their
+/// order.
 pub fn law_a_dequeue_of_all_takes_those_below_alone()
     ensures { (history : History) (old : State) → Run history old
         → (d : Dequeue) (choice : Option Row) → has_flag d.flags deqall ≡ true
@@ -142,8 +131,8 @@ pub fn law_a_dequeue_of_all_takes_those_below_alone()
         → TakesThoseBelowAlone old d choice }
 {}
 
-/// A dequeue with DEQALL ends the requests of the locks that it takes by abort, those that convert too, and by rising
-/// identification of the locks. That comes before each grant of its sweep.
+/// A Deq with DEQALL aborts the requests of the locks that it takes, conversions included, by rising identification
+/// of the locks, and all before the grants of its sweep.
 pub fn law_a_dequeue_of_all_aborts_by_rising_identification()
     ensures { (history : History) (old : State) → Run history old
         → (d : Dequeue) (choice : Option Row) → has_flag d.flags deqall ≡ true
@@ -151,39 +140,37 @@ pub fn law_a_dequeue_of_all_aborts_by_rising_identification()
         → AbortsByRisingIdentification old d choice }
 {}
 
-/// A root in the system's domain is made by a new request with SYSTEM alone, of a caller with the privilege
-/// SYSLCK.
+/// A root in the system's domain is made only by a request with SYSTEM whose caller has the privilege SYSLCK.
 pub fn law_system_roots_are_privileged()
     ensures { (history : History) (old : State) → Run history old
         → (step : Step) (choice : Option Row)
         → IsChoice old step choice → SystemRootsArePrivileged old step choice }
 {}
 
-/// A step leaves the requests and locks of other processes alone: what it ends but by a grant is of its caller, or of
-/// a process of the node that departs, and so is each lock that leaves.
+/// A step ends no request of another process except by a grant, and takes no lock of another process. Exceptions are
+/// the processes of a departing node and the victim of a search.
 pub fn law_others_are_left_alone()
     ensures { (history : History) (old : State) → Run history old
         → (step : Step) (choice : Option Row) → IsChoice old step choice
         → OthersAreLeftAlone old step choice }
 {}
 
-/// A search makes no request deadlocked, in whichever state it is made and whatever it chooses: whoever waits in a circle
-/// after it waited in one before. So ending the request of the victim, and granting what that lets through, closes no new
-/// circle.
+/// In any state: a search makes no request deadlocked. Each request that waits in a circle after the search waited in
+/// one before it, so the grants after the victim's end close no new circle.
 pub fn law_a_search_catches_nobody_anew()
     ensures { (s : State) (node : ℕ) (choice : Option Row)
         → NoneIsCaughtAnew s (stepped s (Search node) choice).state }
 {}
 
-/// After each legal run, the tail of a resource's value block is valid only where its value is.
+/// The tail of a value block is valid only if its value is.
 pub fn law_a_tail_is_valid_with_its_value()
     ensures { (history : History) (last : State) → Run history last
         → TailsAreValidWithTheirValues last }
 {}
 
-/// What fits does not wait: a new request that is accepted is granted at once where it is expedited at NL, or where it
-/// fits and nobody is queued on its resource. So is a conversion that is accepted and fits beside all other locks of its
-/// resource, whatever is queued there; with QUECVT, where no conversion is queued.
+/// What fits does not wait. An accepted new request is granted at once if it is expedited at NL, or if it fits and
+/// nobody is queued. An accepted conversion is granted at once if it fits beside all other locks, with QUECVT only if
+/// no conversion is queued.
 pub fn law_what_fits_is_granted_at_once()
     ensures { (history : History) (old : State) → Run history old
         → WhatFitsIsGrantedAtOnce old }

@@ -1,6 +1,5 @@
-//! Laws of whole runs of the plain machine that rest on those of `vlm_words`: of ASTs, of processes that have ended and nodes
-//! that have departed, of what DEQALL takes, and of who makes roots in the system's domain. What [`laws`] says holds of all
-//! that happened, from the start.
+//! More laws of the plain machine, of whole runs: ASTs, ended processes, departed nodes, DEQALL, searches, roots of
+//! the system, and grants at once. They rest on the laws of `vlm_words`. There is no other code.
 #![tactic(auto)]
 
 pub mod laws;
