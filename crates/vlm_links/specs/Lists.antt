@@ -5,11 +5,11 @@ use Rattle.vlm_links.specs.declared.link.TheConstants.{LAST_HANDLE}
 use Rattle.vlm_links.specs.declared.link.Links.{Links}
 use Rattle.vlm_links.specs.declared.lists.LinkedList.{LinkedList}
 
--- the handles other than this one, in their order
+-- the handles except this one, in their order
 abbrev pub without : ℕ → List ℕ → List ℕ
 without handle handles = filter (λ other. not (other == handle)) handles
 
--- the one is among these
+-- the item is in the list
 abbrev pub IsIn : {A : Type 0} → A → List A → Type 0
 IsIn one [] = ⊥
 IsIn one (first ∷ rest) = (first ≡ one) ⊎ IsIn one rest
@@ -24,16 +24,16 @@ abbrev pub first_handle : List ℕ → Option ℕ
 first_handle [] = None
 first_handle (first ∷ rest) = Some first
 
--- the handle that follows this one, if there is one
+-- the handle after this one, if there is one
 abbrev pub handle_after : ℕ → List ℕ → Option ℕ
 handle_after handle [] = None
 handle_after handle (first ∷ rest) = if first == handle then first_handle rest else handle_after handle rest
 
--- a spot is a handle or the end, `None`, which stands before the first handle and after the last
+-- a spot is a record or the end of the list, `None`, which is both before the first record and after the last
 abbrev pub Spot : Type 0
 Spot = Option ℕ
 
--- the last of the handles that follow a spot, or the spot itself where none do
+-- the last handle after a spot; the spot itself if there are no more
 abbrev pub last_from : Spot → List ℕ → Spot
 last_from from [] = from
 last_from from (first ∷ rest) = last_from (Some first) rest
@@ -42,49 +42,49 @@ last_from from (first ∷ rest) = last_from (Some first) rest
 abbrev pub last_handle : List ℕ → Option ℕ
 last_handle handles = last_from None handles
 
--- the spot that stands before this handle, among the handles that follow a spot
+-- the spot before this handle, in the handles after a spot
 abbrev pub before_from : Spot → ℕ → List ℕ → Spot
 before_from from handle [] = None
 before_from from handle (first ∷ rest) = if first == handle then from else before_from (Some first) handle rest
 
--- the handle that this one follows, if there is one
+-- the handle before this one, if there is one
 abbrev pub handle_before : ℕ → List ℕ → Option ℕ
 handle_before handle handles = before_from None handle handles
 
--- the handle at a spot, and those that follow it
+-- the handle at a spot, and more after it
 abbrev pub and_on : (Spot → List ℕ) → Spot → List ℕ
 and_on more None = []
 and_on more (Some handle) = handle ∷ more (Some handle)
 
--- so many handles at most, read off the links that lead on from a spot
+-- at most this many handles, along the links after a spot
 abbrev pub handles_from : (Spot → Spot) → ℕ → Spot → List ℕ
 handles_from next zero from = []
 handles_from next (suc count) from = and_on (handles_from next count) (next from)
 
--- the new links lead from this spot to that one, and from every other spot where the old ones do
+-- the new links lead from this spot to that one, and from other spots as before
 pub record Joins (old new : Spot → Spot) (from to : Spot) : Type 0 where
   pub here : new from ≡ to
   pub others : (at : Spot) → at ≢ from → new at ≡ old at
 
 module _ (next prev : Spot → Spot) where
-  -- the links lead from one spot through these handles to the end, and back
+  -- the links lead from a spot through these handles to the end, and back
   abbrev pub IsChain : Spot → List ℕ → Type 0
   IsChain from [] = (next from ≡ None) × (prev None ≡ from)
   IsChain from (handle ∷ handles) = (next from ≡ Some handle) × (prev (Some handle) ≡ from) × IsChain (Some handle) handles
 
--- a list is empty
+-- the list is empty
 pub record IsNoList {Kind : Type 0} (list : LinkedList Kind) : Type 0 where
   pub no_first : list.first ≡ None
   pub no_last : list.last ≡ None
   pub no_handles : list.len ≡ 0
 
 module _ {T : Type 0} (links : T → Links) where
-  -- the neighbours that a record tells, or none where there is no record
+  -- the next link of a record; the end without a record
   abbrev pub next_in : Option T → Spot
   next_in None = None
   next_in (Some r) = (links r).next
 
-  -- the record before, or none where there is no record
+  -- the previous link of a record; the end without a record
   abbrev pub prev_in : Option T → Spot
   prev_in None = None
   prev_in (Some r) = (links r).prev
@@ -100,11 +100,12 @@ module _ {T : Type 0} (links : T → Links) where
     prev_of None = list.last
     prev_of (Some handle) = prev_in (get nodes handle)
 
-    -- the handles of a list, the first one first
+    -- the handles of a list, in its order
     abbrev pub handles_of : List ℕ
     handles_of = handles_from next_of list.len None
 
-    -- the links lead from each record of the list to the next, and back
+    -- the invariant of a list: links lead from each record to the next and back, no record is there twice, and the
+    -- length is right
     pub record IsLinked : Type 0 where
       pub chained : IsChain next_of prev_of None handles_of
       pub apart : IsApart handles_of
@@ -112,29 +113,29 @@ module _ {T : Type 0} (links : T → Links) where
       pub within : (handle : ℕ) → IsIn handle handles_of → handle ≤ LAST_HANDLE
       pub counted : length handles_of ≡ list.len
 
-    -- the list is linked, and the record under this handle stands in it
+    -- the list is linked, and this record is in it
     pub record Lists (handle : ℕ) : Type 0 where
       pub linked : IsLinked
       pub listed : IsIn handle handles_of
 
 module _ {T : Type 0} (with_links : T → Links → T) where
-  -- the record, if there is one, with these neighbours
+  -- the record with these links, if there is a record
   abbrev pub written_links : Links → Option T → Option T
   written_links pair None = None
   written_links pair (Some r) = Some (with_links r pair)
 
-  -- the new record is the old one with some neighbours
+  -- the new record is the old one with other links
   abbrev pub IsRelinked : Option T → Option T → Type 0
   IsRelinked None new = new ≡ None
   IsRelinked (Some old) new = (pair : Links) × (new ≡ Some (with_links old pair))
 
-  -- every record is what it was but for its neighbours of one kind, and no room is taken
+  -- only links of one kind change, and the room stays
   pub record Relinks (old new : Slab T) : Type 0 where
     pub records : (handle : ℕ) → IsRelinked (get old handle) (get new handle)
     pub vacant_key : new.vacant_key ≡ old.vacant_key
     pub capacity : new.capacity ≡ old.capacity
 
-  -- one spot is linked on to another: the way back, the length and each other record are what they were
+  -- one spot is linked to another; the links back, the length and the other records stay
   pub record LinksOn {Kind : Type 0} (on back : Slab T → LinkedList Kind → Spot → Spot) (old new : Slab T) (list list' : LinkedList Kind) (from to : Spot) : Type 0 where
     pub joins : Joins (on old list) (on new list') from to
     pub keeps : (at : Spot) → back new list' at ≡ back old list at

@@ -3,7 +3,7 @@ use Rattle.std.specs.Prelude.{ℕ, ◌+◌, ◌%◌, ◌^◌, bit_and, bit_xor}
 use Rattle.std.specs.Int.{w64, rotate_left}
 use Rattle.vlm_links.specs.declared.sip.SipState.{SipState}
 
--- the state that has taken two words of keys
+-- the state after two words of keys
 abbrev pub initial : ℕ → ℕ → SipState
 initial k0 k1 = record {
   v0 = bit_xor k0 0x736f6d6570736575;
@@ -12,7 +12,7 @@ initial k0 k1 = record {
   v3 = bit_xor k1 0x7465646279746573;
 }
 
--- the state after a SipRound
+-- the state after a round
 unfoldable pub rounded : SipState → SipState
 rounded s =
     let v0 = (s.v0 + s.v1) % 2 ^ 64 in
@@ -28,13 +28,13 @@ rounded s =
       v3 = bit_xor (rotate_left w64 v3 21) sum0;
     }
 
--- the state that has taken a word more
+-- the state after one more word
 unfoldable pub compressed : SipState → ℕ → SipState
 compressed s word =
     let after = rounded (record s { v3 = bit_xor s.v3 word }) in
     record after { v0 = bit_xor after.v0 word }
 
--- the low 32 bits of the hash of what the state has taken
+-- the low 32 bits of the hash
 unfoldable pub finished : SipState → ℕ
 finished s =
     let last = rounded (rounded (rounded (record s { v2 = bit_xor s.v2 0xff }))) in

@@ -1,4 +1,4 @@
--- Handles by numbers, range by range.
+-- Tables of handles by number.
 use Rattle.std.specs.Prelude.{◌≡◌, ℕ, ◌/◌, ◌%◌, ◌<◌, List, [], length, slice_index_or, Option, None}
 
 -- the handles of the range of a number
@@ -13,12 +13,12 @@ handle_of rows number = slice_index_or (row_of rows number) (number % 65536) Non
 unfoldable pub HasRoomFor : List (List (Option ℕ)) → ℕ → Type 0
 HasRoomFor rows number = number % 65536 < length (row_of rows number)
 
--- no handle changes, and there may be more room
+-- handles stay, and there may be more room
 pub record Grows (old new : List (List (Option ℕ))) : Type 0 where
   pub handles : (number : ℕ) → handle_of new number ≡ handle_of old number
   pub room : (number : ℕ) → HasRoomFor old number → HasRoomFor new number
 
--- the number has this handle, or none; no other handle and no room changes
+-- this number gets this handle or loses its handle; other handles and the room stay
 pub record Writes (number : ℕ) (handle : Option ℕ) (old new : List (List (Option ℕ))) : Type 0 where
   pub this : handle_of new number ≡ handle
   pub others : (other : ℕ) → ¬ (other ≡ number) → handle_of new other ≡ handle_of old other

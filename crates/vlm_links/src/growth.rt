@@ -9,8 +9,7 @@ use crate::parted::PartedIndex;
 use slab::Slab;
 use std::alloc::AllocError;
 
-/// Makes room for one more record, where there is none. It is refused where memory is, and where the slab has given out
-/// the last handle that a link can lead to.
+/// Makes room for one more record. It is refused if memory is, or if the slab's next handle is too great for a link.
 pub fn reserve_slot<T>(records: &mut Slab<T>) -> Result<(), AllocError>
     ensures records { records.new ≡ record records.old { capacity = records.new.capacity } }
     ensures capacity { records.old.capacity ≤ records.new.capacity }
@@ -25,8 +24,7 @@ pub fn reserve_slot<T>(records: &mut Slab<T>) -> Result<(), AllocError>
     records.reserve(1)
 }
 
-/// Makes room for one more record, and for its number in the index, where there is none. It is refused as
-/// `reserve_slot` is.
+/// Makes room for one more record and for its number in the index. It is refused as `reserve_slot` is.
 pub fn reserve_one<T, Kind>(
     records: &mut Slab<T>,
     index: &mut PartedIndex<Kind>,

@@ -1,4 +1,4 @@
-//! The handles of records, those of each kind of a type of their own.
+//! Handles of records. Each kind of record has a type of handle of its own.
 
 ghost use Rattle.std.specs.Prelude.{◌≡◌, ◌≤◌, None};
 ghost use Rattle.std.specs.Option.{ForSome};
@@ -6,13 +6,13 @@ ghost use Rattle.std.specs.Option.{ForSome};
 use crate::link::{LAST_HANDLE, Link};
 use std::marker::{Model, PhantomData};
 
-/// The handle of a record of one kind: its slot in the slab of these. It is good until its record is
-/// removed; then it may be given to another.
+/// The handle of a record: its place in the slab, in four bytes. It is valid until the record is removed; after that
+/// another record may get it.
 #[derive_where(Clone, Copy, Debug, PartialEq, Eq)]
 pub struct At<Kind> {
-    // the slot of the record in its slab, at most `LAST_HANDLE`
+    // the place in the slab, at most `LAST_HANDLE`
     at: u32,
-    // names the kind, and takes no room
+    // names the kind, and takes no memory
     kind: PhantomData<Kind>,
 }
 
@@ -27,7 +27,6 @@ impl<Kind> Model for At<Kind> {
 }
 
 impl<Kind> At<Kind> {
-    /// The handle of the record in this slot.
     pub fn of(slot: usize) -> Self
         requires { slot ≤ LAST_HANDLE }
         ensures { result ≡ slot }
@@ -38,14 +37,14 @@ impl<Kind> At<Kind> {
         }
     }
 
-    /// The slot of the record.
+    /// The place of the record in its slab.
     pub fn slot(self) -> usize
         ensures { result ≡ self }
     {
         self.at as usize
     }
 
-    /// The same slot, for a list that notes records of several kinds in turn.
+    /// The same place as a handle of another kind, for a list that notes records of several kinds.
     pub fn in_kind<Other>(self) -> At<Other>
         ensures { result ≡ self }
     {
@@ -56,12 +55,12 @@ impl<Kind> At<Kind> {
     }
 }
 
-/// The handle of a record of one kind, or none, in four bytes.
+/// The handle of a record, or no handle, in four bytes.
 #[derive_where(Clone, Copy)]
 pub struct MaybeAt<Kind> {
-    // the slot of the record, if there is one
+    // the place in the slab, if there is a handle
     link: Link,
-    // names the kind, and takes no room
+    // names the kind, and takes no memory
     kind: PhantomData<Kind>,
 }
 
@@ -76,7 +75,7 @@ impl<Kind> Model for MaybeAt<Kind> {
 }
 
 impl<Kind> MaybeAt<Kind> {
-    /// This handle, or none.
+    /// Stores a handle, or that there is no handle.
     pub fn of(at: Option<At<Kind>>) -> Self
         requires { ForSome at (λ slot. slot ≤ LAST_HANDLE) }
         ensures { result ≡ at }

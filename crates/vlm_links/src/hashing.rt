@@ -1,4 +1,4 @@
-//! How the indexes hash.
+//! The hashes of the indexes.
 
 ghost use Rattle.std.specs.Prelude.{◌≡◌};
 ghost use Rattle.std.specs.Hash.DefaultHasher.{initial as empty, write};
@@ -8,21 +8,21 @@ ghost use Rattle.vlm_links.specs.Sip.{initial};
 use crate::sip::SipState;
 use std::hash::{BuildHasher, DefaultHasher, Hasher};
 
-// 2^64 over the golden ratio: multiples of it lie far apart.
+// 2^64 over the golden ratio. Its multiples are far apart.
 const SPREAD: u64 = 0x9E37_79B9_7F4A_7C15;
 
-/// How the indexes hash: SipHash with secret keys. Somebody who does not know the keys cannot choose names with equal
-/// hashes. No answer depends on the keys.
+/// The keyed hash of names: SipHash with secret keys. A caller who does not know the keys cannot choose names with
+/// equal hashes. No answer depends on the keys.
 #[derive(Clone, Copy)]
 pub struct HashKeys {
-    // the state of SipHash after the keys, for words
+    // the state of SipHash after the keys, to hash words
     words: SipState,
-    // the same for bytes
+    // the same, to hash bytes
     bytes: DefaultHasher,
 }
 
 impl HashKeys {
-    /// No keys: names can be chosen that meet.
+    /// Fixed keys. Callers can choose names with equal hashes, which makes lookups slow.
     pub fn fixed() -> HashKeys
         ensures words { result.words ≡ initial 0 0 }
         ensures bytes { result.bytes ≡ empty }
@@ -33,7 +33,7 @@ impl HashKeys {
         }
     }
 
-    /// These bytes are the keys. Names can't be chosen where nobody can foresee them.
+    /// These keys. If they are random and secret, nobody can choose names with equal hashes.
     pub fn of(key: [u8; 16]) -> HashKeys
         ensures words { result.words ≡ (let words = key_words key in initial words.0 words.1) }
         ensures bytes { result.bytes ≡ write empty key }
@@ -47,7 +47,7 @@ impl HashKeys {
         }
     }
 
-    /// The hash of these words, in 32 bits.
+    /// The hash of these words. It costs one round for each word, and three more.
     #[tactic(auto, using(std::proofs::lemmas::List::Sums::fold_more), unfolding(crate::specs::Hashing::hash_of))]
     pub fn hash_of(&self, words: &[u64]) -> u32
         ensures { result ≡ hash_of self.now words.now }
@@ -70,17 +70,17 @@ impl BuildHasher for HashKeys {
     }
 }
 
-/// The hasher of an index whose keys are numbers of 32 bits: one multiplication spreads them over the table and its
-/// tags. The hash is the upper half of the product, where each bit of the number counts. It keeps nobody from choosing
-/// numbers that meet, and nobody can: the machine gives identifications in order, and hashes of keys are keyed already.
+/// The hash of numbers of 32 bits: one multiplication, of which it keeps the upper half, since that depends on every
+/// bit of the number. Numbers with equal hashes are easy to find, but callers cannot choose the numbers: the machine
+/// gives identifications in order, and the hashes of resource keys are keyed already.
 #[derive(Clone, Copy)]
 pub struct HashSpread {
-    // the number that was written, spread: 0 before, and after input that is not four bytes long
+    // the hash of the number that was written; 0 before, and after input that is not four bytes long
     spread: u64,
 }
 
 impl HashSpread {
-    /// No number is written yet.
+    /// No number was written.
     pub fn new() -> HashSpread
         ensures { result.spread ≡ 0 }
     {

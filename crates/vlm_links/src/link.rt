@@ -4,17 +4,17 @@ ghost use Rattle.std.specs.Prelude.{◌≡◌, ◌≤◌, Some, None};
 
 use std::marker::Model;
 
-/// The handle of a record, or none, in four bytes.
+/// A handle, or no handle, in four bytes.
 #[derive(Clone, Copy)]
 pub(crate) struct Link {
     // the handle, or `NONE`
     raw: u32,
 }
 
-// How no handle is stored.
+// Stored if there is no handle.
 const NONE: u32 = u32::MAX;
 
-/// The greatest handle that a link can lead to.
+/// The greatest handle that a link can store.
 pub const LAST_HANDLE: usize = 4_294_967_294;
 
 impl Model for Link {
@@ -32,14 +32,12 @@ impl Model for Link {
 }
 
 impl Link {
-    /// No handle.
     pub(crate) fn none() -> Self
         ensures { result ≡ None }
     {
         Link { raw: NONE }
     }
 
-    /// A link to a handle.
     pub(crate) fn to(handle: usize) -> Self
         requires { handle ≤ LAST_HANDLE }
         ensures { result ≡ Some handle }
@@ -59,12 +57,12 @@ impl Link {
     }
 }
 
-/// The neighbours of a record in a list. A record that stands in no list may have any.
+/// The neighbours of a record in a list. In a record that is in no list they mean nothing.
 #[derive(Clone, Copy)]
 pub struct Links {
-    // the handle of the record before it, none for the first
+    // the previous record, if there is one
     pub(crate) prev: Link,
-    // the handle of the record after it, none for the last
+    // the next record, if there is one
     pub(crate) next: Link,
 }
 

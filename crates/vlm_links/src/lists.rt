@@ -10,17 +10,17 @@ use crate::link::{LAST_HANDLE, Link, Links};
 use slab::Slab;
 use std::marker::PhantomData;
 
-/// A record with a pair of links for the lists of one kind. `Kind` is a type that names the kind.
+/// A record that lists of one kind can run through. `Kind` is a type that only names the kind.
 pub trait Linked<Kind> {
     ghost links: { Self → Links };
 
     ghost with_links: { Self → Links → Self };
 
-    /// Its neighbours in the list of this kind.
+    /// Its links in the list of this kind.
     fn links(&self) -> Links
         ensures { result ≡ links self.now };
 
-    /// Writes its neighbours, and nothing else.
+    /// Writes its links, and nothing else.
     fn set_links(&mut self, pair: Links)
         ensures { self.new ≡ with_links self.old pair };
 
@@ -32,17 +32,16 @@ pub trait Linked<Kind> {
     ghost written_as_was: { (r : Self) → with_links r (links r) ≡ r };
 }
 
-/// A list of one kind: its ends, and how many records stand in it. The records and their links stand in
-/// a slab, and each call is given the slab.
+/// A list of one kind, in twelve bytes. The records and their links are in a slab, which each call gets.
 #[derive_where(Clone, Copy)]
 pub struct LinkedList<Kind> {
-    // the handle of the first record, none in an empty list
+    // the first record; no handle if the list is empty
     first: Link,
-    // the handle of the last record, none in an empty list
+    // the last record; no handle if the list is empty
     last: Link,
-    // how many records stand in the list, the ends counted too
+    // how many records are in the list, first and last included
     len: u32,
-    // names the kind, and takes no room
+    // names the kind, and takes no memory
     kind: PhantomData<Kind>,
 }
 
@@ -59,7 +58,7 @@ impl<Kind> LinkedList<Kind> {
         }
     }
 
-    /// How many records stand in the list.
+    /// How many records are in the list. It is stored, not counted.
     pub fn len<T: Linked<Kind>>(&self, nodes: &Slab<T>) -> usize
         requires { IsLinked T.links nodes.now self.now }
         ensures { result ≡ length (handles_of T.links nodes.now self.now) }
@@ -67,7 +66,7 @@ impl<Kind> LinkedList<Kind> {
         self.len as usize
     }
 
-    /// The handle of the first record, if there is one.
+    /// The first record, if there is one.
     pub fn first<T: Linked<Kind>>(&self, nodes: &Slab<T>) -> Option<usize>
         requires { IsLinked T.links nodes.now self.now }
         ensures { result ≡ first_handle (handles_of T.links nodes.now self.now) }
@@ -75,7 +74,7 @@ impl<Kind> LinkedList<Kind> {
         self.first.handle()
     }
 
-    /// The handle of the last record, if there is one.
+    /// The last record, if there is one.
     pub fn last<T: Linked<Kind>>(&self, nodes: &Slab<T>) -> Option<usize>
         requires { IsLinked T.links nodes.now self.now }
         ensures { result ≡ last_handle (handles_of T.links nodes.now self.now) }
@@ -83,7 +82,7 @@ impl<Kind> LinkedList<Kind> {
         self.last.handle()
     }
 
-    /// The handle of the record that follows one of the list, if there is one.
+    /// The record after this one, if there is one.
     pub fn next<T: Linked<Kind>>(&self, nodes: &Slab<T>, handle: usize) -> Option<usize>
         requires { Lists T.links nodes.now self.now handle }
         ensures { result ≡ handle_after handle (handles_of T.links nodes.now self.now) }
@@ -91,7 +90,7 @@ impl<Kind> LinkedList<Kind> {
         nodes[handle].links().next.handle()
     }
 
-    /// The handle of the record that one of the list follows, if there is one.
+    /// The record before this one, if there is one.
     pub fn previous<T: Linked<Kind>>(&self, nodes: &Slab<T>, handle: usize) -> Option<usize>
         requires { Lists T.links nodes.now self.now handle }
         ensures { result ≡ handle_before handle (handles_of T.links nodes.now self.now) }
@@ -99,7 +98,7 @@ impl<Kind> LinkedList<Kind> {
         nodes[handle].links().prev.handle()
     }
 
-    /// The handle of the record at an index, from 0, if there is one. It walks to that index.
+    /// The record at an index, from 0, if there is one. It walks to that index.
     pub fn nth<T: Linked<Kind>>(&self, nodes: &Slab<T>, index: usize) -> Option<usize>
         requires { IsLinked T.links nodes.now self.now }
         ensures { result ≡ slice_get (handles_of T.links nodes.now self.now) index }
@@ -114,7 +113,7 @@ impl<Kind> LinkedList<Kind> {
         at
     }
 
-    /// Puts a record that is in no list of this kind at the end.
+    /// Puts a record that is in no list of this kind at the end. It takes constant time and no memory.
     pub fn push_back<T: Linked<Kind>>(&mut self, nodes: &mut Slab<T>, handle: usize)
         requires linked { IsLinked T.links nodes.old self.old }
         requires present { ContainsKey nodes.old handle }
@@ -141,7 +140,7 @@ impl<Kind> LinkedList<Kind> {
         self.len += 1;
     }
 
-    /// Takes a record out of the list, wherever in it the record stands.
+    /// Takes a record out of the list, from any place in it. It takes constant time.
     pub fn unlink<T: Linked<Kind>>(&mut self, nodes: &mut Slab<T>, handle: usize)
         requires { Lists T.links nodes.old self.old handle }
         ensures linked { IsLinked T.links nodes.new self.new }
@@ -158,7 +157,6 @@ impl<Kind> LinkedList<Kind> {
     }
 }
 
-// Writes the neighbours of a record.
 fn write_links<Kind, T: Linked<Kind>>(nodes: &mut Slab<T>, handle: usize, pair: Links)
     requires { ContainsKey nodes.old handle }
     ensures here { get nodes.new handle ≡ written_links T.with_links pair (get nodes.old handle) }
@@ -168,7 +166,6 @@ fn write_links<Kind, T: Linked<Kind>>(nodes: &mut Slab<T>, handle: usize, pair: 
     nodes[handle].set_links(pair);
 }
 
-// Writes the record after one, and leaves the one before it.
 fn write_next<Kind, T: Linked<Kind>>(nodes: &mut Slab<T>, handle: usize, to: Link)
     requires { ContainsKey nodes.old handle }
     ensures next { next_in T.links (get nodes.new handle) ≡ to }
@@ -181,7 +178,6 @@ fn write_next<Kind, T: Linked<Kind>>(nodes: &mut Slab<T>, handle: usize, to: Lin
     node.set_links(Links { next: to, ..pair });
 }
 
-// Writes the record before one, and leaves the one after it.
 fn write_prev<Kind, T: Linked<Kind>>(nodes: &mut Slab<T>, handle: usize, to: Link)
     requires { ContainsKey nodes.old handle }
     ensures prev { prev_in T.links (get nodes.new handle) ≡ to }
@@ -194,7 +190,7 @@ fn write_prev<Kind, T: Linked<Kind>>(nodes: &mut Slab<T>, handle: usize, to: Lin
     node.set_links(Links { prev: to, ..pair });
 }
 
-// Links a spot to the one after it.
+// Links a spot to the spot after it. A spot is a record or an end of the list.
 fn link_forward<Kind, T: Linked<Kind>>(
     nodes: &mut Slab<T>,
     list: &mut LinkedList<Kind>,
@@ -212,7 +208,7 @@ fn link_forward<Kind, T: Linked<Kind>>(
     }
 }
 
-// Links a spot to the one before it.
+// Links a spot to the spot before it.
 fn link_back<Kind, T: Linked<Kind>>(
     nodes: &mut Slab<T>,
     list: &mut LinkedList<Kind>,

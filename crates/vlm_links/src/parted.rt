@@ -11,14 +11,13 @@ use std::alloc::{AllocError, Global};
 use std::array::from_fn;
 use std::marker::Model;
 
-// How many parts an index has.
 const PARTS: usize = 64;
 
-/// Finds handles by numbers. It has 64 parts, and the low bits of a number say in which part it is. A part that is full
-/// grows alone: so a growth moves about a 64th of the index, and takes a 64th of the time.
+/// Finds handles by number. It has 64 parts, and the low bits of a number choose its part. A full part grows alone,
+/// so a growth moves about a 64th of the index, in a 64th of the time.
 #[derive(Drop)]
 pub struct PartedIndex<Kind> {
-    // part k has the numbers that leave the remainder k
+    // part k has the numbers with remainder k modulo 64
     parts: [IndexMap<u32, At<Kind>, HashSpread>; PARTS],
 }
 
@@ -39,7 +38,7 @@ impl<Kind> Model for PartedIndex<Kind> {
 }
 
 impl<Kind> PartedIndex<Kind> {
-    /// No handles. It takes no memory.
+    /// An empty index. It takes no memory.
     pub fn new(alloc: Global) -> Self
         ensures { (number : ℕ) → handle_in result number ≡ None }
     {
@@ -60,7 +59,7 @@ impl<Kind> PartedIndex<Kind> {
         self.parts[number as usize % PARTS].get(&number).copied()
     }
 
-    /// Makes room in the part of a number, where there is none.
+    /// Makes room for one more number in the part of this number.
     #[inline(always)]
     pub fn reserve(&mut self, number: u32) -> Result<(), AllocError>
         ensures same { FindsSame self.old self.new }
@@ -71,7 +70,7 @@ impl<Kind> PartedIndex<Kind> {
         self.parts[number as usize % PARTS].reserve(1)
     }
 
-    /// Gives a number this handle, in place of the one that it had.
+    /// Gives a number this handle, and returns the handle that it had.
     #[inline(always)]
     pub fn insert(&mut self, number: u32, at: At<Kind>) -> Option<At<Kind>>
         requires room { 0 < spare_for (spares_of self.old) number }
@@ -84,7 +83,6 @@ impl<Kind> PartedIndex<Kind> {
             .unwrap()
     }
 
-    /// Takes a number's handle away.
     #[inline(always)]
     pub fn remove(&mut self, number: u32)
         ensures writes { Writes number None self.old self.new }

@@ -3,7 +3,7 @@
 ghost use Rattle.std.specs.Prelude.{◌≡◌};
 ghost use Rattle.vlm_links.specs.Sip.{compressed, finished, initial, rounded};
 
-/// The state of SipHash-1-3: a round for each word, and three at the end.
+/// The state of SipHash-1-3: one round for each word, and three at the end.
 #[derive(Clone, Copy)]
 pub(crate) struct SipState {
     v0: u64,
@@ -13,7 +13,7 @@ pub(crate) struct SipState {
 }
 
 impl SipState {
-    /// The state that has taken two words of keys.
+    /// The state after two words of keys.
     pub fn new(k0: u64, k1: u64) -> SipState
         ensures { result ≡ initial k0 k1 }
     {
@@ -25,7 +25,6 @@ impl SipState {
         }
     }
 
-    // SipRound.
     #[tactic(auto, unfolding(crate::specs::Sip::rounded))]
     fn round(&mut self)
         ensures { self.new ≡ rounded self.old }
@@ -42,7 +41,7 @@ impl SipState {
         self.v2 = self.v2.rotate_left(32);
     }
 
-    /// Takes a word in.
+    /// Adds a word.
     #[tactic(auto, unfolding(crate::specs::Sip::compressed))]
     pub fn compress(&mut self, word: u64)
         ensures { self.new ≡ compressed self.old word }
@@ -52,7 +51,7 @@ impl SipState {
         self.v0 ^= word;
     }
 
-    /// The low 32 bits of the hash of the words that were taken in.
+    /// The low 32 bits of the hash of the added words.
     #[tactic(auto, unfolding(crate::specs::Sip::finished))]
     pub fn finish(mut self) -> u32
         ensures { result ≡ finished self }

@@ -1,4 +1,4 @@
-//! Handles by numbers that are given in order, range by range.
+//! Handles by numbers that are given in order, without a hash.
 
 ghost use Rattle.std.specs.Prelude.{◌≡◌, ◌≤◌, ◌<◌, ◌-◌, ◌*◌, ◌/◌, ◌++◌, [], ℕ, None, Some, length, replicate, slice_index_or, slice_set, IsOk, OnOk};
 ghost use Rattle.vlm_links.specs.Tables.{Grows, HasRoomFor, Writes, handle_of};
@@ -7,14 +7,13 @@ use crate::link::{LAST_HANDLE, Link};
 use std::alloc::{AllocError, Global};
 use std::marker::Model;
 
-// How many numbers a range has.
 const RANGE: u32 = 65_536;
 
-/// Handles of records by number. Numbers come in ranges of 65,536, and each range is used in order from its start. So a
-/// number leads to its place in a row, without a hash.
+/// Finds handles by number. Numbers come in ranges of 65,536, and each range is used in order from its start. So a
+/// lookup is two array accesses.
 #[derive(Drop)]
 pub struct HandleTable {
-    // where rows are made
+    // makes rows and their memory
     alloc: Global,
     // row k has the handles of range k
     rows: Vec<HandleRow>,
@@ -23,14 +22,14 @@ pub struct HandleTable {
 impl Model for HandleTable {
     ghost use Rattle.std.specs.Prelude.{ℕ, List, Option};
 
-    // For each range, the handle of each number, or none.
+    // For each range and each number in it: its handle, if it has one.
     ghost Value = { List (List (Option ℕ)) };
 
     ghost view = { λ t. t.rows.items };
 }
 
 impl HandleTable {
-    /// No handles, and no room for any. It takes no memory.
+    /// An empty table without room. It takes no memory.
     pub fn new(alloc: Global) -> Self
         ensures { (number : ℕ) → handle_of result number ≡ None }
     {
@@ -40,8 +39,8 @@ impl HandleTable {
         }
     }
 
-    /// Makes room for the number and for all lower ones of its range, 64 at a time, and a row for each lower range. A
-    /// row doubles as it grows, so it seldom moves.
+    /// Makes room for the number, the lower numbers of its range and at most 63 higher ones, and a row for each lower
+    /// range. A row doubles as it grows, so it seldom moves.
     pub fn make_room(&mut self, number: u32) -> Result<(), AllocError>
         ensures room { OnOk result (HasRoomFor self.new number) }
         ensures kept { Grows self.old self.new }
@@ -53,7 +52,6 @@ impl HandleTable {
         self.rows[row].make_room((number % RANGE) as u16)
     }
 
-    // Makes at least this many rows.
     fn make_rows(&mut self, count: usize) -> Result<(), AllocError>
         ensures rows { OnOk result (count ≤ length self.new) }
         ensures kept { Grows self.old self.new }
@@ -77,7 +75,6 @@ impl HandleTable {
         }
     }
 
-    /// Gives a number this handle.
     pub fn put(&mut self, number: u32, handle: usize)
         requires room { HasRoomFor self.old number }
         requires within { handle ≤ LAST_HANDLE }
@@ -86,7 +83,6 @@ impl HandleTable {
         self.write(number, Link::to(handle));
     }
 
-    /// Takes a number's handle away.
     pub fn remove(&mut self, number: u32)
         requires { HasRoomFor self.old number }
         ensures { Writes number None self.old self.new }
@@ -94,7 +90,6 @@ impl HandleTable {
         self.write(number, Link::none());
     }
 
-    // Writes the handle of a number, or none.
     fn write(&mut self, number: u32, link: Link)
         requires { HasRoomFor self.old number }
         ensures { Writes number link self.old self.new }
@@ -104,10 +99,10 @@ impl HandleTable {
     }
 }
 
-// The handles of the numbers of one range, by their places in it.
+// The handles of one range. The place of a number is its distance from the start of the range.
 #[derive(Drop)]
 struct HandleRow {
-    // a multiple of 64
+    // the handles by place; the length is a multiple of 64
     links: Vec<Link>,
 }
 
@@ -122,7 +117,6 @@ impl Model for HandleRow {
 }
 
 impl HandleRow {
-    // No room for any.
     fn new(alloc: Global) -> Self
         ensures { result ≡ [] }
     {
@@ -131,7 +125,6 @@ impl HandleRow {
         }
     }
 
-    // Makes room for the handle at a place and at all before it.
     fn make_room(&mut self, place: u16) -> Result<(), AllocError>
         ensures room { OnOk result (place < length self.new) }
         ensures none { self.new ≡ self.old ++ replicate (length self.new - length self.old) None }
@@ -144,14 +137,12 @@ impl HandleRow {
         Ok(())
     }
 
-    // The handle at a place, if there is one.
     fn get(&self, place: u16) -> Option<usize>
         ensures { result ≡ slice_index_or self.now place None }
     {
         self.links.get(usize::from(place))?.handle()
     }
 
-    // Writes the handle at a place, or none.
     fn write(&mut self, place: u16, link: Link)
         requires { place < length self.old }
         ensures { self.new ≡ slice_set self.old place link }
