@@ -1,4 +1,4 @@
--- What is shown of a resource and of a lock, and how a resource is used.
+-- Views of a resource and of a lock.
 use Rattle.std.specs.Prelude.{ℕ, List, ◌++◌, length, Option, None, Some, slice_get}
 use Rattle.std.specs.Option.{option_map}
 use Rattle.vlm_words.specs.declared.locks.Row.{Row}
@@ -11,7 +11,7 @@ use Rattle.vlm_queue.specs.declared.views.ResourceView.{ResourceView}
 use Rattle.vlm_queue.specs.declared.views.RowView.{RowView}
 use Rattle.vlm_queue.specs.declared.views.Usage.{Usage}
 
--- a resource without its queues
+-- the view of a resource, without its queues
 abbrev pub resource_view : Resource → ResourceView
 resource_view r = record {
   serial = r.serial;
@@ -24,8 +24,7 @@ resource_view r = record {
   tail_valid = r.value_block.tail_valid;
 }
 
--- how a resource is used: how many of its rows hold each mode, granted or converting, how many requests wait, and its
--- value block without the tail
+-- the use of a resource: how many locks hold each mode, how many are queued, and its value block without the tail
 abbrev pub usage : Resource → Usage
 usage r = record {
   held = held_counts (r.granted ++ r.converting);
@@ -41,11 +40,11 @@ rows_in Granted r = r.granted
 rows_in Conversion r = r.converting
 rows_in Waiting r = r.waiting
 
--- a lock with its modes
+-- the view of a lock
 abbrev pub row_view : Row → RowView
 row_view row = record { lkid = row.lkid; pid = row.pid; held = mode_asked row.held; want = mode_asked row.want }
 
--- the lock at an index of a queue of the resource, if both are there
+-- the lock at an index of a queue, if the resource and the lock exist
 abbrev pub row_shown : Option Resource → Queue → ℕ → Option RowView
 row_shown None queue index = None
 row_shown (Some r) queue index = option_map row_view (slice_get (rows_in queue r) index)

@@ -1,8 +1,7 @@
-//! What reads the queues of a resource, and shows the records: who stands first, who follows, which modes can be
-//! held beside the locks that hold one; walks over the resources and over a queue; what is shown of a resource and
-//! of a lock; and how a resource is used.
+//! Readers of the records: the queues of a resource, walks over resources and queues, and views of resources and
+//! locks.
 //!
-//! The store keeps the records; these are the words over it. They know no rules of granting.
+//! The crate only reads the store, and knows no rules of granting.
 #![tactic(auto)]
 
 mod queues;

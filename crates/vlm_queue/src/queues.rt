@@ -1,4 +1,4 @@
-//! Queues of locks.
+//! The queues of a resource. Each call takes constant time.
 
 ghost use Rattle.std.specs.Prelude.{◌≡◌, IfSome};
 ghost use Rattle.std.specs.Bool.{OnTrue, OnFalse};
@@ -23,7 +23,7 @@ pub fn head(store: &Store, res: ResAt, queue: Queue) -> Option<LockAt>
     store.first(Place::Queued(res, queue))
 }
 
-/// The lock that follows one in its queue, if there is one.
+/// The next lock in the queue of this lock, if there is one.
 pub fn next(store: &Store, lock: LockAt) -> Option<LockAt>
     requires { IsStored lock store.now }
     ensures { (place : Place) (row : Row)
@@ -33,8 +33,8 @@ pub fn next(store: &Store, lock: LockAt) -> Option<LockAt>
     store.next(lock)
 }
 
-/// Whether the mode is compatible with the held mode of every other lock of the resource, granted or
-/// converting. The lock that asks is left out.
+/// Whether the mode fits: it is compatible with the held mode of every lock of the resource, granted or converting,
+/// except the asking lock.
 #[inline(always)]
 pub fn can_hold(store: &Store, res: ResAt, mode: Mode, asking: Option<LockAt>) -> bool
     requires there { HasResource res store.now }
@@ -45,7 +45,7 @@ pub fn can_hold(store: &Store, res: ResAt, mode: Mode, asking: Option<LockAt>) -
     store.can_hold(res, mode, asking)
 }
 
-/// Whether no lock stands in the queue.
+/// Whether the queue has no lock.
 pub fn is_empty(store: &Store, res: ResAt, queue: Queue) -> bool
     requires { HasResource res store.now }
     ensures { IfSome (resource_at res store.now.resources)
@@ -54,7 +54,7 @@ pub fn is_empty(store: &Store, res: ResAt, queue: Queue) -> bool
     head(store, res, queue).is_none()
 }
 
-/// Whether no lock stands in a queue of the resource.
+/// Whether the resource has no lock, in any queue.
 pub fn is_idle(store: &Store, res: ResAt) -> bool
     requires { HasResource res store.now }
     ensures idle { OnTrue result (IsIdle res store.now) }

@@ -1,4 +1,4 @@
-//! What is shown of a resource and of a lock, and how a resource is used.
+//! Views of a resource and of a lock, as copies that outlive the next step.
 
 ghost use Rattle.std.specs.Prelude.{◌≡◌, IfSome};
 ghost use Rattle.vlm_words.specs.declared.locks.Row.{Row};
@@ -16,54 +16,54 @@ use vlm_words::resources::{Domain, Queue};
 /// A resource without its queues.
 #[derive(Clone, Copy)]
 pub struct ResourceView {
-    /// Its number, from 1, in order of making.
+    /// Its serial: the number of its making, from 1.
     pub serial: u32,
     /// The serial of its parent resource, or 0 for a root.
     pub parent: u32,
-    /// Its domain; a resource below another has its root's.
+    /// The domain of its root.
     pub domain: Domain,
     /// Its name.
     pub name: Name,
-    /// Its value block's 16 bytes, valid or not.
+    /// The 16 bytes of its value block, valid or not.
     pub value: [u8; 16],
-    /// Whether they are valid.
+    /// Whether the 16 bytes are valid.
     pub valid: bool,
-    /// The 48 bytes of its value block's tail, valid or not.
+    /// The 48 bytes of the value block's tail, valid or not.
     pub tail: [u8; 48],
-    /// Whether they are valid.
+    /// Whether the tail is valid.
     pub tail_valid: bool,
 }
 
-/// A lock as it stands in a queue.
+/// A lock and its modes.
 #[derive(Clone, Copy)]
 pub struct RowView {
-    /// The lock's identification.
+    /// Its identification.
     pub lkid: u32,
     /// The process that owns it.
     pub pid: u32,
-    /// The mode that it holds, if it holds one.
+    /// The mode that it holds; no mode while it waits.
     pub held: Option<Mode>,
-    /// The mode that it waits for, if it waits.
+    /// The mode that its queued request wants; no mode while it is granted.
     pub want: Option<Mode>,
 }
 
-/// How a resource is used.
+/// How many locks use a resource, and its value block.
 #[derive(Clone, Copy)]
 pub struct Usage {
-    /// How many locks hold each mode, from NL to EX: the granted and the converting.
+    /// How many locks hold each mode, from NL to EX, granted or converting.
     pub held: [u32; 6],
-    /// How many conversions wait.
+    /// How many conversions are queued.
     pub conversions: u32,
-    /// How many new requests wait.
+    /// How many locks wait, conversions left out.
     pub waiters: u32,
-    /// Its value block, without the tail.
+    /// The 16 bytes of its value block, valid or not. The tail is left out.
     pub value: [u8; 16],
-    /// Whether the value block is valid.
+    /// Whether the 16 bytes are valid.
     pub valid: bool,
 }
 
 impl ResourceView {
-    /// What is shown of the record of a resource.
+    /// The view of a record.
     pub fn of(resource: &Resource) -> ResourceView
         ensures { result ≡ record {
           serial = resource.now.serial;
@@ -90,7 +90,7 @@ impl ResourceView {
 }
 
 impl RowView {
-    /// What is shown of a row.
+    /// The view of a row.
     pub fn of(row: &Row) -> RowView
         ensures { result ≡ row_view row.now }
     {
@@ -103,7 +103,7 @@ impl RowView {
     }
 }
 
-/// What is shown of a resource of the store.
+/// The view of a resource in the store.
 pub fn resource_view(store: &Store, res: ResAt) -> ResourceView
     requires { HasResource res store.now }
     ensures { IfSome (plain_resource_at res store.now) (λ r. result ≡ resource_view r) }
@@ -111,7 +111,7 @@ pub fn resource_view(store: &Store, res: ResAt) -> ResourceView
     ResourceView::of(store.resource_record(res))
 }
 
-/// What is shown of a lock of the store.
+/// The view of a lock in the store.
 pub fn row_view(store: &Store, lock: LockAt) -> RowView
     requires { IsStored lock store.now }
     ensures { (row : Row) → Stores store.now lock row → result ≡ row_view row }
@@ -119,7 +119,7 @@ pub fn row_view(store: &Store, lock: LockAt) -> RowView
     RowView::of(&store.lock_record(lock).row.row())
 }
 
-/// How a resource of the store is used. It reads counts alone.
+/// The use of a resource in the store. It takes constant time, since it reads counts.
 pub fn usage_of(store: &Store, res: ResAt) -> Usage
     requires { HasResource res store.now }
     ensures { IfSome (plain_resource_at res store.now) (λ r. result ≡ usage r) }

@@ -1,4 +1,4 @@
-//! Walks from one resource to the next, and from one lock of a queue to the next.
+//! Walks over all resources, and over the locks of a queue.
 
 ghost use Rattle.std.specs.Prelude.{◌≡◌, ◌∷◌, IfSome, Some, slice_get};
 ghost use Rattle.std.specs.Option.{ForSome, option_map};
@@ -14,7 +14,7 @@ use vlm_store::laws::law_records_are_sound;
 use vlm_store::{LockAt, ResAt, Store};
 use vlm_words::resources::Queue;
 
-/// The first resource by rising serial, if there is one: a walk over all resources begins there.
+/// The first resource by serial, where a walk over all resources begins.
 pub fn first_resource(store: &Store) -> Option<ResAt>
     ensures there { ForSome result (λ res. HasResource res store.now) }
     ensures left { resources_left result store.now ≡ plain_resources store.now }
@@ -22,7 +22,7 @@ pub fn first_resource(store: &Store) -> Option<ResAt>
     store.first_resource()
 }
 
-/// The resource that follows one by rising serial, if there is one.
+/// The next resource by serial, if there is one.
 pub fn next_resource(store: &Store, res: ResAt) -> Option<ResAt>
     requires { HasResource res store.now }
     ensures there { ForSome result (λ next. HasResource next store.now) }
@@ -33,7 +33,7 @@ pub fn next_resource(store: &Store, res: ResAt) -> Option<ResAt>
     store.next_resource(res)
 }
 
-// The handle of the resource at an index, from 0, in order of making. It walks to that index.
+// The resource at an index, from 0, in the order of making. It walks to that index.
 fn nth_resource(store: &Store, index: usize) -> Option<ResAt>
     ensures found { result ≡ resource_at_index index store.now.resources }
     ensures there { IfSome result (λ res. HasResource res store.now) }
@@ -49,7 +49,7 @@ fn nth_resource(store: &Store, index: usize) -> Option<ResAt>
     at
 }
 
-// The handle of the lock at an index, from 0, of a queue of the resource. It walks to that index.
+// The lock at an index, from 0, of a queue. It walks to that index.
 fn nth_lock(store: &Store, res: ResAt, queue: Queue, index: usize) -> Option<LockAt>
     requires { HasResource res store.now }
     ensures found { result ≡ lock_at_index index (locks_at (Place.Queued res queue) store.now) }
@@ -65,7 +65,7 @@ fn nth_lock(store: &Store, res: ResAt, queue: Queue, index: usize) -> Option<Loc
     at
 }
 
-/// The resource at an index, from 0, by rising serial. None past the last. The cost grows with the index.
+/// The resource at an index, from 0, by serial; nothing after the last one. The cost grows with the index.
 pub fn resource_at(store: &Store, index: usize) -> Option<ResourceView>
     ensures { result ≡ option_map resource_view (slice_get (plain_resources store.now) index) }
 {
@@ -73,8 +73,8 @@ pub fn resource_at(store: &Store, index: usize) -> Option<ResourceView>
     Some(resource_view(store, res))
 }
 
-/// The lock at an index, from 0, of a queue of the resource at its index. None where one of them is past
-/// the last. The cost grows with both.
+/// The lock at an index, from 0, in a queue of the resource at an index; nothing if there is no such lock. The cost
+/// grows with both indexes.
 pub fn row_at(store: &Store, resource: usize, queue: Queue, index: usize) -> Option<RowView>
     ensures { result ≡ row_shown (slice_get (plain_resources store.now) resource) queue index }
 {
