@@ -10,7 +10,7 @@ use vlm_store::laws::law_records_are_sound;
 use vlm_store::{ProcAt, Store};
 use vlm_words::asts::Ast;
 
-/// How many ASTs are queued to a process and not yet taken.
+/// How many ASTs are pending for a process.
 pub fn pending(store: &Store, at: ProcAt) -> usize
     requires { HasProcess at store.now }
     ensures { (pid : ℕ) → IsProcess at pid store.now → result
@@ -19,7 +19,7 @@ pub fn pending(store: &Store, at: ProcAt) -> usize
     store.process_record(at).asts.len()
 }
 
-/// Takes the AST that was queued to a process first, of those that are pending, if there is one.
+/// Takes the oldest pending AST of a process, if there is one.
 pub fn take(store: &mut Store, at: ProcAt) -> Option<Ast>
     requires { HasProcess at store.old }
     ensures taken { (pid : ℕ) → IsProcess at pid store.old → result
@@ -33,8 +33,7 @@ pub fn take(store: &mut Store, at: ProcAt) -> Option<Ast>
     store.take_ast(at)
 }
 
-/// Makes room for so many more ASTs of a process than are queued to it and owed, and owes them. Where memory is
-/// refused nothing is changed.
+/// Makes room for this many more ASTs of a process, and counts them as due. If memory is refused, nothing is changed.
 // Kept out of line: only requests that name routines come here.
 #[inline(never)]
 pub fn owe(store: &mut Store, at: ProcAt, count: usize) -> Result<(), AllocError>
@@ -50,7 +49,7 @@ pub fn owe(store: &mut Store, at: ProcAt, count: usize) -> Result<(), AllocError
     store.owe(at, count)
 }
 
-/// Queues an AST that a process is owed, behind those that are queued to it.
+/// Queues a due AST of a process, at the end. It takes no memory.
 pub fn queue_ast(store: &mut Store, at: ProcAt, ast: Ast)
     requires there { HasProcess at store.old }
     requires owed { (pid : ℕ) → IsProcess at pid store.old → 0 < due_of pid store.old }
@@ -64,7 +63,7 @@ pub fn queue_ast(store: &mut Store, at: ProcAt, ast: Ast)
     store.queue_ast(at, ast);
 }
 
-/// Of the ASTs that a process is owed so many will not come: their room is free again.
+/// Gives back the room of this many due ASTs, which will not come.
 pub fn forgive(store: &mut Store, at: ProcAt, count: usize)
     requires there { HasProcess at store.old }
     requires owed { (pid : ℕ) → IsProcess at pid store.old → count ≤ due_of pid store.old }

@@ -1,4 +1,4 @@
-//! What a process may do.
+//! The group, privilege and quota of a process.
 
 ghost use Rattle.std.specs.Prelude.{◌≡◌, ℕ, false, nat_lt};
 ghost use Rattle.std.specs.Option.{option_map_or};
@@ -27,7 +27,7 @@ pub fn has_syslck(store: &Store, at: ProcAt) -> bool
     store.process_record(at).authorization.syslck
 }
 
-/// Whether a process may have one lock more: it has fewer, waiting ones too, than its quota.
+/// Whether a process may have one more lock: it has fewer than its quota, waiting ones included.
 pub fn has_room(store: &Store, at: ProcAt) -> bool
     requires { HasProcess at store.now }
     ensures { (pid : ℕ) → IsProcess at pid store.now → result

@@ -1,4 +1,4 @@
-//! What is written to status blocks and read from them.
+//! Reads and writes of status blocks. They are numbered from 1, and a write to a missing block does nothing.
 
 ghost use Rattle.std.specs.Prelude.{◌≡◌, ℕ};
 ghost use Rattle.vlm_words.specs.declared.conditions.Cond.{Cond};
@@ -12,7 +12,7 @@ use vlm_words::blocks::Block;
 use vlm_words::conditions::Cond;
 use vlm_words::resources::ValueBlock;
 
-// The status blocks of a process, of which block n stands at n - 1.
+// The status blocks of a process. Block n is at index n - 1.
 fn status_blocks(store: &Store, at: ProcAt) -> &[Block]
     requires { HasProcess at store.now }
     ensures { (pid : ℕ) → IsProcess at pid store.now → result.now
@@ -21,7 +21,6 @@ fn status_blocks(store: &Store, at: ProcAt) -> &[Block]
     &store.process_record(at).blocks
 }
 
-// Puts a status block in the place of the one with this number, if the process has it.
 fn write(store: &mut Store, at: ProcAt, number: u8, block: Block)
     requires { HasProcess at store.old }
     ensures written { (pid : ℕ) → IsProcess at pid store.old → plain_processes store.new
@@ -33,7 +32,7 @@ fn write(store: &mut Store, at: ProcAt, number: u8, block: Block)
     store.set_status_block(at, number, block);
 }
 
-/// The status block of this number, from 1. None where the process does not have it.
+/// The status block with this number, if the process has it.
 #[tactic(auto, unfolding(vlm_words::specs::StatusBlocks::status_block_at))]
 pub fn status_block(store: &Store, at: ProcAt, number: u8) -> Option<Block>
     requires { HasProcess at store.now }
@@ -48,7 +47,7 @@ pub fn status_block(store: &Store, at: ProcAt, number: u8) -> Option<Block>
         .copied()
 }
 
-/// The status block of this number, from 1, or a new one where the process does not have it.
+/// The status block with this number. If the process does not have it, a new one.
 pub fn status_block_or_new(store: &Store, at: ProcAt, number: u8) -> Block
     requires { HasProcess at store.now }
     ensures { (pid : ℕ) → IsProcess at pid store.now → result
@@ -57,8 +56,7 @@ pub fn status_block_or_new(store: &Store, at: ProcAt, number: u8) -> Block
     status_block(store, at, number).unwrap_or(Block::new())
 }
 
-/// A request for the lock was accepted with this status block: it is pending, and the block has the
-/// lock's identification and keeps its value part and its tail.
+/// Marks the status block of an accepted request as pending, with its lock. Value part and tail stay.
 #[tactic(auto, unfolding(vlm_words::specs::StatusBlocks::processes_after_acceptance))]
 pub fn accept(store: &mut Store, at: ProcAt, number: u8, lkid: u32)
     requires { HasProcess at store.old }
@@ -71,8 +69,8 @@ pub fn accept(store: &mut Store, at: ProcAt, number: u8, lkid: u32)
     store.set_request(at, number, 0, lkid);
 }
 
-/// Accepts a request for the lock and grants it at once: the status block gets the lock's identification and NORMAL, and
-/// keeps its value part and its tail. It does what `accept` and then `end` do, in one write.
+/// Marks the status block of a request that is granted at once: its lock and NORMAL. Value part and tail stay. It is
+/// `accept` and `end` in one write.
 #[tactic(auto, unfolding(vlm_words::specs::StatusBlocks::processes_after_acceptance))]
 pub fn accept_granted(store: &mut Store, at: ProcAt, number: u8, lkid: u32)
     requires { HasProcess at store.old }
@@ -86,7 +84,7 @@ pub fn accept_granted(store: &mut Store, at: ProcAt, number: u8, lkid: u32)
     store.set_request(at, number, Cond::Normal.number(), lkid);
 }
 
-/// Writes the value part of the status block, and its tail where one is given, and nothing else.
+/// Writes the value part of a status block, and its tail if one is given.
 #[tactic(auto, unfolding(vlm_words::specs::StatusBlocks::processes_after_setting))]
 pub fn set_value(store: &mut Store, at: ProcAt, number: u8, value: [u8; 16], tail: Option<[u8; 48]>)
     requires { HasProcess at store.old }
@@ -104,8 +102,7 @@ pub fn set_value(store: &mut Store, at: ProcAt, number: u8, value: [u8; 16], tai
     write(store, at, number, set);
 }
 
-/// A request of the process has ended: its status block gets the number of the condition, and keeps its lock,
-/// its value part and its tail.
+/// Ends a request: its status block gets the condition. Lock, value part and tail stay.
 #[tactic(auto, unfolding(vlm_words::specs::StatusBlocks::processes_after_status))]
 pub fn end(store: &mut Store, at: ProcAt, number: u8, cond: Cond)
     requires { HasProcess at store.old }
@@ -118,9 +115,8 @@ pub fn end(store: &mut Store, at: ProcAt, number: u8, cond: Cond)
     store.set_status(at, number, cond.number());
 }
 
-/// A request of the process has ended, and the value block of its resource is returned, with its tail where it is
-/// returned wide: its status block gets the bytes, valid or not, and NORMAL, or VALNOTVALID or WIDENOTVALID where they
-/// are not. It keeps its lock.
+/// Ends a request whose grant returns the value block: its status block gets the value, if wide the tail too, and
+/// NORMAL, VALNOTVALID or WIDENOTVALID by their marks. The lock stays.
 #[tactic(auto, unfolding(vlm_words::specs::StatusBlocks::processes_after_return))]
 pub fn end_with_return(store: &mut Store, at: ProcAt, number: u8, wide: bool, returned: &ValueBlock)
     requires { HasProcess at store.old }

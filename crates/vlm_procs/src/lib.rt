@@ -1,6 +1,6 @@
-//! The processes in the records of the store: their status blocks, their ASTs, and what each may do.
+//! The processes of the store: their status blocks, ASTs, quotas and privileges.
 //!
-//! Nothing here takes memory, but for `owe`.
+//! Only `owe` takes memory.
 #![tactic(auto)]
 
 mod asts;

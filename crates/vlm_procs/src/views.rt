@@ -1,4 +1,4 @@
-//! What is shown of a process.
+//! A view of a process, as a copy that outlives the next step.
 
 ghost use Rattle.std.specs.Prelude.{◌≡◌, slice_get};
 ghost use Rattle.std.specs.Option.{option_map};
@@ -8,7 +8,7 @@ ghost use Rattle.vlm_procs.specs.Views.{process_view};
 
 use vlm_store::{Process, Store};
 
-/// A process as it was declared, without the locks that it has.
+/// A process as it was declared, and how many ASTs are pending for it. Its locks are left out.
 #[derive(Clone, Copy)]
 pub struct ProcessView {
     /// Its identification.
@@ -19,16 +19,16 @@ pub struct ProcessView {
     pub group: u16,
     /// Whether it has the privilege SYSLCK.
     pub syslck: bool,
-    /// How many locks it may have, those that wait too.
+    /// How many locks it may have, waiting ones included (ENQLM).
     pub quota: u16,
-    /// How many status blocks it has: they are numbered from 1.
+    /// How many status blocks it has. They are numbered from 1.
     pub blocks: usize,
-    /// How many ASTs are queued to it and not yet taken.
+    /// How many ASTs are pending for it.
     pub pending: usize,
 }
 
 impl ProcessView {
-    /// What is shown of the record of a process.
+    /// The view of a record.
     pub fn of(process: &Process) -> ProcessView
         ensures { result ≡ process_view (plain_process process.now) }
     {
@@ -44,7 +44,8 @@ impl ProcessView {
     }
 }
 
-/// The process at an index, from 0, in order of making. None past the last. The cost grows with the index.
+/// The process at an index, from 0, in the order of making; nothing after the last one. The cost grows with the
+/// index.
 pub fn process_at(store: &Store, index: usize) -> Option<ProcessView>
     ensures { result ≡ option_map process_view (slice_get (plain_processes store.now) index) }
 {
