@@ -1,10 +1,11 @@
-//! A set of small numbers whose least is found at once, and processes marked in such sets, node by node.
+//! Sets of small numbers that find their least number in constant time, and such sets of processes for each node.
 //!
-//! A number is marked or not. Marking, unmarking and finding the least marked number take constant time and no
-//! memory: room for numbers is made beforehand, and that is the one call that may want memory.
+//! Marking, unmarking and finding the least number take constant time and no memory. Only the call that makes room
+//! takes memory.
 //!
-//! A number has a bit in a word of 64. Above these words stand two levels: a bit for each word that tells whether it
-//! has a bit that is 1, and a bit for each word of these. So the least is found from the top by three words.
+//! A number has a bit in a word of 64. Above these words are two levels: the first has a bit for each word, the
+//! second a bit for each word of the first, and a bit says whether its word is not 0. So the least number is found
+//! from the top, by three words.
 #![tactic(auto)]
 
 mod marks;

@@ -1,4 +1,4 @@
-//! Marked numbers in three levels of words.
+//! A set of numbers, in three levels of words.
 
 ghost use Rattle.std.specs.Prelude.{◌≡◌, ◌≤◌, ◌<◌, ◌-◌, ◌*◌, ◌/◌, ◌++◌, [], false, length, position, replicate, slice_index_or, slice_set, true, IsOk, OnErr, OnOk};
 
@@ -6,21 +6,21 @@ use crate::words::{clear_bit, first_bit, has_bit, set_bit};
 use std::alloc::{AllocError, Global};
 use std::marker::Model;
 
-/// Numbers of 0 to 65,535, each marked or not.
+/// A set of numbers from 0 to 65,535. A mark says that a number is in the set.
 #[derive(Drop)]
 pub struct Marks {
-    // a bit for each number that there is room for: 1 where it is marked
+    // a bit for each number that there is room for: 1 if it is marked
     numbers: Vec<u64>,
-    // a bit for each word of the numbers: 1 where it is not 0
+    // a bit for each word of `numbers`: 1 if the word is not 0
     words: [u64; 16],
-    // a bit for each word above: 1 where it is not 0
+    // a bit for each word of `words`: 1 if the word is not 0
     top: [u64; 1],
 }
 
 impl Model for Marks {
     ghost use Rattle.std.specs.Prelude.{Bool, List};
 
-    // Whether each number is marked, of those that there is room for.
+    // For each number that there is room for: whether it is marked.
     ghost Value = { List Bool };
 
     ghost use Rattle.vlm_marks.specs.Marks.{IsLevelled, marks_shown};
@@ -31,7 +31,7 @@ impl Model for Marks {
 }
 
 impl Marks {
-    /// No marks, and no room for any. It takes no memory.
+    /// An empty set without room. It takes no memory.
     pub fn new(alloc: Global) -> Self
         ensures { result ≡ [] }
     {
@@ -42,8 +42,8 @@ impl Marks {
         }
     }
 
-    /// Makes room for the number and all below it, for 64 at a time. Those that are new are not marked. Where memory
-    /// is refused nothing is changed. The memory grows to twice its size, so many calls seldom move the words.
+    /// Makes room for the number, the lower ones and at most 63 higher ones, all new ones unmarked. If memory is
+    /// refused, nothing is changed. The memory doubles as it grows, so the words seldom move.
     pub fn make_room(&mut self, number: u16) -> Result<(), AllocError>
         ensures room { OnOk result (number < length self.new) }
         ensures unmarked { OnOk result (self.new
@@ -58,7 +58,7 @@ impl Marks {
         Ok(())
     }
 
-    /// Marks a number.
+    /// Marks a number, marked or not.
     pub fn mark(&mut self, number: u16)
         requires { number < length self.old }
         ensures { self.new ≡ slice_set self.old number true }
@@ -69,7 +69,7 @@ impl Marks {
         set_bit(&mut self.top, number / 64 / 64);
     }
 
-    /// Takes a number's mark away, if it has one.
+    /// Removes a number's mark, if it has one.
     pub fn unmark(&mut self, number: u16)
         requires { number < length self.old }
         ensures { self.new ≡ slice_set self.old number false }
@@ -83,7 +83,7 @@ impl Marks {
         }
     }
 
-    /// Takes all marks away, one after the other. The room stays.
+    /// Removes all marks, one after another. The room stays.
     pub fn clear(&mut self)
         ensures { self.new ≡ replicate (length self.old) false }
     {
@@ -92,14 +92,14 @@ impl Marks {
         }
     }
 
-    /// Whether a number is marked. One that there is no room for is not.
+    /// Whether a number is marked. A number without room is not.
     pub fn has(&self, number: u16) -> bool
         ensures { result ≡ slice_index_or self.now number false }
     {
         has_bit(&self.numbers, usize::from(number))
     }
 
-    /// The least number that is marked, if one is.
+    /// The least marked number, if one is marked.
     pub fn first(&self) -> Option<u16>
         ensures { result ≡ position (λ is_marked. is_marked) self.now }
     {

@@ -1,4 +1,4 @@
-//! Marked processes, node by node.
+//! Sets of processes, one for each node.
 
 ghost use Rattle.std.specs.Prelude.{◌≡◌, ◌/◌, ◌<◌, ◌≤◌, ℕ, false, true, IfSome, IsOk, OnErr, OnOk};
 ghost use Rattle.vlm_marks.specs.Nodes.{Grows, HasRoomFor, IsFirstMarked, Writes, is_marked, place_of};
@@ -7,24 +7,24 @@ use crate::marks::Marks;
 use std::alloc::{AllocError, Global};
 use std::marker::Model;
 
-// How many nodes there are, numbered from 1.
+// The number of nodes. Their numbers begin at 1.
 const NODES: usize = 8;
 
 // How many identifications each node has.
 const ORDINALS: u32 = 65_536;
 
-/// Processes of the nodes 1 to 8, each marked or not. The identification of a process is 65,536 times its node, and
-/// its ordinal. One of another node is not marked and wants no room.
+/// Sets of processes of the nodes 1 to 8. The identification of a process is node x 65,536 + ordinal. A process of
+/// another node is never marked and needs no room.
 #[derive(Drop)]
 pub struct NodeMarks {
-    // the ordinals that are marked of node k stand at k - 1
+    // the marked ordinals of node k, at index k - 1
     nodes: [Marks; NODES],
 }
 
 impl Model for NodeMarks {
     ghost use Rattle.std.specs.Prelude.{Bool, List};
 
-    // Of each node, which ordinals are marked, of those that there is room for.
+    // For each node and each ordinal that there is room for: whether it is marked.
     ghost Value = { List (List Bool) };
 
     ghost use Rattle.vlm_marks.specs.Nodes.{AreEight};
@@ -34,7 +34,7 @@ impl Model for NodeMarks {
     ghost invariant = { λ m. AreEight m.nodes };
 }
 
-// Where the marks of the process stand, if its node has any.
+// The index of the process's node, if the node is 1 to 8.
 #[tactic(auto, unfolding(crate::specs::Nodes::place_of))]
 fn place_of(pid: u32) -> Option<usize>
     ensures place { result ≡ place_of pid }
@@ -49,7 +49,7 @@ fn place_of(pid: u32) -> Option<usize>
 }
 
 impl NodeMarks {
-    /// No marks, and no room for any. It takes no memory.
+    /// Empty sets without room. It takes no memory.
     pub fn new(alloc: Global) -> Self
         ensures { (pid : ℕ) → is_marked result pid ≡ false }
     {
@@ -67,7 +67,7 @@ impl NodeMarks {
         }
     }
 
-    /// Makes room to mark the process, and 64 of its node at a time. Where memory is refused nothing is changed.
+    /// Makes room for a process, as `Marks::make_room` does. If memory is refused, nothing is changed.
     pub fn make_room(&mut self, pid: u32) -> Result<(), AllocError>
         ensures room { OnOk result (HasRoomFor self.new pid) }
         ensures kept { OnOk result (Grows self.old self.new) }
@@ -81,7 +81,7 @@ impl NodeMarks {
         }
     }
 
-    /// Marks a process.
+    /// Marks a process, marked or not.
     pub fn mark(&mut self, pid: u32)
         requires { HasRoomFor self.old pid }
         ensures { Writes pid true self.old self.new }
@@ -91,7 +91,7 @@ impl NodeMarks {
         }
     }
 
-    /// Takes a process's mark away, if it has one.
+    /// Removes a process's mark, if it has one.
     pub fn unmark(&mut self, pid: u32)
         requires { HasRoomFor self.old pid }
         ensures { Writes pid false self.old self.new }
@@ -111,7 +111,7 @@ impl NodeMarks {
         }
     }
 
-    /// Takes all marks away. The room stays.
+    /// Removes all marks. The room stays.
     pub fn clear(&mut self)
         ensures none { (pid : ℕ) → is_marked self.new pid ≡ false }
         ensures room { (pid : ℕ) → HasRoomFor self.old pid → HasRoomFor self.new pid }
@@ -121,7 +121,7 @@ impl NodeMarks {
         }
     }
 
-    /// The least identification of the node's marked processes, if one is marked.
+    /// The least marked identification of the node, if one is marked.
     pub fn first(&self, node: u8) -> Option<u32>
         ensures { IsFirstMarked self.now node result }
     {

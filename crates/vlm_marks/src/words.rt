@@ -3,7 +3,6 @@
 ghost use Rattle.std.specs.Prelude.{◌≡◌, ◌==◌, ◌*◌, ◌/◌, ◌<◌, ◌≤◌, ◌↔◌, IsTrue, length, slice_index};
 ghost use Rattle.vlm_marks.specs.Words.{IsFirstBit, IsFirstWord, Sets, bit_of};
 
-/// Makes the number's bit 1.
 pub(crate) fn set_bit(words: &mut [u64], number: usize)
     requires { number < 64 * length words.old }
     ensures { Sets 1 number words.old words.new }
@@ -11,7 +10,7 @@ pub(crate) fn set_bit(words: &mut [u64], number: usize)
     words[number / 64] |= 1 << (number % 64);
 }
 
-/// Makes the number's bit 0, and answers whether its word is 0 then.
+/// Clears the number's bit, and answers whether its word is 0 after that.
 pub(crate) fn clear_bit(words: &mut [u64], number: usize) -> bool
     requires { number < 64 * length words.old }
     ensures sets { Sets 0 number words.old words.new }
@@ -23,7 +22,7 @@ pub(crate) fn clear_bit(words: &mut [u64], number: usize) -> bool
     words[number / 64] == 0
 }
 
-/// Whether the number's bit is 1. Behind the last word all bits are 0.
+/// Whether the number's bit is 1. After the last word all bits are 0.
 pub(crate) fn has_bit(words: &[u64], number: usize) -> bool
     ensures { result ≡ (bit_of words.now number == 1) }
 {
@@ -33,7 +32,7 @@ pub(crate) fn has_bit(words: &[u64], number: usize) -> bool
     }
 }
 
-/// The first number whose bit is 1, by the first word that is not 0.
+/// The first number whose bit is 1. `word` is the first word that is not 0.
 pub(crate) fn first_bit(words: &[u64], word: usize) -> usize
     requires few { length words.now ≤ 1024 }
     requires first { IsFirstWord words.now word }
