@@ -1,4 +1,4 @@
-//! The counts of the modes that the locks of a resource hold and want.
+//! The counts of one resource.
 
 ghost use Rattle.std.specs.Prelude.{◌≡◌, ◌+◌, ◌<◌, ◌≤◌, ◌^◌, not};
 ghost use Rattle.vlm_words.specs.declared.modes.Mode.{Mode};
@@ -10,16 +10,16 @@ use vlm_words::locks::{Request, Row};
 use vlm_words::modes::{Mode, compatible};
 use vlm_words::resources::Queue;
 
-/// How many locks of a resource hold each mode, and how many want it.
+/// For each mode, how many locks of a resource hold it, and how many want it.
 #[derive(Clone, Copy)]
 pub struct Tally {
-    // how many hold each mode, by its rank: the granted and the converting
+    // by rank, how many granted and converting locks hold each mode
     held: [u32; 6],
-    // how many want each mode, by its rank: the converting and the waiting
+    // by rank, how many converting and waiting locks want each mode
     wanted: [u32; 6],
 }
 
-// One more lock is counted with what is asked for.
+// One more lock holds or wants the mode of this request, if there is one.
 fn count_in(counts: &mut [u32; 6], request: &Option<Request>)
     requires { (mode : Mode) → count_of counts.old mode + 1 < 2 ^ 32 }
     ensures { (mode : Mode) → count_of counts.new mode
@@ -30,7 +30,7 @@ fn count_in(counts: &mut [u32; 6], request: &Option<Request>)
     }
 }
 
-// One lock less is counted with what is asked for.
+// One lock less holds or wants the mode of this request, if there is one.
 fn count_out(counts: &mut [u32; 6], request: &Option<Request>)
     requires { (mode : Mode) → one_if (is_mode mode request.now) ≤ count_of counts.old mode }
     ensures { (mode : Mode) → count_of counts.new mode + one_if (is_mode mode request.now)
@@ -41,14 +41,12 @@ fn count_out(counts: &mut [u32; 6], request: &Option<Request>)
     }
 }
 
-// Whether no lock is counted with this mode, or the one that is asked for is compatible with it.
 fn is_free(counts: &[u32; 6], mode: Mode, counted: Mode) -> bool
     ensures { result ≡ none_or (is_compatible mode) (count_of counts.now) counted }
 {
     counts[counted.rank()] == 0 || compatible(mode, counted)
 }
 
-// Whether the mode is compatible with every mode that is counted.
 #[tactic(auto, unfolding(crate::specs::Tallies::counts_fit))]
 fn counts_fit(counts: &[u32; 6], mode: Mode) -> bool
     ensures { result ≡ counts_fit mode (count_of counts.now) }
@@ -64,7 +62,7 @@ fn counts_fit(counts: &[u32; 6], mode: Mode) -> bool
 impl Tally {
     ghost use Rattle.vlm_tallies.specs.Tallies.{no_tally};
 
-    /// A tally of no locks.
+    /// The counts of no locks.
     pub fn new() -> Self
         ensures { result ≡ no_tally }
     {
@@ -74,7 +72,7 @@ impl Tally {
         }
     }
 
-    /// Counts one more lock, which stands in this queue with this row.
+    /// Counts a lock in, with its queue and its row.
     pub fn add(&mut self, queue: Queue, row: &Row)
         requires { (count : Count) (mode : Mode) → how_many count self.old mode + 1 < 2 ^ 32 }
         ensures { (count : Count) (mode : Mode) → how_many count self.new mode
@@ -90,7 +88,7 @@ impl Tally {
         }
     }
 
-    /// Counts out a lock that stood in this queue with this row.
+    /// Counts a lock out, with the queue and the row by which it was counted in.
     pub fn remove(&mut self, queue: Queue, row: &Row)
         requires { (count : Count) (mode : Mode) → weight_of count mode queue row.now
             ≤ how_many count self.old mode }
@@ -107,21 +105,21 @@ impl Tally {
         }
     }
 
-    /// How many locks hold each mode, from NL to EX.
+    /// How many locks hold each mode, from NL to EX, granted or converting.
     pub fn held(&self) -> [u32; 6]
         ensures { result ≡ by_mode (how_many of_held self.now) }
     {
         self.held
     }
 
-    /// Whether the mode is compatible with every mode that is held.
+    /// Whether the mode is compatible with every held mode.
     pub fn fits(&self, mode: Mode) -> bool
         ensures { result ≡ counts_fit mode (how_many of_held self.now) }
     {
         counts_fit(&self.held, mode)
     }
 
-    /// Whether the mode is compatible with every mode that is held by the locks other than one that holds `own`.
+    /// Whether the mode is compatible with every held mode, if one lock that holds `own` is left out.
     pub fn fits_beside(&self, mode: Mode, own: &Option<Request>) -> bool
         requires { (mode : Mode) → one_if (is_mode mode own.now) ≤ how_many of_held self.now mode }
         ensures { result ≡ counts_fit mode (held_beside own.now self.now) }
@@ -131,7 +129,7 @@ impl Tally {
         counts_fit(&held, mode)
     }
 
-    /// Whether the mode is incompatible with some mode that is wanted.
+    /// Whether the mode is incompatible with some wanted mode.
     pub fn keeps_out(&self, mode: Mode) -> bool
         ensures { result ≡ not (counts_fit mode (how_many of_wanted self.now)) }
     {
