@@ -4,28 +4,27 @@ use Rattle.circular_buffer.specs.Buffer.{Buffer}
 use Rattle.vlm_words.specs.declared.asts.Ast.{Ast}
 use Rattle.vlm_asts.specs.declared.queues.AstQueue.TheInside.{Inside}
 
--- the ASTs that are queued and not yet taken, the oldest first; how many more are owed; and how many beyond these
--- there is room for
+-- the pending ASTs, oldest first; how many more are due; and how many more the buffer has room for
 pub record Asts : Type 0 where
   pub pending : List Ast
   pub due : ℕ
   pub free : ℕ
 
--- nothing is queued or owed, and there is no room
+-- nothing is pending or due, and there is no room
 abbrev pub no_asts : Asts
 no_asts = record { pending = []; due = 0; free = 0 }
 
--- the ASTs in a buffer, none where there is no buffer
+-- the ASTs in a buffer; empty without a buffer
 abbrev pub asts_in : Option (Buffer Ast) → List Ast
 asts_in None = []
 asts_in (Some ring) = ring.items
 
--- how many ASTs a buffer has room for
+-- how many ASTs a buffer takes; 0 without a buffer
 abbrev pub ast_room : Option (Buffer Ast) → ℕ
 ast_room None = 0
 ast_room (Some ring) = ring.capacity
 
--- what the fields show
+-- the queue that the fields show
 abbrev pub asts_shown : Inside → Asts
 asts_shown q = record {
   pending = asts_in q.ring;
@@ -33,6 +32,6 @@ asts_shown q = record {
   free = ast_room q.ring - (length (asts_in q.ring) + q.due);
 }
 
--- there is room for what is queued and what is owed
+-- the buffer has room for the pending and the due ASTs
 pub record HasRoomForDue (q : Inside) : Type 0 where
   pub room : length (asts_in q.ring) + q.due ≤ ast_room q.ring

@@ -1,8 +1,8 @@
-//! The ASTs of one process: those that are queued to it, first in, first out, and room for those to come.
+//! The ASTs of one process, first in, first out, with room for those that are due.
 //!
-//! A process is owed ASTs before they come: whoever accepts a request that names routines makes room for what
-//! these may queue, and that is the one call that may want memory. From then on an AST is queued into room that
-//! is there, and cannot fail. What is owed and never comes is forgiven, and its room is free again.
+//! When a request with routines is accepted, its process is owed one AST for each routine, and `owe` makes the room.
+//! Only that call takes memory. Later an AST is queued into this room, and that cannot fail. If a due AST will not
+//! come, its room is given back (`forgive`).
 #![tactic(auto)]
 
 mod queues;

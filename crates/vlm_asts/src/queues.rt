@@ -8,15 +8,15 @@ use std::alloc::{AllocError, Global};
 use std::marker::Model;
 use vlm_words::asts::Ast;
 
-// The least room that is made, so that few requests make any.
+// The smallest buffer, so that few requests need a larger one.
 const LEAST: usize = 8;
 
-/// The ASTs that are queued to a process and not yet taken, and room for those that it is owed.
+/// The pending ASTs of a process, and room for its due ASTs.
 #[derive(Drop)]
 pub struct AstQueue {
-    // the ASTs, the oldest first; no buffer before any is owed
+    // the pending ASTs, oldest first; no buffer until an AST is owed
     ring: Option<HeapCircularBuffer<Ast>>,
-    // how many more are owed: the buffer has room for them
+    // how many ASTs are due, without the pending ones; the buffer has room for them
     due: usize,
 }
 
@@ -33,14 +33,14 @@ impl Model for AstQueue {
 }
 
 impl AstQueue {
-    /// A queue without ASTs, which is owed none. It takes no memory.
+    /// An empty queue. It takes no memory.
     pub fn new() -> Self
         ensures { result ≡ no_asts }
     {
         AstQueue { ring: None, due: 0 }
     }
 
-    /// How many ASTs are queued and not yet taken.
+    /// How many ASTs are pending.
     pub fn len(&self) -> usize
         ensures { result ≡ length self.now.pending }
     {
@@ -50,7 +50,7 @@ impl AstQueue {
         }
     }
 
-    // How many ASTs the buffer takes in all.
+    // How many ASTs the buffer takes in all, pending, due and free.
     fn capacity(&self) -> usize
         ensures capacity { result ≡ length self.now.pending + self.now.due + self.now.free }
         ensures within { result < 2 ^ 63 }
@@ -61,7 +61,7 @@ impl AstQueue {
         }
     }
 
-    // How many more ASTs can be owed without a growth.
+    // How many more ASTs can be owed without a larger buffer.
     fn free(&self) -> usize
         ensures free { result ≡ self.now.free }
         ensures within { self.now.due + result < 2 ^ 63 }
@@ -69,7 +69,7 @@ impl AstQueue {
         self.capacity() - self.len() - self.due
     }
 
-    // Moves the ASTs to a buffer in which there is room for so many more, and which takes at least twice as many.
+    // Moves the ASTs to a buffer with room for this many more. It is at least twice as large as the old one.
     fn grow(&mut self, alloc: Global, count: usize) -> Result<(), AllocError>
         ensures pending { self.new.pending ≡ self.old.pending }
         ensures due { self.new.due ≡ self.old.due }
@@ -89,9 +89,8 @@ impl AstQueue {
         }
     }
 
-    /// Makes room for so many more ASTs than are queued and owed, and owes them. Where there is no room for them it
-    /// makes at least twice as much as there was, so that many requests seldom move the ASTs. Where memory is
-    /// refused nothing is changed.
+    /// Makes room for this many more ASTs, and counts them as due. A full buffer at least doubles, so many requests
+    /// seldom move the ASTs. If memory is refused, nothing is changed.
     pub fn owe(&mut self, alloc: Global, count: usize) -> Result<(), AllocError>
         ensures due { OnOk result (self.new.due ≡ self.old.due + count) }
         ensures free { OnOk result (self.old.free ≤ self.new.free + count) }
@@ -108,7 +107,7 @@ impl AstQueue {
         Ok(())
     }
 
-    /// Queues an AST that is owed, behind the others.
+    /// Queues a due AST, at the end.
     pub fn queue(&mut self, ast: Ast)
         requires { 0 < self.old.due }
         ensures { self.new ≡ record self.old {
@@ -122,7 +121,7 @@ impl AstQueue {
         self.due -= 1;
     }
 
-    /// Of what is owed so many ASTs will not come: their room is free again.
+    /// Gives back the room of this many due ASTs, which will not come.
     pub fn forgive(&mut self, count: usize)
         requires { count ≤ self.old.due }
         ensures { self.new ≡ record self.old {
@@ -133,7 +132,7 @@ impl AstQueue {
         self.due -= count;
     }
 
-    /// Takes the oldest AST, if there is one. Its room is free again.
+    /// Takes the oldest AST, if there is one.
     pub fn take(&mut self) -> Option<Ast>
         ensures taken { result ≡ slice_get self.old.pending 0 }
         ensures pending { self.new.pending ≡ drop 1 self.old.pending }
