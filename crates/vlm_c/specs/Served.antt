@@ -9,7 +9,7 @@ use Rattle.vlm_words.specs.declared.steps.Answer.{Answer}
 use Rattle.vlm_words.specs.declared.steps.Step.{Step}
 use Rattle.vlm_words.specs.Conditions.{condition_number}
 use Rattle.vlm_words.specs.State.{State, start}
-use Rattle.vlm_words.specs.Stepped.{Outcome}
+use Rattle.vlm_model.specs.Stepped.{Outcome}
 use Rattle.vlm_c.specs.declared.replies.VlmAst.{VlmAst}
 
 -- the call relates the core before, its result and the core after; with no core it does not run

@@ -11,7 +11,7 @@ use Rattle.vlm_words.specs.declared.resources.Queue.{Queue}
 use Rattle.vlm_words.specs.Conditions.{condition_number}
 use Rattle.vlm_words.specs.Padding.{padded}
 use Rattle.vlm_words.specs.State.{State, process_of as living_process}
-use Rattle.vlm_words.specs.StatusBlocks.{status_block_at}
+use Rattle.vlm_model.specs.StatusBlocks.{status_block_at}
 use Rattle.vlm_procs.specs.declared.views.ProcessView.{ProcessView}
 use Rattle.vlm_procs.specs.Views.{process_view}
 use Rattle.vlm_queue.specs.declared.views.ResourceView.{ResourceView}

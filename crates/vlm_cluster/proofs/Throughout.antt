@@ -1,7 +1,7 @@
 -- What holds at each place of a journal.
 use Rattle.std.proofs.Common.{◌↔◌, List, ◌++◌, subst}
 use Rattle.std.specs.Prelude.{All}
-use Rattle.vlm_words.specs.Runs.{History, Legal, Run}
+use Rattle.vlm_model.specs.Runs.{History, Legal, Run}
 use Rattle.vlm_words.specs.State.{State, start}
 use Rattle.vlm_journal.specs.declared.entries.Entry.{Entry}
 use Rattle.vlm_journal.specs.Journals.{IsAllowed, Journal, JournalFrom, answers_of, steps_of}

@@ -6,10 +6,10 @@ use mathlib.Core.List.{IsPrefix}
 use Rattle.vlm_words.specs.declared.locks.Row.{Row}
 use Rattle.vlm_words.specs.declared.steps.Step.{Step}
 use Rattle.vlm_words.specs.declared.steps.Step.TheVariants.{Leave}
-use Rattle.vlm_words.specs.Laws.{EachRequestEndsOnce, GrantsFollowQueueOrder, HeldModesAreCompatible}
-use Rattle.vlm_words.specs.Runs.{History, Legal}
+use Rattle.vlm_model.specs.Laws.{EachRequestEndsOnce, GrantsFollowQueueOrder, HeldModesAreCompatible}
+use Rattle.vlm_model.specs.Runs.{History, Legal}
 use Rattle.vlm_words.specs.State.{State, start}
-use Rattle.vlm_words.specs.Stepped.{IsChoice, step_refusal}
+use Rattle.vlm_model.specs.Stepped.{IsChoice, step_refusal}
 use Rattle.vlm_journal.specs.declared.entries.Entry.{Entry}
 use Rattle.vlm_journal.specs.declared.entries.Item.{Item}
 use Rattle.vlm_journal.specs.Departed.{IsAnsweredDeparted}

@@ -8,7 +8,7 @@ ghost use Rattle.vlm_journal.specs.Journals.{Journal};
 ghost use Rattle.vlm_cluster.specs.Headline.{GrantsKeepOrder, ModesStayCompatible, RequestsEndOnce};
 
 use vlm_journal::laws::{law_join, law_journal};
-use vlm_words::laws::{
+use vlm_model::laws::{
     law_each_request_ends_once, law_grants_follow_queue_order, law_held_modes_are_compatible,
 };
 

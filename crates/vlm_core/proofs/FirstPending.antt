@@ -4,12 +4,13 @@ use Rattle.std.specs.Prelude.{◌&&◌, All, AllPairs}
 use Rattle.std.specs.List.{AllByRecursion}
 use Rattle.std.proofs.lemmas.Bool.{and_parts, eqb-true}
 use Rattle.std.proofs.lemmas.List.Elements.{recursion_from_All}
-use Rattle.vlm_links.specs.Lists.{IsIn}
-use Rattle.vlm_words.specs.Declare.{is_node}
-use Rattle.vlm_words.specs.Pending.{first_pending, is_pending_on}
+use Rattle.vlm_collections.specs.Lists.{IsIn}
+use Rattle.vlm_model.specs.Declare.{is_node}
+use Rattle.vlm_model.specs.Pending.{first_pending}
+use Rattle.vlm_words.specs.Processes.{is_pending_on}
 use Rattle.vlm_words.specs.State.{Process}
 use Rattle.vlm_words.specs.Steps.{node_of_pid}
-use Rattle.vlm_words.proofs.Pairs.{EachPair}
+use Rattle.vlm_model.proofs.Pairs.{EachPair}
 use Rattle.vlm_store.specs.Pending.{IsFirstPending, waits_on}
 use Rattle.vlm_store.specs.Records.{StoredProcess}
 use Rattle.vlm_store.proofs.Marked.{no_and}

@@ -3,10 +3,10 @@ use Rattle.std.proofs.Common.{◌≡◌, ◌<◌, ◌+◌, ℕ, List, [], ◌∷
 use Rattle.std.proofs.lemmas.List.{append-nil, take_more}
 use Rattle.vlm_words.specs.declared.steps.Answer.{Answer}
 use Rattle.vlm_words.specs.declared.steps.Step.{Step}
-use Rattle.vlm_words.specs.Runs.{history_after, no_history}
-use Rattle.vlm_words.specs.Runs.RunFrom.{begin, next}
+use Rattle.vlm_model.specs.Runs.{history_after, no_history}
+use Rattle.vlm_model.specs.Runs.RunFrom.{begin, next}
 use Rattle.vlm_words.specs.State.{State}
-use Rattle.vlm_words.specs.Stepped.{Outcome, outcome_endings, outcome_queued}
+use Rattle.vlm_model.specs.Stepped.{Outcome, outcome_endings, outcome_queued}
 use Rattle.vlm_core.specs.Running.{MakesInOrder}
 
 -- no step is made

@@ -1,9 +1,9 @@
 -- What leads from one reachable state to the next, and what is known of such a state.
 use Rattle.vlm_words.specs.declared.steps.Answer.{Answer}
 use Rattle.vlm_words.specs.declared.steps.Step.{Step}
-use Rattle.vlm_words.specs.Runs.{begin, history_after, next, no_history}
+use Rattle.vlm_model.specs.Runs.{begin, history_after, next, no_history}
 use Rattle.vlm_words.specs.State.{State, start}
-use Rattle.vlm_words.specs.Stepped.{Outcome, outcome_endings, outcome_queued}
+use Rattle.vlm_model.specs.Stepped.{Outcome, outcome_endings, outcome_queued}
 use Rattle.vlm_core.specs.Core.{IsReachable}
 
 -- the start is reached by no step

@@ -1,5 +1,5 @@
 -- The invariant of a core.
-use Rattle.vlm_words.specs.Runs.{History, Run}
+use Rattle.vlm_model.specs.Runs.{History, Run}
 use Rattle.vlm_words.specs.State.{State}
 use Rattle.vlm_machine.specs.Machine.{plain_state}
 use Rattle.vlm_machine.specs.Notes.{HasRoomToMark, HasRoomToNote}

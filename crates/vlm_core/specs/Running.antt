@@ -2,7 +2,7 @@
 use Rattle.std.specs.Prelude.{◌≡◌, List, ◌++◌}
 use Rattle.vlm_words.specs.declared.steps.Answer.{Answer}
 use Rattle.vlm_words.specs.declared.steps.Step.{Step}
-use Rattle.vlm_words.specs.Runs.{Legal}
+use Rattle.vlm_model.specs.Runs.{Legal}
 use Rattle.vlm_words.specs.State.{State}
 
 -- the steps were made in order, each in the state after the one before it, and their answers are appended

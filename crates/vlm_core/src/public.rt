@@ -2,10 +2,10 @@
 
 ghost use Rattle.std.specs.Prelude.{◌≡◌};
 ghost use Rattle.vlm_words.specs.declared.resources.Queue.{Queue};
-ghost use Rattle.vlm_words.specs.Laws.{HeldModesAreCompatible, NothingIsLeftToGrant};
+ghost use Rattle.vlm_model.specs.Laws.{HeldModesAreCompatible, NothingIsLeftToGrant};
 ghost use Rattle.vlm_words.specs.State.{start};
-ghost use Rattle.vlm_words.specs.Stepped.{IsMade, Outcome, stepped};
-ghost use Rattle.vlm_links.specs.Lists.{IsIn};
+ghost use Rattle.vlm_model.specs.Stepped.{IsMade, Outcome, stepped};
+ghost use Rattle.vlm_collections.specs.Lists.{IsIn};
 ghost use Rattle.vlm_store.specs.Plain.{plain_processes, plain_resources};
 ghost use Rattle.vlm_store.specs.Records.{StoredResource, queued, rows_of_locks};
 ghost use Rattle.vlm_queue.specs.Walks.{GivesInTurn};
@@ -17,7 +17,7 @@ use vlm_locks::Touched;
 use vlm_machine::{Machine, Scratch};
 use vlm_store::laws::law_records_are_sound;
 use vlm_store::{HashKeys, Store};
-use vlm_words::laws::{
+use vlm_model::laws::{
     law_a_declaration_gives_a_new_identification, law_a_parent_outlives_its_sublocks,
     law_each_resource_is_settled, law_held_modes_are_compatible, law_identifications_are_apart,
     law_identifications_of_processes_rise, law_no_lock_is_more_than_15_levels_below,

@@ -3,9 +3,9 @@
 
 ghost use Rattle.std.specs.Prelude.{◌≡◌, length, slice_get};
 ghost use Rattle.std.specs.Option.{option_map};
-ghost use Rattle.vlm_words.specs.Pending.{first_pending};
+ghost use Rattle.vlm_model.specs.Pending.{first_pending};
 ghost use Rattle.vlm_words.specs.State.{process_of};
-ghost use Rattle.vlm_words.specs.StatusBlocks.{status_block_at};
+ghost use Rattle.vlm_model.specs.StatusBlocks.{status_block_at};
 ghost use Rattle.vlm_procs.specs.Views.{process_view};
 ghost use Rattle.vlm_queue.specs.Views.{resource_view, row_shown, usage};
 ghost use Rattle.vlm_core.specs.Readers.{root_of};
@@ -15,14 +15,14 @@ use vlm_machine::living;
 use vlm_procs::{ProcessView, pending, process_at, status_block};
 use vlm_queue::{ResourceView, RowView, Usage, resource_at, row_at, usage_of};
 use vlm_words::blocks::Block;
-use vlm_words::laws::law_identifications_of_processes_rise;
+use vlm_model::laws::law_identifications_of_processes_rise;
 use vlm_words::names::Name;
 use vlm_words::resources::{Domain, Key, Queue};
 
 impl Core {
     /// The status block of this number, from 1, of a process: its status, its lock, its value part and its tail. `None`
     /// if no living process has the identification, or the process has no such block.
-    #[tactic(auto, unfolding(vlm_words::specs::StatusBlocks::status_block_at))]
+    #[tactic(auto, unfolding(vlm_model::specs::StatusBlocks::status_block_at))]
     pub fn block(&self, pid: u32, number: u8) -> Option<Block>
         ensures { result ≡ status_block_at self.now.processes pid number }
     {

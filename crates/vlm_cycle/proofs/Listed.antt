@@ -3,10 +3,10 @@ use Rattle.std.proofs.Common.{◌≡◌, ◌≢◌, ◌⊎◌, ℕ, List, [], �
 use Rattle.std.specs.Prelude.{Any}
 use Rattle.std.proofs.lemmas.Bool.{cases_eq}
 use Rattle.vlm_words.specs.declared.locks.Row.{Row}
-use Rattle.vlm_words.specs.Deadlocks.{IsRowAmong}
+use Rattle.vlm_model.specs.Deadlocks.{IsRowAmong}
 use Rattle.vlm_words.specs.State.{Resource}
-use Rattle.vlm_words.proofs.Each.{Any-cases, Any-here, Any-none, Any-there}
-use Rattle.vlm_links.specs.Lists.{IsIn}
+use Rattle.vlm_model.proofs.Each.{Any-cases, Any-here, Any-none, Any-there}
+use Rattle.vlm_collections.specs.Lists.{IsIn}
 use Rattle.vlm_store.specs.Plain.{plain_resource}
 use Rattle.vlm_store.specs.Records.{StoredLock, StoredResource, rows_of_locks}
 use Rattle.vlm_cycle.specs.Waiting.{rows_before}

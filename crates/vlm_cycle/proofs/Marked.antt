@@ -2,7 +2,7 @@
 use Rattle.std.proofs.Common.{◌≡◌, ◌⊎◌, ℕ, ◌/◌, ◌<◌, ◌≤◌, Bool, true, false, List, refl, sym, ap, ◌∙◌, subst, inl, inr, arith}
 use Rattle.std.specs.Prelude.{◌&&◌, nat_le}
 use Rattle.std.proofs.lemmas.Bool.{and_parts, cases_eq, leb-true}
-use Rattle.vlm_marks.specs.Nodes.{Writes, is_marked, is_node, place_of}
+use Rattle.vlm_collections.specs.Nodes.{Writes, is_marked, is_node, place_of}
 use Rattle.vlm_store.specs.Records.{IsProcess, Records}
 use Rattle.vlm_cycle.specs.Ranks.{Ranks}
 use Rattle.vlm_cycle.specs.declared.scratch.Scratch.{Scratch}

@@ -3,9 +3,9 @@ use Rattle.std.proofs.Common.{◌≡◌, ℕ, map, Option, None, Some, IfSome, r
 use Rattle.std.specs.Option.{ForSome}
 use Rattle.std.proofs.lemmas.Option.{none-some, same_Some}
 use Rattle.vlm_words.specs.declared.locks.Row.{Row}
-use Rattle.vlm_links.specs.Lists.{IsIn, first_handle, handle_after, handle_before}
-use Rattle.vlm_links.proofs.Images.{IsIn-of_image}
-use Rattle.vlm_links.proofs.Walks.{first_handle-in, handle_after-in, handle_before-in}
+use Rattle.vlm_collections.specs.Lists.{IsIn, first_handle, handle_after, handle_before}
+use Rattle.vlm_collections.proofs.Images.{IsIn-of_image}
+use Rattle.vlm_collections.proofs.Walks.{first_handle-in, handle_after-in, handle_before-in}
 use Rattle.vlm_records.specs.declared.handles.Place.{Place}
 use Rattle.vlm_store.specs.Records.{IsProcess, IsSound, IsStored, Records, StoredLock, at_after, locks_at, own_handles_at}
 use Rattle.vlm_store.proofs.Walks.{at_lock}

@@ -4,8 +4,8 @@ use Rattle.std.specs.Option.{ForSome}
 use Rattle.std.proofs.lemmas.List.{append_assoc}
 use Rattle.std.proofs.lemmas.Option.{same_Some}
 use Rattle.vlm_words.specs.declared.locks.Row.{Row}
-use Rattle.vlm_links.specs.Lists.{IsApart, IsIn, first_handle, handle_after}
-use Rattle.vlm_links.proofs.Walks.{handle_after-among}
+use Rattle.vlm_collections.specs.Lists.{IsApart, IsIn, first_handle, handle_after}
+use Rattle.vlm_collections.proofs.Walks.{handle_after-among}
 use Rattle.vlm_store.specs.Records.{FindsProcess, IsProcess, IsSound, Records, Stores, own_handles_at}
 use Rattle.vlm_locks.proofs.Chosen.{absent_before, on_from, on_from_first}
 use Rattle.vlm_locks.proofs.RunsDown.{its_handles, owned_here, stored_here}

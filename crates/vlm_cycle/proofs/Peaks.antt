@@ -6,7 +6,7 @@ use Rattle.vlm_words.specs.declared.locks.Row.{Row}
 use Rattle.vlm_words.specs.declared.modes.Mode.{Mode}
 use Rattle.vlm_words.specs.declared.modes.Mode.TheVariants.{Nl, Cr, Cw, Pr, Pw, Ex}
 use Rattle.vlm_words.specs.Modes.{is_compatible, rank as mode_rank}
-use Rattle.vlm_links.specs.Lists.{IsIn}
+use Rattle.vlm_collections.specs.Lists.{IsIn}
 use Rattle.vlm_store.specs.Records.{Records}
 use Rattle.vlm_cycle.specs.declared.gauge.Peak.{Peak}
 use Rattle.vlm_cycle.specs.declared.ranks.Ranks.{Ranks}

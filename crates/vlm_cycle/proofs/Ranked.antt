@@ -8,9 +8,9 @@ use Rattle.vlm_words.specs.declared.locks.Row.{Row}
 use Rattle.vlm_words.specs.declared.modes.Mode.{Mode}
 use Rattle.vlm_words.specs.declared.resources.Queue.{Queue}
 use Rattle.vlm_words.specs.declared.resources.Queue.TheVariants.{Granted, Conversion, Waiting}
-use Rattle.vlm_words.specs.Deadlocks.{BlocksThoseBehind, HoldsAgainst, IsDeadlocked, LeadsTo, WaitsFor}
+use Rattle.vlm_model.specs.Deadlocks.{BlocksThoseBehind, HoldsAgainst, IsDeadlocked, LeadsTo, WaitsFor}
 use Rattle.vlm_words.specs.Flags.{flag_bits, has_flag, nodlckwt}
-use Rattle.vlm_links.specs.Lists.{IsIn}
+use Rattle.vlm_collections.specs.Lists.{IsIn}
 use Rattle.vlm_records.specs.declared.handles.Place.TheVariants.{Queued}
 use Rattle.vlm_store.specs.Records.{AreProcessesApart, HasResource, IsProcess, IsSound, Records, StoredLock, StoredProcess, StoredResource, Stores, at_after, locks_at, queued, resource_at, rows_of_locks}
 use Rattle.vlm_store.proofs.Walks.{at_lock}

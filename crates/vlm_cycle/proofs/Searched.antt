@@ -3,9 +3,9 @@ use Rattle.std.proofs.Common.{◌≡◌, ◌<◌, ◌≤◌, ℕ, Bool, true, fa
 use Rattle.std.specs.Bool.{OnFalse}
 use Rattle.std.proofs.lemmas.Bool.{cases_eq}
 use Rattle.vlm_words.specs.declared.locks.Row.{Row}
-use Rattle.vlm_words.specs.Deadlocks.{IsDeadlocked, LeadsTo, WaitsFor}
-use Rattle.vlm_links.specs.Lists.{IsIn}
-use Rattle.vlm_marks.specs.Nodes.{is_marked}
+use Rattle.vlm_model.specs.Deadlocks.{IsDeadlocked, LeadsTo, WaitsFor}
+use Rattle.vlm_collections.specs.Lists.{IsIn}
+use Rattle.vlm_collections.specs.Nodes.{is_marked}
 use Rattle.vlm_store.specs.Records.{IsSound, Records, StoredProcess}
 use Rattle.vlm_cycle.specs.declared.scratch.Scratch.{Scratch}
 use Rattle.vlm_cycle.specs.Marking.{IsClear, TakesNext, Marks}

@@ -2,8 +2,8 @@
 use Rattle.std.proofs.Common.{◌≡◌, ◌≢◌, ◌⊎◌, ℕ, List, [], ◌∷◌, refl, sym, ap, ◌∙◌, subst, inl, inr, eq-eqb, ne_eqb}
 use Rattle.vlm_words.specs.declared.locks.Row.{Row}
 use Rattle.vlm_words.specs.declared.modes.Mode.{Mode}
-use Rattle.vlm_words.specs.Deadlocks.{BlocksThoseBehind}
-use Rattle.vlm_links.specs.Lists.{IsIn}
+use Rattle.vlm_model.specs.Deadlocks.{BlocksThoseBehind}
+use Rattle.vlm_collections.specs.Lists.{IsIn}
 use Rattle.vlm_cycle.specs.declared.scratch.Scratch.{Scratch}
 use Rattle.vlm_cycle.specs.Marking.{Marks}
 use Rattle.vlm_cycle.specs.Waiting.{IsHolder, OwnsBlocker, OwnsHolder, rows_before}

@@ -2,9 +2,9 @@
 use Rattle.std.specs.Prelude.{◌≡◌, ◌<◌, ◌≤◌, ⊤, List, Option, None, Some}
 use Rattle.std.specs.Option.{ForSome, option_map}
 use Rattle.vlm_words.specs.declared.locks.Row.{Row}
-use Rattle.vlm_words.specs.Deadlocks.{IsDeadlocked, IsVictim, wanted_number}
+use Rattle.vlm_model.specs.Deadlocks.{IsDeadlocked, IsVictim, wanted_number}
 use Rattle.vlm_words.specs.State.{State}
-use Rattle.vlm_links.specs.Lists.{IsIn}
+use Rattle.vlm_collections.specs.Lists.{IsIn}
 use Rattle.vlm_store.specs.Plain.{plain_resources}
 use Rattle.vlm_store.specs.Records.{Records}
 use Rattle.vlm_locks.specs.declared.finding.Standing.{Standing}

@@ -6,10 +6,10 @@ use Rattle.vlm_words.specs.declared.locks.Row.{Row}
 use Rattle.vlm_words.specs.declared.modes.Mode.{Mode}
 use Rattle.vlm_words.specs.declared.resources.Queue.{Queue}
 use Rattle.vlm_words.specs.declared.resources.Queue.TheVariants.{Granted, Conversion, Waiting}
-use Rattle.vlm_words.specs.Deadlocks.{BlocksThoseBehind, WaitsFor}
+use Rattle.vlm_model.specs.Deadlocks.{BlocksThoseBehind, WaitsFor}
 use Rattle.vlm_words.specs.Flags.{flag_bits, has_flag, nodlckblk}
 use Rattle.vlm_words.specs.Modes.{is_compatible, rank as mode_rank}
-use Rattle.vlm_links.specs.Lists.{IsIn}
+use Rattle.vlm_collections.specs.Lists.{IsIn}
 use Rattle.vlm_store.specs.Records.{Records}
 use Rattle.vlm_queue.specs.Walks.{rows_queued}
 use Rattle.vlm_locks.specs.declared.finding.Standing.{Standing}

@@ -4,10 +4,10 @@ use Rattle.vlm_words.specs.declared.locks.Row.{Row}
 use Rattle.vlm_words.specs.declared.modes.Mode.{Mode}
 use Rattle.vlm_words.specs.declared.resources.Queue.{Queue}
 use Rattle.vlm_words.specs.declared.resources.Queue.TheVariants.{Granted, Conversion, Waiting}
-use Rattle.vlm_words.specs.Deadlocks.{BlocksThoseBehind, HoldsAgainst, ProcessWaitsFor, WaitsFor}
+use Rattle.vlm_model.specs.Deadlocks.{BlocksThoseBehind, HoldsAgainst, ProcessWaitsFor, WaitsFor}
 use Rattle.vlm_words.specs.State.{State, start}
-use Rattle.vlm_links.specs.Lists.{IsIn}
-use Rattle.vlm_marks.specs.Nodes.{is_node}
+use Rattle.vlm_collections.specs.Lists.{IsIn}
+use Rattle.vlm_collections.specs.Nodes.{is_node}
 use Rattle.vlm_store.specs.Plain.{plain_resources}
 use Rattle.vlm_store.specs.Records.{Records, StoredProcess}
 use Rattle.vlm_cycle.specs.declared.scratch.Scratch.{Scratch}

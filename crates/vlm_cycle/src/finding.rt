@@ -2,7 +2,7 @@
 
 ghost use Rattle.std.specs.Prelude.{◌≡◌, ◌<◌, ◌++◌, ℕ, true, [], ◌∷◌};
 ghost use Rattle.std.specs.Bool.{OnFalse, OnTrue};
-ghost use Rattle.vlm_words.specs.Deadlocks.{wanted_number};
+ghost use Rattle.vlm_model.specs.Deadlocks.{wanted_number};
 ghost use Rattle.vlm_store.specs.Records.{HasResource, IsStored};
 ghost use Rattle.vlm_words.specs.declared.resources.Queue.{Queue};
 ghost use Rattle.vlm_queue.specs.Walks.{rows_queued};

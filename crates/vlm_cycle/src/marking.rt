@@ -1,9 +1,9 @@
 //! The owners of the locks that a queued request waits for.
 
 ghost use Rattle.std.specs.Prelude.{◌≡◌, ◌/◌, true};
-ghost use Rattle.vlm_words.specs.Deadlocks.{BlocksThoseBehind};
+ghost use Rattle.vlm_model.specs.Deadlocks.{BlocksThoseBehind};
 ghost use Rattle.vlm_words.specs.declared.resources.Queue.{Queue};
-ghost use Rattle.vlm_marks.specs.Nodes.{is_node};
+ghost use Rattle.vlm_collections.specs.Nodes.{is_node};
 ghost use Rattle.vlm_store.specs.Records.{HasResource};
 ghost use Rattle.vlm_queue.specs.Walks.{rows_queued};
 ghost use Rattle.vlm_locks.specs.Standing.{IsStanding};

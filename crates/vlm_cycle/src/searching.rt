@@ -2,7 +2,7 @@
 
 ghost use Rattle.std.specs.Prelude.{◌≡◌};
 ghost use Rattle.std.specs.Bool.{OnFalse, OnTrue};
-ghost use Rattle.vlm_words.specs.Deadlocks.{IsDeadlocked};
+ghost use Rattle.vlm_model.specs.Deadlocks.{IsDeadlocked};
 ghost use Rattle.vlm_store.specs.Records.{IsProcess};
 ghost use Rattle.vlm_locks.specs.Rest.{IsAtRest};
 ghost use Rattle.vlm_locks.specs.Standing.{IsStanding};

@@ -1,7 +1,7 @@
 //! The locks and requests that keep a queued request waiting.
 
 ghost use Rattle.std.specs.Bool.{OnFalse, OnTrue};
-ghost use Rattle.vlm_words.specs.Deadlocks.{BlocksThoseBehind, HoldsAgainst};
+ghost use Rattle.vlm_model.specs.Deadlocks.{BlocksThoseBehind, HoldsAgainst};
 
 use vlm_words::flags::EnqFlags;
 use vlm_words::locks::Request;

@@ -2,21 +2,21 @@
 use Rattle.std.proofs.Common.{◌≡◌, ◌<◌, ℕ, zero, suc, List, [], ◌∷◌, ◌++◌, Some, refl, sym, ap, ◌∙◌, subst, arith, inl, inr}
 use Rattle.std.specs.List.{AllByRecursion, slice_get}
 use Rattle.std.proofs.lemmas.List.Elements.{All-from_recursion}
-use Rattle.vlm_words.proofs.Each.{each_append}
+use Rattle.vlm_model.proofs.Each.{each_append}
 use Rattle.std.proofs.lemmas.Option.{slice_get_within}
 use Rattle.vlm_words.specs.declared.conditions.Cond.TheVariants.{Departed as departed_cond, Normal}
 use Rattle.vlm_words.specs.declared.steps.Answer.TheVariants.{Plain}
 use Rattle.vlm_words.specs.declared.steps.Answer.{Answer}
 use Rattle.vlm_words.specs.declared.steps.Step.TheVariants.{Declare, SetValue, Enq, Convert, Deq, Rundown, Leave, Search, Take}
 use Rattle.vlm_words.specs.declared.steps.Step.{Step}
-use Rattle.vlm_words.specs.Reasons.{HasDeparted}
-use Rattle.vlm_words.specs.Runs.{History, Run, history_after, next as run_next}
+use Rattle.vlm_model.specs.Reasons.{HasDeparted}
+use Rattle.vlm_model.specs.Runs.{History, Run, history_after, next as run_next}
 use Rattle.vlm_words.specs.State.{State, start}
-use Rattle.vlm_words.specs.Stepped.{Outcome, outcome_endings, outcome_queued}
+use Rattle.vlm_model.specs.Stepped.{Outcome, outcome_endings, outcome_queued}
 use Rattle.vlm_words.specs.Steps.{node_of}
-use Rattle.vlm_laws.specs.Departing.{DepartedNodesAreToldSo, HasLeft, IsDeparture, IsStepOf}
-use Rattle.vlm_laws.specs.Happened.{HasHappened}
-use Rattle.vlm_laws.proofs.Happened.{all_answered, happened_before, happened_now}
+use Rattle.vlm_model.specs.Departing.{DepartedNodesAreToldSo, HasLeft, IsDeparture, IsStepOf}
+use Rattle.vlm_model.specs.Happened.{HasHappened}
+use Rattle.vlm_model.proofs.Happened.{all_answered, happened_before, happened_now}
 use Rattle.vlm_journal.specs.declared.entries.Entry.{Entry}
 use Rattle.vlm_journal.specs.Books.{GoesOn}
 use Rattle.vlm_journal.specs.Departed.{IsAnsweredDeparted, ShowsDeparture, StaysDeparted}

@@ -12,15 +12,15 @@ use Rattle.vlm_words.specs.declared.conditions.Cond.{Cond}
 use Rattle.vlm_words.specs.declared.steps.Answer.TheVariants.{Plain, Taken}
 use Rattle.vlm_words.specs.declared.steps.Answer.{Answer}
 use Rattle.vlm_words.specs.declared.steps.Step.TheVariants.{Take}
-use Rattle.vlm_words.specs.Asts.{oldest}
-use Rattle.vlm_words.specs.Checks.{caller_refusal, has_departed}
-use Rattle.vlm_words.specs.Pending.{ProcessesRise, first_pending, is_pending_on}
-use Rattle.vlm_words.specs.Runs.{History}
+use Rattle.vlm_words.specs.Processes.{oldest, is_pending_on}
+use Rattle.vlm_model.specs.Checks.{caller_refusal, has_departed}
+use Rattle.vlm_model.specs.Pending.{ProcessesRise, first_pending}
+use Rattle.vlm_model.specs.Runs.{History}
 use Rattle.vlm_words.specs.State.{Process, State, process_of}
-use Rattle.vlm_words.specs.Stepped.{Outcome, Stepped, refused, refused_or, step_change, stepped}
+use Rattle.vlm_model.specs.Stepped.{Outcome, Stepped, refused, refused_or, step_change, stepped}
 use Rattle.vlm_words.specs.Steps.{node_of_pid}
-use Rattle.vlm_words.specs.Take.{take_refusal, taken_ast}
-use Rattle.vlm_laws.specs.Departing.{DepartedNodesAreToldSo, NoneLivesOnDepartedNodes}
+use Rattle.vlm_model.specs.Take.{take_refusal, taken_ast}
+use Rattle.vlm_model.specs.Departing.{DepartedNodesAreToldSo, NoneLivesOnDepartedNodes}
 use Rattle.vlm_journal.specs.Drawing.{GivesAst}
 
 -- what is found is among them, and passes the test

@@ -3,10 +3,10 @@ use Rattle.std.proofs.Common.{◌≡◌, ◌+◌, ◌-◌, ◌^◌, ℕ, List, [
 use Rattle.std.proofs.lemmas.List.{length-append}
 use Rattle.vlm_words.specs.declared.steps.Answer.{Answer}
 use Rattle.vlm_words.specs.declared.steps.Step.TheVariants.{Take}
-use Rattle.vlm_words.specs.Pending.{first_pending}
-use Rattle.vlm_words.specs.Runs.{History, Run}
+use Rattle.vlm_model.specs.Pending.{first_pending}
+use Rattle.vlm_model.specs.Runs.{History, Run}
 use Rattle.vlm_words.specs.State.{State, start}
-use Rattle.vlm_words.specs.Stepped.{Outcome}
+use Rattle.vlm_model.specs.Stepped.{Outcome}
 use Rattle.vlm_journal.specs.Books.{GoesOn}
 use Rattle.vlm_journal.specs.declared.entries.Entry.{Entry}
 use Rattle.vlm_journal.specs.Drawing.{GivesAst}

@@ -6,10 +6,10 @@ use Rattle.std.proofs.lemmas.List.{map-append}
 use Rattle.std.proofs.lemmas.List.Elements.{recursion_from_All}
 use Rattle.vlm_words.specs.declared.steps.Answer.{Answer}
 use Rattle.vlm_words.specs.declared.steps.Step.{Step}
-use Rattle.vlm_words.specs.Runs.{History, Legal, RunFrom, begin as run_begin, history_after, next as run_next, no_history}
+use Rattle.vlm_model.specs.Runs.{History, Legal, RunFrom, begin as run_begin, history_after, next as run_next, no_history}
 use Rattle.vlm_words.specs.State.{State}
-use Rattle.vlm_words.specs.Stepped.{Outcome, outcome_endings, outcome_queued}
-use Rattle.vlm_words.proofs.Each.{each_append}
+use Rattle.vlm_model.specs.Stepped.{Outcome, outcome_endings, outcome_queued}
+use Rattle.vlm_model.proofs.Each.{each_append}
 use Rattle.vlm_journal.specs.declared.entries.Entry.{Entry}
 use Rattle.vlm_journal.specs.Journals.{IsAllowed, JournalFrom, answers_of, begin, next, steps_of}
 

@@ -3,7 +3,7 @@ use Rattle.std.specs.Prelude.{◌≡◌, ◌⊎◌, ◌<◌, ℕ, All, List, Som
 use Rattle.vlm_words.specs.declared.conditions.Cond.TheVariants.{Departed, Normal}
 use Rattle.vlm_words.specs.declared.steps.Answer.TheVariants.{Plain}
 use Rattle.vlm_words.specs.declared.steps.Step.TheVariants.{Leave}
-use Rattle.vlm_words.specs.Reasons.{HasDeparted}
+use Rattle.vlm_model.specs.Reasons.{HasDeparted}
 use Rattle.vlm_words.specs.State.{State}
 use Rattle.vlm_journal.specs.declared.entries.Entry.{Entry}
 

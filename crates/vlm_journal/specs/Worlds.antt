@@ -7,7 +7,7 @@ use Rattle.vlm_words.specs.declared.steps.Answer.{Answer}
 use Rattle.vlm_words.specs.declared.steps.Step.TheVariants.{Leave, Take}
 use Rattle.vlm_words.specs.declared.steps.Step.{Step}
 use Rattle.vlm_words.specs.State.{State, start}
-use Rattle.vlm_words.specs.Stepped.{Outcome}
+use Rattle.vlm_model.specs.Stepped.{Outcome}
 use Rattle.vlm_journal.specs.declared.entries.Entry.{Entry}
 use Rattle.vlm_journal.specs.declared.entries.Item.{Item}
 use Rattle.vlm_journal.specs.Journals.{IsPostOf, Journal}

@@ -2,10 +2,10 @@
 
 ghost use Rattle.std.specs.Prelude.{◌≡◌, ◌⊎◌, ◌∷◌, ◌+◌, ◌++◌, ◌-◌, ◌^◌, ◌/◌, ◌<◌, ◌≤◌, ℕ, [], OnErr, OnOk, Some, length, min};
 ghost use Rattle.vlm_words.specs.declared.conditions.Cond.TheVariants.{Departed, Normal};
-ghost use Rattle.vlm_words.specs.Pending.{first_pending};
-ghost use Rattle.vlm_words.specs.Reasons.{HasDeparted};
+ghost use Rattle.vlm_model.specs.Pending.{first_pending};
+ghost use Rattle.vlm_model.specs.Reasons.{HasDeparted};
 ghost use Rattle.vlm_words.specs.State.{start};
-ghost use Rattle.vlm_words.specs.Stepped.{Outcome};
+ghost use Rattle.vlm_model.specs.Stepped.{Outcome};
 ghost use Rattle.std.specs.Option.{option_map};
 ghost use Rattle.vlm_queue.specs.Views.{usage};
 ghost use Rattle.vlm_core.specs.Readers.{root_of};

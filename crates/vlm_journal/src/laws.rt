@@ -4,11 +4,11 @@
 ghost use Rattle.std.specs.Prelude.{◌≡◌, ◌↔◌, ◌∷◌, ◌++◌, ◌<◌, ◌≤◌, ℕ, All, List, [], Some};
 ghost use Rattle.vlm_words.specs.declared.steps.Answer.{Answer};
 ghost use Rattle.vlm_words.specs.declared.steps.Step.TheVariants.{Take};
-ghost use Rattle.vlm_words.specs.Pending.{first_pending};
-ghost use Rattle.vlm_words.specs.Reasons.{HasDeparted};
-ghost use Rattle.vlm_words.specs.Runs.{History, Legal, Run};
+ghost use Rattle.vlm_model.specs.Pending.{first_pending};
+ghost use Rattle.vlm_model.specs.Reasons.{HasDeparted};
+ghost use Rattle.vlm_model.specs.Runs.{History, Legal, Run};
 ghost use Rattle.vlm_words.specs.State.{State};
-ghost use Rattle.vlm_words.specs.Stepped.{Outcome};
+ghost use Rattle.vlm_model.specs.Stepped.{Outcome};
 ghost use Rattle.vlm_journal.specs.declared.entries.Entry.{Entry};
 ghost use Rattle.vlm_journal.specs.Books.{GoesOn};
 ghost use Rattle.vlm_journal.specs.Departed.{IsAnsweredDeparted, ShowsDeparture, StaysDeparted};
@@ -18,10 +18,10 @@ ghost use Rattle.vlm_journal.specs.Lengthening.{IsSilent, LengthensLittle};
 ghost use Rattle.vlm_journal.specs.Told.{asked};
 ghost use Rattle.vlm_journal.specs.Worlds.{Event, IsRight, Reached, World, own_steps};
 
-use vlm_laws::laws::{
+use vlm_model::histories::{
     law_a_departed_node_is_answered_departed, law_no_process_of_a_departed_node_lives,
 };
-use vlm_words::laws::law_identifications_of_processes_rise;
+use vlm_model::laws::law_identifications_of_processes_rise;
 
 /// A journal is legal exactly if its steps and answers are a legal run of the machine, and a hub may make each of its
 /// entries. So every law of such runs holds of a hub.

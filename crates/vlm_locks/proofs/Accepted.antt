@@ -2,7 +2,7 @@
 use Rattle.std.proofs.Common.{◌≡◌, List, map, Option, None, Some, IfSome, ap, ◌∙◌, subst}
 use Rattle.vlm_words.specs.declared.locks.Request.{Request}
 use Rattle.vlm_words.specs.declared.resources.ValueBlock.{ValueBlock}
-use Rattle.vlm_words.specs.Convert.{conversion_blocks, resource_after_conversion}
+use Rattle.vlm_model.specs.Convert.{conversion_blocks, resource_after_conversion}
 use Rattle.vlm_words.specs.State.{Resource}
 use Rattle.vlm_store.specs.Plain.{plain_resource, plain_resources}
 use Rattle.vlm_store.specs.Records.{Records, SameButNotices, StoredResource, resource_at}

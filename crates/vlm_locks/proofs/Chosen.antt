@@ -4,7 +4,7 @@ use Rattle.std.specs.Prelude.{◌==◌, ◌||◌}
 use Rattle.std.specs.List.{AllByRecursion}
 use Rattle.std.proofs.lemmas.Bool.{eqb-true, or_right}
 use Rattle.vlm_words.specs.declared.locks.Row.{Row}
-use Rattle.vlm_links.specs.Lists.{IsApart, IsIn, first_handle}
+use Rattle.vlm_collections.specs.Lists.{IsApart, IsIn, first_handle}
 use Rattle.vlm_store.specs.Plain.{plain_resources}
 use Rattle.vlm_store.specs.Records.{Records}
 use Rattle.vlm_locks.specs.declared.giving_up.Choice.{Choice}

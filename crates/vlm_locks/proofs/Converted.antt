@@ -6,11 +6,11 @@ use Rattle.vlm_words.specs.declared.modes.Mode.{Mode}
 use Rattle.vlm_words.specs.declared.resources.Queue.{Queue}
 use Rattle.vlm_words.specs.declared.resources.Queue.TheVariants.{Granted, Conversion, Waiting}
 use Rattle.vlm_words.specs.declared.resources.ValueBlock.{ValueBlock}
-use Rattle.vlm_words.specs.Convert.{conversion_blocks, converts_at_once, resource_after_conversion, resource_after_conversion_of, wanting_row}
-use Rattle.vlm_words.specs.Effects.{Blocks, blocks_after, blocks_with}
-use Rattle.vlm_words.specs.Grants.{fits, grant_endings, granted_row}
-use Rattle.vlm_words.specs.Rows.{is_lock_of, rows_without}
-use Rattle.vlm_links.specs.Lists.{IsIn}
+use Rattle.vlm_model.specs.Convert.{conversion_blocks, converts_at_once, resource_after_conversion, resource_after_conversion_of}
+use Rattle.vlm_words.specs.Rows.{wanting_row, fits, granted_row, is_lock_of, rows_without}
+use Rattle.vlm_model.specs.Effects.{Blocks, blocks_after, blocks_with}
+use Rattle.vlm_model.specs.Grants.{grant_endings}
+use Rattle.vlm_collections.specs.Lists.{IsIn}
 use Rattle.vlm_records.specs.declared.handles.Place.TheVariants.{Queued}
 use Rattle.vlm_store.specs.Plain.{plain_processes, plain_resource, plain_resources}
 use Rattle.vlm_store.specs.Records.{IsSound, Records, SameButNotices, StoredLock, StoredResource, but_notices, fits_beside, moving, on_resource, queued, resource_at, rows_of_locks, with_lists, without_lock}

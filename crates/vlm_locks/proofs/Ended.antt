@@ -6,10 +6,11 @@ use Rattle.std.proofs.lemmas.Option.{same_Some}
 use Rattle.vlm_words.specs.declared.locks.Row.{Row}
 use Rattle.vlm_words.specs.declared.resources.Queue.TheVariants.{Conversion, Waiting}
 use Rattle.vlm_words.specs.declared.resources.ValueBlock.{ValueBlock}
-use Rattle.vlm_words.specs.Effects.{Blocks, blocks_after, blocks_with, with_value_block}
-use Rattle.vlm_words.specs.Grants.{Service, is_empty, no_service, service, service_of_conversions, service_of_new_requests, service_of_waiting, service_then}
+use Rattle.vlm_model.specs.Effects.{Blocks, blocks_after, blocks_with, with_value_block}
+use Rattle.vlm_model.specs.Grants.{Service, no_service, service, service_of_conversions, service_of_new_requests, service_of_waiting, service_then}
+use Rattle.vlm_words.specs.Rows.{is_empty}
 use Rattle.vlm_words.specs.State.{Resource}
-use Rattle.vlm_words.specs.Sweeps.{blocks_after_service}
+use Rattle.vlm_model.specs.Sweeps.{blocks_after_service}
 use Rattle.vlm_records.specs.declared.handles.Place.TheVariants.{Queued}
 use Rattle.vlm_store.specs.Plain.{plain_processes, plain_resource}
 use Rattle.vlm_store.specs.Records.{HasResource, IsSound, Records, StoredLock, StoredResource, but_notices, first_at, locks_at, on_resource, resource_at, rows_of_locks}
@@ -21,7 +22,7 @@ use Rattle.vlm_locks.proofs.Staying.{all_stay, none_joins_under_block, stay_twic
 use Rattle.vlm_locks.proofs.Moves.{locks_found, none_queued}
 use Rattle.vlm_locks.specs.Warning.{IsWarned}
 use Rattle.vlm_locks.proofs.Replaced.{found_left, left_at}
-use Rattle.vlm_words.specs.Asts.{processes_after_asts, resource_after_warning, warnings}
+use Rattle.vlm_model.specs.Asts.{processes_after_asts, resource_after_warning, warnings}
 
 -- a change of one resource, and then another
 left_then : (res : ℕ) (had left last : StoredResource) (old s new : Records) → IsLeft res had left old s → IsLeft res left last s new → IsLeft res had last old new

@@ -6,14 +6,14 @@ use Rattle.std.specs.List.{AllByRecursion}
 use Rattle.vlm_words.specs.declared.locks.Request.{Request}
 use Rattle.vlm_words.specs.declared.resources.ValueBlock.{ValueBlock}
 use Rattle.vlm_words.specs.Rows.{rows_of}
-use Rattle.vlm_words.specs.Effects.{Blocks, blocks_after, blocks_after_end, blocks_after_ending, blocks_with}
-use Rattle.vlm_words.specs.Endings.{Ending, How, row_endings, wanted_endings}
-use Rattle.vlm_words.proofs.Each.{each_append}
-use Rattle.vlm_words.specs.Endings.How.{by_abort}
+use Rattle.vlm_model.specs.Effects.{Blocks, blocks_after, blocks_after_end, blocks_after_ending, blocks_with}
+use Rattle.vlm_model.specs.Endings.{Ending, How, row_endings, wanted_endings}
+use Rattle.vlm_model.proofs.Each.{each_append}
+use Rattle.vlm_model.specs.Endings.How.{by_abort}
 use Rattle.vlm_words.specs.State.{Process, Resource}
 use Rattle.vlm_words.specs.ValueBlocks.{new_value_block}
-use Rattle.vlm_words.specs.Withdrawals.{Withdrawal, processes_after, queue_endings, withdrawal_endings, withdrawn_endings}
-use Rattle.vlm_links.specs.Lists.{IsIn}
+use Rattle.vlm_model.specs.Withdrawals.{Withdrawal, processes_after, queue_endings, withdrawal_endings, withdrawn_endings}
+use Rattle.vlm_collections.specs.Lists.{IsIn}
 use Rattle.std.specs.Option.{option_map_or}
 use Rattle.vlm_records.specs.declared.handles.Place.{Place}
 use Rattle.vlm_records.specs.declared.handles.Place.TheVariants.{Queued}

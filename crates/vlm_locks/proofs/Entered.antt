@@ -6,22 +6,20 @@ use Rattle.std.proofs.lemmas.List.{map-append}
 use Rattle.vlm_words.specs.declared.locks.Row.{Row}
 use Rattle.vlm_words.specs.declared.resources.Queue.{Queue}
 use Rattle.vlm_words.specs.declared.resources.Queue.TheVariants.{Granted, Conversion, Waiting}
-use Rattle.vlm_words.specs.Enqueue.{resource_after_entry, resources_after_entry}
-use Rattle.vlm_words.specs.Grants.{granted_row}
-use Rattle.vlm_words.specs.Resources.{new_resource}
-use Rattle.vlm_links.specs.Lists.{IsIn}
+use Rattle.vlm_model.specs.Enqueue.{resource_after_entry, resources_after_entry}
+use Rattle.vlm_words.specs.Rows.{granted_row}
+use Rattle.vlm_words.specs.Resources.{new_resource, IsKeyed}
+use Rattle.vlm_collections.specs.Lists.{IsIn}
 use Rattle.vlm_records.specs.declared.handles.Place.{Place}
 use Rattle.vlm_records.specs.declared.handles.Place.TheVariants.{Queued}
 use Rattle.vlm_store.specs.Plain.{plain_resource, plain_resources}
 use Rattle.vlm_store.specs.Records.{AreResourcesApart, FindsResource, HasResource, IsParentOf, IsProcess, IsSameLock, IsSound, IsStored, Records, Room, Stores, StoredLock, StoredProcess, StoredResource, but_notices, joined_by, locks_at, on_resource, process_with_lock, queued, resource_at, with_lock_room, with_new_lock}
 use Rattle.vlm_store.proofs.Records.{joins_queue, map_on, resource_is}
-use Rattle.vlm_locks.specs.Rest.{but_service}
+use Rattle.vlm_locks.specs.Rest.{but_service, IsAtRest, IsReplaced, OtherLocksStay}
 use Rattle.vlm_locks.proofs.Found.{resource_alone, resource_at-put}
 use Rattle.vlm_locks.specs.declared.entering.Entry.{Entry}
 use Rattle.vlm_locks.specs.Owing.{entered_row}
 use Rattle.vlm_locks.specs.Entering.{IsAdded, IsEntered, entered_queue, resource_for, new_row}
-use Rattle.vlm_words.specs.Resources.{IsKeyed}
-use Rattle.vlm_locks.specs.Rest.{IsAtRest, IsReplaced, OtherLocksStay}
 use Rattle.vlm_locks.proofs.Keyed.{AreKeyed, finds_one, key_cases}
 use Rattle.vlm_locks.proofs.Replaced.{keyed_still, others_stay, still_there, stored_cases}
 use Rattle.vlm_locks.proofs.Moves.{locks_found}

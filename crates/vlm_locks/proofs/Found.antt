@@ -3,7 +3,7 @@ use Rattle.std.proofs.Common.{◌≡◌, ℕ, List, [], ◌∷◌, map, cond, So
 use Rattle.std.specs.Prelude.{◌==◌}
 use Rattle.std.proofs.lemmas.Bool.{cases_eq}
 use Rattle.std.proofs.lemmas.Option.{none-some, same_Some}
-use Rattle.vlm_links.specs.Lists.{IsIn}
+use Rattle.vlm_collections.specs.Lists.{IsIn}
 use Rattle.vlm_store.specs.Records.{AreResourcesApart, HasProcess, IsProcess, Records, StoredProcess, StoredResource, on_resource, process_at, resource_at, SameButNotices, but_notices}
 use Rattle.vlm_store.proofs.Records.{map_on, resource_is}
 

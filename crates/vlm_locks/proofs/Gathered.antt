@@ -4,9 +4,9 @@ use Rattle.std.specs.Prelude.{◌==◌, ◌||◌}
 use Rattle.std.proofs.lemmas.Bool.{cases_eq, eqb-true, or_cases}
 use Rattle.std.proofs.lemmas.List.{append_assoc, append-nil, length-append, length-map}
 use Rattle.vlm_words.specs.declared.locks.Row.{Row}
-use Rattle.vlm_words.specs.OwnLocks.{is_below, parent_of}
-use Rattle.vlm_links.specs.Lists.{IsApart, IsIn}
-use Rattle.vlm_links.proofs.HandleLists.{IsIn-push, IsIn-push_kept, IsIn-push_last}
+use Rattle.vlm_model.specs.OwnLocks.{is_below, parent_of}
+use Rattle.vlm_collections.specs.Lists.{IsApart, IsIn}
+use Rattle.vlm_collections.proofs.HandleLists.{IsIn-push, IsIn-push_kept, IsIn-push_last}
 use Rattle.vlm_store.specs.Plain.{plain_resources}
 use Rattle.vlm_store.specs.Records.{FindsLock, IsProcess, IsSound, IsStored, Records, Stores, own_handles_at, sublocks_at}
 use Rattle.vlm_store.specs.Total.{lock_total}

@@ -2,7 +2,7 @@
 use Rattle.std.proofs.Common.{◌≡◌, ℕ, Bool, true, List, [], map, refl, sym, ap, ◌∙◌, subst, arith}
 use Rattle.vlm_words.specs.declared.locks.Row.{Row}
 use Rattle.vlm_words.specs.declared.resources.Queue.TheVariants.{Granted}
-use Rattle.vlm_links.specs.Lists.{IsIn}
+use Rattle.vlm_collections.specs.Lists.{IsIn}
 use Rattle.vlm_records.specs.declared.handles.Place.TheVariants.{Queued}
 use Rattle.vlm_store.specs.Plain.{plain_resource, plain_resources}
 use Rattle.vlm_store.specs.Records.{IsSound, Records, SameButNotices, Stores}

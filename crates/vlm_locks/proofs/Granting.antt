@@ -6,9 +6,10 @@ use Rattle.vlm_words.specs.declared.locks.Row.{Row}
 use Rattle.vlm_words.specs.declared.resources.Queue.{Queue}
 use Rattle.vlm_words.specs.declared.resources.Queue.TheVariants.{Granted, Conversion, Waiting}
 use Rattle.vlm_words.specs.declared.resources.ValueBlock.{ValueBlock}
-use Rattle.vlm_words.specs.Effects.{Blocks, blocks_after, blocks_after_ending, blocks_with}
-use Rattle.vlm_words.specs.Endings.{Ending}
-use Rattle.vlm_words.specs.Grants.{Service, grant_endings, granted_row, no_service, service_after_grant, wanted_fits}
+use Rattle.vlm_model.specs.Effects.{Blocks, blocks_after, blocks_after_ending, blocks_with}
+use Rattle.vlm_model.specs.Endings.{Ending}
+use Rattle.vlm_model.specs.Grants.{Service, grant_endings, no_service, service_after_grant, wanted_fits}
+use Rattle.vlm_words.specs.Rows.{granted_row}
 use Rattle.vlm_records.specs.declared.handles.Place.TheVariants.{Queued}
 use Rattle.vlm_store.specs.Plain.{plain_processes, plain_resource}
 use Rattle.vlm_store.specs.Records.{HasResource, IsSound, Records, SameButNotices, StoredLock, StoredResource, Stores, first_at, locks_at, moving, queued, resource_at, rows_of_locks, with_lists}

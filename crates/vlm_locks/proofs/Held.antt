@@ -6,9 +6,9 @@ use Rattle.std.proofs.lemmas.Bool.{or_right}
 use Rattle.vlm_words.specs.declared.locks.Row.{Row}
 use Rattle.vlm_words.specs.declared.resources.Queue.{Queue}
 use Rattle.vlm_words.specs.declared.resources.Queue.TheVariants.{Granted, Conversion, Waiting}
-use Rattle.vlm_words.specs.Checks.{holds_lock}
+use Rattle.vlm_model.specs.Checks.{holds_lock}
 use Rattle.vlm_words.specs.Rows.{is_lock_of}
-use Rattle.vlm_links.specs.Lists.{IsIn}
+use Rattle.vlm_collections.specs.Lists.{IsIn}
 use Rattle.vlm_records.specs.declared.handles.Place.TheVariants.{Queued}
 use Rattle.vlm_store.specs.Plain.{plain_resource, plain_resources}
 use Rattle.vlm_store.specs.Records.{IsProcess, IsSound, Records, StoredResource, Stores, locks_at, queued, resource_at, rows_of_locks}

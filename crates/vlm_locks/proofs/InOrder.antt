@@ -7,8 +7,8 @@ use Rattle.std.proofs.lemmas.Bool.{eqb-true}
 use Rattle.std.proofs.lemmas.Bool.Decides.{nat_tests}
 use Rattle.std.proofs.lemmas.List.Elements.{All-from_recursion, recursion_from_All}
 use Rattle.std.proofs.lemmas.List.Sorted.{All-permutation}
-use Rattle.vlm_words.proofs.Each.{each_weaker}
-use Rattle.vlm_links.specs.Lists.{IsIn}
+use Rattle.vlm_model.proofs.Each.{each_weaker}
+use Rattle.vlm_collections.specs.Lists.{IsIn}
 use Rattle.vlm_locks.specs.declared.touched.Note.{Note}
 use Rattle.vlm_store.specs.Records.{StoredResource}
 use Rattle.vlm_locks.specs.Sweeping.{StandInOrder}

@@ -4,14 +4,13 @@ use Rattle.std.specs.Cmp.Lexicographic.{pointwise}
 use Rattle.vlm_words.specs.declared.resources.Domain.{Domain}
 use Rattle.vlm_words.specs.declared.resources.Key.{Key}
 use Rattle.vlm_words.specs.declared.resources.Key.TheVariants.{Root, Below}
-use Rattle.vlm_words.specs.Enqueue.{has_resource}
+use Rattle.vlm_model.specs.Enqueue.{has_resource}
 use Rattle.vlm_words.specs.Keys.{is_same_key, is_same_key-Decides}
-use Rattle.vlm_words.specs.Resources.{is_at, is_domain}
-use Rattle.vlm_links.specs.Lists.{IsIn}
+use Rattle.vlm_words.specs.Resources.{is_at, is_domain, IsKeyed}
+use Rattle.vlm_collections.specs.Lists.{IsIn}
 use Rattle.vlm_store.specs.Plain.{plain_resource, plain_resources}
 use Rattle.vlm_store.specs.Records.{FindsResource, IsSound, Records, StoredResource, resource_at}
 use Rattle.vlm_locks.proofs.Found.{resource_alone}
-use Rattle.vlm_words.specs.Resources.{IsKeyed}
 use Rattle.vlm_locks.specs.Rest.{IsAtRest}
 use Rattle.vlm_locks.proofs.Stood.{resource_among}
 

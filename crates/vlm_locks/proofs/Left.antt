@@ -6,10 +6,10 @@ use Rattle.std.proofs.lemmas.Bool.{eqb-true}
 use Rattle.vlm_words.specs.declared.locks.Row.{Row}
 use Rattle.vlm_words.specs.declared.resources.ValueBlock.{ValueBlock}
 use Rattle.vlm_words.specs.Rows.{rows_without}
-use Rattle.vlm_words.specs.Endings.{How}
+use Rattle.vlm_model.specs.Endings.{How}
 use Rattle.vlm_words.specs.State.{Resource}
 use Rattle.vlm_words.specs.ValueBlocks.{invalid_value_block}
-use Rattle.vlm_words.specs.Withdrawals.{Withdrawal, has_writer, is_held_by_writer, is_writer, resource_after_withdrawals, resource_without, value_block_after_writer}
+use Rattle.vlm_model.specs.Withdrawals.{Withdrawal, has_writer, is_held_by_writer, is_writer, resource_after_withdrawals, resource_without, value_block_after_writer}
 use Rattle.vlm_locks.specs.Left.{giving_up, has_writer_among, resource_left, rows_left}
 
 -- a row of the lock is one that goes

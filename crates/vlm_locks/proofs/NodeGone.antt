@@ -3,15 +3,16 @@ use Rattle.std.proofs.Common.{◌≡◌, ◌+◌, ◌≤◌, ℕ, Bool, true, fa
 use Rattle.std.specs.Prelude.{◌==◌, ◌&&◌, ◌||◌}
 use Rattle.vlm_words.specs.declared.locks.Row.{Row}
 use Rattle.vlm_words.specs.declared.resources.ValueBlock.{ValueBlock}
-use Rattle.vlm_words.specs.Rundown.{is_of_node, processes_but}
+use Rattle.vlm_words.specs.Steps.{is_of_node}
+use Rattle.vlm_model.specs.Rundown.{processes_but}
 use Rattle.vlm_words.specs.State.{Process, Resource}
 use Rattle.vlm_words.specs.ValueBlocks.{invalid_value_block}
-use Rattle.vlm_words.specs.Withdrawals.{is_writer}
-use Rattle.vlm_links.specs.Lists.{IsIn}
+use Rattle.vlm_model.specs.Withdrawals.{is_writer}
+use Rattle.vlm_collections.specs.Lists.{IsIn}
 use Rattle.vlm_store.specs.Plain.{plain_processes, plain_resources}
 use Rattle.std.proofs.lemmas.Bool.Decides.{nat_tests}
 use Rattle.std.proofs.lemmas.Option.{none-some, same_Some}
-use Rattle.vlm_words.specs.Declare.{is_node}
+use Rattle.vlm_model.specs.Declare.{is_node}
 use Rattle.vlm_store.specs.Pending.{IsFirstLiving}
 use Rattle.vlm_store.specs.Records.{FindsProcess, IsSound, Records, StoredProcess, Stores}
 use Rattle.vlm_locks.specs.Left.{has_writer_among, resource_left, rows_left}

@@ -2,7 +2,7 @@
 use Rattle.std.proofs.Common.{◌≡◌, ◌<◌, ℕ, zero, suc, List, [], ◌∷◌, ◌++◌, map, length, get_or, refl, sym, ap, ◌∙◌, inl, inr, arith}
 use Rattle.std.specs.List.{AllByRecursion}
 use Rattle.vlm_words.specs.declared.locks.Row.{Row}
-use Rattle.vlm_links.specs.Lists.{IsIn}
+use Rattle.vlm_collections.specs.Lists.{IsIn}
 use Rattle.vlm_store.specs.Records.{Records, Stores}
 use Rattle.vlm_locks.specs.declared.touched.Note.{Note}
 use Rattle.vlm_locks.specs.GivingUp.{AreOfLocks, Rise, noted_lkids}

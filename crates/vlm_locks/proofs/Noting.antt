@@ -3,8 +3,8 @@ use Rattle.std.proofs.Common.{◌≡◌, ◌≤◌, ◌<◌, ◌+◌, ℕ, List,
 use Rattle.std.proofs.lemmas.Option.{same_Some}
 use Rattle.std.proofs.lemmas.List.{append_assoc, append-nil, length-append, length-map, map-append}
 use Rattle.vlm_words.specs.declared.locks.Row.{Row}
-use Rattle.vlm_links.specs.Lists.{IsApart, IsIn, first_handle, handle_after}
-use Rattle.vlm_links.proofs.Walks.{handle_after-among}
+use Rattle.vlm_collections.specs.Lists.{IsApart, IsIn, first_handle, handle_after}
+use Rattle.vlm_collections.proofs.Walks.{handle_after-among}
 use Rattle.vlm_store.specs.Records.{Records, Stores}
 use Rattle.vlm_locks.specs.declared.touched.Note.{Note}
 use Rattle.vlm_locks.specs.GivingUp.{AreOfLocks}

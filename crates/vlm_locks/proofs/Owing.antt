@@ -10,12 +10,13 @@ use Rattle.vlm_words.specs.declared.resources.Queue.{Queue}
 use Rattle.vlm_words.specs.declared.resources.Queue.TheVariants.{Granted}
 use Rattle.vlm_words.specs.declared.modes.Act.{Act}
 use Rattle.vlm_words.specs.declared.modes.Act.TheVariants.{Nothing, Return, Write}
-use Rattle.vlm_words.specs.Asts.{completion_asts, is_synchronous}
-use Rattle.vlm_words.specs.Effects.{Blocks, blocks_after, blocks_after_asts, blocks_after_grant, blocks_after_return, blocks_after_writing}
-use Rattle.vlm_words.specs.Endings.{Ending}
-use Rattle.vlm_words.specs.Endings.How.{by_grant}
+use Rattle.vlm_model.specs.Asts.{completion_asts, is_synchronous}
+use Rattle.vlm_model.specs.Effects.{Blocks, blocks_after, blocks_after_asts, blocks_after_grant, blocks_after_return, blocks_after_writing}
+use Rattle.vlm_model.specs.Endings.{Ending}
+use Rattle.vlm_model.specs.Endings.How.{by_grant}
 use Rattle.vlm_words.specs.Dues.{due_to, one_where, routines_of, row_due}
-use Rattle.vlm_words.specs.Grants.{grant_act, grant_endings, granted_row, is_arming}
+use Rattle.vlm_model.specs.Grants.{grant_act, grant_endings}
+use Rattle.vlm_words.specs.Rows.{granted_row, is_arming}
 use Rattle.vlm_records.specs.declared.handles.Place.TheVariants.{Queued}
 use Rattle.vlm_store.specs.Records.{DueChanges, DuesStay, HasResource, IsIdle, IsProcess, IsSound, Records, Room, SameButNotices, StoredLock, StoredProcess, Stores, due_of, leaving, moving, on_resource, process_at, process_without_lock, resource_with, with_lists, with_resource_room, without_resource}
 use Rattle.vlm_store.proofs.Plain.{process_at-stored}

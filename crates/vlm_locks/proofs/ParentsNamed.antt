@@ -6,10 +6,10 @@ use Rattle.std.proofs.lemmas.Bool.{cases_eq}
 use Rattle.vlm_words.specs.declared.locks.Row.{Row}
 use Rattle.vlm_words.specs.declared.resources.Queue.{Queue}
 use Rattle.vlm_words.specs.declared.resources.Queue.TheVariants.{Granted, Conversion, Waiting}
-use Rattle.vlm_words.specs.OwnLocks.{all_rows_of, is_below, parent_of}
+use Rattle.vlm_model.specs.OwnLocks.{all_rows_of, is_below, parent_of}
 use Rattle.vlm_words.specs.Rows.{rows_of}
 use Rattle.vlm_words.specs.State.{Resource}
-use Rattle.vlm_links.specs.Lists.{IsIn}
+use Rattle.vlm_collections.specs.Lists.{IsIn}
 use Rattle.vlm_store.specs.Plain.{plain_resource, plain_resources}
 use Rattle.vlm_store.specs.Records.{IsSound, Records, StoredLock, StoredResource, Stores, queued, rows_of_locks}
 use Rattle.vlm_locks.specs.Rest.{IsAtRest}

@@ -2,8 +2,8 @@
 use Rattle.std.proofs.Common.{◌≡◌, ◌≢◌, ℕ, List, [], ◌∷◌, ◌++◌, map, IsSome, refl, sym, ap, ◌∙◌, subst, inl, inr, append_assoc, eq-eqb, ne_eqb}
 use Rattle.std.specs.List.{AllByRecursion}
 use Rattle.std.proofs.lemmas.Bool.{cases_eq}
-use Rattle.vlm_links.specs.Lists.{IsIn}
-use Rattle.vlm_words.specs.Settled.{IsSettled}
+use Rattle.vlm_collections.specs.Lists.{IsIn}
+use Rattle.vlm_model.specs.Settled.{IsSettled}
 use Rattle.vlm_store.specs.Plain.{plain_resource}
 use Rattle.vlm_store.specs.Records.{AreResourcesApart, HasResource, Records, StoredResource, resource_at}
 use Rattle.vlm_locks.specs.Sweeping.{AreSettledBut, Parted, StandInOrder}

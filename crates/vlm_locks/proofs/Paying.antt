@@ -9,9 +9,8 @@ use Rattle.vlm_words.specs.declared.locks.Request.{Request}
 use Rattle.vlm_words.specs.declared.locks.Row.{Row}
 use Rattle.vlm_words.specs.declared.resources.Queue.{Queue}
 use Rattle.vlm_words.specs.declared.resources.ValueBlock.{ValueBlock}
-use Rattle.vlm_words.specs.Convert.{wanting_row}
+use Rattle.vlm_words.specs.Rows.{wanting_row, granted_row}
 use Rattle.vlm_words.specs.Dues.{due_to, routines_of, row_due}
-use Rattle.vlm_words.specs.Grants.{granted_row}
 use Rattle.vlm_records.specs.declared.handles.Place.TheVariants.{Queued}
 use Rattle.vlm_store.specs.Records.{DueChanges, DuesStay, HasResource, IsSound, Records, Room, SameButNotices, StoredProcess, StoredResource, Stores, due_of, on_resource, process_with_lock, with_lock_room, with_new_lock}
 use Rattle.vlm_locks.specs.Entering.{IsDueMore, IsReady}

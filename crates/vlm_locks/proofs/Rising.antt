@@ -5,8 +5,8 @@ use Rattle.std.proofs.lemmas.Bool.{cases_eq}
 use Rattle.std.proofs.lemmas.List.{append-nil, map-append}
 use Rattle.std.specs.Option.{option_map_or}
 use Rattle.vlm_words.specs.declared.locks.Row.{Row}
-use Rattle.vlm_links.specs.Lists.{IsIn, without}
-use Rattle.vlm_links.proofs.HandleLists.{IsIn-push, IsIn-without}
+use Rattle.vlm_collections.specs.Lists.{IsIn, without}
+use Rattle.vlm_collections.proofs.HandleLists.{IsIn-push, IsIn-without}
 use Rattle.vlm_records.specs.declared.handles.Place.{Place}
 use Rattle.vlm_records.specs.declared.handles.Place.TheVariants.{Queued}
 use Rattle.vlm_store.proofs.Counted.{own_handle}

@@ -6,15 +6,15 @@ use Rattle.vlm_locks.specs.Owing.{IsPaid}
 use Rattle.vlm_locks.specs.Rest.{IsAtRest, LeavesOthers}
 use Rattle.vlm_locks.specs.Left.{giving_up, resource_left}
 use Rattle.vlm_locks.specs.RunningDown.{GrantedWantNothing, SublocksAreOwn, WereThere}
-use Rattle.vlm_words.specs.Endings.{How}
-use Rattle.vlm_words.specs.Endings.How.{by_rundown}
+use Rattle.vlm_model.specs.Endings.{How}
+use Rattle.vlm_model.specs.Endings.How.{by_rundown}
 use Rattle.vlm_store.specs.Total.{lock_total}
 use Rattle.vlm_locks.specs.Touched.{AreStillNoted, AreThere, OnlyTouched, Touches, touched_handles}
 use Rattle.std.specs.List.{AllByRecursion, sum_by}
 use Rattle.std.specs.Option.{option_map_or}
 use Rattle.std.proofs.lemmas.Option.{none-some, same_Some}
 use Rattle.std.proofs.lemmas.Bool.{eqb-true, cases_eq, eqb-false}
-use Rattle.vlm_links.specs.Lists.{IsIn, last_from, last_handle, without, IsApart}
+use Rattle.vlm_collections.specs.Lists.{IsIn, last_from, last_handle, without, IsApart}
 use Rattle.vlm_words.specs.declared.locks.Row.{Row}
 use Rattle.vlm_words.specs.declared.resources.Queue.TheVariants.{Granted, Conversion, Waiting}
 use Rattle.vlm_store.proofs.Counted.{one_process, own_handle, own_handles-apart, own_under_handle}
@@ -22,7 +22,7 @@ use Rattle.vlm_store.proofs.Plain.{process_at-stored}
 use Rattle.vlm_locks.specs.Rising.{IsOlder, HasRisingLocks, StandByIdentification, handles_of_own}
 use Rattle.vlm_locks.proofs.Left.{IsOthers, nothing_left, IsOwnRow, OwnRows, one_withdrawn}
 use Rattle.vlm_locks.proofs.Stood.{one_lock, queued_stored, only, own_among, resource_among, stored}
-use Rattle.vlm_links.proofs.HandleLists.{IsIn-without, length-without}
+use Rattle.vlm_collections.proofs.HandleLists.{IsIn-without, length-without}
 use Rattle.vlm_records.specs.declared.handles.Place.TheVariants.{Queued}
 use Rattle.vlm_locks.specs.declared.finding.Standing.{Standing}
 use Rattle.vlm_locks.specs.declared.touched.Note.{Note}
@@ -33,14 +33,14 @@ use Rattle.std.proofs.lemmas.List.Sums.{sum_by-cons}
 use Rattle.vlm_words.specs.State.{Resource}
 use Rattle.vlm_words.specs.declared.resources.Queue.{Queue}
 use Rattle.vlm_words.specs.Rows.{rows_without}
-use Rattle.vlm_words.specs.Rundown.{rundown_of}
+use Rattle.vlm_model.specs.Rundown.{rundown_of}
 use Rattle.vlm_words.specs.ValueBlocks.{new_value_block}
-use Rattle.vlm_words.specs.Effects.{Blocks, blocks_with}
-use Rattle.vlm_words.specs.Withdrawals.{Withdrawal, is_held_by_writer, processes_after, resource_after_withdrawals, resource_without, value_block_after_writer, withdrawal_endings}
-use Rattle.vlm_words.proofs.Apart.{standing, stands}
-use Rattle.vlm_words.proofs.Ended.{lock_ends, write_nothing}
-use Rattle.vlm_words.proofs.Keys.{withdrawals_keep_place}
-use Rattle.vlm_words.proofs.Weights.{weigh}
+use Rattle.vlm_model.specs.Effects.{Blocks, blocks_with}
+use Rattle.vlm_model.specs.Withdrawals.{Withdrawal, is_held_by_writer, processes_after, resource_after_withdrawals, resource_without, value_block_after_writer, withdrawal_endings}
+use Rattle.vlm_model.proofs.Apart.{standing, stands}
+use Rattle.vlm_model.proofs.Ended.{lock_ends, write_nothing}
+use Rattle.vlm_model.proofs.Keys.{withdrawals_keep_place}
+use Rattle.vlm_model.proofs.Weights.{weigh}
 use Rattle.vlm_locks.proofs.Found.{resource_alone, resource_at-at}
 use Rattle.std.proofs.lemmas.List.{length-append}
 

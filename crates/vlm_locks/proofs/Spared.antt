@@ -6,7 +6,8 @@ use Rattle.vlm_words.specs.declared.locks.Request.{Request}
 use Rattle.vlm_words.specs.declared.locks.Row.{Row}
 use Rattle.vlm_words.specs.declared.modes.Mode.{Mode}
 use Rattle.vlm_words.specs.declared.modes.Mode.TheVariants.{Nl, Cr, Cw, Pr, Pw, Ex}
-use Rattle.vlm_words.specs.Asts.{is_in_the_way, is_to_warn, keeps_out}
+use Rattle.vlm_model.specs.Asts.{is_in_the_way, is_to_warn}
+use Rattle.vlm_words.specs.Rows.{keeps_out}
 use Rattle.vlm_words.specs.Modes.{is_compatible, rank}
 use Rattle.vlm_records.specs.declared.handles.Armed.{Armed}
 use Rattle.vlm_records.specs.declared.handles.Armed.TheVariants.{AboveNl, AboveCr}

@@ -5,8 +5,8 @@ use Rattle.vlm_words.specs.declared.locks.Row.{Row}
 use Rattle.vlm_words.specs.declared.resources.Queue.{Queue}
 use Rattle.vlm_words.specs.declared.resources.Queue.TheVariants.{Granted, Conversion, Waiting}
 use Rattle.vlm_words.specs.declared.resources.ValueBlock.{ValueBlock}
-use Rattle.vlm_words.specs.Grants.{granted_row}
-use Rattle.vlm_links.specs.Lists.{IsIn}
+use Rattle.vlm_words.specs.Rows.{granted_row}
+use Rattle.vlm_collections.specs.Lists.{IsIn}
 use Rattle.vlm_store.specs.Records.{IsSameLock, StoredLock, StoredResource, queued, without_lock}
 use Rattle.vlm_locks.specs.Staying.{LocksStay, LocksStayAmong, StandsStill}
 use Rattle.vlm_locks.proofs.Moves.{IsHead, granted_first}

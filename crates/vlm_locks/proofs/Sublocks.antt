@@ -8,7 +8,7 @@ use Rattle.std.proofs.lemmas.List.Sums.{sum_by-cons}
 use Rattle.vlm_words.specs.declared.locks.Row.{Row}
 use Rattle.vlm_words.specs.declared.resources.Queue.{Queue}
 use Rattle.vlm_words.specs.declared.resources.Queue.TheVariants.{Granted, Conversion, Waiting}
-use Rattle.vlm_links.specs.Lists.{IsApart, IsIn, without}
+use Rattle.vlm_collections.specs.Lists.{IsApart, IsIn, without}
 use Rattle.vlm_store.specs.Records.{AreOwnApart, IsSound, IsStored, OwnLock, Records, StoredLock, StoredProcess, StoredResource, Stores, queued, sublocks_at}
 use Rattle.vlm_store.specs.Total.{lock_total}
 use Rattle.vlm_store.proofs.Counted.{one_process}

@@ -5,10 +5,10 @@ use Rattle.std.specs.List.{AllByRecursion, list_any}
 use Rattle.std.proofs.lemmas.List.{drop_all, drop_more, get_or-map, length-map, map-append}
 use Rattle.std.proofs.lemmas.List.Folds.{list_any_at}
 use Rattle.vlm_words.specs.Resources.{IsKeyed}
-use Rattle.vlm_words.specs.Settled.{IsSettled, IsSweptNext, IsUnswept, unless_vacant}
+use Rattle.vlm_model.specs.Settled.{IsSettled, IsSweptNext, IsUnswept, unless_vacant}
 use Rattle.vlm_words.specs.State.{Process, Resource}
-use Rattle.vlm_words.specs.Sweeps.{processes_after_service, resource_after_service, resources_after_sweep}
-use Rattle.vlm_links.specs.Lists.{IsIn}
+use Rattle.vlm_model.specs.Sweeps.{processes_after_service, resource_after_service, resources_after_sweep}
+use Rattle.vlm_collections.specs.Lists.{IsIn}
 use Rattle.vlm_store.specs.Plain.{plain_processes, plain_resource, plain_resources}
 use Rattle.vlm_store.specs.Records.{IsSound, Records, StoredResource, but_notices}
 use Rattle.vlm_locks.specs.Rest.{IsAtRest}

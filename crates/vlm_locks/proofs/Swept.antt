@@ -5,10 +5,10 @@ use Rattle.std.proofs.lemmas.Bool.{and_parts}
 use Rattle.std.proofs.lemmas.List.{map-append}
 use Rattle.vlm_words.specs.declared.resources.Queue.{Queue}
 use Rattle.vlm_words.specs.declared.resources.Queue.TheVariants.{Granted, Conversion, Waiting}
-use Rattle.vlm_words.specs.Grants.{is_empty}
+use Rattle.vlm_words.specs.Rows.{is_empty}
 use Rattle.vlm_words.specs.State.{Process}
-use Rattle.vlm_words.specs.Sweeps.{blocks_after_service, is_vacant, resource_after_service}
-use Rattle.vlm_links.specs.Lists.{IsIn}
+use Rattle.vlm_model.specs.Sweeps.{blocks_after_service, is_vacant, resource_after_service}
+use Rattle.vlm_collections.specs.Lists.{IsIn}
 use Rattle.vlm_store.specs.Plain.{plain_processes, plain_resource}
 use Rattle.vlm_store.specs.Records.{IsIdle, IsSound, Records, Room, StoredResource, but_notices, on_resource, queued, resource_at, rows_of_locks, with_resource_room, without_resource}
 use Rattle.vlm_queue.proofs.Idle.{none_shown}

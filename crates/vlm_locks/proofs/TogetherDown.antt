@@ -5,19 +5,19 @@ use Rattle.std.specs.List.{AllByRecursion, filter, list_any, sum_by}
 use Rattle.std.proofs.lemmas.Bool.{eq-eqb, or_right}
 use Rattle.std.proofs.lemmas.List.Sums.{sum_by-cons}
 use Rattle.vlm_words.specs.declared.locks.Row.{Row}
-use Rattle.vlm_words.specs.OwnLocks.{own_lkids}
-use Rattle.vlm_words.specs.Rundown.{rundowns}
+use Rattle.vlm_model.specs.OwnLocks.{own_lkids}
+use Rattle.vlm_model.specs.Rundown.{rundowns}
 use Rattle.vlm_words.specs.State.{Resource, State}
-use Rattle.vlm_words.specs.Endings.{How}
-use Rattle.vlm_words.specs.Endings.How.{by_rundown}
-use Rattle.vlm_words.specs.Withdrawals.{Withdrawal, resource_after_withdrawals}
-use Rattle.vlm_words.proofs.Apart.{Apart}
-use Rattle.vlm_words.proofs.Each.{Any-cases, Any-none, Any-weaker, each_filter, each_member, each_weaker}
-use Rattle.vlm_words.proofs.Leaving.{AllGo, IsListed, all_go, is_theirs, none_left_here, resource_listed, rows_left_behind, so_many}
-use Rattle.vlm_words.proofs.LeftValues.{any_and_each, any_so, no_stranger}
-use Rattle.vlm_words.proofs.Together.{OfOneEach, one_after_another, rundowns_apart}
-use Rattle.vlm_words.proofs.Weights.{weigh}
-use Rattle.vlm_words.proofs.WhoseLocks.{NoStrangers, own_are_theirs, strangers}
+use Rattle.vlm_model.specs.Endings.{How}
+use Rattle.vlm_model.specs.Endings.How.{by_rundown}
+use Rattle.vlm_model.specs.Withdrawals.{Withdrawal, resource_after_withdrawals}
+use Rattle.vlm_model.proofs.Apart.{Apart}
+use Rattle.vlm_model.proofs.Each.{Any-cases, Any-none, Any-weaker, each_filter, each_member, each_weaker}
+use Rattle.vlm_model.proofs.Leaving.{AllGo, IsListed, all_go, is_theirs, none_left_here, resource_listed, rows_left_behind, so_many}
+use Rattle.vlm_model.proofs.LeftValues.{any_and_each, any_so, no_stranger}
+use Rattle.vlm_model.proofs.Together.{OfOneEach, one_after_another, rundowns_apart}
+use Rattle.vlm_model.proofs.Weights.{weigh}
+use Rattle.vlm_model.proofs.WhoseLocks.{NoStrangers, own_are_theirs, strangers}
 use Rattle.vlm_locks.specs.Left.{giving_up, is_among, resource_left}
 use Rattle.vlm_locks.specs.RunningDown.{resource_after_rundown}
 use Rattle.vlm_locks.proofs.Left.{IsOthers, IsOwnRow, OthersAlone, OwnRows, nothing_left, one_withdrawn}

@@ -10,19 +10,19 @@ use Rattle.vlm_words.specs.declared.locks.Request.{Request}
 use Rattle.vlm_words.specs.declared.locks.Row.{Row}
 use Rattle.vlm_words.specs.declared.resources.Queue.{Queue}
 use Rattle.vlm_words.specs.declared.resources.Queue.TheVariants.{Granted, Conversion, Waiting}
-use Rattle.vlm_words.specs.Grants.{is_empty}
+use Rattle.vlm_words.specs.Rows.{is_empty}
 use Rattle.vlm_words.specs.State.{Process, Resource}
-use Rattle.vlm_words.specs.Asts.{Queued as QueuedAst, blocking_asts, has_to_warn, is_in_the_way, is_to_warn, processes_after_asts, processes_after_queueing, resource_after_warning, row_after_warning, row_warnings, warnings}
+use Rattle.vlm_model.specs.Asts.{Queued as QueuedAst, blocking_asts, has_to_warn, is_in_the_way, is_to_warn, processes_after_asts, processes_after_queueing, resource_after_warning, row_after_warning, row_warnings, warnings}
 use Rattle.vlm_words.specs.Dues.{due_to, one_where, routines_of, row_due}
-use Rattle.vlm_words.proofs.Warned.{blind_warned}
-use Rattle.vlm_links.specs.Lists.{IsIn}
+use Rattle.vlm_model.proofs.Warned.{blind_warned}
+use Rattle.vlm_collections.specs.Lists.{IsIn}
 use Rattle.vlm_records.specs.declared.handles.Armed.{Armed}
 use Rattle.vlm_records.specs.declared.handles.Place.TheVariants.{Queued}
 use Rattle.vlm_records.specs.Armed.{is_listed}
 use Rattle.vlm_store.specs.Armed.{IsArmedAt, armed_among, armed_at}
 use Rattle.vlm_store.specs.Plain.{plain_processes, plain_resource}
 use Rattle.vlm_store.proofs.Walks.{lock_among}
-use Rattle.vlm_words.proofs.Settled.{unwarned_says_nothing, unwarned_stays}
+use Rattle.vlm_model.proofs.Settled.{unwarned_says_nothing, unwarned_stays}
 use Rattle.vlm_store.specs.Records.{AreApart, DueChanges, HasResource, IsSameLock, IsSound, Records, SameButNotices, StoredLock, StoredResource, Stores, at_after, but_notices, disarmed, disarming, due_of, first_at, locks_at, on_resource, queued, resource_at, resource_with, rows_of_locks, with_lists}
 use Rattle.vlm_store.proofs.Records.{map_on, queue_at}
 use Rattle.vlm_locks.specs.Owing.{DueMoves, IsPaid, OwedMoves, due_for}

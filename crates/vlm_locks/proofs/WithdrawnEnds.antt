@@ -8,12 +8,12 @@ use Rattle.vlm_words.specs.declared.locks.Request.{Request}
 use Rattle.vlm_words.specs.declared.locks.Row.{Row}
 use Rattle.vlm_words.specs.declared.resources.Queue.{Queue}
 use Rattle.vlm_words.specs.declared.resources.Queue.TheVariants.{Granted, Conversion, Waiting}
-use Rattle.vlm_words.specs.Asts.{completion_asts, processes_after_asts}
-use Rattle.vlm_words.specs.Withdrawals.{Withdrawal, processes_after, queue_endings, withdrawal_endings}
-use Rattle.vlm_words.specs.Endings.{Ending, How, ending_status, row_endings, wanted_endings}
+use Rattle.vlm_model.specs.Asts.{completion_asts, processes_after_asts}
+use Rattle.vlm_model.specs.Withdrawals.{Withdrawal, processes_after, queue_endings, withdrawal_endings}
+use Rattle.vlm_model.specs.Endings.{Ending, How, ending_status, row_endings, wanted_endings}
 use Rattle.vlm_words.specs.State.{Process, Resource}
-use Rattle.vlm_words.specs.StatusBlocks.{processes_after_status}
-use Rattle.vlm_links.specs.Lists.{IsIn}
+use Rattle.vlm_model.specs.StatusBlocks.{processes_after_status}
+use Rattle.vlm_collections.specs.Lists.{IsIn}
 use Rattle.vlm_records.specs.declared.handles.Place.TheVariants.{Queued}
 use Rattle.vlm_store.specs.Plain.{plain_resource, plain_resources}
 use Rattle.vlm_store.specs.Records.{AreResourcesApart, IsSound, Records, StoredResource, queued, resource_at, rows_of_locks}
@@ -24,7 +24,7 @@ use Rattle.vlm_locks.specs.declared.finding.Standing.{Standing}
 use Rattle.vlm_locks.specs.Standing.{IsStanding}
 use Rattle.vlm_locks.proofs.Stood.{own_among}
 use Rattle.vlm_locks.proofs.Withdrawn.{rows_elsewhere, rows_here}
-use Rattle.vlm_words.specs.Endings.How.{by_rundown}
+use Rattle.vlm_model.specs.Endings.How.{by_rundown}
 
 -- where no resource has ends there are none
 ends_none : {X : Type 0} (ends : Resource → List X) (rs : List StoredResource) → ((x : StoredResource) → IsIn x rs → ends (plain_resource x) ≡ [])

@@ -4,11 +4,12 @@ use Rattle.vlm_words.specs.declared.locks.Request.{Request}
 use Rattle.vlm_words.specs.declared.locks.Row.{Row}
 use Rattle.vlm_words.specs.declared.resources.Queue.{Queue}
 use Rattle.vlm_words.specs.declared.resources.Queue.TheVariants.{Granted}
-use Rattle.vlm_words.specs.Convert.{ConversionAdmission, conversion_blocks, converts_at_once, resource_after_conversion}
-use Rattle.vlm_words.specs.Effects.{Blocks, blocks_after, blocks_with}
-use Rattle.vlm_words.specs.Grants.{grant_endings, granted_row}
+use Rattle.vlm_model.specs.Convert.{ConversionAdmission, conversion_blocks, converts_at_once, resource_after_conversion}
+use Rattle.vlm_model.specs.Effects.{Blocks, blocks_after, blocks_with}
+use Rattle.vlm_model.specs.Grants.{grant_endings}
+use Rattle.vlm_words.specs.Rows.{granted_row}
 use Rattle.vlm_words.specs.State.{Process}
-use Rattle.vlm_words.specs.StatusBlocks.{processes_after_acceptance}
+use Rattle.vlm_model.specs.StatusBlocks.{processes_after_acceptance}
 use Rattle.vlm_records.specs.declared.handles.Place.TheVariants.{Queued}
 use Rattle.vlm_store.specs.Plain.{plain_processes, plain_resource, plain_resources}
 use Rattle.vlm_store.specs.Records.{Records, StoredResource, moving, resource_with}

@@ -5,12 +5,12 @@ use Rattle.vlm_words.specs.declared.locks.Row.{Row}
 use Rattle.vlm_words.specs.declared.resources.Queue.{Queue}
 use Rattle.vlm_words.specs.declared.resources.Queue.TheVariants.{Granted, Waiting}
 use Rattle.vlm_words.specs.Dues.{due_to, routines_of}
-use Rattle.vlm_words.specs.Effects.{blocks_after, blocks_with}
-use Rattle.vlm_words.specs.Enqueue.{resources_after_entry}
-use Rattle.vlm_words.specs.Grants.{grant_endings}
+use Rattle.vlm_model.specs.Effects.{blocks_after, blocks_with}
+use Rattle.vlm_model.specs.Enqueue.{resources_after_entry}
+use Rattle.vlm_model.specs.Grants.{grant_endings}
 use Rattle.vlm_words.specs.Resources.{IsKeyed, is_at, new_resource}
 use Rattle.vlm_words.specs.State.{Process, Resource}
-use Rattle.vlm_words.specs.StatusBlocks.{processes_after_acceptance}
+use Rattle.vlm_model.specs.StatusBlocks.{processes_after_acceptance}
 use Rattle.vlm_words.specs.declared.resources.ValueBlock.{ValueBlock}
 use Rattle.vlm_store.specs.Plain.{plain_processes, plain_resources}
 use Rattle.vlm_store.specs.Records.{DueChanges, DuesStay, HasResource, HasRoomForLock, HasRoomForResource, IsParentOf, IsProcess, IsSameLock, IsStored, Records, Stores, but_notices, process_with_lock, resource_at}

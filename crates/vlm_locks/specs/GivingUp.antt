@@ -3,11 +3,11 @@ use Rattle.std.specs.Prelude.{◌≡◌, ◌≢◌, ◌≤◌, ◌<◌, ⊤, ℕ
 use Rattle.std.specs.List.{AllByRecursion}
 use Rattle.vlm_words.specs.declared.locks.Row.{Row}
 use Rattle.vlm_words.specs.Dues.{due_to}
-use Rattle.vlm_words.specs.Endings.How.{by_abort}
-use Rattle.vlm_words.specs.OwnLocks.{is_below}
+use Rattle.vlm_model.specs.Endings.How.{by_abort}
+use Rattle.vlm_model.specs.OwnLocks.{is_below}
 use Rattle.vlm_words.specs.State.{Resource}
-use Rattle.vlm_words.specs.Withdrawals.{processes_after, withdrawn_endings}
-use Rattle.vlm_links.specs.Lists.{IsIn}
+use Rattle.vlm_model.specs.Withdrawals.{processes_after, withdrawn_endings}
+use Rattle.vlm_collections.specs.Lists.{IsIn}
 use Rattle.vlm_store.specs.Plain.{plain_processes, plain_resources}
 use Rattle.vlm_store.specs.Records.{Records, SameButNotices, StoredLock, Stores, due_of}
 use Rattle.vlm_store.specs.Total.{lock_total}

@@ -2,10 +2,10 @@
 use Rattle.std.specs.Prelude.{ℕ, Bool, false, not, ◌&&◌, ◌||◌, ◌==◌, List, filter, None, if◌then◌else◌}
 use Rattle.std.specs.List.{list_any}
 use Rattle.vlm_words.specs.declared.locks.Row.{Row}
-use Rattle.vlm_words.specs.Endings.{How}
+use Rattle.vlm_model.specs.Endings.{How}
 use Rattle.vlm_words.specs.State.{Resource}
 use Rattle.vlm_words.specs.ValueBlocks.{invalid_value_block}
-use Rattle.vlm_words.specs.Withdrawals.{Withdrawal, is_writer}
+use Rattle.vlm_model.specs.Withdrawals.{Withdrawal, is_writer}
 
 -- a lock is given up: its request ends so where it waits and so where it converts, and it writes no value, but may
 -- mark all of the value block invalid

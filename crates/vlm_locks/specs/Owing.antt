@@ -2,11 +2,12 @@
 use Rattle.std.specs.Prelude.{◌≡◌, ◌==◌, ◌+◌, ℕ, Bool, false, List, sum_by, None, Some, is_some, if◌then◌else◌}
 use Rattle.vlm_words.specs.declared.locks.Request.{Request}
 use Rattle.vlm_words.specs.declared.locks.Row.{Row}
-use Rattle.vlm_words.specs.Asts.{is_synchronous}
+use Rattle.vlm_model.specs.Asts.{is_synchronous}
 use Rattle.vlm_words.specs.Dues.{due_to, one_where}
-use Rattle.vlm_words.specs.Effects.{Blocks, blocks_after_grant}
-use Rattle.vlm_words.specs.Endings.How.{by_grant}
-use Rattle.vlm_words.specs.Grants.{grant_act, granted_row}
+use Rattle.vlm_model.specs.Effects.{Blocks, blocks_after_grant}
+use Rattle.vlm_model.specs.Endings.How.{by_grant}
+use Rattle.vlm_model.specs.Grants.{grant_act}
+use Rattle.vlm_words.specs.Rows.{granted_row}
 use Rattle.vlm_store.specs.Records.{Records, StoredLock, StoredResource, due_of}
 
 -- how many ASTs are due to a process for those of these locks that are its own

@@ -2,7 +2,7 @@
 use Rattle.std.specs.Prelude.{◌≡◌, ℕ, [], map, Some}
 use Rattle.vlm_words.specs.Resources.{IsKeyed}
 use Rattle.vlm_words.specs.ValueBlocks.{new_value_block}
-use Rattle.vlm_links.specs.Lists.{IsIn}
+use Rattle.vlm_collections.specs.Lists.{IsIn}
 use Rattle.vlm_records.specs.declared.handles.Place.{Place}
 use Rattle.vlm_store.specs.Records.{HasResource, Records, StoredProcess, StoredResource, but_notices, locks_at, on_resource, resource_at, without_lock, without_resource}
 use Rattle.vlm_locks.specs.Rising.{HasRisingLocks}

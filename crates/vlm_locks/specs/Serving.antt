@@ -4,10 +4,11 @@ use Rattle.vlm_words.specs.declared.locks.Request.{Request}
 use Rattle.vlm_words.specs.declared.resources.Queue.{Queue}
 use Rattle.vlm_words.specs.declared.resources.Queue.TheVariants.{Granted, Conversion, Waiting}
 use Rattle.vlm_words.specs.declared.resources.ValueBlock.{ValueBlock}
-use Rattle.vlm_words.specs.Effects.{Blocks, blocks_after, blocks_with, with_value_block}
-use Rattle.vlm_words.specs.Grants.{Service, is_empty, no_service, service, service_of_conversions, service_of_waiting}
+use Rattle.vlm_model.specs.Effects.{Blocks, blocks_after, blocks_with, with_value_block}
+use Rattle.vlm_model.specs.Grants.{Service, no_service, service, service_of_conversions, service_of_waiting}
+use Rattle.vlm_words.specs.Rows.{is_empty}
 use Rattle.vlm_words.specs.State.{Process, Resource}
-use Rattle.vlm_words.specs.Sweeps.{blocks_after_service, resource_after_service}
+use Rattle.vlm_model.specs.Sweeps.{blocks_after_service, resource_after_service}
 use Rattle.vlm_store.specs.Plain.{plain_processes, plain_resource}
 use Rattle.vlm_store.specs.Records.{Records, StoredResource, fits_beside, resource_at}
 use Rattle.vlm_locks.specs.Rest.{IsReplaced}

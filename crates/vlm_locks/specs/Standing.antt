@@ -1,6 +1,6 @@
 -- A lock in its queue.
 use Rattle.std.specs.Prelude.{◌≡◌, ℕ, Some}
-use Rattle.vlm_links.specs.Lists.{IsIn}
+use Rattle.vlm_collections.specs.Lists.{IsIn}
 use Rattle.vlm_words.specs.declared.locks.Row.{Row}
 use Rattle.vlm_store.specs.Records.{IsProcess, Records, StoredResource, Stores, queued, resource_at}
 use Rattle.vlm_locks.specs.declared.finding.Standing.{Standing}

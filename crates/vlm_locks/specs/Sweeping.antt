@@ -1,9 +1,9 @@
 -- The sweep of the resources that a step has touched.
 use Rattle.std.specs.Prelude.{◌≡◌, ◌==◌, ⊤, ℕ, not, List, [], ◌∷◌, ◌++◌, filter, map}
 use Rattle.std.specs.List.{list_any}
-use Rattle.vlm_links.specs.Lists.{IsIn}
-use Rattle.vlm_words.specs.Settled.{IsSettled, unless_vacant}
-use Rattle.vlm_words.specs.Sweeps.{blocks_after_service, resource_after_service}
+use Rattle.vlm_collections.specs.Lists.{IsIn}
+use Rattle.vlm_model.specs.Settled.{IsSettled, unless_vacant}
+use Rattle.vlm_model.specs.Sweeps.{blocks_after_service, resource_after_service}
 use Rattle.vlm_store.specs.Plain.{plain_processes, plain_resource}
 use Rattle.vlm_store.specs.Records.{Records, StoredResource}
 use Rattle.vlm_locks.specs.Rest.{OwnLocksStay, but_service}

@@ -1,7 +1,7 @@
 -- What a step notes: the resources that it touches, and before that locks that it is to give up.
 use Rattle.std.specs.Prelude.{◌≡◌, ◌<◌, ⊤, ℕ, List, [], ◌∷◌, map}
 use Rattle.std.specs.List.{AllByRecursion}
-use Rattle.vlm_links.specs.Lists.{IsIn}
+use Rattle.vlm_collections.specs.Lists.{IsIn}
 use Rattle.vlm_store.specs.Records.{Records, StoredResource}
 use Rattle.vlm_locks.specs.declared.touched.Note.{Note}
 

@@ -1,7 +1,7 @@
 -- The warnings of a resource's granted locks.
 use Rattle.std.specs.Prelude.{◌≡◌, ℕ, Bool, false, Some, if◌then◌else◌}
 use Rattle.vlm_words.specs.declared.locks.Row.{Row}
-use Rattle.vlm_words.specs.Asts.{is_to_warn, processes_after_asts, resource_after_warning, row_after_warning, row_warnings, warnings}
+use Rattle.vlm_model.specs.Asts.{is_to_warn, processes_after_asts, resource_after_warning, row_after_warning, row_warnings, warnings}
 use Rattle.vlm_records.specs.declared.handles.Armed.{Armed}
 use Rattle.vlm_records.specs.Armed.{is_listed}
 use Rattle.vlm_store.specs.Plain.{plain_processes, plain_resource}

@@ -1,8 +1,8 @@
 -- Withdrawals as the plain machine has them.
 use Rattle.std.specs.Prelude.{Bool, ◌||◌, is_some}
-use Rattle.vlm_words.specs.Endings.{How}
-use Rattle.vlm_words.specs.Endings.How.{by_abort, by_cancel, by_deadlock, by_rundown}
-use Rattle.vlm_words.specs.Withdrawals.{Withdrawal as PlainWithdrawal}
+use Rattle.vlm_model.specs.Endings.{How}
+use Rattle.vlm_model.specs.Endings.How.{by_abort, by_cancel, by_deadlock, by_rundown}
+use Rattle.vlm_model.specs.Withdrawals.{Withdrawal as PlainWithdrawal}
 use Rattle.vlm_locks.specs.declared.withdrawals.End.TheVariants.{Aborted, Cancelled, Deadlocked, RunDown}
 use Rattle.vlm_locks.specs.declared.withdrawals.End.{End}
 use Rattle.vlm_locks.specs.declared.withdrawals.Withdrawal.{Withdrawal}

@@ -3,10 +3,9 @@
 ghost use Rattle.std.specs.Prelude.{◌≡◌, ◌≤◌, None, Some, IfSome, IsOk, OnErr, OnOk};
 ghost use Rattle.vlm_words.specs.declared.locks.Request.{Request};
 ghost use Rattle.vlm_words.specs.declared.resources.Queue.{Queue};
-ghost use Rattle.vlm_words.specs.Convert.{converts_at_once, wanting_row};
+ghost use Rattle.vlm_model.specs.Convert.{converts_at_once};
+ghost use Rattle.vlm_words.specs.Rows.{wanting_row, fits, granted_row, rows_without};
 ghost use Rattle.vlm_words.specs.Dues.{routines_of, row_due};
-ghost use Rattle.vlm_words.specs.Grants.{fits, granted_row};
-ghost use Rattle.vlm_words.specs.Rows.{rows_without};
 ghost use Rattle.vlm_store.specs.Plain.{plain_processes, plain_resource};
 ghost use Rattle.vlm_store.specs.Records.{DuesStay, IsSameLock, StoredResource, due_of, resource_at, rows_of_locks};
 ghost use Rattle.vlm_locks.specs.Converting.{IsConverted, IsConvertedAtOnce, moved_in, processes_converting};
@@ -41,7 +40,7 @@ fn fits_others(store: &Store, standing: &Standing, mode: Mode) -> bool
 
 /// Whether a conversion of a granted lock is granted at once: the mode fits beside all other locks of the resource, and
 /// with QUECVT no conversion is queued there.
-#[tactic(auto, unfolding(vlm_words::specs::Convert::converts_at_once))]
+#[tactic(auto, unfolding(vlm_model::specs::Convert::converts_at_once))]
 pub fn converts_at_once(store: &Store, standing: &Standing, flags: EnqFlags, mode: Mode) -> bool
     requires standing { IsStanding standing.now store.now }
     requires granted { standing.now.queue ≡ Queue.Granted }

@@ -4,11 +4,12 @@
 ghost use Rattle.std.specs.Prelude.{◌≡◌, ◌≤◌, ◌-◌, Some, true, false, is_some};
 ghost use Rattle.vlm_words.specs.declared.resources.ValueBlock.{ValueBlock};
 ghost use Rattle.vlm_words.specs.Flags.{flag_bits, has_flag, valblk};
-ghost use Rattle.vlm_words.specs.Effects.{blocks_after, blocks_with};
-ghost use Rattle.vlm_words.specs.Asts.{completion_asts, processes_after_asts};
+ghost use Rattle.vlm_model.specs.Effects.{blocks_after, blocks_with};
+ghost use Rattle.vlm_model.specs.Asts.{completion_asts, processes_after_asts};
 ghost use Rattle.vlm_words.specs.Dues.{one_where, row_due};
-ghost use Rattle.vlm_words.specs.Grants.{grant_act, grant_endings, granted_row};
-ghost use Rattle.vlm_words.specs.StatusBlocks.{processes_after_acceptance};
+ghost use Rattle.vlm_model.specs.Grants.{grant_act, grant_endings};
+ghost use Rattle.vlm_words.specs.Rows.{granted_row};
+ghost use Rattle.vlm_model.specs.StatusBlocks.{processes_after_acceptance};
 ghost use Rattle.vlm_words.specs.ValueBlocks.{value_block_written_from};
 ghost use Rattle.vlm_store.specs.Plain.{plain_processes};
 ghost use Rattle.vlm_store.specs.Records.{DueChanges, DuesStay, IsProcess, SameButNotices, due_of};
@@ -26,7 +27,7 @@ use vlm_words::modes::{Act, value_action};
 use vlm_words::resources::ValueBlock;
 
 // The action of a request's grant on the value block, by the mode held before.
-#[tactic(auto, unfolding(vlm_words::specs::Grants::grant_act))]
+#[tactic(auto, unfolding(vlm_model::specs::Grants::grant_act))]
 fn grant_act(held: Option<Request>, want: &Request) -> Act
     ensures { result ≡ grant_act held (Some want.now) }
 {
@@ -49,7 +50,7 @@ fn write_from(value_block: &mut ValueBlock, from: &Block, wide: bool)
 
 // Writes the status of a grant to the status block of the lock's process. With VALBLK the value block is returned
 // there, or written from there: with WIDE all 64 bytes of it.
-#[tactic(auto, unfolding(vlm_words::specs::Effects::blocks_after_return, vlm_words::specs::Effects::blocks_after_writing))]
+#[tactic(auto, unfolding(vlm_model::specs::Effects::blocks_after_return, vlm_model::specs::Effects::blocks_after_writing))]
 fn write_grant(
     value_block: &mut ValueBlock,
     store: &mut Store,
@@ -79,7 +80,7 @@ fn write_grant(
 
 /// Queues the completion AST of a request that has ended, at once or later, if it names a completion routine. A grant
 /// at once with SYNCSTS queues none, since the answer tells of it.
-#[tactic(auto, unfolding(vlm_words::specs::Asts::completion_asts))]
+#[tactic(auto, unfolding(vlm_model::specs::Asts::completion_asts))]
 pub(crate) fn complete(
     store: &mut Store,
     at: ProcAt,
@@ -150,7 +151,7 @@ fn tell_grant(store: &mut Store, at: ProcAt, row: &StoredRow, request: &Request,
 
 /// Accepts a request without VALBLK and grants it at once. It writes the status block once, queues the completion AST,
 /// and frees the room of the ASTs that will not come.
-#[tactic(auto, unfolding(vlm_words::specs::Grants::grant_act))]
+#[tactic(auto, unfolding(vlm_model::specs::Grants::grant_act))]
 pub(crate) fn grant_without_value_block(
     store: &mut Store,
     at: ProcAt,

@@ -4,9 +4,10 @@ ghost use Rattle.std.specs.Prelude.{◌≡◌, ◌≤◌, true, None, Some, IfOk
 ghost use Rattle.vlm_words.specs.declared.locks.Request.{Request};
 ghost use Rattle.vlm_words.specs.declared.locks.Row.{Row};
 ghost use Rattle.vlm_words.specs.Dues.{routines_of, row_due};
-ghost use Rattle.vlm_words.specs.Effects.{blocks_after, blocks_with};
-ghost use Rattle.vlm_words.specs.Grants.{grant_endings, granted_row};
-ghost use Rattle.vlm_words.specs.Enqueue.{is_at_once};
+ghost use Rattle.vlm_model.specs.Effects.{blocks_after, blocks_with};
+ghost use Rattle.vlm_model.specs.Grants.{grant_endings};
+ghost use Rattle.vlm_words.specs.Rows.{granted_row};
+ghost use Rattle.vlm_model.specs.Enqueue.{is_at_once};
 ghost use Rattle.vlm_store.specs.Plain.{plain_processes, plain_resource};
 ghost use Rattle.vlm_store.specs.Records.{DuesStay, FindsResource, HasResource, HasRoomForLock, HasRoomForResource, IsProcess, IsUnchanged, Records, SameButNotices, StoredResource, due_of, resource_at};
 ghost use Rattle.vlm_locks.specs.Entering.{HasRoomToEnter, HasEntered, IsDueMore, IsEntered, IsReady, MayEnter, entered_queue, new_row, processes_accepted, processes_entered};
@@ -25,7 +26,7 @@ use vlm_words::modes::Mode;
 use vlm_words::resources::{Queue, Site};
 
 /// Whether a new request is granted at once on a resource: it is expedited, or it fits and nobody is queued.
-#[tactic(auto, unfolding(vlm_words::specs::Enqueue::is_at_once))]
+#[tactic(auto, unfolding(vlm_model::specs::Enqueue::is_at_once))]
 pub fn enters_at_once(store: &Store, res: ResAt, flags: EnqFlags, mode: Mode) -> bool
     requires { HasResource res store.now }
     ensures { (r : StoredResource) (asked : Request)

@@ -5,7 +5,7 @@ ghost use Rattle.std.specs.Bool.{OnFalse, OnTrue};
 ghost use Rattle.vlm_words.specs.declared.locks.Row.{Row};
 ghost use Rattle.vlm_words.specs.declared.resources.Queue.{Queue};
 ghost use Rattle.std.specs.List.{list_any};
-ghost use Rattle.vlm_words.specs.Checks.{holds_lock};
+ghost use Rattle.vlm_model.specs.Checks.{holds_lock};
 ghost use Rattle.vlm_store.specs.Plain.{plain_resources};
 ghost use Rattle.vlm_store.specs.Records.{IsStored, Stores};
 ghost use Rattle.vlm_locks.specs.Rest.{IsAtRest};

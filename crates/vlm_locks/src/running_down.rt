@@ -4,7 +4,7 @@ ghost use Rattle.std.specs.Prelude.{◌≡◌, ◌==◌, ◌≤◌, ◌+◌, ℕ
 ghost use Rattle.vlm_store.specs.Plain.{plain_processes, plain_resources};
 ghost use Rattle.vlm_store.specs.Records.{HasNoLocks, IsProcess};
 ghost use Rattle.vlm_store.specs.Total.{lock_total};
-ghost use Rattle.vlm_words.specs.Rundown.{is_of_node};
+ghost use Rattle.vlm_words.specs.Steps.{is_of_node};
 ghost use Rattle.vlm_locks.specs.Owing.{IsPaid};
 ghost use Rattle.vlm_locks.specs.Rest.{IsAtRest};
 ghost use Rattle.vlm_locks.specs.RunningDown.{AreEnded, CanEndProcesses, GrantedWantNothing, SublocksAreOwn, WereThere, resource_after_rundown};

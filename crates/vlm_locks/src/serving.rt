@@ -3,8 +3,9 @@
 ghost use Rattle.std.specs.Prelude.{◌≡◌, ◌≢◌, ◌≤◌, IfSome, false};
 ghost use Rattle.vlm_words.specs.declared.resources.Queue.{Queue};
 ghost use Rattle.vlm_words.specs.Dues.{row_due};
-ghost use Rattle.vlm_words.specs.Effects.{blocks_after, blocks_with};
-ghost use Rattle.vlm_words.specs.Grants.{grant_endings, granted_row, service};
+ghost use Rattle.vlm_model.specs.Effects.{blocks_after, blocks_with};
+ghost use Rattle.vlm_model.specs.Grants.{grant_endings, service};
+ghost use Rattle.vlm_words.specs.Rows.{granted_row};
 ghost use Rattle.vlm_records.specs.declared.handles.Place.{Place};
 ghost use Rattle.vlm_store.specs.Plain.{plain_processes, plain_resource};
 ghost use Rattle.vlm_store.specs.Records.{HasResource, IsStored, SameButNotices, StoredLock, Stores, due_of, moving, resource_at, with_lists};

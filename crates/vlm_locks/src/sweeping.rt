@@ -1,7 +1,7 @@
 //! The sweep of the resources that a step has touched.
 
 ghost use Rattle.std.specs.Prelude.{◌≡◌, [], ◌∷◌};
-ghost use Rattle.vlm_words.specs.Sweeps.{processes_after_service, resources_after_sweep};
+ghost use Rattle.vlm_model.specs.Sweeps.{processes_after_service, resources_after_sweep};
 ghost use Rattle.vlm_store.specs.Plain.{plain_processes, plain_resources};
 ghost use Rattle.vlm_store.specs.Records.{HasResource};
 ghost use Rattle.vlm_locks.specs.Owing.{IsPaid};
@@ -15,7 +15,7 @@ use crate::touched::Note;
 use vlm_queue::is_idle;
 use vlm_store::laws::law_records_are_sound;
 use vlm_store::{ResAt, Store};
-use vlm_words::laws::law_a_sweep_touches_only_what_is_not_settled;
+use vlm_model::laws::law_a_sweep_touches_only_what_is_not_settled;
 
 // Sweeps one resource: grants what can be granted, warns the locks in the way of the rest, and removes the resource if
 // it has no locks.

@@ -3,14 +3,14 @@
 
 ghost use Rattle.std.specs.Prelude.{◌≡◌, ◌<◌, ◌≤◌, List, [], ◌∷◌, ◌++◌, length, vec_capacity, IfSome, OnErr, OnOk};
 ghost use Rattle.vlm_words.specs.declared.locks.Row.{Row};
-ghost use Rattle.vlm_links.specs.Lists.{IsIn};
+ghost use Rattle.vlm_collections.specs.Lists.{IsIn};
 ghost use Rattle.vlm_store.specs.Records.{HasResource, IsStored, Stores, resource_at};
 ghost use Rattle.vlm_locks.specs.Touched.{IsNoted, RiseByNumber};
 ghost use Rattle.vlm_locks.specs.declared.touched.Note.{Note};
 
 use std::alloc::{AllocError, Global};
 use std::marker::Model;
-use vlm_links::At;
+use vlm_collections::At;
 use vlm_store::{LockAt, ResAt, Store};
 
 /// The kind of a handle in a note: of a resource, or of a lock.

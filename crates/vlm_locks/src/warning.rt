@@ -2,7 +2,7 @@
 
 ghost use Rattle.std.specs.Prelude.{◌≡◌, ◌≤◌, true, IfSome, Some};
 ghost use Rattle.vlm_words.specs.declared.locks.Row.{Row};
-ghost use Rattle.vlm_words.specs.Asts.{blocking_asts, is_to_warn, processes_after_asts};
+ghost use Rattle.vlm_model.specs.Asts.{blocking_asts, is_to_warn, processes_after_asts};
 ghost use Rattle.vlm_words.specs.Dues.{row_due};
 ghost use Rattle.vlm_store.specs.Plain.{plain_processes};
 ghost use Rattle.vlm_store.specs.Records.{HasResource, IsProcess, IsStored, SameButNotices, StoredResource, Stores, due_of, resource_at, rows_of_locks};
@@ -16,7 +16,7 @@ use vlm_words::asts::{Ast, AstKind};
 use vlm_words::modes::Mode;
 
 // Whether a granted lock with this row is to be warned: it is armed, and its mode is in the way of a queued request.
-#[tactic(auto, unfolding(vlm_words::specs::Asts::is_to_warn))]
+#[tactic(auto, unfolding(vlm_model::specs::Asts::is_to_warn))]
 fn is_to_warn(store: &Store, res: ResAt, row: &StoredRow) -> bool
     requires { HasResource res store.now }
     ensures { (r : StoredResource) → resource_at res store.now.resources ≡ Some r → result

@@ -1,10 +1,10 @@
 //! Withdrawals: how a lock's request ends, and whether the lock goes.
 
 ghost use Rattle.std.specs.Prelude.{◌≡◌};
-ghost use Rattle.vlm_words.specs.Endings.{ending_status};
-ghost use Rattle.vlm_words.specs.Endings.How.{by_abort};
-ghost use Rattle.vlm_words.specs.Rundown.{rundown_of};
-ghost use Rattle.vlm_words.specs.Search.{deadlock_of};
+ghost use Rattle.vlm_model.specs.Endings.{ending_status};
+ghost use Rattle.vlm_model.specs.Endings.How.{by_abort};
+ghost use Rattle.vlm_model.specs.Rundown.{rundown_of};
+ghost use Rattle.vlm_model.specs.Search.{deadlock_of};
 ghost use Rattle.vlm_locks.specs.Left.{giving_up};
 ghost use Rattle.vlm_locks.specs.Withdrawals.{how_ended, plain_withdrawal, writes_something};
 

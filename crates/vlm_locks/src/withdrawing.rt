@@ -1,11 +1,11 @@
 //! Withdraws a lock, or only its request.
 
 ghost use Rattle.std.specs.Prelude.{◌≡◌, ◌≤◌, ℕ, None, Some, true, false, [], ◌∷◌, flat_map, map};
-ghost use Rattle.vlm_words.specs.Withdrawals.{is_writer, processes_after, resource_after_cancel, resource_after_withdrawals, resource_after_writer, resource_without, value_block_after_writer, withdrawal_endings};
-ghost use Rattle.vlm_words.specs.Asts.{completion_asts, processes_after_asts};
-ghost use Rattle.vlm_words.specs.StatusBlocks.{processes_after_status};
+ghost use Rattle.vlm_model.specs.Withdrawals.{is_writer, processes_after, resource_after_cancel, resource_after_withdrawals, resource_after_writer, resource_without, value_block_after_writer, withdrawal_endings};
+ghost use Rattle.vlm_model.specs.Asts.{completion_asts, processes_after_asts};
+ghost use Rattle.vlm_model.specs.StatusBlocks.{processes_after_status};
 ghost use Rattle.vlm_words.specs.Dues.{one_where, row_due};
-ghost use Rattle.vlm_words.specs.Endings.{row_endings};
+ghost use Rattle.vlm_model.specs.Endings.{row_endings};
 ghost use Rattle.vlm_words.specs.declared.resources.Queue.{Queue};
 ghost use Rattle.vlm_store.specs.Plain.{plain_processes, plain_resources};
 ghost use Rattle.vlm_store.specs.Records.{HasNoSublocks, SameButNotices, but_notices, due_of};

@@ -11,13 +11,13 @@ use Rattle.vlm_words.specs.declared.resources.Queue.{Queue}
 use Rattle.vlm_words.specs.declared.resources.Queue.TheVariants.{Granted}
 use Rattle.vlm_words.specs.declared.steps.Conversion.{Conversion}
 use Rattle.vlm_words.specs.declared.steps.Dequeue.{Dequeue}
-use Rattle.vlm_words.specs.Convert.{ConversionAdmission, admission_among, admission_or, convert_admission, convert_lkid, convert_request}
-use Rattle.vlm_words.specs.Checks.{caller_refusal, lock_refusal, or_else, which_refusal}
-use Rattle.vlm_words.specs.Dequeue.{cancel_refusal, deq_flags_refusal, deq_refusal, dequeue_lkid, dequeued_lock_refusal, is_granted, is_mixed, sublocks_refusal}
+use Rattle.vlm_model.specs.Convert.{ConversionAdmission, admission_among, admission_or, convert_admission, convert_lkid, convert_request}
+use Rattle.vlm_model.specs.Checks.{caller_refusal, lock_refusal, or_else, which_refusal}
+use Rattle.vlm_model.specs.Dequeue.{cancel_refusal, deq_flags_refusal, deq_refusal, dequeue_lkid, dequeued_lock_refusal, is_granted, is_mixed, sublocks_refusal}
 use Rattle.vlm_words.specs.Flags.{cancel, deqall, has_flag}
 use Rattle.vlm_words.specs.State.{State}
 use Rattle.vlm_words.specs.Rows.{is_lock_of}
-use Rattle.vlm_links.specs.Lists.{IsIn}
+use Rattle.vlm_collections.specs.Lists.{IsIn}
 use Rattle.vlm_store.specs.Plain.{plain_resource, plain_resources}
 use Rattle.vlm_store.specs.Records.{IsSound, Records, StoredResource, queued, rows_of_locks}
 use Rattle.vlm_locks.proofs.Found.{resource_alone, resource_at-at}

@@ -8,16 +8,16 @@ use Rattle.vlm_words.specs.declared.locks.Row.{Row}
 use Rattle.vlm_words.specs.declared.resources.Queue.{Queue}
 use Rattle.vlm_words.specs.declared.resources.Queue.TheVariants.{Granted, Conversion, Waiting}
 use Rattle.vlm_words.specs.declared.steps.Dequeue.{Dequeue}
-use Rattle.vlm_words.specs.Dequeue.{conversion_ending, deq_change, dequeue_lkid, is_dequeued, withdrawal_of, withdrawals_of}
-use Rattle.vlm_words.specs.Endings.How.{by_abort}
+use Rattle.vlm_model.specs.Dequeue.{conversion_ending, deq_change, dequeue_lkid, is_dequeued, withdrawal_of, withdrawals_of}
+use Rattle.vlm_model.specs.Endings.How.{by_abort}
 use Rattle.vlm_words.specs.Flags.{cancel, deqall, has_flag, invvalblk}
-use Rattle.vlm_words.specs.OwnLocks.{has_lock_among, is_below, is_lock_among, own_lkids, parent_of}
+use Rattle.vlm_model.specs.OwnLocks.{has_lock_among, is_below, is_lock_among, own_lkids, parent_of}
 use Rattle.vlm_words.specs.State.{Process, Resource, State}
-use Rattle.vlm_words.specs.Withdrawals.{Withdrawal, processes_after, resource_after_withdrawals, withdrawn_endings}
-use Rattle.vlm_words.proofs.Each.{each_filter, each_weaker}
-use Rattle.vlm_words.proofs.Leaving.{in_filter, is_listed}
-use Rattle.vlm_words.proofs.Together.{OfOneEach, dequeues_apart, from_on}
-use Rattle.vlm_links.specs.Lists.{IsIn}
+use Rattle.vlm_model.specs.Withdrawals.{Withdrawal, processes_after, resource_after_withdrawals, withdrawn_endings}
+use Rattle.vlm_model.proofs.Each.{each_filter, each_weaker}
+use Rattle.vlm_model.proofs.Leaving.{in_filter, is_listed}
+use Rattle.vlm_model.proofs.Together.{OfOneEach, dequeues_apart, from_on}
+use Rattle.vlm_collections.specs.Lists.{IsIn}
 use Rattle.vlm_store.specs.Plain.{plain_processes, plain_resource, plain_resources}
 use Rattle.vlm_store.specs.Records.{IsSound, Records, StoredLock, StoredResource, Stores, queued, rows_of_locks}
 use Rattle.vlm_locks.specs.declared.giving_up.Choice.{Choice}

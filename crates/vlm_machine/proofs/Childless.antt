@@ -8,11 +8,11 @@ use Rattle.vlm_words.specs.declared.conditions.Cond.TheVariants.{Sublocks}
 use Rattle.vlm_words.specs.declared.locks.Row.{Row}
 use Rattle.vlm_words.specs.declared.resources.Queue.{Queue}
 use Rattle.vlm_words.specs.declared.resources.Queue.TheVariants.{Granted, Conversion, Waiting}
-use Rattle.vlm_words.specs.Dequeue.{has_sublock, has_sublock_on, sublocks_refusal}
-use Rattle.vlm_words.specs.Laws.{HasItsParent, HoldsOn, rows_on}
+use Rattle.vlm_model.specs.Dequeue.{has_sublock, has_sublock_on, sublocks_refusal}
+use Rattle.vlm_model.specs.Laws.{HasItsParent, HoldsOn, rows_on}
 use Rattle.vlm_words.specs.State.{Resource}
-use Rattle.vlm_words.proofs.Each.{Any-cases, Any-none, each_weaker}
-use Rattle.vlm_links.specs.Lists.{IsIn}
+use Rattle.vlm_model.proofs.Each.{Any-cases, Any-none, each_weaker}
+use Rattle.vlm_collections.specs.Lists.{IsIn}
 use Rattle.vlm_records.specs.declared.handles.Place.TheVariants.{Queued}
 use Rattle.vlm_store.specs.Plain.{plain_resource, plain_resources}
 use Rattle.vlm_store.specs.Records.{HasNoSublocks, IsSound, OwnLock, Records, StoredLock, StoredProcess, StoredResource, Stores, locks_at, queued, rows_of_locks}

@@ -6,13 +6,13 @@ use Rattle.vlm_words.specs.declared.locks.Request.{Request}
 use Rattle.vlm_words.specs.declared.resources.ValueBlock.{ValueBlock}
 use Rattle.vlm_words.specs.declared.steps.Conversion.{Conversion}
 use Rattle.vlm_words.specs.declared.steps.Dequeue.{Dequeue}
-use Rattle.vlm_words.specs.Convert.{ConversionAdmission, conversion_blocks, convert_admission, convert_blocks, convert_change, convert_lkid, convert_request, resource_after_conversion}
-use Rattle.vlm_words.specs.Dequeue.{deq_change, dequeue_lkid, withdrawal_of, withdrawals_of}
+use Rattle.vlm_model.specs.Convert.{ConversionAdmission, conversion_blocks, convert_admission, convert_blocks, convert_change, convert_lkid, convert_request, resource_after_conversion}
+use Rattle.vlm_model.specs.Dequeue.{deq_change, dequeue_lkid, withdrawal_of, withdrawals_of}
 use Rattle.vlm_words.specs.Flags.{deqall, has_flag}
-use Rattle.vlm_words.specs.Withdrawals.{Withdrawal, processes_after, resource_after_withdrawals, withdrawal_endings, withdrawn_endings}
-use Rattle.vlm_words.specs.Effects.{Blocks}
+use Rattle.vlm_model.specs.Withdrawals.{Withdrawal, processes_after, resource_after_withdrawals, withdrawal_endings, withdrawn_endings}
+use Rattle.vlm_model.specs.Effects.{Blocks}
 use Rattle.vlm_words.specs.State.{Process, Resource, State}
-use Rattle.vlm_words.specs.StatusBlocks.{processes_after_acceptance}
+use Rattle.vlm_model.specs.StatusBlocks.{processes_after_acceptance}
 use Rattle.vlm_store.specs.Plain.{plain_processes, plain_resources}
 use Rattle.vlm_store.specs.Records.{Records, StoredResource, resource_at}
 use Rattle.vlm_locks.specs.declared.finding.Standing.{Standing}

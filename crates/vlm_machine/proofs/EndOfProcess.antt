@@ -2,12 +2,12 @@
 use Rattle.std.proofs.Common.{◌≡◌, ◌<◌, ℕ, Bool, true, List, [], ◌∷◌, length, map, sym, ap, ◌∙◌, subst, arith}
 use Rattle.std.specs.List.{AllByRecursion}
 use Rattle.vlm_words.specs.declared.locks.Row.{Row}
-use Rattle.vlm_words.specs.Rundown.{rundowns, state_after_rundown}
+use Rattle.vlm_model.specs.Rundown.{rundowns, state_after_rundown}
 use Rattle.vlm_words.specs.State.{Node, Process, Resource, State}
-use Rattle.vlm_words.specs.Withdrawals.{resource_after_withdrawals}
-use Rattle.vlm_words.proofs.Apart.{Apart}
-use Rattle.vlm_words.proofs.Pairs.{EachPair}
-use Rattle.vlm_links.specs.Lists.{IsIn}
+use Rattle.vlm_model.specs.Withdrawals.{resource_after_withdrawals}
+use Rattle.vlm_model.proofs.Apart.{Apart}
+use Rattle.vlm_model.proofs.Pairs.{EachPair}
+use Rattle.vlm_collections.specs.Lists.{IsIn}
 use Rattle.vlm_store.specs.Plain.{plain_processes, plain_resource, plain_resources}
 use Rattle.vlm_store.specs.Records.{IsSound, Records, StoredResource}
 use Rattle.vlm_locks.specs.Left.{resource_left}

@@ -4,16 +4,17 @@ use Rattle.vlm_words.specs.declared.locks.Request.{Request}
 use Rattle.vlm_words.specs.declared.locks.Row.{Row}
 use Rattle.vlm_words.specs.declared.resources.Site.{Site}
 use Rattle.vlm_words.specs.declared.steps.NewRequest.{NewRequest}
-use Rattle.vlm_words.specs.Effects.{blocks_after, blocks_with}
-use Rattle.vlm_words.specs.Enqueue.{enq_at_once, enq_change, enq_key, enq_processes, enq_resource, enq_row, has_resource, is_at_once, resources_after_entry}
-use Rattle.vlm_words.specs.Grants.{fits, grant_endings}
+use Rattle.vlm_model.specs.Effects.{blocks_after, blocks_with}
+use Rattle.vlm_model.specs.Enqueue.{enq_at_once, enq_change, enq_key, enq_processes, enq_resource, enq_row, has_resource, is_at_once, resources_after_entry}
+use Rattle.vlm_words.specs.Rows.{fits}
+use Rattle.vlm_model.specs.Grants.{grant_endings}
 use Rattle.vlm_words.specs.Resources.{is_at, new_resource}
 use Rattle.vlm_words.specs.State.{Process, Resource, State}
 use Rattle.vlm_store.specs.Plain.{plain_processes, plain_resources}
 use Rattle.vlm_store.specs.Records.{FindsResource, Records}
-use Rattle.vlm_words.specs.StatusBlocks.{processes_after_acceptance}
+use Rattle.vlm_model.specs.StatusBlocks.{processes_after_acceptance}
 use Rattle.vlm_locks.specs.Entering.{new_row, processes_entered, resource_for}
-use Rattle.vlm_words.specs.Trees.{enq_site}
+use Rattle.vlm_model.specs.Trees.{enq_site}
 use Rattle.vlm_locks.specs.Rest.{IsAtRest}
 use Rattle.vlm_locks.specs.declared.entering.Entry.{Entry}
 use Rattle.vlm_locks.proofs.Keyed.{has_none, has_one}

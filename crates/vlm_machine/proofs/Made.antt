@@ -5,10 +5,10 @@ use Rattle.vlm_words.specs.declared.conditions.Cond.{Cond}
 use Rattle.vlm_words.specs.declared.locks.Row.{Row}
 use Rattle.vlm_words.specs.declared.steps.Answer.{Answer}
 use Rattle.vlm_words.specs.declared.steps.Step.{Step}
-use Rattle.vlm_words.specs.Settled.{IsSettled}
+use Rattle.vlm_model.specs.Settled.{IsSettled}
 use Rattle.vlm_words.specs.State.{State}
-use Rattle.vlm_words.specs.Stepped.{IsChoice, Outcome, Stepped, refused_or, step_change, step_refusal, stepped, stepped_after_sweep}
-use Rattle.vlm_words.specs.Sweeps.{state_after_sweep}
+use Rattle.vlm_model.specs.Stepped.{IsChoice, Outcome, Stepped, refused_or, step_change, step_refusal, stepped, stepped_after_sweep}
+use Rattle.vlm_model.specs.Sweeps.{state_after_sweep}
 use Rattle.vlm_machine.proofs.Settling.{unswept}
 
 -- the step is made, with what it chooses, where its change is swept, and its answer given

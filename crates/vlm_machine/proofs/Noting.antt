@@ -6,9 +6,9 @@ use Rattle.vlm_words.specs.declared.locks.Row.{Row}
 use Rattle.vlm_words.specs.declared.steps.Answer.{Answer}
 use Rattle.vlm_words.specs.declared.steps.Step.{Step}
 use Rattle.vlm_words.specs.State.{Resource, State, start}
-use Rattle.vlm_words.specs.Stepped.{Outcome}
-use Rattle.vlm_words.proofs.Totals.{most_added, one_each, step_total, total}
-use Rattle.vlm_words.proofs.Weights.{weigh}
+use Rattle.vlm_model.specs.Stepped.{Outcome}
+use Rattle.vlm_model.proofs.Totals.{most_added, one_each, step_total, total}
+use Rattle.vlm_model.proofs.Weights.{weigh}
 use Rattle.vlm_store.specs.Plain.{plain_resources}
 use Rattle.vlm_store.specs.Records.{Records}
 use Rattle.vlm_store.specs.Total.{lock_total}

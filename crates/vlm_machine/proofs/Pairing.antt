@@ -2,7 +2,7 @@
 use Rattle.std.proofs.Common.{suc, List, [], ◌∷◌, arith}
 use Rattle.std.specs.Prelude.{AllPairs}
 use Rattle.std.proofs.lemmas.List.Elements.{recursion_from_All}
-use Rattle.vlm_words.proofs.Pairs.{EachPair}
+use Rattle.vlm_model.proofs.Pairs.{EachPair}
 
 -- by recursion each pair has what it has by places
 pub pairs_by_recursion : {X : Type 0} (R : X → X → Type 0) (xs : List X) → AllPairs R xs → EachPair R xs

@@ -5,12 +5,13 @@ use Rattle.std.proofs.lemmas.Bool.{and_parts}
 use Rattle.vlm_words.specs.declared.locks.Request.{Request}
 use Rattle.vlm_words.specs.declared.locks.Row.{Row}
 use Rattle.vlm_words.specs.declared.resources.Site.{Site}
-use Rattle.vlm_words.specs.Asts.{has_to_warn, is_in_the_way, is_to_warn}
-use Rattle.vlm_words.specs.Enqueue.{is_at_once, is_free_for, resource_after_entry, resources_after_entry}
+use Rattle.vlm_model.specs.Asts.{has_to_warn, is_in_the_way, is_to_warn}
+use Rattle.vlm_model.specs.Enqueue.{is_at_once, is_free_for, resource_after_entry, resources_after_entry}
 use Rattle.vlm_words.specs.Flags.{expedite, flag_bits, has_flag}
-use Rattle.vlm_words.specs.Grants.{fits, is_empty, service}
+use Rattle.vlm_words.specs.Rows.{fits, is_empty}
+use Rattle.vlm_model.specs.Grants.{service}
 use Rattle.vlm_words.specs.Resources.{is_at, new_resource}
-use Rattle.vlm_words.specs.Settled.{IsSettled}
+use Rattle.vlm_model.specs.Settled.{IsSettled}
 use Rattle.vlm_words.specs.State.{Resource}
 
 -- nobody is warned where nobody is queued

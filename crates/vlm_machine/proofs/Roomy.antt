@@ -9,24 +9,24 @@ use Rattle.vlm_words.specs.declared.steps.Answer.{Answer}
 use Rattle.vlm_words.specs.declared.steps.Answer.TheVariants.{Process as process_answer}
 use Rattle.vlm_words.specs.declared.steps.Step.{Step}
 use Rattle.vlm_words.specs.declared.steps.Step.TheVariants.{Declare, SetValue, Enq, Convert, Deq, Rundown, Leave, Search, Take}
-use Rattle.vlm_words.specs.Convert.{ConversionAdmission, convert_admission, convert_change}
-use Rattle.vlm_words.specs.Declare.{declare_change, declared_process, is_node, next_pid}
-use Rattle.vlm_words.specs.Dequeue.{deq_change, withdrawals_of}
-use Rattle.vlm_words.specs.Effects.{blocks_with}
-use Rattle.vlm_words.specs.Enqueue.{enq_change}
-use Rattle.vlm_words.specs.Rundown.{is_ended_by, is_of_node, nodes_after_departure, state_after_rundown}
-use Rattle.vlm_words.specs.Search.{search_change, victim_withdrawals}
-use Rattle.vlm_words.specs.SetValue.{set_change}
+use Rattle.vlm_model.specs.Convert.{ConversionAdmission, convert_admission, convert_change}
+use Rattle.vlm_model.specs.Declare.{declare_change, declared_process, is_node, next_pid}
+use Rattle.vlm_model.specs.Dequeue.{deq_change, withdrawals_of}
+use Rattle.vlm_model.specs.Effects.{blocks_with}
+use Rattle.vlm_model.specs.Enqueue.{enq_change}
+use Rattle.vlm_model.specs.Rundown.{is_ended_by, nodes_after_departure, state_after_rundown}
+use Rattle.vlm_words.specs.Steps.{is_of_node, node_of_pid}
+use Rattle.vlm_model.specs.Search.{search_change, victim_withdrawals}
+use Rattle.vlm_model.specs.SetValue.{set_change}
 use Rattle.vlm_words.specs.State.{Node, Process, State, start}
-use Rattle.vlm_words.specs.Stepped.{Outcome, Stepped, conversion_change, refused_or, step_change, step_refusal, stepped}
-use Rattle.vlm_words.specs.Steps.{node_of_pid}
-use Rattle.vlm_words.specs.Take.{take_change}
+use Rattle.vlm_model.specs.Stepped.{Outcome, Stepped, conversion_change, refused_or, step_change, step_refusal, stepped}
+use Rattle.vlm_model.specs.Take.{take_change}
 use Rattle.vlm_words.specs.ValueBlocks.{new_value_block}
-use Rattle.vlm_words.specs.Withdrawals.{Withdrawal, processes_after, withdrawn_endings}
-use Rattle.vlm_words.proofs.Declarations.{pids, pids_added}
-use Rattle.vlm_words.proofs.Each.{each_append, each_filter, each_weaker}
-use Rattle.vlm_words.proofs.Processes.{kept_converted, kept_ended, kept_entered, kept_set, kept_swept, kept_taken}
-use Rattle.vlm_links.specs.Lists.{IsIn}
+use Rattle.vlm_model.specs.Withdrawals.{Withdrawal, processes_after, withdrawn_endings}
+use Rattle.vlm_model.proofs.Declarations.{pids, pids_added}
+use Rattle.vlm_model.proofs.Each.{each_append, each_filter, each_weaker}
+use Rattle.vlm_model.proofs.Processes.{kept_converted, kept_ended, kept_entered, kept_set, kept_swept, kept_taken}
+use Rattle.vlm_collections.specs.Lists.{IsIn}
 use Rattle.vlm_store.specs.Records.{StoredProcess}
 use Rattle.vlm_cycle.specs.declared.scratch.Scratch.{Scratch}
 use Rattle.vlm_cycle.specs.Marking.{HasRoomInBoth, KeepsRoom}

@@ -5,11 +5,11 @@ use Rattle.std.specs.List.{AllByRecursion, sum_by}
 use Rattle.std.specs.Option.{option_map_or}
 use Rattle.vlm_words.specs.declared.locks.Row.{Row}
 use Rattle.vlm_words.specs.declared.resources.Queue.TheVariants.{Granted}
-use Rattle.vlm_words.specs.Laws.{HasItsParent, HoldsOn, IdentificationsAreApart, IsHeld, RowsFit, rows_on}
+use Rattle.vlm_model.specs.Laws.{HasItsParent, HoldsOn, IdentificationsAreApart, IsHeld, RowsFit, rows_on}
 use Rattle.vlm_words.specs.State.{Resource, State}
-use Rattle.vlm_words.proofs.Apart.{Apart}
-use Rattle.vlm_words.proofs.Each.{Any-cases, Any-none}
-use Rattle.vlm_links.specs.Lists.{IsIn}
+use Rattle.vlm_model.proofs.Apart.{Apart}
+use Rattle.vlm_model.proofs.Each.{Any-cases, Any-none}
+use Rattle.vlm_collections.specs.Lists.{IsIn}
 use Rattle.vlm_store.specs.Plain.{plain_resource, plain_resources}
 use Rattle.vlm_store.specs.Records.{IsSound, Records, StoredLock, StoredResource, Stores, queued, resource_at}
 use Rattle.vlm_locks.specs.RunningDown.{GrantedWantNothing, SublocksAreOwn}

@@ -1,7 +1,7 @@
 -- A search that finds no victim.
 use Rattle.std.proofs.Common.{◌≡◌, None, refl}
 use Rattle.std.proofs.lemmas.List.{map-id}
-use Rattle.vlm_words.specs.Search.{search_change}
+use Rattle.vlm_model.specs.Search.{search_change}
 use Rattle.vlm_words.specs.State.{State}
 
 -- without a victim nothing changes

@@ -1,11 +1,11 @@
 -- Where nothing is to be swept, a sweep changes nothing; and a step that touches one resource leaves nothing to sweep on the others.
 use Rattle.std.proofs.Common.{◌≡◌, ℕ, List, [], ◌∷◌, map, sym, ap, ◌∙◌, subst, inl, inr}
 use Rattle.std.specs.List.{AllByRecursion}
-use Rattle.vlm_words.specs.Settled.{IsSettled}
+use Rattle.vlm_model.specs.Settled.{IsSettled}
 use Rattle.vlm_words.specs.State.{State}
-use Rattle.vlm_words.specs.Sweeps.{resources_after_sweep, state_after_sweep}
-use Rattle.vlm_words.proofs.Settled as sweeps
-use Rattle.vlm_links.specs.Lists.{IsIn}
+use Rattle.vlm_model.specs.Sweeps.{resources_after_sweep, state_after_sweep}
+use Rattle.vlm_model.proofs.Settled as sweeps
+use Rattle.vlm_collections.specs.Lists.{IsIn}
 use Rattle.vlm_store.specs.Plain.{plain_resource, plain_resources}
 use Rattle.vlm_store.specs.Records.{Records, StoredResource}
 use Rattle.vlm_locks.specs.Rest.{OthersStay}

@@ -14,14 +14,14 @@ use Rattle.vlm_words.specs.declared.resources.Domain.{Domain}
 use Rattle.vlm_words.specs.declared.resources.Key.TheVariants.{Below}
 use Rattle.vlm_words.specs.declared.resources.Queue.{Queue}
 use Rattle.vlm_words.specs.declared.resources.Queue.TheVariants.{Granted, Conversion, Waiting}
-use Rattle.vlm_words.specs.Checks.{holds_lock, lock_refusal, or_else}
+use Rattle.vlm_model.specs.Checks.{holds_lock, lock_refusal, or_else}
 use Rattle.vlm_words.specs.Rows.{is_lock_of}
 use Rattle.vlm_words.specs.State.{Resource, State}
 use Rattle.vlm_words.specs.Flags.{flag_bits}
 use Rattle.vlm_words.specs.declared.steps.NewRequest.{NewRequest}
-use Rattle.vlm_words.specs.Trees.{depth_refusal, enq_site, parent_refusal, parent_resource, root_domain, site_below, waiting_refusal}
-use Rattle.vlm_words.proofs.Passed.{both_pass, test_passes}
-use Rattle.vlm_links.specs.Lists.{IsIn}
+use Rattle.vlm_model.specs.Trees.{depth_refusal, enq_site, parent_refusal, parent_resource, root_domain, site_below, waiting_refusal}
+use Rattle.vlm_model.proofs.Passed.{both_pass, test_passes}
+use Rattle.vlm_collections.specs.Lists.{IsIn}
 use Rattle.vlm_records.specs.declared.handles.Place.TheVariants.{Queued}
 use Rattle.vlm_store.specs.Plain.{plain_resource, plain_resources}
 use Rattle.vlm_store.specs.Records.{IsParentOf, IsSound, Records, StoredResource, Stores, queued, resource_at, rows_of_locks}

@@ -10,11 +10,11 @@ use Rattle.vlm_words.specs.declared.resources.Queue.{Queue}
 use Rattle.vlm_words.specs.declared.resources.Queue.TheVariants.{Granted, Conversion, Waiting}
 use Rattle.vlm_words.specs.declared.steps.Declaration.{Declaration}
 use Rattle.vlm_words.specs.declared.steps.Step.TheVariants.{Declare}
-use Rattle.vlm_words.specs.Declare.{declare_refusal, next_pid}
-use Rattle.vlm_words.specs.Laws.{DeclarationsGiveNewIdentifications, rows_on}
+use Rattle.vlm_model.specs.Declare.{declare_refusal, next_pid}
+use Rattle.vlm_model.specs.Laws.{DeclarationsGiveNewIdentifications, rows_on}
 use Rattle.vlm_words.specs.State.{Process}
-use Rattle.vlm_words.specs.Stepped.{refused_or, step_change}
-use Rattle.vlm_links.specs.Lists.{IsIn}
+use Rattle.vlm_model.specs.Stepped.{refused_or, step_change}
+use Rattle.vlm_collections.specs.Lists.{IsIn}
 use Rattle.vlm_records.specs.declared.handles.Place.{Place}
 use Rattle.vlm_records.specs.declared.handles.Place.TheVariants.{Queued}
 use Rattle.vlm_store.specs.Plain.{plain_resource, plain_resources}

@@ -4,8 +4,8 @@ use Rattle.std.specs.List.{All}
 use Rattle.std.proofs.lemmas.List.Elements.{All-head, All-tail}
 use Rattle.vlm_words.specs.declared.resources.Queue.{Queue}
 use Rattle.vlm_words.specs.declared.resources.Queue.TheVariants.{Granted}
-use Rattle.vlm_words.specs.Laws.{IsHeld, RowsFit}
-use Rattle.vlm_links.specs.Lists.{IsIn}
+use Rattle.vlm_model.specs.Laws.{IsHeld, RowsFit}
+use Rattle.vlm_collections.specs.Lists.{IsIn}
 use Rattle.vlm_store.specs.Plain.{plain_resource, plain_resources}
 use Rattle.vlm_store.specs.Records.{Records, StoredLock, queued}
 use Rattle.vlm_locks.specs.declared.finding.Standing.{Standing}

@@ -5,14 +5,14 @@ use Rattle.vlm_words.specs.declared.resources.Queue.TheVariants.{Granted}
 use Rattle.vlm_words.specs.declared.steps.Conversion.{Conversion}
 use Rattle.vlm_words.specs.declared.steps.Dequeue.{Dequeue}
 use Rattle.vlm_words.specs.declared.steps.NewRequest.{NewRequest}
-use Rattle.vlm_words.specs.Convert.{convert_admission, convert_lkid, convert_request}
-use Rattle.vlm_words.specs.Dequeue.{dequeue_lkid}
-use Rattle.vlm_words.specs.Enqueue.{enq_at_once, enq_row}
+use Rattle.vlm_model.specs.Convert.{convert_admission, convert_lkid, convert_request}
+use Rattle.vlm_model.specs.Dequeue.{dequeue_lkid}
+use Rattle.vlm_model.specs.Enqueue.{enq_at_once, enq_row}
 use Rattle.vlm_words.specs.Flags.{cancel, deqall, flag_bits, has_flag, invvalblk}
 use Rattle.vlm_words.specs.Names.{is_name}
 use Rattle.vlm_words.specs.Resources.{IsKeyed}
 use Rattle.vlm_words.specs.State.{State}
-use Rattle.vlm_words.specs.Trees.{enq_site, parent_lkid}
+use Rattle.vlm_model.specs.Trees.{enq_site, parent_lkid}
 use Rattle.vlm_store.specs.Records.{FindsResource, HasNoSublocks, HasProcess, IsParentOf, IsProcess, Records}
 use Rattle.vlm_locks.specs.declared.entering.Entry.{Entry}
 use Rattle.vlm_locks.specs.declared.finding.Standing.{Standing}

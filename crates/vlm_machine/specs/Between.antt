@@ -1,9 +1,9 @@
 -- What holds between two steps, and what a step needs of it.
 use Rattle.std.specs.Prelude.{◌≡◌, ◌≤◌, ◌<◌, true, All, AllPairs}
 use Rattle.std.specs.List.{AllByRecursion}
-use Rattle.vlm_words.specs.Laws.{ChainsAreBounded, DeclarationsGiveNewIdentifications, IdentificationsAreApart, ParentsOutliveTheirSublocks, RowsFitTheirQueues}
-use Rattle.vlm_words.specs.Settled.{IsSettled}
-use Rattle.vlm_words.specs.Declare.{is_node}
+use Rattle.vlm_model.specs.Laws.{ChainsAreBounded, DeclarationsGiveNewIdentifications, IdentificationsAreApart, ParentsOutliveTheirSublocks, RowsFitTheirQueues}
+use Rattle.vlm_model.specs.Settled.{IsSettled}
+use Rattle.vlm_model.specs.Declare.{is_node}
 use Rattle.vlm_words.specs.State.{State}
 use Rattle.vlm_words.specs.Steps.{node_of_pid}
 

@@ -2,11 +2,11 @@
 
 ghost use Rattle.std.specs.Prelude.{◌≡◌, ◌<◌, ◌≤◌, ◌^◌, ℕ, IfOk, OnOk};
 ghost use Rattle.std.specs.Result.{result_err};
-ghost use Rattle.vlm_words.specs.Checks.{acceptance, caller_refusal, lock_refusal, named_lkid, numbers_refusal, queue_refusal, request_numbers_refusal, status_block_refusal, which_refusal};
+ghost use Rattle.vlm_model.specs.Checks.{acceptance, caller_refusal, lock_refusal, named_lkid, numbers_refusal, queue_refusal, request_numbers_refusal, status_block_refusal, which_refusal};
 ghost use Rattle.vlm_words.specs.Flags.{flag_bits};
-ghost use Rattle.vlm_words.specs.Rundown.{leave_refusal};
-ghost use Rattle.vlm_words.specs.StatusBlocks.{status_block_of};
-ghost use Rattle.vlm_words.specs.Quotas.{quota_refusal};
+ghost use Rattle.vlm_model.specs.Rundown.{leave_refusal};
+ghost use Rattle.vlm_model.specs.StatusBlocks.{status_block_of};
+ghost use Rattle.vlm_model.specs.Quotas.{quota_refusal};
 ghost use Rattle.vlm_machine.specs.Admissions.{IsCaller};
 ghost use Rattle.vlm_machine.specs.Machine.{plain_state};
 ghost use Rattle.vlm_locks.specs.Standing.{IsLockOf, IsStandingOf};
@@ -25,7 +25,7 @@ use vlm_words::steps::Which;
 
 impl Machine {
     /// BADPARAM if there is no such node, DEPARTED if it has departed before.
-    #[tactic(auto, unfolding(vlm_words::specs::Rundown::leave_refusal))]
+    #[tactic(auto, unfolding(vlm_model::specs::Rundown::leave_refusal))]
     pub(crate) fn check_node(&self, node: u8) -> Result<(), Cond>
         ensures refusal { result_err result ≡ leave_refusal (plain_state self.now) node }
         ensures first { OnOk result (1 ≤ node) }
@@ -41,7 +41,7 @@ impl Machine {
     }
 
     /// The caller. DEPARTED if its node has departed, NONEXPR if no living process has the identification.
-    #[tactic(auto, unfolding(vlm_words::specs::Checks::caller_refusal))]
+    #[tactic(auto, unfolding(vlm_model::specs::Checks::caller_refusal))]
     pub(crate) fn checked_caller(&self, pid: u32) -> Result<Caller, Cond>
         ensures refusal { result_err result ≡ caller_refusal (plain_state self.now) pid }
         ensures caller { IfOk result (λ caller. IsCaller caller self.now.records) }
@@ -54,7 +54,7 @@ impl Machine {
     }
 
     /// NOLOCKID if the identifications or the request numbers are used up.
-    #[tactic(auto, unfolding(vlm_words::specs::Checks::numbers_refusal))]
+    #[tactic(auto, unfolding(vlm_model::specs::Checks::numbers_refusal))]
     pub(crate) fn check_numbers(&self) -> Result<(), Cond>
         ensures refusal { result_err result ≡ numbers_refusal (plain_state self.now) }
         ensures lkid { OnOk result (self.now.next_lkid < 2 ^ 32) }
@@ -68,7 +68,7 @@ impl Machine {
     }
 
     /// NOLOCKID if the request numbers are used up.
-    #[tactic(auto, unfolding(vlm_words::specs::Checks::request_numbers_refusal))]
+    #[tactic(auto, unfolding(vlm_model::specs::Checks::request_numbers_refusal))]
     pub(crate) fn check_request_numbers(&self) -> Result<(), Cond>
         ensures refusal { result_err result ≡ request_numbers_refusal (plain_state self.now) }
         ensures request { OnOk result (self.now.next_request < 2 ^ 64) }
@@ -81,7 +81,7 @@ impl Machine {
     }
 
     /// EXENQLM if the caller has as many locks as its quota.
-    #[tactic(auto, unfolding(vlm_words::specs::Quotas::quota_refusal))]
+    #[tactic(auto, unfolding(vlm_model::specs::Quotas::quota_refusal))]
     pub(crate) fn check_quota(&self, caller: &Caller) -> Result<(), Cond>
         requires { IsCaller caller.now self.now.records }
         ensures { result_err result ≡ quota_refusal (plain_state self.now) caller.now.pid }
@@ -94,7 +94,7 @@ impl Machine {
     }
 
     // The status block of this number. ACCVIO if the caller has no such block.
-    #[tactic(auto, unfolding(vlm_words::specs::Checks::status_block_refusal, vlm_words::specs::StatusBlocks::status_block_at))]
+    #[tactic(auto, unfolding(vlm_model::specs::Checks::status_block_refusal, vlm_model::specs::StatusBlocks::status_block_at))]
     fn checked_status_block(&self, caller: &Caller, number: u8) -> Result<Block, Cond>
         requires { IsCaller caller.now self.now.records }
         ensures refusal { result_err result
@@ -117,7 +117,7 @@ impl Machine {
 
     /// The named identification: given by itself, or by a status block of the caller. ACCVIO if the caller has no such
     /// block.
-    #[tactic(auto, unfolding(vlm_words::specs::Checks::which_refusal))]
+    #[tactic(auto, unfolding(vlm_model::specs::Checks::which_refusal))]
     pub(crate) fn checked_lkid(&self, caller: &Caller, lock: Which) -> Result<u32, Cond>
         requires { IsCaller caller.now self.now.records }
         ensures refusal { result_err result
@@ -132,7 +132,7 @@ impl Machine {
     }
 
     /// The lock of the caller with this identification. IVLOCKID if the caller has no such lock.
-    #[tactic(auto, unfolding(vlm_words::specs::Checks::lock_refusal))]
+    #[tactic(auto, unfolding(vlm_model::specs::Checks::lock_refusal))]
     // Inlined, as `check_cancel` is: each step finds one lock.
     #[inline(always)]
     pub(crate) fn checked_lock(&self, caller: &Caller, lkid: u32) -> Result<LockAt, Cond>

@@ -2,9 +2,9 @@
 
 ghost use Rattle.std.specs.Prelude.{◌≡◌, Some, IfErr, IfOk, OnErr, OnOk};
 ghost use Rattle.std.specs.Result.{result_err};
-ghost use Rattle.vlm_words.specs.Convert.{ConversionAdmission, admission_refusal, convert_admission, convert_change, convert_flags_refusal, convert_lkid, convert_refusal, is_queued_legally_from, pair_refusal};
+ghost use Rattle.vlm_model.specs.Convert.{ConversionAdmission, admission_refusal, convert_admission, convert_change, convert_flags_refusal, convert_lkid, convert_refusal, is_queued_legally_from, pair_refusal};
 ghost use Rattle.vlm_words.specs.Flags.{flag_bits};
-ghost use Rattle.vlm_words.specs.Stepped.{NamesRoutine, Outcome};
+ghost use Rattle.vlm_model.specs.Stepped.{NamesRoutine, Outcome};
 ghost use Rattle.vlm_store.specs.Records.{HasResource};
 ghost use Rattle.vlm_locks.specs.Rest.{OthersStay};
 ghost use Rattle.vlm_locks.specs.Standing.{IsLockOf, IsStandingOf};
@@ -49,7 +49,7 @@ impl Machine {
     }
 
     // The checks of the caller, the flags, the status block and the lock, in this order.
-    #[tactic(auto, unfolding(vlm_words::specs::Convert::convert_refusal))]
+    #[tactic(auto, unfolding(vlm_model::specs::Convert::convert_refusal))]
     fn checked_names(&self, conversion: &Conversion) -> Result<Named, Cond>
         ensures refused { IfErr result
             (λ refusal. convert_refusal (plain_state self.now) conversion.now ≡ Some refusal) }
@@ -154,7 +154,7 @@ impl Machine {
 }
 
 // The flags, or BADPARAM if one of them is unknown.
-#[tactic(auto, unfolding(vlm_words::specs::Convert::convert_flags_refusal))]
+#[tactic(auto, unfolding(vlm_model::specs::Convert::convert_flags_refusal))]
 fn checked_flags(conversion: &Conversion) -> Result<EnqFlags, Cond>
     ensures refusal { result_err result ≡ convert_flags_refusal conversion.now }
     ensures flags { IfOk result (λ flags. flag_bits flags ≡ conversion.now.flags) }
@@ -163,7 +163,7 @@ fn checked_flags(conversion: &Conversion) -> Result<EnqFlags, Cond>
 }
 
 // BADPARAM if QUECVT does not go with a conversion from the held mode.
-#[tactic(auto, unfolding(vlm_words::specs::Convert::pair_refusal))]
+#[tactic(auto, unfolding(vlm_model::specs::Convert::pair_refusal))]
 fn check_pair(conversion: &Conversion, flags: EnqFlags, row: &StoredRow) -> Result<(), Cond>
     requires { flag_bits flags ≡ conversion.now.flags }
     ensures { result_err result ≡ pair_refusal conversion.now row.now }

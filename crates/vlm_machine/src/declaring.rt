@@ -2,9 +2,9 @@
 
 ghost use Rattle.std.specs.Prelude.{◌≡◌, ◌<◌, ◌≤◌, ℕ, IfOk, OnErr, OnOk};
 ghost use Rattle.std.specs.Result.{result_err};
-ghost use Rattle.vlm_words.specs.Declare.{declare_change, declare_refusal, next_pid};
+ghost use Rattle.vlm_model.specs.Declare.{declare_change, declare_refusal, next_pid};
 ghost use Rattle.vlm_words.specs.State.{node_at};
-ghost use Rattle.vlm_words.specs.Stepped.{Outcome};
+ghost use Rattle.vlm_model.specs.Stepped.{Outcome};
 ghost use Rattle.vlm_store.specs.Records.{IsNewProcess, IsUnchanged};
 ghost use Rattle.vlm_cycle.specs.Marking.{HasRoomInBoth, KeepsRoom};
 ghost use Rattle.vlm_machine.specs.Between.{IsBetweenSteps};
@@ -37,7 +37,7 @@ impl Machine {
         }
     }
 
-    #[tactic(auto, unfolding(vlm_words::specs::Declare::declare_refusal, vlm_words::specs::Rundown::leave_refusal))]
+    #[tactic(auto, unfolding(vlm_model::specs::Declare::declare_refusal, vlm_model::specs::Rundown::leave_refusal))]
     fn check_declaration(&self, declaration: &Declaration) -> Result<(), Cond>
         ensures refusal { result_err result
             ≡ declare_refusal (plain_state self.now) declaration.now }
@@ -67,7 +67,7 @@ impl Machine {
     }
 
     // The change: the process lives under the next ordinal of its node, and a search has room to mark it.
-    #[tactic(auto, unfolding(vlm_words::specs::Declare::declare_change))]
+    #[tactic(auto, unfolding(vlm_model::specs::Declare::declare_change))]
     fn declare_change(
         &mut self,
         scratch: &mut Scratch,

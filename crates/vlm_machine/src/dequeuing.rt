@@ -2,11 +2,11 @@
 
 ghost use Rattle.std.specs.Prelude.{◌≡◌, ◌==◌, ◌&&◌, ℕ, None, [], true, false, not, IfOk, OnOk, if◌then◌else◌};
 ghost use Rattle.std.specs.Result.{result_err};
-ghost use Rattle.vlm_words.specs.Dequeue.{cancel_refusal, conversion_ending, deq_change, deq_flags_refusal, deq_refusal, dequeue_lkid, is_mixed, leaves_none, sublocks_refusal, withdrawal_of};
-ghost use Rattle.vlm_words.specs.Checks.{lock_refusal};
+ghost use Rattle.vlm_model.specs.Dequeue.{cancel_refusal, conversion_ending, deq_change, deq_flags_refusal, deq_refusal, dequeue_lkid, is_mixed, leaves_none, sublocks_refusal, withdrawal_of};
+ghost use Rattle.vlm_model.specs.Checks.{lock_refusal};
 ghost use Rattle.vlm_words.specs.Flags.{cancel, deq_flag_bits, deqall, has_flag, invvalblk};
-ghost use Rattle.vlm_words.specs.Endings.How.{by_abort};
-ghost use Rattle.vlm_words.specs.Stepped.{Outcome};
+ghost use Rattle.vlm_model.specs.Endings.How.{by_abort};
+ghost use Rattle.vlm_model.specs.Stepped.{Outcome};
 ghost use Rattle.vlm_store.specs.Records.{HasNoSublocks, HasResource, IsStored};
 ghost use Rattle.vlm_locks.specs.GivingUp.{IsOwnChoice};
 ghost use Rattle.vlm_locks.specs.Rest.{OthersStay};
@@ -96,7 +96,7 @@ impl Machine {
     }
 
     // The checks of one lock, in their order.
-    #[tactic(auto, unfolding(vlm_words::specs::Dequeue::deq_refusal))]
+    #[tactic(auto, unfolding(vlm_model::specs::Dequeue::deq_refusal))]
     fn checked_dequeue(&self, dequeue: &Dequeue) -> Result<LockAt, Cond>
         requires between { IsBetweenSteps (plain_state self.now) }
         requires alone { has_flag dequeue.now.flags deqall ≡ false }
@@ -116,7 +116,7 @@ impl Machine {
     }
 
     // The checks with DEQALL, in their order. They never answer CANCELGRANT or SUBLOCKS.
-    #[tactic(auto, unfolding(vlm_words::specs::Dequeue::deq_refusal))]
+    #[tactic(auto, unfolding(vlm_model::specs::Dequeue::deq_refusal))]
     fn checked_dequeue_of_all(&self, dequeue: &Dequeue) -> Result<AdmittedDequeueOfAll, Cond>
         requires { has_flag dequeue.now.flags deqall ≡ true }
         ensures refusal { result_err result ≡ deq_refusal (plain_state self.now) dequeue.now }
@@ -148,7 +148,7 @@ impl Machine {
     }
 
     // CANCELGRANT if a granted lock is to be cancelled.
-    #[tactic(auto, unfolding(vlm_words::specs::Dequeue::cancel_refusal))]
+    #[tactic(auto, unfolding(vlm_model::specs::Dequeue::cancel_refusal))]
     #[inline(always)]
     fn check_cancel(&self, dequeue: &Dequeue, lock: LockAt, cancels: bool) -> Result<(), Cond>
         requires alone { has_flag dequeue.now.flags deqall ≡ false }
@@ -166,7 +166,7 @@ impl Machine {
     }
 
     // SUBLOCKS if a lock with sublocks is to be given up. A waiting lock has none.
-    #[tactic(auto, unfolding(vlm_words::specs::Dequeue::sublocks_refusal))]
+    #[tactic(auto, unfolding(vlm_model::specs::Dequeue::sublocks_refusal))]
     fn check_sublocks(&self, lock: LockAt, cancels: bool) -> Result<(), Cond>
         requires stored { IsStored lock self.now.records }
         requires between { IsBetweenSteps (plain_state self.now) }
@@ -186,7 +186,7 @@ impl Machine {
     }
 
     // The change: the lock's request ends, and the lock goes or stays.
-    #[tactic(auto, unfolding(vlm_words::specs::Dequeue::deq_change))]
+    #[tactic(auto, unfolding(vlm_model::specs::Dequeue::deq_change))]
     fn deq_change(&mut self, dequeue: &Dequeue, standing: &Standing)
         requires admitted { IsAdmittedDequeue self.old dequeue.now standing.now }
         requires childless { IsChildless self.old dequeue.now standing.now.lock }
@@ -240,7 +240,7 @@ fn asks_for_all(dequeue: &Dequeue) -> bool
 
 // The flags. BADPARAM if one of them is unknown, if DEQALL comes with CANCEL or a value, or if a tail comes without a
 // value.
-#[tactic(auto, unfolding(vlm_words::specs::Dequeue::deq_flags_refusal))]
+#[tactic(auto, unfolding(vlm_model::specs::Dequeue::deq_flags_refusal))]
 fn checked_flags(dequeue: &Dequeue) -> Result<DeqFlags, Cond>
     ensures refusal { result_err result ≡ deq_flags_refusal dequeue.now }
     ensures flags { IfOk result (λ flags. deq_flag_bits flags ≡ dequeue.now.flags) }

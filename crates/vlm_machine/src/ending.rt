@@ -1,8 +1,9 @@
 //! The steps that end processes: the rundown of a process, and the departure of a node with all its processes.
 
 ghost use Rattle.std.specs.Prelude.{◌≡◌, ◌≤◌, []};
-ghost use Rattle.vlm_words.specs.Rundown.{is_ended_by, is_of_node, nodes_after_departure, state_after_rundown};
-ghost use Rattle.vlm_words.specs.Stepped.{Outcome};
+ghost use Rattle.vlm_model.specs.Rundown.{is_ended_by, nodes_after_departure, state_after_rundown};
+ghost use Rattle.vlm_words.specs.Steps.{is_of_node};
+ghost use Rattle.vlm_model.specs.Stepped.{Outcome};
 ghost use Rattle.vlm_machine.specs.Admissions.{IsCaller};
 ghost use Rattle.vlm_machine.specs.Between.{IsBetweenSteps};
 ghost use Rattle.vlm_machine.specs.Machine.{plain_state};

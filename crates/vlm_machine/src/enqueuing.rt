@@ -6,18 +6,17 @@ ghost use Rattle.std.specs.Result.{result_err};
 ghost use Rattle.vlm_words.specs.declared.locks.Request.{Request};
 ghost use Rattle.vlm_words.specs.declared.resources.Site.{Site};
 ghost use Rattle.vlm_words.specs.declared.steps.NewRequest.{NewRequest};
-ghost use Rattle.vlm_words.specs.Enqueue.{enq_change, enq_flags_refusal, enq_form_refusal, enq_limit_refusal, enq_refusal, expedite_refusal, is_at_once, name_refusal};
+ghost use Rattle.vlm_model.specs.Enqueue.{enq_change, enq_flags_refusal, enq_form_refusal, enq_limit_refusal, enq_refusal, expedite_refusal, is_at_once, name_refusal};
 ghost use Rattle.vlm_words.specs.Names.{is_name};
-ghost use Rattle.vlm_words.specs.Resources.{is_at, new_resource};
+ghost use Rattle.vlm_words.specs.Resources.{is_at, new_resource, IsKeyed};
 ghost use Rattle.vlm_words.specs.Flags.{expedite, flag_bits, has_flag};
-ghost use Rattle.vlm_words.specs.Settled.{IsSettled};
-ghost use Rattle.vlm_words.specs.Stepped.{Outcome};
-ghost use Rattle.vlm_words.specs.Sweeps.{state_after_sweep};
+ghost use Rattle.vlm_model.specs.Settled.{IsSettled};
+ghost use Rattle.vlm_model.specs.Stepped.{Outcome};
+ghost use Rattle.vlm_model.specs.Sweeps.{state_after_sweep};
 ghost use Rattle.vlm_store.specs.Index.{hash_key};
 ghost use Rattle.vlm_store.specs.Plain.{plain_resources};
 ghost use Rattle.vlm_store.specs.Records.{FindsResource, HasResource, IsUnchanged};
 ghost use Rattle.vlm_locks.specs.Entering.{HasRoomToEnter};
-ghost use Rattle.vlm_words.specs.Resources.{IsKeyed};
 ghost use Rattle.vlm_locks.specs.Rest.{IsAtRest, OthersStay};
 ghost use Rattle.vlm_locks.specs.Sweeping.{AreSettledBut};
 ghost use Rattle.vlm_machine.specs.Admissions.{IsAdmitted, IsAskedBy, IsCaller, IsChecked, IsForm};
@@ -136,7 +135,7 @@ impl Machine {
     }
 
     // The checks in their order.
-    #[tactic(auto, unfolding(vlm_words::specs::Enqueue::enq_refusal))]
+    #[tactic(auto, unfolding(vlm_model::specs::Enqueue::enq_refusal))]
     fn checked_request(&self, request: &NewRequest) -> Result<CheckedRequest, Cond>
         requires { IsBetweenSteps (plain_state self.now) }
         ensures refusal { result_err result ≡ enq_refusal (plain_state self.now) request.now }
@@ -149,7 +148,7 @@ impl Machine {
     }
 
     // The checks of the request itself.
-    #[tactic(auto, unfolding(vlm_words::specs::Enqueue::enq_form_refusal))]
+    #[tactic(auto, unfolding(vlm_model::specs::Enqueue::enq_form_refusal))]
     fn checked_form(&self, caller: &Caller, request: &NewRequest) -> Result<Form, Cond>
         requires caller { IsCaller caller.now self.now.records }
         requires pid { caller.now.pid ≡ request.now.pid }
@@ -165,7 +164,7 @@ impl Machine {
     }
 
     // The checks of quotas and numbers, and of what is in the way.
-    #[tactic(auto, unfolding(vlm_words::specs::Enqueue::enq_limit_refusal))]
+    #[tactic(auto, unfolding(vlm_model::specs::Enqueue::enq_limit_refusal))]
     fn checked_limits(
         &self,
         caller: &Caller,
@@ -270,7 +269,7 @@ impl Machine {
 }
 
 // The flags, or BADPARAM if one of them is unknown.
-#[tactic(auto, unfolding(vlm_words::specs::Enqueue::enq_flags_refusal))]
+#[tactic(auto, unfolding(vlm_model::specs::Enqueue::enq_flags_refusal))]
 fn checked_flags(request: &NewRequest) -> Result<EnqFlags, Cond>
     ensures refusal { result_err result ≡ enq_flags_refusal request.now }
     ensures flags { IfOk result (λ flags. flag_bits flags ≡ request.now.flags) }
@@ -279,7 +278,7 @@ fn checked_flags(request: &NewRequest) -> Result<EnqFlags, Cond>
 }
 
 // IVBUFLEN if the bytes are not a name.
-#[tactic(auto, unfolding(vlm_words::specs::Enqueue::name_refusal, vlm_words::specs::Names::name_of))]
+#[tactic(auto, unfolding(vlm_model::specs::Enqueue::name_refusal, vlm_words::specs::Names::name_of))]
 fn check_name(name: &NameArg) -> Result<(), Cond>
     ensures refusal { result_err result ≡ name_refusal name.now }
     ensures name { OnOk result (is_name name.now ≡ true) }
@@ -292,7 +291,7 @@ fn check_name(name: &NameArg) -> Result<(), Cond>
 }
 
 // UNSUPPORTED for EXPEDITE at a mode other than NL.
-#[tactic(auto, unfolding(vlm_words::specs::Enqueue::expedite_refusal))]
+#[tactic(auto, unfolding(vlm_model::specs::Enqueue::expedite_refusal))]
 fn check_expedite(mode: Mode, flags: EnqFlags) -> Result<(), Cond>
     ensures { result_err result ≡ expedite_refusal (flag_bits flags) mode }
 {

@@ -1,8 +1,8 @@
 //! The nodes.
 
 ghost use Rattle.std.specs.Prelude.{◌≡◌, ◌+◌, ◌<◌, ◌≤◌, true};
-ghost use Rattle.vlm_words.specs.Checks.{has_departed};
-ghost use Rattle.vlm_words.specs.Rundown.{nodes_after_departure};
+ghost use Rattle.vlm_model.specs.Checks.{has_departed};
+ghost use Rattle.vlm_model.specs.Rundown.{nodes_after_departure};
 ghost use Rattle.vlm_words.specs.State.{new_node};
 
 use std::marker::Model;

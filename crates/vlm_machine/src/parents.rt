@@ -4,11 +4,11 @@ ghost use Rattle.std.specs.Prelude.{◌≡◌, Some, true, IfOk};
 ghost use Rattle.std.specs.Option.{option_map};
 ghost use Rattle.std.specs.Result.{result_err};
 ghost use Rattle.vlm_words.specs.declared.resources.Site.{Site};
-ghost use Rattle.vlm_words.specs.Checks.{or_else};
+ghost use Rattle.vlm_model.specs.Checks.{or_else};
 ghost use Rattle.vlm_words.specs.Flags.{flag_bits};
 ghost use Rattle.vlm_words.specs.Names.{is_name};
 ghost use Rattle.vlm_words.specs.Resources.{IsKeyed};
-ghost use Rattle.vlm_words.specs.Trees.{depth_refusal, parent_refusal, parent_resource, privilege_refusal, root_domain, site_below, site_refusal, waiting_refusal};
+ghost use Rattle.vlm_model.specs.Trees.{depth_refusal, parent_refusal, parent_resource, privilege_refusal, root_domain, site_below, site_refusal, waiting_refusal};
 ghost use Rattle.vlm_store.specs.Plain.{plain_resource};
 ghost use Rattle.vlm_store.specs.Records.{HasResource, StoredResource, resource_at};
 ghost use Rattle.vlm_locks.specs.Standing.{IsStanding};
@@ -52,7 +52,7 @@ impl Machine {
     /// The parent lock of a request, with its handle and its resource's; none for 0. IVLOCKID if the lock is not one of
     /// the caller, PARNOTGRANT if it waits, EXDEPTH if its resource is on the lowest level, NOSYSLCK for a root with
     /// SYSTEM without the privilege.
-    #[tactic(auto, unfolding(vlm_words::specs::Trees::site_refusal))]
+    #[tactic(auto, unfolding(vlm_model::specs::Trees::site_refusal))]
     pub(crate) fn checked_site(
         &self,
         caller: &Caller,
@@ -71,7 +71,7 @@ impl Machine {
     }
 
     // The parent lock with these handles; none for 0.
-    #[tactic(auto, unfolding(vlm_words::specs::Trees::parent_refusal))]
+    #[tactic(auto, unfolding(vlm_model::specs::Trees::parent_refusal))]
     fn checked_parent(&self, caller: &Caller, lkid: u32) -> Result<Option<Parent>, Cond>
         ensures refusal { result_err result
             ≡ parent_refusal (plain_state self.now) caller.now.pid lkid }
@@ -121,7 +121,7 @@ impl Machine {
     }
 
     // NOSYSLCK for a root with SYSTEM without the privilege.
-    #[tactic(auto, unfolding(vlm_words::specs::Trees::privilege_refusal))]
+    #[tactic(auto, unfolding(vlm_model::specs::Trees::privilege_refusal))]
     fn check_privilege(&self, caller: &Caller, flags: EnqFlags, parent: u32) -> Result<(), Cond>
         requires { IsCaller caller.now self.now.records }
         ensures { result_err result

@@ -2,8 +2,8 @@
 
 ghost use Rattle.std.specs.Prelude.{◌≡◌, [], ◌∷◌};
 ghost use Rattle.vlm_words.specs.State.{start};
-ghost use Rattle.vlm_words.specs.Stepped.{Outcome};
-ghost use Rattle.vlm_words.specs.Sweeps.{state_after_sweep};
+ghost use Rattle.vlm_model.specs.Stepped.{Outcome};
+ghost use Rattle.vlm_model.specs.Sweeps.{state_after_sweep};
 ghost use Rattle.vlm_store.specs.Records.{HasResource};
 ghost use Rattle.vlm_locks.specs.Sweeping.{AreSettledBut};
 ghost use Rattle.vlm_machine.specs.Between.{IsBetweenSteps};

@@ -1,8 +1,8 @@
 //! The step that searches for a deadlock.
 
 ghost use Rattle.std.specs.Prelude.{◌≡◌, Some};
-ghost use Rattle.vlm_words.specs.Search.{search_change};
-ghost use Rattle.vlm_words.specs.Stepped.{Outcome};
+ghost use Rattle.vlm_model.specs.Search.{search_change};
+ghost use Rattle.vlm_model.specs.Stepped.{Outcome};
 ghost use Rattle.vlm_store.specs.Records.{HasResource};
 ghost use Rattle.vlm_locks.specs.Rest.{OthersStay};
 ghost use Rattle.vlm_locks.specs.Standing.{IsStanding};
@@ -43,7 +43,7 @@ impl Machine {
     }
 
     // The change: the victim's request ends, and a lock that waits goes with it.
-    #[tactic(auto, unfolding(vlm_words::specs::Search::search_change))]
+    #[tactic(auto, unfolding(vlm_model::specs::Search::search_change))]
     fn end_victim(&mut self, standing: &Standing)
         requires standing { IsStanding standing.now self.old.records }
         requires between { IsBetweenSteps (plain_state self.old) }

@@ -2,8 +2,8 @@
 
 ghost use Rattle.std.specs.Prelude.{◌≡◌, IfOk};
 ghost use Rattle.std.specs.Result.{result_err};
-ghost use Rattle.vlm_words.specs.SetValue.{set_change, set_refusal};
-ghost use Rattle.vlm_words.specs.Stepped.{Outcome};
+ghost use Rattle.vlm_model.specs.SetValue.{set_change, set_refusal};
+ghost use Rattle.vlm_model.specs.Stepped.{Outcome};
 ghost use Rattle.vlm_machine.specs.Admissions.{IsCaller};
 ghost use Rattle.vlm_machine.specs.Between.{IsBetweenSteps};
 ghost use Rattle.vlm_machine.specs.Machine.{plain_state};
@@ -32,7 +32,7 @@ impl Machine {
     }
 
     // The checks in their order.
-    #[tactic(auto, unfolding(vlm_words::specs::SetValue::set_refusal))]
+    #[tactic(auto, unfolding(vlm_model::specs::SetValue::set_refusal))]
     fn checked_setting(&self, setting: &ValueSetting) -> Result<Caller, Cond>
         ensures refusal { result_err result ≡ set_refusal (plain_state self.now) setting.now }
         ensures caller { IfOk result (λ caller. IsCaller caller self.now.records) }
@@ -44,7 +44,7 @@ impl Machine {
     }
 
     // The change: the value part is written, and the tail if one is given.
-    #[tactic(auto, unfolding(vlm_words::specs::SetValue::set_change))]
+    #[tactic(auto, unfolding(vlm_model::specs::SetValue::set_change))]
     fn set_change(&mut self, caller: &Caller, setting: &ValueSetting)
         requires caller { IsCaller caller.now self.old.records }
         requires pid { caller.now.pid ≡ setting.now.pid }

@@ -1,8 +1,8 @@
 //! The step that takes the oldest AST of a process.
 
 ghost use Rattle.std.specs.Prelude.{◌≡◌};
-ghost use Rattle.vlm_words.specs.Stepped.{Outcome};
-ghost use Rattle.vlm_words.specs.Take.{take_change, taken_ast};
+ghost use Rattle.vlm_model.specs.Stepped.{Outcome};
+ghost use Rattle.vlm_model.specs.Take.{take_change, taken_ast};
 ghost use Rattle.vlm_machine.specs.Admissions.{IsCaller};
 ghost use Rattle.vlm_machine.specs.Between.{IsBetweenSteps};
 ghost use Rattle.vlm_machine.specs.Machine.{plain_state};
@@ -26,7 +26,7 @@ impl Machine {
     }
 
     // The change: the AST is taken.
-    #[tactic(auto, unfolding(vlm_words::specs::Take::take_change))]
+    #[tactic(auto, unfolding(vlm_model::specs::Take::take_change))]
     fn take_change(&mut self, caller: &Caller) -> Option<Ast>
         requires { IsCaller caller.now self.old.records }
         ensures taken { result ≡ taken_ast (plain_state self.old) caller.now.pid }

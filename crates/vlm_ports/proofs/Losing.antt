@@ -6,11 +6,11 @@ use Rattle.vlm_words.specs.declared.conditions.Cond.{Cond}
 use Rattle.vlm_words.specs.declared.steps.Answer.TheVariants.{Plain}
 use Rattle.vlm_words.specs.declared.steps.Answer.{Answer}
 use Rattle.vlm_words.specs.declared.steps.Step.TheVariants.{Leave}
-use Rattle.vlm_words.specs.Checks.{has_departed}
-use Rattle.vlm_words.specs.Declare.{is_node}
-use Rattle.vlm_words.specs.Rundown.{leave_refusal}
+use Rattle.vlm_model.specs.Checks.{has_departed}
+use Rattle.vlm_model.specs.Declare.{is_node}
+use Rattle.vlm_model.specs.Rundown.{leave_refusal}
 use Rattle.vlm_words.specs.State.{State}
-use Rattle.vlm_words.specs.Stepped.{Outcome, refused_or, step_change}
+use Rattle.vlm_model.specs.Stepped.{Outcome, refused_or, step_change}
 
 -- NORMAL, or DEPARTED
 pub record IsLeft (answer : Answer) : Type 0 where

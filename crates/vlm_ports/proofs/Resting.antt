@@ -7,8 +7,8 @@ use Rattle.std.proofs.lemmas.List.{get_or-map, length-map}
 use Rattle.std.proofs.lemmas.List.Elements.{All-append, All-nil}
 use Rattle.vlm_words.specs.declared.conditions.Cond.TheVariants.{Departed}
 use Rattle.vlm_words.specs.declared.steps.Answer.TheVariants.{Plain}
-use Rattle.vlm_words.specs.Pending.{first_pending}
-use Rattle.vlm_words.specs.Reasons.{HasDeparted}
+use Rattle.vlm_model.specs.Pending.{first_pending}
+use Rattle.vlm_model.specs.Reasons.{HasDeparted}
 use Rattle.vlm_words.specs.State.{State}
 use Rattle.vlm_journal.specs.Departed.{StaysDeparted}
 use Rattle.vlm_journal.specs.Journals.{JournalFrom, begin}

@@ -5,8 +5,8 @@ use Rattle.vlm_words.specs.declared.steps.Answer.TheVariants.{Taken}
 use Rattle.vlm_words.specs.declared.steps.Step.TheVariants.{Take}
 use mathlib.Core.List.{IsPrefix}
 use Rattle.vlm_words.specs.declared.steps.Step.{Step}
-use Rattle.vlm_words.specs.Pending.{first_pending}
-use Rattle.vlm_words.specs.Reasons.{HasDeparted}
+use Rattle.vlm_model.specs.Pending.{first_pending}
+use Rattle.vlm_model.specs.Reasons.{HasDeparted}
 use Rattle.vlm_words.specs.State.{State, start}
 use Rattle.vlm_journal.specs.declared.entries.Entry.{Entry}
 use Rattle.vlm_journal.specs.declared.entries.Item.{Item}

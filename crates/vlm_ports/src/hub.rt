@@ -46,12 +46,12 @@ struct Attended {
 }
 
 impl Hub {
-    ghost use Rattle.vlm_words.specs.Reasons.{HasDeparted};
+    ghost use Rattle.vlm_model.specs.Reasons.{HasDeparted};
     ghost use Rattle.vlm_words.specs.State.{start};
     ghost use Rattle.vlm_words.specs.declared.steps.Step.TheVariants.{Leave};
     ghost use Rattle.vlm_words.specs.declared.steps.Answer.TheVariants.{Plain};
     ghost use Rattle.vlm_words.specs.declared.conditions.Cond.TheVariants.{Departed, Normal};
-    ghost use Rattle.vlm_words.specs.Stepped.{Outcome};
+    ghost use Rattle.vlm_model.specs.Stepped.{Outcome};
     ghost use Rattle.vlm_journal.specs.Books.{GoesOn, made};
     ghost use Rattle.vlm_journal.specs.Told.{asked, told};
     ghost use Rattle.vlm_ports.specs.Turns.{IsIdleTurn, IsServedTurn, turn_entries};

@@ -4,7 +4,7 @@ use Rattle.std.specs.Prelude.{◌==◌}
 use Rattle.std.specs.List.{sum_by}
 use Rattle.std.proofs.lemmas.List.Sums.{sum_by-cons}
 use Rattle.vlm_words.specs.declared.locks.Row.{Row}
-use Rattle.vlm_words.specs.Quotas.{locks_of, locks_on, rows_owned}
+use Rattle.vlm_model.specs.Quotas.{locks_of, locks_on, rows_owned}
 use Rattle.vlm_store.specs.Plain.{plain_resource}
 use Rattle.vlm_store.specs.Records.{StoredLock, StoredResource, owned_among, owned_on, rows_of_locks}
 

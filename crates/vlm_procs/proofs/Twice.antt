@@ -6,9 +6,10 @@ use Rattle.std.proofs.lemmas.List.{get_or-set_same, set-set, set_past}
 use Rattle.std.proofs.lemmas.Option.{same_Some}
 use Rattle.vlm_words.specs.declared.blocks.Block.{Block}
 use Rattle.vlm_words.specs.State.{Process, process_of}
-use Rattle.vlm_words.specs.StatusBlocks.{new_status_block, process_after_write, process_with_block, processes_after_write, status_block_of, with_block}
+use Rattle.vlm_words.specs.Processes.{new_status_block, process_with_block, with_block}
+use Rattle.vlm_model.specs.StatusBlocks.{process_after_write, processes_after_write, status_block_of}
 use Rattle.vlm_records.specs.StatusBlocks.{block_or_new, with_changed_block}
-use Rattle.vlm_links.specs.Lists.{IsIn}
+use Rattle.vlm_collections.specs.Lists.{IsIn}
 use Rattle.vlm_store.specs.Plain.{plain_processes}
 use Rattle.vlm_store.specs.Records.{IsProcess, IsSound, Records, StoredProcess}
 use Rattle.vlm_store.proofs.Plain.{process_of-stored}

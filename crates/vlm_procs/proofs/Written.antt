@@ -6,10 +6,11 @@ use Rattle.std.proofs.lemmas.Option.{unwrap_or-slice_get}
 use Rattle.std.specs.Option.{IfSome, option_map_or}
 use Rattle.vlm_words.specs.declared.asts.Ast.{Ast}
 use Rattle.vlm_words.specs.declared.blocks.Block.{Block}
-use Rattle.vlm_words.specs.Asts.{asts_of, oldest, process_after_queueing, process_after_take, processes_after_queueing, processes_after_take, with_ast, without_oldest_ast}
+use Rattle.vlm_model.specs.Asts.{asts_of, process_after_queueing, process_after_take, processes_after_queueing, processes_after_take}
+use Rattle.vlm_words.specs.Processes.{oldest, with_ast, without_oldest_ast, new_status_block, process_with_block}
 use Rattle.vlm_words.specs.State.{Process}
-use Rattle.vlm_words.specs.StatusBlocks.{new_status_block, process_after_write, process_with_block, processes_after_write, status_block_at, status_block_of, status_blocks_of}
-use Rattle.vlm_links.specs.Lists.{IsIn}
+use Rattle.vlm_model.specs.StatusBlocks.{process_after_write, processes_after_write, status_block_at, status_block_of, status_blocks_of}
+use Rattle.vlm_collections.specs.Lists.{IsIn}
 use Rattle.vlm_records.specs.StatusBlocks.{block_or_new as stored_block, with_changed_block}
 use Rattle.vlm_store.specs.Plain.{plain_processes}
 use Rattle.vlm_store.specs.Records.{DueChanges, HasProcess, IsProcess, IsSound, Records, SameButNotices, StoredProcess, but_notices, changed_process, due_of, on_process, on_stored, process_at, with_owed_ast}

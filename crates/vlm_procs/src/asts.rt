@@ -1,7 +1,8 @@
 //! The ASTs of processes.
 
 ghost use Rattle.std.specs.Prelude.{◌≡◌, ◌<◌, ◌≤◌, ◌+◌, ◌-◌, ℕ, length, IsOk, OnErr, OnOk};
-ghost use Rattle.vlm_words.specs.Asts.{asts_of, oldest, processes_after_queueing, processes_after_take};
+ghost use Rattle.vlm_model.specs.Asts.{asts_of, processes_after_queueing, processes_after_take};
+ghost use Rattle.vlm_words.specs.Processes.{oldest};
 ghost use Rattle.vlm_store.specs.Plain.{plain_processes};
 ghost use Rattle.vlm_store.specs.Records.{DueChanges, DuesStay, HasProcess, IsProcess, SameButNotices, due_of};
 

@@ -2,7 +2,7 @@
 
 ghost use Rattle.std.specs.Prelude.{◌≡◌, ℕ, false, nat_lt};
 ghost use Rattle.std.specs.Option.{option_map_or};
-ghost use Rattle.vlm_words.specs.Quotas.{locks_of, quota_of};
+ghost use Rattle.vlm_model.specs.Quotas.{locks_of, quota_of};
 ghost use Rattle.vlm_words.specs.State.{process_of};
 ghost use Rattle.vlm_store.specs.Plain.{plain_processes, plain_resources};
 ghost use Rattle.vlm_store.specs.Records.{HasProcess, IsProcess};

@@ -2,7 +2,7 @@
 
 ghost use Rattle.std.specs.Prelude.{◌≡◌, ℕ};
 ghost use Rattle.vlm_words.specs.declared.conditions.Cond.{Cond};
-ghost use Rattle.vlm_words.specs.StatusBlocks.{processes_after_acceptance, processes_after_write, status_block_at, status_block_of, status_blocks_of, processes_after_status, processes_after_return, processes_after_setting};
+ghost use Rattle.vlm_model.specs.StatusBlocks.{processes_after_acceptance, processes_after_write, status_block_at, status_block_of, status_blocks_of, processes_after_status, processes_after_return, processes_after_setting};
 ghost use Rattle.vlm_store.specs.Plain.{plain_processes};
 ghost use Rattle.vlm_store.specs.Records.{DuesStay, HasProcess, IsProcess, SameButNotices};
 
@@ -33,7 +33,7 @@ fn write(store: &mut Store, at: ProcAt, number: u8, block: Block)
 }
 
 /// The status block with this number, if the process has it.
-#[tactic(auto, unfolding(vlm_words::specs::StatusBlocks::status_block_at))]
+#[tactic(auto, unfolding(vlm_model::specs::StatusBlocks::status_block_at))]
 pub fn status_block(store: &Store, at: ProcAt, number: u8) -> Option<Block>
     requires { HasProcess at store.now }
     ensures { (pid : ℕ) → IsProcess at pid store.now → result
@@ -57,7 +57,7 @@ pub fn status_block_or_new(store: &Store, at: ProcAt, number: u8) -> Block
 }
 
 /// Marks the status block of an accepted request as pending, with its lock. Value part and tail stay.
-#[tactic(auto, unfolding(vlm_words::specs::StatusBlocks::processes_after_acceptance))]
+#[tactic(auto, unfolding(vlm_model::specs::StatusBlocks::processes_after_acceptance))]
 pub fn accept(store: &mut Store, at: ProcAt, number: u8, lkid: u32)
     requires { HasProcess at store.old }
     ensures written { (pid : ℕ) → IsProcess at pid store.old → plain_processes store.new
@@ -71,7 +71,7 @@ pub fn accept(store: &mut Store, at: ProcAt, number: u8, lkid: u32)
 
 /// Marks the status block of a request that is granted at once: its lock and NORMAL. Value part and tail stay. It is
 /// `accept` and `end` in one write.
-#[tactic(auto, unfolding(vlm_words::specs::StatusBlocks::processes_after_acceptance))]
+#[tactic(auto, unfolding(vlm_model::specs::StatusBlocks::processes_after_acceptance))]
 pub fn accept_granted(store: &mut Store, at: ProcAt, number: u8, lkid: u32)
     requires { HasProcess at store.old }
     ensures written { (pid : ℕ) → IsProcess at pid store.old → plain_processes store.new
@@ -85,7 +85,7 @@ pub fn accept_granted(store: &mut Store, at: ProcAt, number: u8, lkid: u32)
 }
 
 /// Writes the value part of a status block, and its tail if one is given.
-#[tactic(auto, unfolding(vlm_words::specs::StatusBlocks::processes_after_setting))]
+#[tactic(auto, unfolding(vlm_model::specs::StatusBlocks::processes_after_setting))]
 pub fn set_value(store: &mut Store, at: ProcAt, number: u8, value: [u8; 16], tail: Option<[u8; 48]>)
     requires { HasProcess at store.old }
     ensures written { (pid : ℕ) → IsProcess at pid store.old → plain_processes store.new
@@ -103,7 +103,7 @@ pub fn set_value(store: &mut Store, at: ProcAt, number: u8, value: [u8; 16], tai
 }
 
 /// Ends a request: its status block gets the condition. Lock, value part and tail stay.
-#[tactic(auto, unfolding(vlm_words::specs::StatusBlocks::processes_after_status))]
+#[tactic(auto, unfolding(vlm_model::specs::StatusBlocks::processes_after_status))]
 pub fn end(store: &mut Store, at: ProcAt, number: u8, cond: Cond)
     requires { HasProcess at store.old }
     ensures written { (pid : ℕ) → IsProcess at pid store.old → plain_processes store.new
@@ -117,7 +117,7 @@ pub fn end(store: &mut Store, at: ProcAt, number: u8, cond: Cond)
 
 /// Ends a request whose grant returns the value block: its status block gets the value, if wide the tail too, and
 /// NORMAL, VALNOTVALID or WIDENOTVALID by their marks. The lock stays.
-#[tactic(auto, unfolding(vlm_words::specs::StatusBlocks::processes_after_return))]
+#[tactic(auto, unfolding(vlm_model::specs::StatusBlocks::processes_after_return))]
 pub fn end_with_return(store: &mut Store, at: ProcAt, number: u8, wide: bool, returned: &ValueBlock)
     requires { HasProcess at store.old }
     ensures written { (pid : ℕ) → IsProcess at pid store.old → plain_processes store.new

@@ -3,7 +3,7 @@ use Rattle.std.proofs.Common.{◌≡◌, ℕ, Bool, true, false, List, [], ◌�
 use Rattle.std.specs.Option.{option_map_or}
 use Rattle.vlm_words.specs.declared.resources.Queue.{Queue}
 use Rattle.vlm_words.specs.declared.resources.Queue.TheVariants.{Granted, Conversion, Waiting}
-use Rattle.vlm_words.specs.Grants.{is_empty}
+use Rattle.vlm_words.specs.Rows.{is_empty}
 use Rattle.vlm_store.specs.Records.{HasResource, IsIdle, Records, StoredLock, StoredResource, queued, resource_at, rows_of_locks}
 
 -- whether no lock stands in the queue, as it is told

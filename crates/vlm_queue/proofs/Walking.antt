@@ -5,7 +5,7 @@ use Rattle.std.proofs.lemmas.Bool.{cases_eq}
 use Rattle.vlm_words.specs.declared.locks.Row.{Row}
 use Rattle.vlm_words.specs.declared.resources.Queue.{Queue}
 use Rattle.vlm_words.specs.declared.resources.Queue.TheVariants.{Granted, Conversion, Waiting}
-use Rattle.vlm_links.specs.Lists.{IsIn}
+use Rattle.vlm_collections.specs.Lists.{IsIn}
 use Rattle.vlm_records.specs.declared.handles.Place.{Place}
 use Rattle.vlm_records.specs.declared.handles.Place.TheVariants.{Queued}
 use Rattle.vlm_store.specs.Plain.{plain_resource}

@@ -4,7 +4,7 @@ use Rattle.std.specs.Option.{ForSome, option_map}
 use Rattle.vlm_words.specs.declared.locks.Row.{Row}
 use Rattle.vlm_words.specs.declared.resources.Queue.{Queue}
 use Rattle.vlm_words.specs.State.{Resource}
-use Rattle.vlm_links.specs.Lists.{IsIn}
+use Rattle.vlm_collections.specs.Lists.{IsIn}
 use Rattle.vlm_records.specs.declared.handles.Place.TheVariants.{Queued}
 use Rattle.vlm_store.specs.Plain.{plain_resource}
 use Rattle.vlm_store.specs.Records.{Records, StoredLock, StoredResource, at_after, first_at, locks_at, resource_at, rows_of_locks}

@@ -4,8 +4,8 @@ ghost use Rattle.std.specs.Prelude.{◌≡◌, IfSome};
 ghost use Rattle.std.specs.Bool.{OnTrue, OnFalse};
 ghost use Rattle.std.specs.Option.{ForSome};
 ghost use Rattle.vlm_words.specs.declared.locks.Row.{Row};
-ghost use Rattle.vlm_words.specs.Grants.{is_empty};
-ghost use Rattle.vlm_links.specs.Lists.{IsIn};
+ghost use Rattle.vlm_words.specs.Rows.{is_empty};
+ghost use Rattle.vlm_collections.specs.Lists.{IsIn};
 ghost use Rattle.vlm_records.specs.declared.handles.Place.{Place};
 ghost use Rattle.vlm_store.specs.Records.{HasResource, IsIdle, IsSound, IsStored, at_after, first_at, fits_beside, locks_at, queued, resource_at, rows_of_locks};
 

@@ -8,14 +8,14 @@ use Rattle.std.specs.Option.{option_map}
 use Rattle.slab.specs.Slab.{Slab, get, ContainsKey, with_value}
 use Rattle.slab.proofs.SlabLemmas.{Updates-with_value}
 use Rattle.std.specs.Prelude.{nat_lt}
-use Rattle.vlm_links.specs.declared.link.Links.{Links}
-use Rattle.vlm_links.specs.declared.lists.LinkedList.{LinkedList}
-use Rattle.vlm_links.specs.Lists.{IsIn, IsLinked, IsNoList, Relinks, handles_of, next_in, prev_in, without}
-use Rattle.vlm_records.proofs.Counting.{without-twice}
-use Rattle.vlm_links.proofs.HandleLists.{IsIn-push_last, IsIn-without, IsIn-without_kept, without_absent, without_head, without_past}
-use Rattle.vlm_links.proofs.Keeping.{relinked_same}
-use Rattle.vlm_links.proofs.Rings.{kept-handles, kept-linked, no_list-linked}
-use Rattle.vlm_links.proofs.Walks.{without_last}
+use Rattle.vlm_collections.specs.declared.link.Links.{Links}
+use Rattle.vlm_collections.specs.declared.lists.LinkedList.{LinkedList}
+use Rattle.vlm_collections.specs.Lists.{IsIn, IsLinked, IsNoList, Relinks, handles_of, next_in, prev_in, without}
+use Rattle.vlm_records.proofs.Counting.{without-twice, shares_same}
+use Rattle.vlm_collections.proofs.HandleLists.{IsIn-push_last, IsIn-without, IsIn-without_kept, without_absent, without_head, without_past}
+use Rattle.vlm_collections.proofs.Keeping.{relinked_same}
+use Rattle.vlm_collections.proofs.Rings.{kept-handles, kept-linked, no_list-linked}
+use Rattle.vlm_collections.proofs.Walks.{without_last}
 use Rattle.vlm_words.specs.declared.locks.Row.{Row}
 use Rattle.vlm_words.specs.declared.resources.Queue.{Queue}
 use Rattle.vlm_words.specs.declared.resources.Queue.TheVariants.{Granted, Conversion, Waiting}
@@ -30,8 +30,7 @@ use Rattle.vlm_records.specs.Armed.{IsArmed, IsLast, StandsLast, armed_granted, 
 use Rattle.vlm_records.specs.Families.{IsFamily}
 use Rattle.vlm_records.specs.Kept.{KeepsPlaces, Rewrites}
 use Rattle.vlm_records.specs.Shown.{IsPlaced, IsTallied, IsThere, SameBut, but_armed, but_counted, but_in_armed, but_kin, but_lists, but_queued, but_queues, but_requeued, but_tally, handles_at, handles_but, list_at, list_in, noted_in, queue_links, row_in, rows, tally_in}
-use Rattle.vlm_tallies.specs.Tallies.{how_many, weight_of}
-use Rattle.vlm_records.proofs.Counting.{shares_same}
+use Rattle.vlm_records.specs.Tallies.{how_many, weight_of}
 use Rattle.vlm_records.proofs.Families.{family-put_here, family-put_others, family-put, family-taken, family-taken_handles}
 use Rattle.vlm_records.proofs.Places.{by_part, there_by_part, kept_handles, kept_placed, place_cases, stands_there, there_through, through}
 use Rattle.vlm_records.proofs.OwnLocks.{written_same}

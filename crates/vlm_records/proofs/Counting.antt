@@ -5,10 +5,10 @@ use Rattle.std.proofs.lemmas.Bool.{cases_eq}
 use Rattle.std.proofs.lemmas.Option.{none-some, same_Some}
 use Rattle.slab.specs.Slab.{Slab, get, ContainsKey, Updates, with_value}
 use Rattle.slab.proofs.SlabLemmas.{Updates-with_value}
-use Rattle.vlm_links.specs.declared.link.TheConstants.{LAST_HANDLE}
-use Rattle.vlm_links.specs.Lists.{IsIn, IsApart, IsLinked, handles_of, without}
-use Rattle.vlm_links.proofs.Keeping.{updated-handles}
-use Rattle.vlm_links.proofs.HandleLists.{IsIn-without, IsApart-without, IsApart-push, length-below, without_head, without_past, without_absent}
+use Rattle.vlm_collections.specs.declared.link.TheConstants.{LAST_HANDLE}
+use Rattle.vlm_collections.specs.Lists.{IsIn, IsApart, IsLinked, handles_of, without}
+use Rattle.vlm_collections.proofs.Keeping.{updated-handles}
+use Rattle.vlm_collections.proofs.HandleLists.{IsIn-without, IsApart-without, IsApart-push, length-below, without_head, without_past, without_absent}
 use Rattle.vlm_words.specs.declared.locks.Row.{Row}
 use Rattle.vlm_words.specs.declared.modes.Mode.{Mode}
 use Rattle.vlm_words.specs.declared.resources.Queue.{Queue}
@@ -18,11 +18,11 @@ use Rattle.vlm_records.specs.declared.handles.Place.TheVariants.{Queued}
 use Rattle.vlm_records.specs.declared.locks.Lock.{Lock}
 use Rattle.vlm_records.specs.declared.queues.Queues.{Queues}
 use Rattle.vlm_records.specs.declared.resources.Resource.{Resource}
-use Rattle.vlm_tallies.specs.declared.tallies.Tally.{Tally}
+use Rattle.vlm_records.specs.declared.tallies.Tally.{Tally}
 use Rattle.vlm_records.specs.Kept.{Recounts}
 use Rattle.vlm_records.specs.Shown.{IsPlaced, IsTallied, SameBut, but_lists, handles_at, handles_but, list_at, noted, noted_in, queue_links, row_in, rows, share_of, shares, tally_in}
-use Rattle.vlm_tallies.specs.Tallies.{Count, counted_request, how_many, is_mode, one_if, total, weight_of}
-use Rattle.vlm_tallies.proofs.Totals.{total-length}
+use Rattle.vlm_records.specs.Tallies.{Count, counted_request, how_many, is_mode, one_if, total, weight_of}
+use Rattle.vlm_records.proofs.Totals.{total-length}
 use Rattle.vlm_records.proofs.Families.{family-added, family-removed}
 use Rattle.vlm_records.proofs.Places.{one_place, place_cases, tally_but_lists}
 

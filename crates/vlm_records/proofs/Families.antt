@@ -3,11 +3,11 @@ use Rattle.std.proofs.Common.{◌≡◌, ◌≢◌, ◌⊎◌, ℕ, [], ◌∷�
 use Rattle.std.proofs.lemmas.Bool.{cases_eq}
 use Rattle.std.proofs.lemmas.Option.{none-some, same_Some}
 use Rattle.slab.specs.Slab.{Slab, get, ContainsKey, Updates}
-use Rattle.vlm_links.specs.declared.link.Links.{Links}
-use Rattle.vlm_links.specs.declared.lists.LinkedList.{LinkedList}
-use Rattle.vlm_links.specs.Lists.{IsIn, IsLinked, IsNoList, handles_of, next_in, prev_in, without}
-use Rattle.vlm_links.proofs.HandleLists.{IsIn-without, IsIn-without_kept, IsIn-push, IsIn-push_kept, IsIn-push_last, without_absent}
-use Rattle.vlm_links.proofs.Rings.{kept-handles, kept-linked, no_list-linked, same-handles, same-linked}
+use Rattle.vlm_collections.specs.declared.link.Links.{Links}
+use Rattle.vlm_collections.specs.declared.lists.LinkedList.{LinkedList}
+use Rattle.vlm_collections.specs.Lists.{IsIn, IsLinked, IsNoList, handles_of, next_in, prev_in, without}
+use Rattle.vlm_collections.proofs.HandleLists.{IsIn-without, IsIn-without_kept, IsIn-push, IsIn-push_kept, IsIn-push_last, without_absent}
+use Rattle.vlm_collections.proofs.Rings.{kept-handles, kept-linked, no_list-linked, same-handles, same-linked}
 use Rattle.vlm_records.specs.declared.locks.Lock.{Lock}
 use Rattle.vlm_records.specs.Families.{IsFamily}
 

@@ -5,16 +5,15 @@ use Rattle.std.specs.List.{list_all, list_any}
 use Rattle.std.proofs.lemmas.List.Folds.{list_all-append}
 use Rattle.vlm_words.specs.declared.locks.Request.{Request}
 use Rattle.vlm_words.specs.declared.modes.Mode.{Mode}
-use Rattle.vlm_words.specs.Asts.{keeps_out}
-use Rattle.vlm_words.specs.Grants.{is_beside}
+use Rattle.vlm_words.specs.Rows.{keeps_out, is_beside}
 use Rattle.vlm_words.specs.declared.locks.Row.{Row}
 use Rattle.vlm_words.specs.declared.resources.Queue.TheVariants.{Granted, Conversion, Waiting}
 use Rattle.vlm_words.specs.Modes.{is_compatible}
 use Rattle.vlm_words.proofs.Compatible.{is_compatible-comm}
-use Rattle.vlm_tallies.specs.Tallies.{counts_fit, each_counted, is_mode, one_if, total, weight_of}
-use Rattle.vlm_tallies.specs.Tallies.Count.{of_held, of_wanted}
-use Rattle.vlm_tallies.proofs.ModesThatFit.{counts_fit-rows, each_counted-rows, passes}
-use Rattle.vlm_tallies.proofs.Totals.{total-both, total-nothing}
+use Rattle.vlm_records.specs.Tallies.{counts_fit, each_counted, is_mode, one_if, total, weight_of}
+use Rattle.vlm_records.specs.Tallies.Count.{of_held, of_wanted}
+use Rattle.vlm_records.proofs.ModesThatFit.{counts_fit-rows, each_counted-rows, passes}
+use Rattle.vlm_records.proofs.Totals.{total-both, total-nothing}
 use Rattle.vlm_records.specs.declared.handles.Place.TheVariants.{Queued}
 use Rattle.vlm_records.specs.declared.queues.Queues.{Queues}
 use Rattle.vlm_records.specs.Shown.{handles_at, handles_but, handles_fit, rows, shares}

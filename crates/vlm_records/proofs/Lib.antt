@@ -1,3 +1,5 @@
+pub mod ModesThatFit
+pub mod Totals
 pub mod Arming
 pub mod Counting
 pub mod Families

@@ -3,9 +3,9 @@ use Rattle.std.proofs.Common.{◌≡◌, ◌≢◌, ◌⊎◌, ℕ, true, false,
 use Rattle.std.proofs.lemmas.Option.{none-some, same_Some}
 use Rattle.std.specs.Option.{option_map}
 use Rattle.slab.specs.Slab.{Slab, get}
-use Rattle.vlm_links.specs.declared.lists.LinkedList.{LinkedList}
-use Rattle.vlm_links.specs.Lists.{IsIn, IsLinked, Relinks, without}
-use Rattle.vlm_links.proofs.Keeping.{relinked_same}
+use Rattle.vlm_collections.specs.declared.lists.LinkedList.{LinkedList}
+use Rattle.vlm_collections.specs.Lists.{IsIn, IsLinked, Relinks, without}
+use Rattle.vlm_collections.proofs.Keeping.{relinked_same}
 use Rattle.vlm_words.specs.declared.resources.Queue.TheVariants.{Granted, Conversion, Waiting}
 use Rattle.vlm_records.specs.declared.handles.Place.{Place}
 use Rattle.vlm_records.specs.declared.handles.Place.TheVariants.{Queued}

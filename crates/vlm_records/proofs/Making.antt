@@ -5,11 +5,11 @@ use Rattle.std.proofs.lemmas.Option.{same_Some}
 use Rattle.std.specs.Option.{option_map}
 use Rattle.slab.specs.Slab.{Slab, get, ContainsKey, Updates, with_value}
 use Rattle.slab.proofs.SlabLemmas.{Updates-with_value}
-use Rattle.vlm_links.specs.declared.link.Links.{Links}
-use Rattle.vlm_links.specs.declared.lists.LinkedList.{LinkedList}
-use Rattle.vlm_links.specs.Lists.{IsIn, IsLinked, IsNoList, Relinks, handles_of, without}
-use Rattle.vlm_links.proofs.Keeping.{relinked_same}
-use Rattle.vlm_links.proofs.HandleLists.{IsIn-push_kept, IsIn-push_last, IsIn-without_kept}
+use Rattle.vlm_collections.specs.declared.link.Links.{Links}
+use Rattle.vlm_collections.specs.declared.lists.LinkedList.{LinkedList}
+use Rattle.vlm_collections.specs.Lists.{IsIn, IsLinked, IsNoList, Relinks, handles_of, without}
+use Rattle.vlm_collections.proofs.Keeping.{relinked_same}
+use Rattle.vlm_collections.proofs.HandleLists.{IsIn-push_kept, IsIn-push_last, IsIn-without_kept}
 use Rattle.vlm_words.specs.declared.locks.Row.{Row}
 use Rattle.vlm_words.specs.declared.resources.Queue.{Queue}
 use Rattle.vlm_words.specs.declared.resources.Queue.TheVariants.{Granted, Conversion, Waiting}
@@ -23,8 +23,8 @@ use Rattle.vlm_records.specs.declared.queues.Queues.{Queues}
 use Rattle.vlm_records.specs.declared.resources.Resource.{Resource}
 use Rattle.vlm_records.specs.Armed.{IsArmed, armed_handles, armed_links, armed_list, armed_list_in, list_of}
 use Rattle.vlm_records.specs.Shown.{Face, IsPlaced, IsTallied, face_in, face_of, handles_at, list_at, list_in, no_list, queue_links, rows, shares, tally_in, with_order_links}
-use Rattle.vlm_tallies.specs.Tallies.{how_many, no_tally, total, weight_of}
-use Rattle.vlm_tallies.proofs.Totals.{none_counted}
+use Rattle.vlm_records.specs.Tallies.{how_many, no_tally, total, weight_of}
+use Rattle.vlm_records.proofs.Totals.{none_counted}
 use Rattle.vlm_records.proofs.Counting.{shares_same}
 use Rattle.vlm_records.proofs.Places.{kept_handles, kept_placed, no_list_is}
 

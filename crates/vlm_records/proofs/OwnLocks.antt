@@ -5,9 +5,9 @@ use Rattle.std.proofs.lemmas.Option.{none-some}
 use Rattle.std.specs.Option.{option_map}
 use Rattle.slab.specs.Slab.{Slab, get, ContainsKey, with_value}
 use Rattle.slab.proofs.SlabLemmas.{Updates-with_value}
-use Rattle.vlm_links.specs.declared.lists.LinkedList.{LinkedList}
-use Rattle.vlm_links.specs.Lists.{IsIn, IsLinked, Relinks, handles_of, next_in, prev_in, without}
-use Rattle.vlm_links.proofs.Keeping.{relinked_same}
+use Rattle.vlm_collections.specs.declared.lists.LinkedList.{LinkedList}
+use Rattle.vlm_collections.specs.Lists.{IsIn, IsLinked, Relinks, handles_of, next_in, prev_in, without}
+use Rattle.vlm_collections.proofs.Keeping.{relinked_same}
 use Rattle.vlm_records.specs.declared.locks.Lock.{Lock}
 use Rattle.vlm_records.specs.declared.locks.OfParent.{OfParent}
 use Rattle.vlm_records.specs.declared.locks.OfProcess.{OfProcess}

@@ -4,11 +4,11 @@ use Rattle.std.proofs.lemmas.Bool.{cases_eq}
 use Rattle.std.proofs.lemmas.Option.{none-some, same_Some}
 use Rattle.std.specs.Option.{option_map}
 use Rattle.slab.specs.Slab.{Slab, get, ContainsKey}
-use Rattle.vlm_links.specs.declared.lists.LinkedList.{LinkedList}
-use Rattle.vlm_links.specs.Lists.{IsIn, IsLinked, IsNoList, Relinks, handles_of, next_in, prev_in, without}
-use Rattle.vlm_links.proofs.HandleLists.{IsIn-push_last}
-use Rattle.vlm_links.proofs.Keeping.{relinked_same}
-use Rattle.vlm_links.proofs.Rings.{kept-linked}
+use Rattle.vlm_collections.specs.declared.lists.LinkedList.{LinkedList}
+use Rattle.vlm_collections.specs.Lists.{IsIn, IsLinked, IsNoList, Relinks, handles_of, next_in, prev_in, without}
+use Rattle.vlm_collections.proofs.HandleLists.{IsIn-push_last}
+use Rattle.vlm_collections.proofs.Keeping.{relinked_same}
+use Rattle.vlm_collections.proofs.Rings.{kept-linked}
 use Rattle.vlm_words.specs.declared.resources.Queue.{Queue}
 use Rattle.vlm_words.specs.declared.resources.Queue.TheVariants.{Granted, Conversion, Waiting}
 use Rattle.vlm_records.specs.declared.handles.Place.{Place}

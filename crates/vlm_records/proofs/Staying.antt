@@ -3,8 +3,8 @@ use Rattle.std.proofs.Common.{◌≡◌, ◌≢◌, ℕ, List, [], ◌∷◌, �
 use Rattle.std.specs.Prelude.{is_some, if◌then◌else◌}
 use Rattle.std.proofs.lemmas.Bool.{cases_eq}
 use Rattle.std.proofs.lemmas.Option.{none-some}
-use Rattle.vlm_links.specs.Lists.{IsIn, first_handle, handle_after, without}
-use Rattle.vlm_links.proofs.HandleLists.{without_absent, without_head, without_past}
+use Rattle.vlm_collections.specs.Lists.{IsIn, first_handle, handle_after, without}
+use Rattle.vlm_collections.proofs.HandleLists.{without_absent, without_head, without_past}
 use Rattle.vlm_records.specs.declared.handles.Place.{Place}
 use Rattle.vlm_records.specs.declared.queues.Queues.{Queues}
 use Rattle.vlm_records.specs.Armed.{IsLast, StandsLast}

@@ -1,9 +1,9 @@
 -- The lists of armed locks of each resource, in the order of its granted queue.
 use Rattle.std.specs.Prelude.{◌≡◌, ℕ, Bool, nat_lt, List, [], ◌∷◌, ◌++◌, filter, if◌then◌else◌, Option, None, Some}
 use Rattle.slab.specs.Slab.{get}
-use Rattle.vlm_links.specs.declared.link.Links.{Links}
-use Rattle.vlm_links.specs.declared.lists.LinkedList.{LinkedList}
-use Rattle.vlm_links.specs.Lists.{IsLinked, handles_of, without}
+use Rattle.vlm_collections.specs.declared.link.Links.{Links}
+use Rattle.vlm_collections.specs.declared.lists.LinkedList.{LinkedList}
+use Rattle.vlm_collections.specs.Lists.{IsLinked, handles_of, without}
 use Rattle.vlm_words.specs.declared.locks.Request.{Request}
 use Rattle.vlm_words.specs.declared.locks.Row.{Row}
 use Rattle.vlm_words.specs.declared.resources.Queue.TheVariants.{Granted, Conversion, Waiting}

@@ -1,9 +1,9 @@
 -- Families of lists: lists of one kind that run through the locks, where each lock notes which list it is in.
 use Rattle.std.specs.Prelude.{◌≡◌, ◌≢◌, ℕ, Option, Some}
 use Rattle.slab.specs.Slab.{Slab, get}
-use Rattle.vlm_links.specs.declared.link.Links.{Links}
-use Rattle.vlm_links.specs.declared.lists.LinkedList.{LinkedList}
-use Rattle.vlm_links.specs.Lists.{IsIn, IsLinked, handles_of}
+use Rattle.vlm_collections.specs.declared.link.Links.{Links}
+use Rattle.vlm_collections.specs.declared.lists.LinkedList.{LinkedList}
+use Rattle.vlm_collections.specs.Lists.{IsIn, IsLinked, handles_of}
 use Rattle.vlm_records.specs.declared.locks.Lock.{Lock}
 
 module _ {I Kind : Type 0} (links : Lock → Links) (noted : Option Lock → Option I) (locks : Slab Lock) (lists : I → LinkedList Kind) where

@@ -1,10 +1,10 @@
 -- What stays while the locks of a resource leave lists, join lists and are counted.
 use Rattle.std.specs.Prelude.{◌≡◌, ◌≢◌, ◌+◌, ℕ, None, [], ◌∷◌, ◌++◌}
 use Rattle.slab.specs.Slab.{Slab, get}
-use Rattle.vlm_links.specs.Lists.{without}
+use Rattle.vlm_collections.specs.Lists.{without}
 use Rattle.vlm_words.specs.declared.locks.Row.{Row}
 use Rattle.vlm_words.specs.declared.modes.Mode.{Mode}
-use Rattle.vlm_tallies.specs.Tallies.{Count, how_many, weight_of}
+use Rattle.vlm_records.specs.Tallies.{Count, how_many, weight_of}
 use Rattle.vlm_records.specs.declared.handles.Place.{Place}
 use Rattle.vlm_records.specs.declared.locks.Lock.{Lock}
 use Rattle.vlm_records.specs.declared.queues.Queues.{Queues}

@@ -1,3 +1,4 @@
+pub mod Tallies
 pub mod Armed
 pub mod Families
 pub mod Kept

@@ -2,7 +2,7 @@
 use Rattle.std.specs.Prelude.{ℕ, ◌-◌, List, nat_lt, slice_index_or, if◌then◌else◌}
 use Rattle.vlm_words.specs.declared.blocks.Block.{Block}
 use Rattle.vlm_words.specs.State.{Process}
-use Rattle.vlm_words.specs.StatusBlocks.{new_status_block, process_with_block}
+use Rattle.vlm_words.specs.Processes.{new_status_block, process_with_block}
 
 -- block n, numbered from 1; a new block if it does not exist
 abbrev pub block_or_new : ℕ → List Block → Block

@@ -9,7 +9,7 @@ ghost use Rattle.vlm_records.specs.Shown.{IsPlaced, IsTallied};
 
 use crate::handles::Armed;
 use crate::queues::Queues;
-use vlm_links::LAST_HANDLE;
+use vlm_collections::LAST_HANDLE;
 
 impl Queues {
     // Takes a lock out of a list of armed locks, if it is in the list.

@@ -6,8 +6,8 @@ ghost use Rattle.slab.specs.Slab.{ContainsKey};
 ghost use Rattle.vlm_words.specs.declared.modes.Mode.{Mode};
 ghost use Rattle.vlm_words.specs.declared.resources.Queue.{Queue};
 ghost use Rattle.vlm_records.specs.declared.handles.Place.{Place};
-ghost use Rattle.vlm_tallies.specs.Tallies.{is_mode, one_if, weight_of};
-ghost use Rattle.vlm_tallies.specs.Tallies.Count.{of_held};
+ghost use Rattle.vlm_records.specs.Tallies.{is_mode, one_if, weight_of};
+ghost use Rattle.vlm_records.specs.Tallies.Count.{of_held};
 ghost use Rattle.vlm_records.specs.Kept.{Recounts, WritesCounts};
 ghost use Rattle.vlm_records.specs.Shown.{IsPlaced, IsTallied, handles_but, handles_fit, noted, rows, share_of};
 

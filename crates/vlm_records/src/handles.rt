@@ -4,7 +4,7 @@ ghost use Rattle.std.specs.Prelude.{◌≡◌};
 ghost use Rattle.vlm_records.specs.Armed.{floor};
 ghost use Rattle.vlm_records.specs.declared.handles.Place.{Place};
 
-use vlm_links::At;
+use vlm_collections::At;
 use vlm_words::resources::Queue;
 
 /// Marks handles of locks.

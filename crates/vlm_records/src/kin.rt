@@ -2,7 +2,7 @@
 
 ghost use Rattle.std.specs.Prelude.{◌≡◌, ◌≢◌, ◌≤◌, ℕ, Some, None, [], ◌∷◌, ◌++◌};
 ghost use Rattle.slab.specs.Slab.{get, ContainsKey};
-ghost use Rattle.vlm_links.specs.Lists.{Relinks, without};
+ghost use Rattle.vlm_collections.specs.Lists.{Relinks, without};
 ghost use Rattle.vlm_records.specs.Shown.{SameBut, room_in};
 ghost use Rattle.vlm_records.specs.Kin.{IsBelow, IsOwned, below_handles, but_below, but_own, own_handles, owner_in, parent_in, with_own_links};
 
@@ -10,7 +10,7 @@ use crate::handles::{LockAt, ProcAt};
 use crate::locks::Lock;
 use crate::processes::Process;
 use slab::Slab;
-use vlm_links::LAST_HANDLE;
+use vlm_collections::LAST_HANDLE;
 
 /// Takes a lock out of the list of its process.
 pub fn leave_process(

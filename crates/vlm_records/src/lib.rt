@@ -33,6 +33,7 @@ mod processes;
 mod queues;
 mod resources;
 mod rows;
+mod tallies;
 
 pub use handles::{Armed, LockAt, LockKind, Place, ProcAt, ProcessKind, ResAt, ResourceKind};
 pub use kin::{join_parent, join_process, leave_parent, leave_process};

@@ -8,7 +8,7 @@ ghost use Rattle.vlm_records.specs.Shown.{SameBut, but_in_line, noted_in, room_i
 use crate::handles::Place;
 use crate::locks::{InLine, Lock};
 use slab::Slab;
-use vlm_links::{LAST_HANDLE, LinkedList};
+use vlm_collections::{LAST_HANDLE, LinkedList};
 
 /// Takes a lock out of the line, if its place is a conversion or waiting queue.
 pub fn leave_line(locks: &mut Slab<Lock>, line: &mut LinkedList<InLine>, at: usize, place: &Place)

@@ -4,7 +4,7 @@ ghost use Rattle.std.specs.Prelude.{◌≡◌, refl};
 
 use crate::handles::{Armed, LockKind, Place, ProcAt, ResAt};
 use crate::rows::StoredRow;
-use vlm_links::{Linked, LinkedList, Links, MaybeAt};
+use vlm_collections::{Linked, LinkedList, Links, MaybeAt};
 use vlm_words::resources::Queue;
 
 /// Marks the queues of resources.

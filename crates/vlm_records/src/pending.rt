@@ -4,7 +4,7 @@ ghost use Rattle.std.specs.Prelude.{◌≡◌, ◌<◌, ◌-◌, ◌++◌, ◌�
 ghost use Rattle.vlm_records.specs.Pending.{IsToldOf, OtherMarksStay};
 
 use crate::processes::Process;
-use vlm_marks::NodeMarks;
+use vlm_collections::NodeMarks;
 use vlm_words::asts::Ast;
 
 impl Process {

@@ -3,9 +3,8 @@
 ghost use Rattle.std.specs.Prelude.{◌≡◌, ◌≢◌, ◌≤◌, ◌+◌, ℕ, None, Some, [], ◌∷◌, ◌++◌, refl};
 ghost use Rattle.std.specs.Option.{option_map};
 ghost use Rattle.slab.specs.Slab.{get, HasRoomFor};
-ghost use Rattle.vlm_links.specs.Lists.{IsIn, IsLinked, IsNoList, handles_of, without};
-ghost use Rattle.vlm_words.specs.Declare.{new_process};
-ghost use Rattle.vlm_words.specs.StatusBlocks.{process_with_block};
+ghost use Rattle.vlm_collections.specs.Lists.{IsIn, IsLinked, IsNoList, handles_of, without};
+ghost use Rattle.vlm_words.specs.Processes.{new_process, process_with_block};
 ghost use Rattle.vlm_records.specs.Kin.{but_order, plain_process, process_links};
 ghost use Rattle.vlm_records.specs.Shown.{room_in};
 ghost use Rattle.vlm_records.specs.StatusBlocks.{requested, with_changed_block, with_status};
@@ -13,8 +12,7 @@ ghost use Rattle.vlm_records.specs.StatusBlocks.{requested, with_changed_block, 
 use crate::locks::OfProcess;
 use crate::resources::InOrder;
 use slab::Slab;
-use vlm_asts::AstQueue;
-use vlm_links::{LAST_HANDLE, Linked, LinkedList, Links};
+use vlm_collections::{AstQueue, LAST_HANDLE, Linked, LinkedList, Links};
 use vlm_words::blocks::Block;
 use vlm_words::steps::Declaration;
 

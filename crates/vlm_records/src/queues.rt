@@ -4,7 +4,7 @@ ghost use Rattle.std.specs.Prelude.{◌≡◌, ◌≢◌, ◌≤◌, ◌+◌, �
 ghost use Rattle.std.specs.Bool.{OnTrue};
 ghost use Rattle.std.specs.Option.{ForSome, option_map};
 ghost use Rattle.slab.specs.Slab.{get, ContainsKey, HasRoomFor};
-ghost use Rattle.vlm_links.specs.Lists.{IsIn, IsLinked, Lists, Relinks, without};
+ghost use Rattle.vlm_collections.specs.Lists.{IsIn, IsLinked, Lists, Relinks, without};
 ghost use Rattle.vlm_records.specs.declared.handles.Place.{Place};
 ghost use Rattle.vlm_records.specs.Armed.{IsLaidOut, StandsLast, armed_rank};
 ghost use Rattle.vlm_records.specs.Kept.{Keeps, Requeues, Rewrites, WritesLock};
@@ -16,7 +16,7 @@ use crate::locks::{InQueue, Lock};
 use crate::resources::Resource;
 use crate::rows::StoredRow;
 use slab::Slab;
-use vlm_links::{LAST_HANDLE, LinkedList, Links, MaybeAt};
+use vlm_collections::{LAST_HANDLE, LinkedList, Links, MaybeAt};
 use vlm_words::resources::Queue;
 
 /// The locks and the resources. Each lock is in one queue of a resource.

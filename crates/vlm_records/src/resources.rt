@@ -3,7 +3,7 @@
 ghost use Rattle.std.specs.Prelude.{◌≡◌, ◌≢◌, ◌≤◌, ◌+◌, ℕ, None, Some, [], ◌∷◌, ◌++◌, refl};
 ghost use Rattle.std.specs.Option.{option_map};
 ghost use Rattle.slab.specs.Slab.{get, ContainsKey, HasRoomFor};
-ghost use Rattle.vlm_links.specs.Lists.{IsIn, IsLinked, Lists, Relinks, first_handle, handle_after, handles_of, without};
+ghost use Rattle.vlm_collections.specs.Lists.{IsIn, IsLinked, Lists, Relinks, first_handle, handle_after, handles_of, without};
 ghost use Rattle.vlm_words.specs.declared.resources.Queue.{Queue};
 ghost use Rattle.vlm_records.specs.declared.handles.Place.{Place};
 ghost use Rattle.vlm_records.specs.Armed.{IsLaidOut, armed_links, list_of, with_armed_links, with_list};
@@ -13,8 +13,8 @@ use crate::handles::Armed;
 use crate::locks::{InAboveCr, InAboveNl, InQueue, Lock};
 use crate::queues::Queues;
 use slab::Slab;
-use vlm_links::{LAST_HANDLE, Linked, LinkedList, Links};
-use vlm_tallies::Tally;
+use vlm_collections::{LAST_HANDLE, Linked, LinkedList, Links};
+use crate::tallies::Tally;
 use vlm_words::resources::{Domain, Key, Queue, Site, ValueBlock};
 
 /// Marks the order of making, of resources and of processes.

@@ -1,9 +1,8 @@
 //! The row of a lock in packed form.
 
 ghost use Rattle.std.specs.Prelude.{◌≡◌, ℕ, None, false};
-ghost use Rattle.vlm_words.specs.Convert.{wanting_row};
+ghost use Rattle.vlm_words.specs.Rows.{wanting_row, granted_row, is_arming};
 ghost use Rattle.vlm_words.specs.Dues.{routines_of};
-ghost use Rattle.vlm_words.specs.Grants.{granted_row, is_arming};
 ghost use Rattle.vlm_records.specs.Armed.{armed_rank};
 ghost use Rattle.vlm_records.specs.declared.rows.Asked.{Asked};
 ghost use Rattle.vlm_records.specs.declared.rows.Routines.{Routines};

@@ -11,8 +11,8 @@ use Rattle.vlm_words.specs.declared.steps.Declaration.{Declaration}
 use Rattle.vlm_words.specs.declared.steps.Step.TheVariants.{Declare as declare_step, SetValue as set_step, Enq as enq_step, Convert as convert_step, Deq as deq_step, Rundown, Leave as leave_step, Search as search_step, Take}
 use Rattle.vlm_words.specs.declared.steps.Step.{Step}
 use Rattle.vlm_words.specs.State.{State, start}
-use Rattle.vlm_words.specs.StatusBlocks.{status_block_at}
-use Rattle.vlm_words.specs.Stepped.{Outcome}
+use Rattle.vlm_model.specs.StatusBlocks.{status_block_at}
+use Rattle.vlm_model.specs.Stepped.{Outcome}
 use Rattle.vlm_lines.specs.Lines.{is_text, line_read, lines_of, unnamed_process}
 use Rattle.vlm_script.specs.Texts.{answer_line, node_line, resources_text, status_block_line, status_tail_line, tails_text}
 

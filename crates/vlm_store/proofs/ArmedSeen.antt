@@ -1,7 +1,7 @@
 -- What a caller sees of the armed locks of a resource.
 use Rattle.std.proofs.Common.{◌≡◌, ℕ, List, [], ◌∷◌, map, cond, true, false, Some, refl, sym, ap, ◌∙◌, subst}
 use Rattle.slab.specs.Slab.{get, ContainsKey}
-use Rattle.vlm_links.specs.Lists.{IsIn, handles_of}
+use Rattle.vlm_collections.specs.Lists.{IsIn, handles_of}
 use Rattle.vlm_words.specs.declared.locks.Row.{Row}
 use Rattle.vlm_words.specs.declared.resources.Queue.TheVariants.{Granted}
 use Rattle.vlm_records.specs.declared.handles.Armed.{Armed}

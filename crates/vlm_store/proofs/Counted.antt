@@ -5,9 +5,9 @@ use Rattle.std.specs.Option.{option_map_or}
 use Rattle.std.proofs.lemmas.Bool.{cases_eq}
 use Rattle.std.proofs.lemmas.List.{length-map}
 use Rattle.std.proofs.lemmas.List.Sums.{length-filter, sum_by-cons}
-use Rattle.vlm_links.specs.Lists.{IsApart, IsIn, without}
-use Rattle.vlm_links.proofs.Images.{IsIn-image, IsIn-of_image}
-use Rattle.vlm_links.proofs.HandleLists.{IsApart-without, IsIn-without_kept, length-without}
+use Rattle.vlm_collections.specs.Lists.{IsApart, IsIn, without}
+use Rattle.vlm_collections.proofs.Images.{IsIn-image, IsIn-of_image}
+use Rattle.vlm_collections.proofs.HandleLists.{IsApart-without, IsIn-without_kept, length-without}
 use Rattle.vlm_words.specs.declared.locks.Row.{Row}
 use Rattle.vlm_words.specs.declared.resources.Queue.{Queue}
 use Rattle.vlm_words.specs.declared.resources.Queue.TheVariants.{Granted, Conversion, Waiting}

@@ -5,10 +5,10 @@ use Rattle.std.proofs.lemmas.Option.{none-some}
 use Rattle.std.specs.Option.{option_map}
 use Rattle.slab.specs.Slab.{Slab, get, ContainsKey, with_value}
 use Rattle.slab.proofs.SlabLemmas.{Updates-with_value}
-use Rattle.vlm_links.specs.declared.link.Links.{Links}
-use Rattle.vlm_links.specs.declared.lists.LinkedList.{LinkedList}
-use Rattle.vlm_links.specs.Lists.{IsIn, IsLinked, IsNoList, handles_of, next_in, prev_in}
-use Rattle.vlm_links.proofs.Rings.{kept-handles, kept-linked, no_list-linked, same-handles, same-linked}
+use Rattle.vlm_collections.specs.declared.link.Links.{Links}
+use Rattle.vlm_collections.specs.declared.lists.LinkedList.{LinkedList}
+use Rattle.vlm_collections.specs.Lists.{IsIn, IsLinked, IsNoList, handles_of, next_in, prev_in}
+use Rattle.vlm_collections.proofs.Rings.{kept-handles, kept-linked, no_list-linked, same-handles, same-linked}
 use Rattle.vlm_records.specs.declared.locks.Lock.{Lock}
 use Rattle.vlm_records.specs.declared.processes.Process.{Process}
 use Rattle.vlm_records.specs.declared.resources.InOrder.{InOrder}
@@ -22,8 +22,8 @@ use Rattle.vlm_store.proofs.Indexing.{table_grown, table_same}
 use Rattle.vlm_records.proofs.Families.{family-empty, family-kept}
 use Rattle.vlm_records.proofs.Places.{by_part}
 use Rattle.vlm_records.proofs.Making.{no_list_has}
-use Rattle.vlm_links.specs.Tables.{Grows}
-use Rattle.vlm_marks.specs.Nodes.{Grows as MarksGrow}
+use Rattle.vlm_collections.specs.Tables.{Grows}
+use Rattle.vlm_collections.specs.Nodes.{Grows as MarksGrow}
 use Rattle.vlm_store.proofs.Marked.{grown_marked, kept_marked}
 use Rattle.vlm_records.proofs.OwnLocks.{written_same}
 

@@ -2,13 +2,12 @@
 use Rattle.std.proofs.Common.{◌≡◌, ℕ, List, [], ◌∷◌, map, not, ◌&&◌, ◌||◌, Option, None, Some, refl, sym, ap, ◌∙◌}
 use Rattle.std.specs.List.{list_all, list_any}
 use Rattle.vlm_words.specs.declared.modes.Mode.{Mode}
-use Rattle.vlm_words.specs.Asts.{keeps_out}
-use Rattle.vlm_words.specs.Grants.{fits, is_beside}
+use Rattle.vlm_words.specs.Rows.{keeps_out, fits, is_beside}
 use Rattle.vlm_words.specs.declared.locks.Row.{Row}
 use Rattle.vlm_words.specs.declared.resources.Queue.TheVariants.{Granted, Conversion, Waiting}
-use Rattle.vlm_links.specs.Lists.{without}
-use Rattle.vlm_tallies.specs.Tallies.{counts_fit, weight_of}
-use Rattle.vlm_tallies.specs.Tallies.Count.{of_wanted}
+use Rattle.vlm_collections.specs.Lists.{without}
+use Rattle.vlm_records.specs.Tallies.{counts_fit, weight_of}
+use Rattle.vlm_records.specs.Tallies.Count.{of_wanted}
 use Rattle.vlm_records.specs.declared.handles.Place.TheVariants.{Queued}
 use Rattle.vlm_records.specs.declared.queues.Queues.{Queues}
 use Rattle.vlm_records.proofs.Fitting.{in_the_way, wanted-rows}

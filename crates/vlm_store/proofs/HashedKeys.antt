@@ -4,8 +4,8 @@ use Rattle.std.proofs.lemmas.Bool.{cases_eq}
 use Rattle.std.proofs.lemmas.Option.{none-some, same_Some}
 use Rattle.std.specs.Option.{option_map}
 use Rattle.slab.specs.Slab.{Slab, get, ContainsKey}
-use Rattle.vlm_store.specs.Index.{hash_key}
-use Rattle.vlm_links.specs.declared.hashing.HashKeys.{HashKeys}
+use Rattle.vlm_store.specs.Index.{hash_key, Indexes}
+use Rattle.vlm_collections.specs.declared.hashing.HashKeys.{HashKeys}
 use Rattle.vlm_words.specs.declared.resources.Key.{Key}
 use Rattle.vlm_records.specs.declared.queues.Queues.{Queues}
 use Rattle.vlm_records.specs.declared.resources.Resource.{Resource}
@@ -15,7 +15,6 @@ use Rattle.vlm_store.specs.HashedKeys.{hashed, hashed_at, hashed_in, is_same_has
 use Rattle.vlm_store.specs.declared.key_index.KeyIndex.{KeyIndex}
 use Rattle.vlm_store.specs.KeyIndexes.{Enters, FindsNothing, IsHashed, IsIndexed, IsSame, Leaves, LeavesBy, Moves, found_by, has_key, if_its, last_of, other_of}
 use Rattle.vlm_words.specs.Keys.{is_same_key-Decides}
-use Rattle.vlm_store.specs.Index.{Indexes}
 use Rattle.vlm_store.specs.Store.{key_at}
 
 -- a label with this key has its hash too

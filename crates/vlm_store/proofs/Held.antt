@@ -7,11 +7,11 @@ use Rattle.vlm_words.specs.declared.locks.Row.{Row}
 use Rattle.vlm_words.specs.declared.modes.Mode.{Mode}
 use Rattle.vlm_words.specs.declared.resources.Queue.{Queue}
 use Rattle.vlm_words.specs.declared.resources.Queue.TheVariants.{Granted, Conversion, Waiting}
-use Rattle.vlm_links.specs.declared.link.TheConstants.{LAST_HANDLE}
-use Rattle.vlm_links.proofs.HandleLists.{length-below}
-use Rattle.vlm_tallies.specs.Tallies.{by_mode, is_mode, one_if, total, weight_of}
-use Rattle.vlm_tallies.specs.Tallies.Count.{of_held}
-use Rattle.vlm_tallies.proofs.Totals.{total-nothing}
+use Rattle.vlm_collections.specs.declared.link.TheConstants.{LAST_HANDLE}
+use Rattle.vlm_collections.proofs.HandleLists.{length-below}
+use Rattle.vlm_records.specs.Tallies.{by_mode, is_mode, one_if, total, weight_of}
+use Rattle.vlm_records.specs.Tallies.Count.{of_held}
+use Rattle.vlm_records.proofs.Totals.{total-nothing}
 use Rattle.vlm_records.specs.declared.handles.Place.{Place}
 use Rattle.vlm_records.specs.declared.handles.Place.TheVariants.{Queued}
 use Rattle.vlm_records.specs.declared.queues.Queues.{Queues}

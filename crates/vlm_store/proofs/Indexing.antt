@@ -4,8 +4,8 @@ use Rattle.std.specs.Bool.{Decides}
 use Rattle.std.specs.Cmp.{unsigned_Decides}
 use Rattle.std.proofs.lemmas.Bool.{cases_eq}
 use Rattle.std.proofs.lemmas.Option.{none-some, same_Some}
-use Rattle.vlm_links.specs.Parts.{Parts, Writes as PartsWrites, handle_in}
-use Rattle.vlm_links.specs.Tables.{Grows, HasRoomFor, Writes, handle_of}
+use Rattle.vlm_collections.specs.Parts.{Parts, Writes as PartsWrites, handle_in}
+use Rattle.vlm_collections.specs.Tables.{Grows, HasRoomFor, Writes, handle_of}
 use Rattle.vlm_store.specs.Index.{Indexes, IsTable}
 
 pub Indexes-same : {K : Type 0} (found found' : K → Option ℕ) (label label' : ℕ → Option K) → ((k : K) → found' k ≡ found k) → ((at : ℕ) → label' at ≡ label at) → Indexes found label → Indexes found' label'

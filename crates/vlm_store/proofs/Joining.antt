@@ -4,8 +4,8 @@ use Rattle.std.proofs.lemmas.Bool.{cases_eq}
 use Rattle.std.proofs.lemmas.Option.{none-some, same_Some}
 use Rattle.std.specs.Option.{option_map}
 use Rattle.slab.specs.Slab.{Slab, get, ContainsKey}
-use Rattle.vlm_links.specs.Lists.{IsIn, Relinks, handles_of, next_in, prev_in}
-use Rattle.vlm_links.proofs.Keeping.{vacant_unlisted}
+use Rattle.vlm_collections.specs.Lists.{IsIn, Relinks, handles_of, next_in, prev_in}
+use Rattle.vlm_collections.proofs.Keeping.{vacant_unlisted}
 use Rattle.vlm_words.specs.declared.locks.Row.{Row}
 use Rattle.vlm_records.specs.declared.locks.Lock.{Lock}
 use Rattle.vlm_records.specs.declared.processes.Process.{Process}

@@ -5,11 +5,11 @@ use Rattle.std.proofs.lemmas.Bool.{cases_eq}
 use Rattle.std.proofs.lemmas.Option.{none-some, same_Some}
 use Rattle.std.specs.Option.{option_map}
 use Rattle.slab.specs.Slab.{Slab, get, ContainsKey}
-use Rattle.vlm_links.specs.declared.hashing.HashKeys.{HashKeys}
-use Rattle.vlm_links.specs.declared.lists.LinkedList.{LinkedList}
-use Rattle.vlm_links.specs.Lists.{IsIn, IsLinked, Relinks, handles_of, next_in, prev_in}
-use Rattle.vlm_links.proofs.Keeping.{relinked_same}
-use Rattle.vlm_links.proofs.Rings.{kept-handles, kept-linked}
+use Rattle.vlm_collections.specs.declared.hashing.HashKeys.{HashKeys}
+use Rattle.vlm_collections.specs.declared.lists.LinkedList.{LinkedList}
+use Rattle.vlm_collections.specs.Lists.{IsIn, IsLinked, Relinks, handles_of, next_in, prev_in}
+use Rattle.vlm_collections.proofs.Keeping.{relinked_same}
+use Rattle.vlm_collections.proofs.Rings.{kept-handles, kept-linked}
 use Rattle.vlm_words.specs.declared.locks.Row.{Row}
 use Rattle.vlm_records.specs.declared.handles.Place.{Place}
 use Rattle.vlm_records.specs.declared.locks.Lock.{Lock}
@@ -21,7 +21,7 @@ use Rattle.vlm_records.specs.Shown.{IsPlaced, IsTallied, SameBut, but_kin, but_q
 use Rattle.vlm_records.specs.Kin.{IsBelow, IsNamed, IsOwned, NamesParent, OwnerFits, ParentFits, below_in, below_handles, below_links, below_list, but_below, but_own, lasting_part, own_handles, own_links, own_list, owner_in, parent_in, pid_of, process_links, with_own_links}
 use Rattle.vlm_store.specs.Holdings.{holding, process_face_in, processes_of}
 use Rattle.vlm_store.specs.Store.{Beside, Layout, records_of, tables}
-use Rattle.vlm_tallies.specs.Tallies.{weight_of}
+use Rattle.vlm_records.specs.Tallies.{weight_of}
 use Rattle.vlm_records.proofs.Counting.{shares_same}
 use Rattle.vlm_records.proofs.Families.{family-kept, family-handles}
 use Rattle.vlm_store.proofs.Members.{processes_same}

@@ -3,10 +3,10 @@ use Rattle.std.proofs.Common.{◌≡◌, ◌≢◌, ◌⊎◌, ℕ, List, [], �
 use Rattle.std.specs.Prelude.{◌==◌}
 use Rattle.std.specs.Option.{option_map_or}
 use Rattle.std.proofs.lemmas.Bool.{cases_eq}
-use Rattle.vlm_links.specs.declared.hashing.HashKeys.{HashKeys}
-use Rattle.vlm_links.specs.Lists.{IsIn, IsApart, first_handle, handle_after, without}
-use Rattle.vlm_links.proofs.Images.{IsIn-image, IsIn-told}
-use Rattle.vlm_links.proofs.HandleLists.{IsIn-without, without_head, without_past}
+use Rattle.vlm_collections.specs.declared.hashing.HashKeys.{HashKeys}
+use Rattle.vlm_collections.specs.Lists.{IsIn, IsApart, first_handle, handle_after, without}
+use Rattle.vlm_collections.proofs.Images.{IsIn-image, IsIn-told}
+use Rattle.vlm_collections.proofs.HandleLists.{IsIn-without, without_head, without_past}
 use Rattle.vlm_words.specs.declared.locks.Row.{Row}
 use Rattle.vlm_words.specs.declared.resources.Queue.{Queue}
 use Rattle.vlm_words.specs.declared.resources.Queue.TheVariants.{Granted, Conversion, Waiting}

@@ -3,11 +3,11 @@ use Rattle.std.proofs.Common.{◌≡◌, ◌≢◌, ℕ, [], ◌∷◌, ◌++◌
 use Rattle.std.proofs.lemmas.Option.{none-some, same_Some}
 use Rattle.std.specs.Option.{option_map}
 use Rattle.slab.specs.Slab.{Slab, get}
-use Rattle.vlm_links.specs.declared.lists.LinkedList.{LinkedList}
-use Rattle.vlm_links.specs.Lists.{IsIn, IsNoList, Relinks, next_in, prev_in, without}
-use Rattle.vlm_links.proofs.HandleLists.{IsIn-push_kept, IsIn-without_kept}
-use Rattle.vlm_links.proofs.Keeping.{relinked_same, vacant_unlisted}
-use Rattle.vlm_links.proofs.Rings.{kept-handles, kept-linked}
+use Rattle.vlm_collections.specs.declared.lists.LinkedList.{LinkedList}
+use Rattle.vlm_collections.specs.Lists.{IsIn, IsNoList, Relinks, next_in, prev_in, without}
+use Rattle.vlm_collections.proofs.HandleLists.{IsIn-push_kept, IsIn-without_kept}
+use Rattle.vlm_collections.proofs.Keeping.{relinked_same, vacant_unlisted}
+use Rattle.vlm_collections.proofs.Rings.{kept-handles, kept-linked}
 use Rattle.vlm_records.specs.declared.handles.Place.{Place}
 use Rattle.vlm_records.specs.declared.locks.InLine.{InLine}
 use Rattle.vlm_records.specs.declared.locks.Lock.{Lock}

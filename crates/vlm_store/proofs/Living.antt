@@ -6,11 +6,11 @@ use Rattle.std.specs.Bool.{OnFalse, OnTrue}
 use Rattle.std.specs.Option.{ForSome, option_map, option_map_or}
 use Rattle.slab.specs.Slab.{Slab, get, ContainsKey}
 use Rattle.indexmap.specs.IndexMap.{get as found}
-use Rattle.vlm_links.specs.Tables.{handle_of}
-use Rattle.vlm_links.specs.Parts.{handle_in}
+use Rattle.vlm_collections.specs.Tables.{handle_of}
+use Rattle.vlm_collections.specs.Parts.{handle_in}
 use Rattle.vlm_store.specs.Index.{hash_key}
-use Rattle.vlm_links.specs.declared.link.TheConstants.{LAST_HANDLE}
-use Rattle.vlm_links.specs.Lists.{IsApart, IsIn, handles_of}
+use Rattle.vlm_collections.specs.declared.link.TheConstants.{LAST_HANDLE}
+use Rattle.vlm_collections.specs.Lists.{IsApart, IsIn, handles_of}
 use Rattle.vlm_words.specs.declared.locks.Row.{Row}
 use Rattle.vlm_records.specs.declared.locks.Lock.{Lock}
 use Rattle.vlm_records.specs.declared.processes.Process.{Process}

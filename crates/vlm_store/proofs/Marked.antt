@@ -6,7 +6,7 @@ use Rattle.std.proofs.lemmas.Option.{none-some, same_Some}
 use Rattle.std.specs.Option.{option_map, option_map_or}
 use Rattle.slab.specs.Slab.{Slab, get, ContainsKey, with_value}
 use Rattle.slab.proofs.SlabLemmas.{Updates-with_value}
-use Rattle.vlm_marks.specs.Nodes.{Grows, HasRoomFor, Writes, is_marked, is_node}
+use Rattle.vlm_collections.specs.Nodes.{Grows, HasRoomFor, Writes, is_marked, is_node}
 use Rattle.vlm_words.specs.declared.asts.Ast.{Ast}
 use Rattle.vlm_records.specs.declared.processes.Process.{Process}
 use Rattle.vlm_records.specs.Kin.{but_order, but_own, pid_at, pid_of}

@@ -4,9 +4,9 @@ use Rattle.std.specs.Prelude.{◌==◌, if◌then◌else◌}
 use Rattle.std.proofs.lemmas.Bool.{cases_eq}
 use Rattle.std.specs.Option.{option_map}
 use Rattle.std.proofs.lemmas.Option.{same_Some, slice_get-map}
-use Rattle.vlm_links.specs.Lists.{IsApart, IsIn, without}
-use Rattle.vlm_links.proofs.Images.{IsIn-image, IsIn-told}
-use Rattle.vlm_links.proofs.HandleLists.{without_head, without_past}
+use Rattle.vlm_collections.specs.Lists.{IsApart, IsIn, without}
+use Rattle.vlm_collections.proofs.Images.{IsIn-image, IsIn-told}
+use Rattle.vlm_collections.proofs.HandleLists.{without_head, without_past}
 use Rattle.vlm_store.specs.Records.{AreProcessesApart, OwnLock, StoredProcess, new_own, on_stored, process_at, process_with_lock, process_without_lock, with_sublock, without_process, without_sublock}
 use Rattle.vlm_store.specs.Holdings.{Holding, faced, own_of, process_under, processes_of}
 

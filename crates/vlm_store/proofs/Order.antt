@@ -2,10 +2,10 @@
 use Rattle.std.proofs.Common.{◌≡◌, ℕ, Option, None, Some, refl, sym, ap, subst}
 use Rattle.std.specs.Option.{option_map}
 use Rattle.slab.specs.Slab.{Slab, get, ContainsKey}
-use Rattle.vlm_links.specs.declared.link.Links.{Links}
-use Rattle.vlm_links.specs.declared.lists.LinkedList.{LinkedList}
-use Rattle.vlm_links.specs.Lists.{IsIn, IsLinked, handles_of, next_in, prev_in}
-use Rattle.vlm_links.proofs.Rings.{kept-handles, kept-linked}
+use Rattle.vlm_collections.specs.declared.link.Links.{Links}
+use Rattle.vlm_collections.specs.declared.lists.LinkedList.{LinkedList}
+use Rattle.vlm_collections.specs.Lists.{IsIn, IsLinked, handles_of, next_in, prev_in}
+use Rattle.vlm_collections.proofs.Rings.{kept-handles, kept-linked}
 use Rattle.vlm_records.specs.declared.resources.InOrder.{InOrder}
 use Rattle.vlm_records.specs.declared.resources.Resource.{Resource}
 use Rattle.vlm_records.specs.Shown.{SameBut, order_links}

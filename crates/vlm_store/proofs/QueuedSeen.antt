@@ -3,8 +3,8 @@ use Rattle.std.proofs.Common.{◌≡◌, ◌≢◌, ℕ, true, List, [], ◌∷�
 use Rattle.std.proofs.lemmas.Bool.{cases_eq}
 use Rattle.std.proofs.lemmas.Option.{none-some, same_Some}
 use Rattle.slab.specs.Slab.{get}
-use Rattle.vlm_links.specs.Lists.{IsApart, IsIn, first_handle, handle_after}
-use Rattle.vlm_links.proofs.Walks.{handle_after-in}
+use Rattle.vlm_collections.specs.Lists.{IsApart, IsIn, first_handle, handle_after}
+use Rattle.vlm_collections.proofs.Walks.{handle_after-in}
 use Rattle.vlm_words.specs.declared.resources.Queue.TheVariants.{Granted, Conversion, Waiting}
 use Rattle.vlm_records.specs.declared.handles.Place.{Place}
 use Rattle.vlm_records.specs.declared.handles.Place.TheVariants.{Queued}

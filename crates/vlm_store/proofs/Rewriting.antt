@@ -3,7 +3,7 @@ use Rattle.std.proofs.Common.{◌≡◌, ◌∙◌, ◌+◌, ℕ, Bool, List, []
 use Rattle.slab.specs.Slab.{get}
 use Rattle.vlm_words.specs.declared.asts.Ast.{Ast}
 use Rattle.vlm_words.specs.State.{Process as PlainProcess}
-use Rattle.vlm_asts.specs.Asts.{Asts}
+use Rattle.vlm_collections.specs.Asts.{Asts}
 use Rattle.vlm_records.specs.declared.processes.Process.{Process}
 use Rattle.vlm_store.specs.declared.store.Store.TheInside.{Inside}
 use Rattle.vlm_store.specs.Holdings.{faced, holding, process_face, process_face_in}

@@ -5,9 +5,9 @@ use Rattle.std.proofs.Common.{◌≡◌, ℕ, ◌+◌, ◌<◌, ◌≤◌, List,
 use Rattle.std.specs.Option.{option_map}
 use Rattle.vlm_store.specs.KeyIndexes.{IsSame, spares_in}
 use Rattle.slab.specs.Slab.{Slab, get, HasRoomFor}
-use Rattle.vlm_links.specs.Parts.{FindsSame, KeepsSpares, Parts, UsesOneSpare, handle_in, spare_for, spares_of}
-use Rattle.vlm_links.specs.declared.link.TheConstants.{LAST_HANDLE}
-use Rattle.vlm_links.proofs.Rings.{same-handles, same-linked}
+use Rattle.vlm_collections.specs.Parts.{FindsSame, KeepsSpares, Parts, UsesOneSpare, handle_in, spare_for, spares_of}
+use Rattle.vlm_collections.specs.declared.link.TheConstants.{LAST_HANDLE}
+use Rattle.vlm_collections.proofs.Rings.{same-handles, same-linked}
 use Rattle.vlm_store.specs.declared.key_index.KeyIndex.{KeyIndex}
 use Rattle.vlm_store.specs.HashedKeys.{hashed_at, hashed_in}
 use Rattle.vlm_store.proofs.HashedKeys.{index_same}

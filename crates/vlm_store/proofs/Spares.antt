@@ -1,7 +1,7 @@
 -- The room in the index of resources.
 use Rattle.std.proofs.Common.{◌≡◌, ◌≤◌, ◌+◌, ◌%◌, ℕ, zero, suc, List, [], ◌∷◌, map, min, slice_index_or, refl, arith}
 use Rattle.indexmap.specs.IndexMap.{spare}
-use Rattle.vlm_links.specs.Parts.{KeepsSpares, UsesOneSpare, spare_for, spares_of}
+use Rattle.vlm_collections.specs.Parts.{KeepsSpares, UsesOneSpare, spare_for, spares_of}
 use Rattle.vlm_store.specs.declared.key_index.KeyIndex.{KeyIndex}
 use Rattle.vlm_store.specs.KeyIndexes.{spares_in}
 

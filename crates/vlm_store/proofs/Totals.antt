@@ -6,8 +6,8 @@ use Rattle.std.proofs.lemmas.Bool.{eqb-false, eqb-true}
 use Rattle.std.proofs.lemmas.List.Sums.{sum_by-cons}
 use Rattle.std.proofs.lemmas.List.{get_or-set_other, length-map}
 use Rattle.slab.specs.Slab.{ContainsKey, get, slab_len}
-use Rattle.vlm_links.specs.declared.lists.LinkedList.{LinkedList}
-use Rattle.vlm_links.specs.Lists.{IsApart, IsIn, IsLinked, handles_of}
+use Rattle.vlm_collections.specs.declared.lists.LinkedList.{LinkedList}
+use Rattle.vlm_collections.specs.Lists.{IsApart, IsIn, IsLinked, handles_of}
 use Rattle.vlm_words.specs.declared.resources.Queue.{Queue}
 use Rattle.vlm_words.specs.declared.resources.Queue.TheVariants.{Granted, Conversion, Waiting}
 use Rattle.vlm_records.specs.declared.handles.Place.{Place}

@@ -2,8 +2,8 @@
 use Rattle.std.proofs.Common.{◌≡◌, ◌≢◌, ℕ, List, [], ◌∷◌, ◌++◌, map, filter, true, false, not, cond, Option, None, Some, IsSome, refl, ap, ◌∙◌, subst, inl, inr, eq-eqb, ne_eqb, append-nil}
 use Rattle.std.specs.Prelude.{◌==◌}
 use Rattle.std.proofs.lemmas.Bool.{cases_eq}
-use Rattle.vlm_links.specs.Lists.{IsIn, without}
-use Rattle.vlm_links.proofs.HandleLists.{without_absent as handle_absent, without_head, without_past}
+use Rattle.vlm_collections.specs.Lists.{IsIn, without}
+use Rattle.vlm_collections.proofs.HandleLists.{without_absent as handle_absent, without_head, without_past}
 use Rattle.vlm_words.specs.declared.locks.Row.{Row}
 use Rattle.vlm_words.specs.declared.steps.Declaration.{Declaration}
 use Rattle.vlm_words.specs.declared.resources.Queue.TheVariants.{Granted, Conversion, Waiting}

@@ -5,7 +5,7 @@ use Rattle.std.specs.Option.{ForSome}
 use Rattle.std.proofs.lemmas.Bool.{cases_eq}
 use Rattle.std.proofs.lemmas.Option.{same_Some}
 use Rattle.vlm_words.specs.declared.locks.Row.{Row}
-use Rattle.vlm_links.specs.Lists.{IsIn}
+use Rattle.vlm_collections.specs.Lists.{IsIn}
 use Rattle.vlm_store.specs.Records.{AreApart, AreResourcesApart, StoredLock, StoredResource, at_after, first_at, first_resource_at, resource_at, resource_at_after}
 
 -- ---- resources

@@ -1,6 +1,6 @@
 -- The lists of armed locks of a resource, in the order of the granted queue.
 use Rattle.std.specs.Prelude.{ℕ, List, filter}
-use Rattle.vlm_links.specs.Lists.{IsIn}
+use Rattle.vlm_collections.specs.Lists.{IsIn}
 use Rattle.vlm_words.specs.declared.locks.Row.{Row}
 use Rattle.vlm_words.specs.declared.resources.Queue.TheVariants.{Granted}
 use Rattle.vlm_records.specs.declared.handles.Armed.{Armed}

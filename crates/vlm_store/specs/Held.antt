@@ -1,7 +1,7 @@
 -- The numbers of locks that hold each mode.
 use Rattle.std.specs.Prelude.{ℕ, List, count_by}
 use Rattle.vlm_words.specs.declared.locks.Row.{Row}
-use Rattle.vlm_tallies.specs.Tallies.{by_mode, is_mode}
+use Rattle.vlm_records.specs.Tallies.{by_mode, is_mode}
 
 -- how many of the rows hold each mode, from NL to EX
 abbrev pub held_counts : List Row → List ℕ

@@ -1,8 +1,8 @@
 -- The processes with their own locks, and each lock with its sublocks.
 use Rattle.std.specs.Prelude.{ℕ, false, List, [], map, Option, None, Some}
 use Rattle.slab.specs.Slab.{Slab, get}
-use Rattle.vlm_links.specs.declared.lists.LinkedList.{LinkedList}
-use Rattle.vlm_links.specs.Lists.{handles_of}
+use Rattle.vlm_collections.specs.declared.lists.LinkedList.{LinkedList}
+use Rattle.vlm_collections.specs.Lists.{handles_of}
 use Rattle.vlm_words.specs.State.{Process as PlainProcess}
 use Rattle.vlm_records.specs.declared.locks.Lock.{Lock}
 use Rattle.vlm_records.specs.declared.processes.Process.{Process}

@@ -1,15 +1,14 @@
 -- The store's invariant, and the records that its fields show.
 use Rattle.std.specs.Prelude.{ℕ, List, [], Option, None}
 use Rattle.slab.specs.Slab.{ContainsKey}
-use Rattle.vlm_store.specs.Index.{hash_key}
-use Rattle.vlm_links.specs.Parts.{handle_in, spares_of}
-use Rattle.vlm_links.specs.Lists.{IsIn, IsLinked, handles_of}
+use Rattle.vlm_store.specs.Index.{hash_key, Indexes, IsTable}
+use Rattle.vlm_collections.specs.Parts.{handle_in, spares_of}
+use Rattle.vlm_collections.specs.Lists.{IsIn, IsLinked, handles_of}
 use Rattle.vlm_store.specs.declared.store.Store.TheInside.{Inside}
 use Rattle.vlm_records.specs.declared.handles.Armed.{Armed}
 use Rattle.vlm_records.specs.Armed.{IsArmed}
 use Rattle.vlm_store.specs.HashedKeys.{hashed, hashed_at}
 use Rattle.vlm_store.specs.KeyIndexes.{IsHashed, found_by, spares_in}
-use Rattle.vlm_store.specs.Index.{Indexes, IsTable}
 use Rattle.vlm_words.specs.declared.resources.Key.{Key}
 use Rattle.vlm_store.specs.Pending.{IsMarked, is_of_nodes, waits_in}
 use Rattle.vlm_store.specs.Records.{Records, Rooms, StoredProcess}

@@ -3,7 +3,7 @@ use Rattle.std.specs.Prelude.{◌≡◌, ◌⊎◌, ℕ, Bool, false, min, map, 
 use Rattle.std.specs.Option.{option_map, option_map_or}
 use Rattle.slab.specs.Slab.{Slab, get as slot_of}
 use Rattle.indexmap.specs.IndexMap.{get, spare, Updates}
-use Rattle.vlm_links.specs.Parts.{Writes, handle_in, spares_of}
+use Rattle.vlm_collections.specs.Parts.{Writes, handle_in, spares_of}
 use Rattle.vlm_words.specs.declared.resources.Key.{Key}
 use Rattle.vlm_words.specs.Keys.{is_same_key}
 use Rattle.vlm_records.specs.declared.resources.Resource.{Resource}

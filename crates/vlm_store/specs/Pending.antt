@@ -1,11 +1,11 @@
 -- Marks of living processes and of processes with a pending AST.
 use Rattle.std.specs.Prelude.{◌≡◌, ℕ, ◌/◌, ◌≤◌, ◌&&◌, Bool, true, false, List, Option, None, Some}
 use Rattle.slab.specs.Slab.{Slab, get}
-use Rattle.vlm_links.specs.Lists.{IsIn}
-use Rattle.vlm_marks.specs.Nodes.{HasRoomFor, is_marked, is_node}
+use Rattle.vlm_collections.specs.Lists.{IsIn}
+use Rattle.vlm_collections.specs.Nodes.{HasRoomFor, is_marked, is_node}
 use Rattle.vlm_words.specs.State.{Process as PlainProcess}
-use Rattle.vlm_words.specs.Pending.{is_pending_on}
-use Rattle.vlm_words.specs.Rundown.{is_of_node}
+use Rattle.vlm_words.specs.Processes.{is_pending_on}
+use Rattle.vlm_words.specs.Steps.{is_of_node}
 use Rattle.vlm_records.specs.declared.processes.Process.{Process}
 use Rattle.vlm_records.specs.Kin.{pid_at}
 use Rattle.vlm_records.specs.Pending.{is_waiting}

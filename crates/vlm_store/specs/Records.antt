@@ -2,7 +2,7 @@
 -- with its handle.
 use Rattle.std.specs.Prelude.{◌≡◌, ◌<◌, ◌≤◌, ◌/◌, ℕ, Bool, true, false, not, ◌==◌, ◌&&◌, ◌+◌, ◌-◌, count_by, sum_by, List, [], ◌∷◌, ◌++◌, map, filter, find, flat_map, Option, None, Some, IsSome, if◌then◌else◌}
 use Rattle.std.specs.Option.{option_map_or}
-use Rattle.vlm_links.specs.declared.hashing.HashKeys.{HashKeys}
+use Rattle.vlm_collections.specs.declared.hashing.HashKeys.{HashKeys}
 use Rattle.vlm_words.specs.declared.asts.Ast.{Ast}
 use Rattle.vlm_words.specs.declared.locks.Row.{Row}
 use Rattle.vlm_words.specs.declared.modes.Mode.{Mode}
@@ -10,12 +10,11 @@ use Rattle.vlm_words.specs.declared.resources.Domain.{Domain}
 use Rattle.vlm_words.specs.declared.resources.Queue.{Queue}
 use Rattle.vlm_words.specs.declared.resources.Queue.TheVariants.{Granted, Conversion, Waiting}
 use Rattle.vlm_words.specs.declared.steps.Declaration.{Declaration}
-use Rattle.vlm_links.specs.declared.link.TheConstants.{LAST_HANDLE}
-use Rattle.vlm_links.specs.Lists.{IsIn, without}
-use Rattle.vlm_links.specs.Parts.{KeepsSpares, UsesOneSpare, spare_for}
-use Rattle.vlm_words.specs.Asts.{with_ast}
-use Rattle.vlm_words.specs.Declare.{new_process}
-use Rattle.vlm_words.specs.Grants.{fits}
+use Rattle.vlm_collections.specs.declared.link.TheConstants.{LAST_HANDLE}
+use Rattle.vlm_collections.specs.Lists.{IsIn, without}
+use Rattle.vlm_collections.specs.Parts.{KeepsSpares, UsesOneSpare, spare_for}
+use Rattle.vlm_words.specs.Processes.{with_ast, new_process}
+use Rattle.vlm_words.specs.Rows.{fits}
 use Rattle.vlm_words.specs.State.{Process}
 use Rattle.vlm_words.specs.ValueBlocks.{new_value_block}
 use Rattle.vlm_words.specs.declared.resources.Key.{Key}

@@ -2,7 +2,7 @@
 
 ghost use Rattle.std.specs.Prelude.{◌≡◌, ◌+◌, ◌<◌, ◌≤◌, ℕ, Some, IsOk, OnOk};
 ghost use Rattle.slab.specs.Slab.{ContainsKey, HasRoomFor};
-ghost use Rattle.vlm_links.specs.Parts.{KeepsSpares, UsesOneSpare, spare_for};
+ghost use Rattle.vlm_collections.specs.Parts.{KeepsSpares, UsesOneSpare, spare_for};
 ghost use Rattle.vlm_store.specs.HashedKeys.{hashed_in};
 ghost use Rattle.vlm_store.specs.KeyIndexes.{Enters, FindsNothing, IsSame, Leaves, found_by, last_of, spares_in};
 
@@ -10,7 +10,7 @@ use crate::hashed::HashedKey;
 use indexmap::IndexMap;
 use slab::Slab;
 use std::alloc::{AllocError, Global};
-use vlm_links::{LAST_HANDLE, PartedIndex, reserve_slot};
+use vlm_collections::{LAST_HANDLE, PartedIndex, reserve_slot};
 use vlm_records::{ResAt, Resource, ResourceKind};
 use vlm_words::resources::Key;
 

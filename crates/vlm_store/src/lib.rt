@@ -26,7 +26,7 @@ mod store;
 
 pub use queued::QueuedLocks;
 pub use store::Store;
-pub use vlm_links::HashKeys;
+pub use vlm_collections::HashKeys;
 pub use vlm_records::{
     Armed, Authorization, Lock, LockAt, LockKind, Place, ProcAt, Process, ProcessKind, ResAt,
     Resource, ResourceKind, StoredRow,

@@ -1,7 +1,7 @@
 //! Walks over the locks of a process, and over the sublocks of a lock. Each call takes constant time.
 
 ghost use Rattle.std.specs.Prelude.{◌≡◌, ℕ, None};
-ghost use Rattle.vlm_links.specs.Lists.{IsIn, first_handle, handle_after, handle_before, last_handle};
+ghost use Rattle.vlm_collections.specs.Lists.{IsIn, first_handle, handle_after, handle_before, last_handle};
 ghost use Rattle.vlm_store.specs.Records.{HasNoParent, HasProcess, IsStored, own_handles_at, sublocks_at};
 
 use crate::store::Store;

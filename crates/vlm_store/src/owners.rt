@@ -3,9 +3,7 @@
 ghost use Rattle.std.specs.Prelude.{◌≡◌, ◌<◌, ◌≤◌, ℕ, [], ◌∷◌, ◌++◌, length, replicate, slice_get, IfOk, IfSome, IsOk, OnErr, OnOk};
 ghost use Rattle.std.specs.Bool.{OnFalse, OnTrue};
 ghost use Rattle.std.specs.Option.{option_map};
-ghost use Rattle.vlm_words.specs.Asts.{oldest, without_oldest_ast};
-ghost use Rattle.vlm_words.specs.Declare.{new_process};
-ghost use Rattle.vlm_words.specs.StatusBlocks.{new_status_block, process_with_block};
+ghost use Rattle.vlm_words.specs.Processes.{oldest, without_oldest_ast, new_process, new_status_block, process_with_block};
 ghost use Rattle.vlm_records.specs.Kin.{plain_process};
 ghost use Rattle.vlm_records.specs.StatusBlocks.{requested, with_changed_block, with_status};
 ghost use Rattle.vlm_store.specs.Pending.{IsFirstLiving};
@@ -14,7 +12,7 @@ ghost use Rattle.vlm_store.specs.Records.{FindsProcess, HasNoLocks, HasNoSublock
 
 use crate::store::Store;
 use std::alloc::AllocError;
-use vlm_links::reserve_slot;
+use vlm_collections::reserve_slot;
 use vlm_records::{LockAt, ProcAt, Process, put_in, take_out};
 use vlm_words::asts::Ast;
 use vlm_words::blocks::Block;

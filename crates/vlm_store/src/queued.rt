@@ -2,13 +2,13 @@
 
 ghost use Rattle.std.specs.Prelude.{ℕ};
 ghost use Rattle.std.specs.Iterator.{YieldsFirst, item_count};
-ghost use Rattle.vlm_links.specs.Lists.{IsIn};
+ghost use Rattle.vlm_collections.specs.Lists.{IsIn};
 ghost use Rattle.vlm_store.specs.Queued.{AreQueued, IsQueued};
 
 use crate::store::Store;
 use slab::Slab;
 use std::marker::Model;
-use vlm_links::LinkedList;
+use vlm_collections::LinkedList;
 use vlm_records::{InLine, Lock, LockAt};
 
 /// A walk over the locks whose requests are queued. Its model is the list of the locks that are left.

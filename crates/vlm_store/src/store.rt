@@ -4,9 +4,9 @@ ghost use Rattle.std.specs.Prelude.{◌≡◌, ◌||◌, [], ◌∷◌, ◌++◌
 ghost use Rattle.std.specs.List.{list_any};
 ghost use Rattle.std.specs.Option.{ForSome};
 ghost use Rattle.vlm_words.specs.declared.locks.Row.{Row};
-ghost use Rattle.vlm_links.specs.Lists.{IsIn, handle_before};
+ghost use Rattle.vlm_collections.specs.Lists.{IsIn, handle_before};
 ghost use Rattle.vlm_records.specs.declared.handles.Place.{Place};
-ghost use Rattle.vlm_words.specs.Asts.{keeps_out};
+ghost use Rattle.vlm_words.specs.Rows.{keeps_out};
 ghost use Rattle.vlm_store.specs.Index.{hash_key};
 ghost use Rattle.vlm_store.specs.Held.{held_counts};
 ghost use Rattle.vlm_store.specs.Records.{FindsLock, FindsResource, HasNoSublocks, HasPlace, HasResource, HasRoomForLock, HasRoomForResource, IsGivenBack, IsTaken, IsUnchanged, IsParentOf, IsProcess, at_after, disarming, first_at, first_resource_at, fits_beside, resource_at_after, resource_at, rows_of_locks, IsIdle, IsNewKey, IsNewLock, IsRowOf, IsSound, IsStored, Stores, locks_at, moving, new_stored_resource, nothing, on_resource, queued, with_lists, with_lock_room, with_new_lock, with_resource_room, without_resource, without_stored_lock};
@@ -16,8 +16,7 @@ use crate::key_index::{KeyIndex, reserve_keyed};
 use slab::Slab;
 use std::alloc::{AllocError, Global};
 use std::marker::Model;
-use vlm_links::{HandleTable, HashKeys, LinkedList, PartedIndex, reserve_one};
-use vlm_marks::NodeMarks;
+use vlm_collections::{HandleTable, HashKeys, LinkedList, NodeMarks, PartedIndex, reserve_one};
 use vlm_records::{
     InLine, InOrder, Lock, LockAt, LockKind, Place, ProcAt, Process, Queues, ResAt, Resource,
     StoredRow, join_line, join_parent, join_process, leave_line, leave_parent, leave_process,

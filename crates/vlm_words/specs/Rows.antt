@@ -1,9 +1,11 @@
 -- Rows of locks.
-use Rattle.std.specs.Prelude.{ℕ, Bool, not, ◌&&◌, ◌==◌, List, filter, Option}
+use Rattle.std.specs.Prelude.{ℕ, Bool, true, false, not, ◌&&◌, ◌==◌, List, [], ◌∷◌, filter, Option, None, Some, is_some}
+use Rattle.std.specs.List.{list_all}
 use Rattle.std.specs.Option.{option_map}
 use Rattle.vlm_words.specs.declared.locks.Request.{Request}
 use Rattle.vlm_words.specs.declared.locks.Row.{Row}
 use Rattle.vlm_words.specs.declared.modes.Mode.{Mode}
+use Rattle.vlm_words.specs.Modes.{is_compatible}
 
 -- the mode of a request, if there is one
 abbrev pub mode_asked : Option Request → Option Mode
@@ -20,3 +22,37 @@ rows_of lkid rows = filter (λ row. row.lkid == lkid) rows
 -- the rows except this lock's
 abbrev pub rows_without : ℕ → List Row → List Row
 rows_without lkid rows = filter (λ row. not (row.lkid == lkid)) rows
+
+-- the queue has no lock
+abbrev pub is_empty : List Row → Bool
+is_empty [] = true
+is_empty (row ∷ rows) = false
+
+-- the mode is compatible with what the row holds, if it holds anything
+abbrev pub is_beside : Mode → Option Request → Bool
+is_beside mode None = true
+is_beside mode (Some held) = is_compatible mode held.mode
+
+-- the mode fits: it is compatible with the held mode of each of these locks, granted or converting
+unfoldable pub fits : Mode → List Row → List Row → Bool
+fits mode granted converting =
+    list_all (λ row. is_beside mode row.held) granted
+    && list_all (λ row. is_beside mode row.held) converting
+
+-- a grant arms the lock if its request names a blocking routine, else it disarms the lock
+abbrev pub is_arming : Option Request → Bool
+is_arming None = false
+is_arming (Some request) = is_some request.blocking
+
+-- the row after its grant: it holds what it wanted
+abbrev pub granted_row : Row → Row
+granted_row row = record row { held = row.want; want = None; armed = is_arming row.want }
+
+-- the row wants the request, and holds what it held
+abbrev pub wanting_row : Row → Request → Row
+wanting_row row request = record row { want = Some request }
+
+-- the request cannot be granted beside this held mode
+abbrev pub keeps_out : Mode → Option Request → Bool
+keeps_out mode None = false
+keeps_out mode (Some want) = not (is_compatible want.mode mode)

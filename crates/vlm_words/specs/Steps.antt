@@ -1,5 +1,5 @@
 -- The node of a step.
-use Rattle.std.specs.Prelude.{ℕ, ◌/◌}
+use Rattle.std.specs.Prelude.{ℕ, Bool, ◌/◌, ◌==◌}
 use Rattle.vlm_words.specs.declared.steps.Step.{Step}
 use Rattle.vlm_words.specs.declared.steps.Step.TheVariants.{Declare, SetValue, Enq, Convert, Deq, Rundown, Leave, Search, Take}
 
@@ -18,3 +18,7 @@ node_of (Rundown pid) = node_of_pid pid
 node_of (Leave node) = node
 node_of (Search node) = node
 node_of (Take pid) = node_of_pid pid
+
+-- the process is of the node
+abbrev pub is_of_node : ℕ → ℕ → Bool
+is_of_node node pid = node_of_pid pid == node

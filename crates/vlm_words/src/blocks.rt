@@ -1,7 +1,7 @@
 //! Lock status blocks.
 
 ghost use Rattle.std.specs.Prelude.{◌≡◌};
-ghost use Rattle.vlm_words.specs.StatusBlocks.{new_status_block};
+ghost use Rattle.vlm_words.specs.Processes.{new_status_block};
 
 /// A status block of a process. Requests name it by its number, and their ends write it.
 #[derive(Clone, Copy, Debug, PartialEq, Eq)]

@@ -1,14 +1,13 @@
-//! The types and tables of the lock manager, and the definition of the plain machine that every contract cites.
+//! The types of the lock manager and the mode tables.
 //!
-//! Nothing here takes memory. `specs/` defines the plain machine: three queues for each resource, the checks of each
-//! step in their order, and the sweep that ends it. [`laws`] says what holds after every run of that machine.
+//! Nothing here takes memory. `specs/` has the state of the plain machine: nodes, processes, and resources with three
+//! queues each. The steps of that machine are defined in `vlm_model`.
 #![tactic(auto)]
 
 pub mod asts;
 pub mod blocks;
 pub mod conditions;
 pub mod flags;
-pub mod laws;
 pub mod locks;
 pub mod modes;
 pub mod names;

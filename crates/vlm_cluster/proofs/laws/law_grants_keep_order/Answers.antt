@@ -1,8 +1,8 @@
 use Rattle.std.proofs.Common.{◌≡◌, Option, None}
 use Rattle.vlm_words.specs.declared.locks.Row.{Row}
 use Rattle.vlm_words.specs.declared.steps.Step.{Step}
-use Rattle.vlm_words.specs.Laws.{GrantsFollowQueueOrder}
-use Rattle.vlm_words.specs.Stepped.{IsChoice, step_refusal}
+use Rattle.vlm_model.specs.Laws.{GrantsFollowQueueOrder}
+use Rattle.vlm_model.specs.Stepped.{IsChoice, step_refusal}
 use Rattle.vlm_cluster.proofs.Throughout.{throughout}
 use Rattle.vlm_cluster.proofs.laws.law_grants_keep_order.Goals as goal
 

@@ -1,4 +1,4 @@
-use Rattle.vlm_words.specs.Laws.{HeldModesAreCompatible}
+use Rattle.vlm_model.specs.Laws.{HeldModesAreCompatible}
 use Rattle.vlm_cluster.proofs.Throughout.{throughout}
 use Rattle.vlm_cluster.proofs.laws.law_modes_stay_compatible.Goals as goal
 

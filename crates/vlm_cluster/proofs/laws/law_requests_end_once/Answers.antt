@@ -1,4 +1,4 @@
-use Rattle.vlm_words.specs.Laws.{EachRequestEndsOnce}
+use Rattle.vlm_model.specs.Laws.{EachRequestEndsOnce}
 use Rattle.vlm_cluster.proofs.Throughout.{throughout}
 use Rattle.vlm_cluster.proofs.laws.law_requests_end_once.Goals as goal
 

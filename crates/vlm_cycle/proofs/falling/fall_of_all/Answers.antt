@@ -1,5 +1,5 @@
 use Rattle.std.proofs.Common.{inl, inr, refl, subst, sym}
-use Rattle.vlm_links.specs.Lists.{IsIn}
+use Rattle.vlm_collections.specs.Lists.{IsIn}
 use Rattle.vlm_cycle.proofs.Led.{falls_led_begun, falls_led_on, queued_is_stored}
 use Rattle.vlm_cycle.proofs.falling.fall_of_all.Goals as goal
 

@@ -1,5 +1,5 @@
 use Rattle.std.proofs.Common.{◌∙◌, inl, inr, refl, subst, sym}
-use Rattle.vlm_links.specs.Lists.{IsIn}
+use Rattle.vlm_collections.specs.Lists.{IsIn}
 use Rattle.vlm_cycle.specs.Ranking.{Falls}
 use Rattle.vlm_cycle.proofs.Found.{best_of_all}
 use Rattle.vlm_cycle.proofs.Led.{covers_begun, covers_ended, covers_on, queued_is_stored}

@@ -1,6 +1,6 @@
 use Rattle.std.proofs.Common.{◌≡◌, ◌∙◌, ◌&&◌, Some, ap, eq-eqb, false, subst, sym, true}
 use Rattle.std.proofs.lemmas.Option.{none-some, same_Some}
-use Rattle.vlm_links.specs.Lists.{IsIn}
+use Rattle.vlm_collections.specs.Lists.{IsIn}
 use Rattle.vlm_store.specs.Records.{locks_at}
 use Rattle.vlm_cycle.specs.Leading.{IsFirstOn}
 use Rattle.vlm_cycle.proofs.Led.{led_one}

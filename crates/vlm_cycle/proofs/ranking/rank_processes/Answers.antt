@@ -1,5 +1,5 @@
 use Rattle.std.proofs.Common.{inl, inr, refl, subst, sym}
-use Rattle.vlm_links.specs.Lists.{IsIn}
+use Rattle.vlm_collections.specs.Lists.{IsIn}
 use Rattle.vlm_cycle.proofs.Dated.{blanks_there}
 use Rattle.vlm_cycle.specs.Notes.{LivesAt}
 use Rattle.vlm_cycle.proofs.Led.{queued_is_stored}

@@ -1,6 +1,6 @@
 use Rattle.std.proofs.Common.{◌∙◌, Some, None, ap, refl, subst, sym}
-use Rattle.vlm_words.specs.Deadlocks.{IsDeadlocked}
-use Rattle.vlm_marks.specs.Nodes.{is_marked}
+use Rattle.vlm_model.specs.Deadlocks.{IsDeadlocked}
+use Rattle.vlm_collections.specs.Nodes.{is_marked}
 use Rattle.vlm_cycle.specs.declared.scratch.Scratch.{Scratch}
 use Rattle.vlm_cycle.specs.Marking.{TakesNext}
 use Rattle.vlm_cycle.specs.Waiting.{searched}

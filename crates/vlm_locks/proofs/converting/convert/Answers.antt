@@ -1,7 +1,7 @@
 use Rattle.std.proofs.Common.{◌≡◌, IfSome, Some, sym, ap, ◌∙◌, subst}
-use Rattle.vlm_words.specs.Convert.{converts_at_once}
+use Rattle.vlm_model.specs.Convert.{converts_at_once}
 use Rattle.vlm_words.specs.Dues.{routines_of}
-use Rattle.vlm_words.specs.StatusBlocks.{processes_after_acceptance}
+use Rattle.vlm_model.specs.StatusBlocks.{processes_after_acceptance}
 use Rattle.vlm_store.specs.Plain.{plain_resource}
 use Rattle.vlm_store.specs.Records.{resource_at, without_resource}
 use Rattle.vlm_locks.proofs.Changed.{rests_still}

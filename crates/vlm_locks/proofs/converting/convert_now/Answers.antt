@@ -4,9 +4,10 @@ use Rattle.std.proofs.Common.{◌≡◌, ◌≤◌, ◌+◌, ℕ, true, IfSome, 
 use Rattle.vlm_words.specs.declared.resources.Queue.TheVariants.{Granted}
 use Rattle.vlm_words.specs.declared.locks.Row.{Row}
 use Rattle.vlm_records.specs.declared.handles.Place.TheVariants.{Queued}
-use Rattle.vlm_words.specs.Grants.{grant_endings, granted_row}
-use Rattle.vlm_words.specs.Effects.{blocks_after, blocks_with}
-use Rattle.vlm_words.specs.StatusBlocks.{processes_after_acceptance}
+use Rattle.vlm_model.specs.Grants.{grant_endings}
+use Rattle.vlm_words.specs.Rows.{granted_row}
+use Rattle.vlm_model.specs.Effects.{blocks_after, blocks_with}
+use Rattle.vlm_model.specs.StatusBlocks.{processes_after_acceptance}
 use Rattle.vlm_store.specs.Plain.{plain_processes}
 use Rattle.vlm_store.specs.Records.{IsProcess, IsSameLock, Records, due_of, moving, resource_at, with_lists}
 use Rattle.vlm_locks.specs.declared.finding.Standing.{Standing}

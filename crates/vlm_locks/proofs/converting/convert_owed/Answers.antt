@@ -3,8 +3,8 @@ use Rattle.vlm_store.specs.Records.{IsSameLock, StoredResource}
 use Rattle.std.proofs.Common.{◌≡◌, IfSome, refl, sym, ◌∙◌, subst}
 use Rattle.vlm_words.specs.declared.resources.Queue.TheVariants.{Conversion, Granted}
 use Rattle.vlm_words.specs.declared.locks.Row.{Row}
-use Rattle.vlm_words.specs.Convert.{converts_at_once}
-use Rattle.vlm_words.specs.Grants.{granted_row}
+use Rattle.vlm_model.specs.Convert.{converts_at_once}
+use Rattle.vlm_words.specs.Rows.{granted_row}
 use Rattle.vlm_locks.specs.Converting.{IsConverted, IsConvertedAtOnce, blocks_granted, moved_in, processes_converting}
 use Rattle.vlm_locks.specs.Rest.{IsReplaced}
 use Rattle.vlm_locks.proofs.Converted.{converted_later, converted_now}

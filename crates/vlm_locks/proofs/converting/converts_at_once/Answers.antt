@@ -1,5 +1,5 @@
 use Rattle.std.proofs.Common.{rules}
-use Rattle.vlm_words.specs.Convert.{converts_at_once}
+use Rattle.vlm_model.specs.Convert.{converts_at_once}
 use Rattle.vlm_locks.proofs.converting.converts_at_once.Goals as goal
 
 pub returns-then-not-has : goal.returns-then-not-has

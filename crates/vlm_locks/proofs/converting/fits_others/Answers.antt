@@ -1,7 +1,6 @@
 use Rattle.std.proofs.Common.{◌≡◌, IfSome, Some, sym, ap, ◌∙◌, subst}
 use Rattle.std.proofs.lemmas.Option.{same_Some}
-use Rattle.vlm_words.specs.Grants.{fits}
-use Rattle.vlm_words.specs.Rows.{rows_without}
+use Rattle.vlm_words.specs.Rows.{fits, rows_without}
 use Rattle.vlm_store.specs.Records.{IsStored, StoredResource, fits_beside, rows_of_locks}
 use Rattle.vlm_locks.proofs.Converted.{fits_are}
 use Rattle.vlm_locks.proofs.Stood.{stored}

@@ -1,5 +1,5 @@
 use Rattle.std.proofs.Common.{rules}
-use Rattle.vlm_words.specs.Enqueue.{is_at_once}
+use Rattle.vlm_model.specs.Enqueue.{is_at_once}
 use Rattle.vlm_locks.proofs.entering.enters_at_once.Goals as goal
 
 pub returns-then-is_empty : goal.returns-then-is_empty

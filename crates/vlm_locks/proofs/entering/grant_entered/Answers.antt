@@ -1,7 +1,8 @@
 use Rattle.std.proofs.Common.{◌≡◌, ◌≤◌, ◌+◌, ℕ, true, IfSome, Option, None, Some, sym, ap, ◌∙◌, subst}
 use Rattle.vlm_words.specs.Dues.{due_to, row_due}
-use Rattle.vlm_words.specs.Effects.{blocks_after, blocks_with}
-use Rattle.vlm_words.specs.Grants.{grant_endings, granted_row}
+use Rattle.vlm_model.specs.Effects.{blocks_after, blocks_with}
+use Rattle.vlm_model.specs.Grants.{grant_endings}
+use Rattle.vlm_words.specs.Rows.{granted_row}
 use Rattle.vlm_store.specs.Plain.{plain_processes}
 use Rattle.vlm_store.specs.Records.{StoredResource, resource_at}
 use Rattle.vlm_locks.specs.Entering.{new_row, processes_accepted}

@@ -1,6 +1,6 @@
 use Rattle.std.proofs.Common.{◌≡◌, ◌+◌, ◌-◌, ◌++◌, ℕ, List, [], ◌∷◌, get_or, length, map, sym, ap, ◌∙◌, subst, refl, arith}
-use Rattle.vlm_links.specs.Lists.{IsIn}
-use Rattle.vlm_words.specs.Endings.How.{by_abort}
+use Rattle.vlm_collections.specs.Lists.{IsIn}
+use Rattle.vlm_model.specs.Endings.How.{by_abort}
 use Rattle.vlm_store.specs.Records.{HasNoSublocks, IsStored, Stores, but_notices, own_handles_at}
 use Rattle.vlm_locks.specs.declared.touched.Note.{Note}
 use Rattle.vlm_locks.specs.GivingUp.{noted_lkids}

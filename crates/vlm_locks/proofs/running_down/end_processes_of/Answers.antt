@@ -1,7 +1,7 @@
 use Rattle.std.proofs.Common.{◌∙◌, ap, arith}
 use Rattle.std.specs.Prelude.{◌==◌}
 use Rattle.std.proofs.lemmas.Bool.{eqb-true}
-use Rattle.vlm_words.specs.Rundown.{is_of_node}
+use Rattle.vlm_words.specs.Steps.{is_of_node}
 use Rattle.vlm_locks.proofs.NodeGone.{all_ended, fewer_left, living_first, none_lives, not_found, one_more_ends}
 use Rattle.vlm_locks.proofs.running_down.end_processes_of.Goals as goal
 use Rattle.vlm_locks.proofs.running_down.end_processes_of.Goals.{in-Some+in_default-process, in_default}

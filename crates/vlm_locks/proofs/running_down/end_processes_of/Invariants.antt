@@ -1,5 +1,5 @@
 use Rattle.std.proofs.Common.{length}
-use Rattle.vlm_words.specs.Rundown.{is_of_node}
+use Rattle.vlm_words.specs.Steps.{is_of_node}
 use Rattle.vlm_locks.proofs.NodeGone.{AreEnding}
 use Rattle.vlm_locks.proofs.running_down.end_processes_of.Given as goal
 

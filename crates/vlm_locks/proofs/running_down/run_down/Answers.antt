@@ -1,5 +1,5 @@
 use Rattle.std.proofs.Common.{◌≡◌, ℕ, [], ◌∷◌, ◌++◌, sym, ap, ◌∙◌, subst, arith, map, true, eq-eqb}
-use Rattle.vlm_links.specs.Lists.{IsIn}
+use Rattle.vlm_collections.specs.Lists.{IsIn}
 use Rattle.vlm_records.specs.declared.handles.Place.TheVariants.{Queued}
 use Rattle.vlm_store.specs.Records.{locks_at, own_handles_at, but_notices}
 use Rattle.vlm_locks.specs.Withdrawals.{plain_withdrawal}
@@ -8,9 +8,9 @@ use Rattle.vlm_locks.proofs.RunsDown.{IsTurn, all_left, fewer_own, is_row_of, it
 use Rattle.vlm_locks.proofs.Stood.{stands}
 use Rattle.vlm_locks.proofs.running_down.run_down.Goals as goal
 use Rattle.vlm_locks.specs.Withdrawing.{goes, owned_after}
-use Rattle.vlm_words.specs.Endings.How.{by_rundown}
-use Rattle.vlm_words.specs.Rundown.{rundown_of}
-use Rattle.vlm_words.specs.Withdrawals.{Withdrawal}
+use Rattle.vlm_model.specs.Endings.How.{by_rundown}
+use Rattle.vlm_model.specs.Rundown.{rundown_of}
+use Rattle.vlm_model.specs.Withdrawals.{Withdrawal}
 
 pub last_own-requires : goal.last_own-requires
 last_own-requires c = process_there c.loop-lock.store c.args.owner c.args.pid c.loop-lock.invariant.so_far.lives

@@ -2,7 +2,7 @@ use Rattle.std.proofs.Common.{◌≡◌, IfSome, subst}
 use Rattle.std.specs.Prelude.{◌||◌}
 use Rattle.std.specs.List.{list_any}
 use Rattle.vlm_words.specs.declared.modes.Mode.TheVariants.{Cr}
-use Rattle.vlm_words.specs.Asts.{keeps_out}
+use Rattle.vlm_words.specs.Rows.{keeps_out}
 use Rattle.vlm_store.specs.Records.{resource_at, rows_of_locks}
 use Rattle.vlm_locks.proofs.Spared.{spares_above_cr, spares_above_nl}
 use Rattle.vlm_locks.proofs.warning.warn.Goals as goal

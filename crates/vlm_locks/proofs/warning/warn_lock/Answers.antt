@@ -1,6 +1,6 @@
 use Rattle.std.proofs.Common.{sym, ap, subst, ◌∙◌}
 use Rattle.vlm_store.specs.Records.{rows_of_locks}
-use Rattle.vlm_words.specs.Asts.{is_to_warn}
+use Rattle.vlm_model.specs.Asts.{is_to_warn}
 use Rattle.vlm_locks.specs.Warning.{IsLockWarned}
 use Rattle.vlm_locks.proofs.Owing.{due_fits}
 use Rattle.vlm_locks.proofs.Warned.{armed_there, lock_unwarned, lock_warned}

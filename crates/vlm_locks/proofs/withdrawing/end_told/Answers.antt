@@ -1,5 +1,5 @@
 use Rattle.std.proofs.Common.{◌≤◌, ◌-◌, false, ap, subst, ◌∙◌, arith}
-use Rattle.vlm_words.specs.Asts.{completion_asts, processes_after_asts}
+use Rattle.vlm_model.specs.Asts.{completion_asts, processes_after_asts}
 use Rattle.vlm_words.specs.Dues.{one_where}
 use Rattle.vlm_store.specs.Records.{DueChanges, due_of}
 use Rattle.vlm_locks.specs.Owing.{completions_queued}

@@ -1,6 +1,6 @@
 use Rattle.std.proofs.Common.{◌+◌, sym, ap, ◌∙◌}
 use Rattle.vlm_words.specs.declared.resources.Queue.TheVariants.{Granted, Conversion, Waiting}
-use Rattle.vlm_words.specs.Withdrawals.{processes_after}
+use Rattle.vlm_model.specs.Withdrawals.{processes_after}
 use Rattle.vlm_store.specs.Plain.{plain_processes}
 use Rattle.vlm_store.specs.Records.{due_of}
 use Rattle.vlm_locks.specs.Withdrawals.{plain_withdrawal}

@@ -1,6 +1,6 @@
 use Rattle.std.proofs.Common.{true, map, ap, ◌∙◌, subst, arith}
-use Rattle.vlm_links.specs.Lists.{IsIn}
-use Rattle.vlm_words.specs.Withdrawals.{resource_without}
+use Rattle.vlm_collections.specs.Lists.{IsIn}
+use Rattle.vlm_model.specs.Withdrawals.{resource_without}
 use Rattle.vlm_store.specs.Plain.{plain_resources}
 use Rattle.vlm_locks.specs.Withdrawals.{plain_withdrawal}
 use Rattle.vlm_locks.specs.Withdrawing.{owned_after}

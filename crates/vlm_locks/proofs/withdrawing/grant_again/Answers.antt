@@ -1,4 +1,4 @@
-use Rattle.vlm_words.specs.Withdrawals.{row_after_cancel}
+use Rattle.vlm_model.specs.Withdrawals.{row_after_cancel}
 use Rattle.vlm_words.specs.declared.locks.Row.{Row}
 use Rattle.vlm_words.specs.declared.resources.Queue.TheVariants.{Granted}
 use Rattle.vlm_records.specs.declared.handles.Place.TheVariants.{Queued}

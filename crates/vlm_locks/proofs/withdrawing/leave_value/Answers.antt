@@ -2,7 +2,7 @@ use Rattle.vlm_store.specs.Records.{Records}
 use Rattle.vlm_locks.specs.Rest.{OtherLocksStay}
 use Rattle.vlm_locks.proofs.OtherLocks.{block_alone}
 use Rattle.std.proofs.Common.{◌≡◌, ◌||◌, Bool, true, false, is_some, refl, sym, ap, ◌∙◌, subst}
-use Rattle.vlm_words.specs.Withdrawals.{resource_after_writer}
+use Rattle.vlm_model.specs.Withdrawals.{resource_after_writer}
 use Rattle.vlm_locks.specs.Standing.{IsStanding}
 use Rattle.vlm_locks.specs.Withdrawals.{plain_withdrawal}
 use Rattle.vlm_locks.specs.Withdrawing.{IsChange}

@@ -1,7 +1,7 @@
 use Rattle.vlm_locks.specs.Rest.{OtherLocksStay}
 use Rattle.vlm_locks.proofs.OtherLocks.{removed_alone}
 use Rattle.std.proofs.Common.{sym, subst, ap}
-use Rattle.vlm_words.specs.Withdrawals.{resource_without}
+use Rattle.vlm_model.specs.Withdrawals.{resource_without}
 use Rattle.vlm_locks.specs.Withdrawing.{IsChange}
 use Rattle.vlm_store.specs.Records.{Records, without_stored_lock}
 use Rattle.vlm_locks.proofs.Changed.{changed_room}

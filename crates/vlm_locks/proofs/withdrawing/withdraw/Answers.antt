@@ -1,7 +1,7 @@
 use Rattle.vlm_locks.proofs.OtherLocks.{locks_stay_over, owned_alike, statuses_alone}
 use Rattle.std.proofs.Common.{true, [], ◌∷◌, map, ap, ◌∙◌, refl, subst, sym}
-use Rattle.vlm_words.specs.Withdrawals.{resource_after_cancel, resource_after_withdrawals}
-use Rattle.vlm_links.specs.Lists.{IsIn}
+use Rattle.vlm_model.specs.Withdrawals.{resource_after_cancel, resource_after_withdrawals}
+use Rattle.vlm_collections.specs.Lists.{IsIn}
 use Rattle.vlm_store.specs.Plain.{plain_resource, plain_resources}
 use Rattle.vlm_store.specs.Records.{HasNoSublocks, but_notices, without_resource}
 use Rattle.vlm_locks.specs.Withdrawals.{plain_withdrawal}

@@ -1,6 +1,6 @@
 use Rattle.std.proofs.Common.{◌≡◌, IsSome, Option, None, Some, refl, sym, ap, ◌∙◌, subst, find, unwrap_or}
 use Rattle.vlm_words.specs.declared.resources.Key.{Key}
-use Rattle.vlm_words.specs.Enqueue.{is_at_once}
+use Rattle.vlm_model.specs.Enqueue.{is_at_once}
 use Rattle.vlm_words.specs.Resources.{is_at, new_resource}
 use Rattle.vlm_store.specs.Plain.{plain_resources}
 use Rattle.vlm_store.specs.Records.{FindsResource, StoredResource, resource_at}

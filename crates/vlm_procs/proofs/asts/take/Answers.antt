@@ -1,5 +1,5 @@
 use Rattle.std.proofs.Common.{refl}
-use Rattle.vlm_words.specs.Asts.{without_oldest_ast}
+use Rattle.vlm_words.specs.Processes.{without_oldest_ast}
 use Rattle.vlm_store.specs.Records.{changed_process}
 use Rattle.vlm_store.proofs.Dues.{dues-on_stored}
 use Rattle.vlm_procs.proofs.Written.{notices_alone, oldest_is, others_left}

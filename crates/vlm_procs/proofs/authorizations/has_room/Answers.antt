@@ -1,5 +1,5 @@
 use Rattle.std.proofs.Common.{◌≡◌, ap, ◌∙◌, nat_lt}
-use Rattle.vlm_words.specs.Quotas.{locks_of, quota_of}
+use Rattle.vlm_model.specs.Quotas.{locks_of, quota_of}
 use Rattle.vlm_records.specs.declared.processes.Authorization.{Authorization}
 use Rattle.vlm_store.specs.Plain.{plain_processes, plain_resources}
 use Rattle.vlm_procs.proofs.Authorized.{told_is}

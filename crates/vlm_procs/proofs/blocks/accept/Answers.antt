@@ -1,5 +1,5 @@
 use Rattle.std.proofs.Common.{refl}
-use Rattle.vlm_words.specs.StatusBlocks.{processes_after_acceptance}
+use Rattle.vlm_model.specs.StatusBlocks.{processes_after_acceptance}
 use Rattle.vlm_records.specs.StatusBlocks.{requested, with_changed_block}
 use Rattle.vlm_store.specs.Records.{changed_process}
 use Rattle.vlm_store.proofs.Dues.{dues-on_stored}

@@ -1,7 +1,7 @@
 use Rattle.std.proofs.Common.{refl, ◌∙◌}
 use Rattle.vlm_words.specs.declared.conditions.Cond.TheVariants.{Normal}
 use Rattle.vlm_words.specs.Conditions.{condition_number}
-use Rattle.vlm_words.specs.StatusBlocks.{processes_after_acceptance, processes_after_status}
+use Rattle.vlm_model.specs.StatusBlocks.{processes_after_acceptance, processes_after_status}
 use Rattle.vlm_records.specs.StatusBlocks.{requested, with_changed_block, with_status}
 use Rattle.vlm_store.specs.Records.{changed_process}
 use Rattle.vlm_store.proofs.Dues.{dues-on_stored}

@@ -1,6 +1,6 @@
 use Rattle.std.proofs.Common.{refl}
 use Rattle.vlm_words.specs.Conditions.{condition_number}
-use Rattle.vlm_words.specs.StatusBlocks.{processes_after_status}
+use Rattle.vlm_model.specs.StatusBlocks.{processes_after_status}
 use Rattle.vlm_records.specs.StatusBlocks.{with_status, with_changed_block}
 use Rattle.vlm_store.specs.Records.{changed_process}
 use Rattle.vlm_store.proofs.Dues.{dues-on_stored}

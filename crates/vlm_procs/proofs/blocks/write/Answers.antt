@@ -1,5 +1,5 @@
 use Rattle.std.proofs.Common.{refl}
-use Rattle.vlm_words.specs.StatusBlocks.{process_with_block}
+use Rattle.vlm_words.specs.Processes.{process_with_block}
 use Rattle.vlm_store.specs.Records.{changed_process}
 use Rattle.vlm_store.proofs.Dues.{dues-on_stored}
 use Rattle.vlm_procs.proofs.Written.{notices_alone, written_blocks}

@@ -1,8 +1,8 @@
 use Rattle.vlm_records.proofs.Rooms.{room_relinked, room_written}
 use Rattle.std.proofs.Common.{◌∙◌, refl, sym, ap, subst}
 use Rattle.std.proofs.lemmas.Option.{none-some}
-use Rattle.vlm_links.specs.Lists.{Lists}
-use Rattle.vlm_links.proofs.HandleLists.{without_absent}
+use Rattle.vlm_collections.specs.Lists.{Lists}
+use Rattle.vlm_collections.proofs.HandleLists.{without_absent}
 use Rattle.vlm_records.specs.Kin.{below_in, below_handles, below_links, with_below_links}
 use Rattle.vlm_records.proofs.OwnLocks.{below_none, parent_left, parent_left_handles, parent_there}
 use Rattle.vlm_records.proofs.kin.leave_parent.Goals as goal

@@ -1,7 +1,7 @@
 use Rattle.vlm_records.proofs.Rooms.{room_relinked, room_written}
 use Rattle.std.proofs.Common.{sym, ap, subst, refl}
 use Rattle.std.proofs.lemmas.Option.{none-some}
-use Rattle.vlm_links.specs.Lists.{Lists}
+use Rattle.vlm_collections.specs.Lists.{Lists}
 use Rattle.vlm_records.specs.Kin.{own_in, own_links, with_own_links}
 use Rattle.vlm_records.proofs.OwnLocks.{owner_there, process_left, process_left_handles}
 use Rattle.vlm_records.proofs.kin.leave_process.Goals as goal

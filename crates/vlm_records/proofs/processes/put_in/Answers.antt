@@ -1,7 +1,7 @@
 use Rattle.vlm_records.proofs.Rooms.{room_relinked, room_taken}
 use Rattle.std.proofs.Common.{◌∙◌, ◌++◌, ◌∷◌, [], ap, subst, ◌+◌, ℕ}
-use Rattle.vlm_links.specs.Lists.{IsIn}
-use Rattle.vlm_links.proofs.Keeping.{updated-handles, updated-linked, vacant_unlisted}
+use Rattle.vlm_collections.specs.Lists.{IsIn}
+use Rattle.vlm_collections.proofs.Keeping.{updated-handles, updated-linked, vacant_unlisted}
 use Rattle.vlm_records.specs.Kin.{process_links, with_process_links}
 use Rattle.vlm_records.proofs.processes.put_in.Goals as goal
 

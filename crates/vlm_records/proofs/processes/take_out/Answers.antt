@@ -1,8 +1,8 @@
 use Rattle.vlm_records.proofs.Rooms.{room_relinked, room_given_back}
 use Rattle.std.proofs.Common.{◌∙◌, refl, subst, ap, ◌+◌, ℕ}
-use Rattle.vlm_links.specs.Lists.{IsIn}
-use Rattle.vlm_links.proofs.Keeping.{updated-handles, updated-linked}
-use Rattle.vlm_links.proofs.HandleLists.{IsIn-without}
+use Rattle.vlm_collections.specs.Lists.{IsIn}
+use Rattle.vlm_collections.proofs.Keeping.{updated-handles, updated-linked}
+use Rattle.vlm_collections.proofs.HandleLists.{IsIn-without}
 use Rattle.vlm_records.specs.Kin.{process_links, with_process_links}
 use Rattle.vlm_records.proofs.processes.take_out.Goals as goal
 

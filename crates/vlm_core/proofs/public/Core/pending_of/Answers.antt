@@ -1,5 +1,5 @@
 use Rattle.std.proofs.Common.{subst, sym}
-use Rattle.vlm_words.specs.Pending.{ProcessesRise}
+use Rattle.vlm_model.specs.Pending.{ProcessesRise}
 use Rattle.vlm_core.specs.declared.public.Core.TheInside.{Inside}
 use Rattle.vlm_machine.specs.Machine.{plain_state}
 use Rattle.vlm_core.proofs.FirstPending.{first_found}

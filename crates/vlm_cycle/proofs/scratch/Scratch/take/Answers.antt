@@ -1,5 +1,5 @@
 use Rattle.std.proofs.Common.{◌∙◌, ap, sym, arith}
-use Rattle.vlm_marks.specs.Nodes.{is_marked}
+use Rattle.vlm_collections.specs.Nodes.{is_marked}
 use Rattle.vlm_cycle.specs.declared.scratch.Scratch.{Scratch}
 use Rattle.vlm_cycle.proofs.Marked.{none_of_nodes}
 use Rattle.vlm_cycle.proofs.scratch.Scratch.take.Goals as goal

@@ -1,8 +1,8 @@
 use Rattle.std.proofs.Common.{◌≡◌, inl, refl, subst, sym, Some}
 use Rattle.vlm_words.specs.declared.steps.Answer.TheVariants.{Taken}
 use Rattle.vlm_words.specs.declared.steps.Step.TheVariants.{Take}
-use Rattle.vlm_words.specs.Pending.{first_pending}
-use Rattle.vlm_words.specs.Stepped.{Outcome}
+use Rattle.vlm_model.specs.Pending.{first_pending}
+use Rattle.vlm_model.specs.Stepped.{Outcome}
 use Rattle.vlm_journal.specs.Books.{Account, GoesOn}
 use Rattle.vlm_journal.specs.Journals.{takes}
 use Rattle.vlm_journal.proofs.GoingOn.{draws, goes_on, one_leads}

@@ -1,6 +1,6 @@
 use Rattle.std.proofs.Common.{inl, refl, subst}
 use Rattle.vlm_words.specs.declared.steps.Step.TheVariants.{Leave}
-use Rattle.vlm_words.specs.Stepped.{Outcome}
+use Rattle.vlm_model.specs.Stepped.{Outcome}
 use Rattle.vlm_journal.specs.Books.{Account, GoesOn}
 use Rattle.vlm_journal.specs.Journals.{leaves}
 use Rattle.vlm_journal.proofs.GoingOn.{goes_on, one_leads}

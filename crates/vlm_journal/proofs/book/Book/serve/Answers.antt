@@ -1,5 +1,5 @@
 use Rattle.std.proofs.Common.{inr, subst}
-use Rattle.vlm_words.specs.Stepped.{Outcome}
+use Rattle.vlm_model.specs.Stepped.{Outcome}
 use Rattle.vlm_journal.specs.Books.{Account, GoesOn}
 use Rattle.vlm_journal.proofs.GoingOn.{goes_on, one_leads}
 use Rattle.vlm_journal.proofs.book.Book.serve.Goals as goal

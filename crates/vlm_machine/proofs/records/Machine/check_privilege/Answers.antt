@@ -1,5 +1,5 @@
 use Rattle.std.proofs.Common.{rules}
-use Rattle.vlm_words.specs.Trees.{privilege_refusal}
+use Rattle.vlm_model.specs.Trees.{privilege_refusal}
 use Rattle.vlm_machine.proofs.records.Machine.check_privilege.Goals as goal
 
 pub returns-then-not-has_syslck : goal.returns-then-not-has_syslck

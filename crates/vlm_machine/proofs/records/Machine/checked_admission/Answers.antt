@@ -1,5 +1,5 @@
 use Rattle.std.proofs.Common.{rules, refl, sym, ap}
-use Rattle.vlm_words.specs.Convert.{convert_request}
+use Rattle.vlm_model.specs.Convert.{convert_request}
 use Rattle.vlm_machine.specs.Machine.{plain_state}
 use Rattle.vlm_machine.proofs.Admitting.{is_admitted, not_admitted}
 use Rattle.vlm_machine.proofs.records.Machine.checked_admission.Goals as goal

@@ -4,7 +4,7 @@ use Rattle.vlm_words.specs.declared.locks.Request.{Request}
 use Rattle.vlm_words.specs.declared.steps.Conversion.{Conversion}
 use Rattle.vlm_words.specs.Flags.{flag_bits}
 use Rattle.vlm_words.specs.State.{State}
-use Rattle.vlm_words.specs.Convert.{convert_request, converts_at_once}
+use Rattle.vlm_model.specs.Convert.{convert_request, converts_at_once}
 use Rattle.vlm_store.specs.Plain.{plain_resource}
 use Rattle.vlm_machine.specs.Admissions.{IsAdmittedConversion}
 use Rattle.vlm_machine.specs.Between.{IsBetweenSteps}

@@ -1,7 +1,7 @@
 use Rattle.std.proofs.Common.{ap, refl}
 use Rattle.vlm_words.specs.declared.steps.Answer.TheVariants.{Process as process_answer}
 use Rattle.vlm_words.specs.declared.steps.Step.TheVariants.{Declare}
-use Rattle.vlm_words.specs.Declare.{declare_change}
+use Rattle.vlm_model.specs.Declare.{declare_change}
 use Rattle.vlm_machine.specs.Machine.{plain_state}
 use Rattle.vlm_machine.proofs.Made.{made_unswept}
 use Rattle.vlm_machine.proofs.ToCome.{new_process}

@@ -1,5 +1,5 @@
 use Rattle.std.proofs.Common.{◌∙◌, subst}
-use Rattle.vlm_links.specs.Lists.{IsIn}
+use Rattle.vlm_collections.specs.Lists.{IsIn}
 use Rattle.vlm_machine.specs.Machine.{MachineState}
 use Rattle.vlm_machine.proofs.Stayed.{paid_declared, paid_refused, rests_declared, rests_refused}
 use Rattle.vlm_machine.proofs.records.Machine.declare_change.Goals as goal

@@ -1,6 +1,6 @@
 use Rattle.std.proofs.Common.{refl, sym, ap, ◌∙◌, subst}
-use Rattle.vlm_words.specs.Dequeue.{withdrawal_of}
-use Rattle.vlm_words.specs.Withdrawals.{Withdrawal}
+use Rattle.vlm_model.specs.Dequeue.{withdrawal_of}
+use Rattle.vlm_model.specs.Withdrawals.{Withdrawal}
 use Rattle.vlm_locks.specs.Withdrawals.{plain_withdrawal}
 use Rattle.vlm_locks.specs.Withdrawing.{goes}
 use Rattle.vlm_machine.specs.Admissions.{IsAdmittedDequeue, IsChildless}

@@ -1,5 +1,5 @@
 use Rattle.std.proofs.Common.{◌≡◌, true, sym, ap, ◌∙◌, subst}
-use Rattle.vlm_words.specs.Withdrawals.{Withdrawal}
+use Rattle.vlm_model.specs.Withdrawals.{Withdrawal}
 use Rattle.vlm_store.specs.Plain.{plain_resources}
 use Rattle.vlm_store.specs.Records.{HasNoSublocks, IsSound}
 use Rattle.vlm_locks.specs.Standing.{IsStanding}

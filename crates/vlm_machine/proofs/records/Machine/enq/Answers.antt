@@ -1,6 +1,6 @@
 use Rattle.std.proofs.Common.{◌≡◌, None, true, ap, sym, arith, ◌∙◌, refl, rules, subst}
 use Rattle.vlm_store.specs.Plain.{plain_resources}
-use Rattle.vlm_machine.specs.Machine.{MachineState}
+use Rattle.vlm_machine.specs.Machine.{MachineState, plain_state}
 use Rattle.vlm_machine.specs.Notes.{total_locks_on}
 use Rattle.vlm_machine.proofs.Noting.{as_many_stored, room_after}
 use Rattle.std.proofs.lemmas.Option.{same_Some}
@@ -8,15 +8,14 @@ use Rattle.vlm_words.specs.declared.locks.Request.{Request}
 use Rattle.vlm_words.specs.declared.locks.Row.{Row}
 use Rattle.vlm_words.specs.declared.steps.Answer.TheVariants.{Lock}
 use Rattle.vlm_words.specs.declared.steps.Step.TheVariants.{Enq}
-use Rattle.vlm_words.specs.Checks.{acceptance}
+use Rattle.vlm_model.specs.Checks.{acceptance}
 use Rattle.vlm_words.specs.Flags.{flag_bits}
-use Rattle.vlm_words.specs.Enqueue.{enq_at_once, enq_change, enq_refusal, enq_request, enq_resource, enq_row, resources_after_entry}
+use Rattle.vlm_model.specs.Enqueue.{enq_at_once, enq_change, enq_refusal, enq_request, enq_resource, enq_row, resources_after_entry}
 use Rattle.std.specs.List.{AllByRecursion}
-use Rattle.vlm_words.specs.Settled.{IsSettled}
+use Rattle.vlm_model.specs.Settled.{IsSettled}
 use Rattle.vlm_words.specs.State.{State}
-use Rattle.vlm_words.specs.Trees.{enq_site}
-use Rattle.vlm_words.specs.Sweeps.{state_after_sweep}
-use Rattle.vlm_machine.specs.Machine.{plain_state}
+use Rattle.vlm_model.specs.Trees.{enq_site}
+use Rattle.vlm_model.specs.Sweeps.{state_after_sweep}
 use Rattle.vlm_machine.proofs.Made.{made_swept}
 use Rattle.vlm_machine.proofs.Quiet.{all_quiet}
 use Rattle.vlm_machine.proofs.Settling.{settled_but}

@@ -1,6 +1,6 @@
 use Rattle.std.proofs.Common.{◌≡◌, Some, refl, sym, ap, ◌∙◌, subst}
 use Rattle.vlm_words.specs.declared.locks.Row.{Row}
-use Rattle.vlm_words.specs.Enqueue.{enq_request, enq_row}
+use Rattle.vlm_model.specs.Enqueue.{enq_request, enq_row}
 use Rattle.vlm_store.specs.Records.{IsParentOf}
 use Rattle.vlm_machine.specs.Admissions.{IsChecked}
 use Rattle.vlm_machine.specs.Machine.{MachineState, kept, plain_state}

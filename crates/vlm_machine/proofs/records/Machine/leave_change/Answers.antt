@@ -1,6 +1,7 @@
 use Rattle.std.proofs.Common.{◌∙◌, List, ap, sym, subst, arith}
 use Rattle.vlm_words.specs.State.{Node}
-use Rattle.vlm_words.specs.Rundown.{is_of_node, nodes_after_departure}
+use Rattle.vlm_words.specs.Steps.{is_of_node}
+use Rattle.vlm_model.specs.Rundown.{nodes_after_departure}
 use Rattle.vlm_locks.specs.RunningDown.{CanEndProcesses}
 use Rattle.vlm_machine.specs.Machine.{MachineState, kept, plain_state}
 use Rattle.vlm_machine.proofs.EndOfProcess.{can_end, state_ended, to_sweep}

@@ -1,10 +1,10 @@
 use Rattle.std.proofs.Common.{◌≡◌, refl, sym, ap, ◌∙◌, subst, find, unwrap_or}
 use Rattle.vlm_words.specs.declared.resources.Site.{Site}
-use Rattle.vlm_words.specs.Enqueue.{enq_request, enq_resource, enq_row, is_at_once}
+use Rattle.vlm_model.specs.Enqueue.{enq_request, enq_resource, enq_row, is_at_once}
 use Rattle.vlm_words.specs.Flags.{flag_bits}
 use Rattle.vlm_words.specs.Resources.{is_at, new_resource}
 use Rattle.vlm_words.specs.State.{Resource}
-use Rattle.vlm_words.specs.Trees.{enq_site, parent_resource, root_domain, site_below}
+use Rattle.vlm_model.specs.Trees.{enq_site, parent_resource, root_domain, site_below}
 use Rattle.vlm_store.specs.Plain.{plain_resources}
 use Rattle.vlm_store.specs.Records.{IsParentOf, IsProcess}
 use Rattle.vlm_machine.specs.Admissions.{IsAskedBy}

@@ -1,5 +1,5 @@
 use Rattle.std.proofs.Common.{sym, subst, arith}
-use Rattle.vlm_words.specs.Rundown.{is_ended_by}
+use Rattle.vlm_model.specs.Rundown.{is_ended_by}
 use Rattle.vlm_locks.specs.RunningDown.{CanEndProcesses}
 use Rattle.vlm_machine.specs.Machine.{MachineState, kept, plain_state}
 use Rattle.vlm_machine.proofs.EndOfProcess.{can_end, state_ended, to_sweep}

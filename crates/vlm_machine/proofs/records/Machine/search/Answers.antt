@@ -2,9 +2,9 @@ use Rattle.std.proofs.Common.{◌≡◌, Option, None, Some, refl, sym, ap, ◌�
 use Rattle.vlm_words.specs.declared.conditions.Cond.{Cond}
 use Rattle.vlm_words.specs.declared.steps.Answer.TheVariants.{Victim}
 use Rattle.vlm_words.specs.declared.steps.Step.TheVariants.{Search}
-use Rattle.vlm_words.specs.Search.{IsSearchedFor}
+use Rattle.vlm_model.specs.Search.{IsSearchedFor}
 use Rattle.vlm_words.specs.State.{State}
-use Rattle.vlm_words.specs.Sweeps.{state_after_sweep}
+use Rattle.vlm_model.specs.Sweeps.{state_after_sweep}
 use Rattle.vlm_store.specs.Plain.{plain_resources}
 use Rattle.vlm_cycle.specs.Waiting.{IsRoomy}
 use Rattle.vlm_machine.specs.Machine.{MachineState, plain_state}

@@ -1,5 +1,5 @@
 use Rattle.std.proofs.Common.{rules}
-use Rattle.vlm_words.specs.SetValue.{set_change}
+use Rattle.vlm_model.specs.SetValue.{set_change}
 use Rattle.vlm_locks.proofs.Changed.{rests_still}
 use Rattle.vlm_machine.proofs.Stayed.{paid_still}
 use Rattle.vlm_machine.proofs.records.Machine.set_change.Goals as goal

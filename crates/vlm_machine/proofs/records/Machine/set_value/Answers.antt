@@ -2,7 +2,7 @@ use Rattle.std.proofs.Common.{refl}
 use Rattle.vlm_words.specs.declared.conditions.Cond.TheVariants.{Normal}
 use Rattle.vlm_words.specs.declared.steps.Answer.TheVariants.{Plain}
 use Rattle.vlm_words.specs.declared.steps.Step.TheVariants.{SetValue}
-use Rattle.vlm_words.specs.SetValue.{set_change}
+use Rattle.vlm_model.specs.SetValue.{set_change}
 use Rattle.vlm_machine.specs.Machine.{plain_state}
 use Rattle.vlm_machine.proofs.Made.{made_unswept}
 use Rattle.vlm_machine.proofs.records.Machine.set_value.Goals as goal

@@ -1,7 +1,7 @@
 use Rattle.std.proofs.Common.{◌≡◌, ◌<◌, Some, None, sym, ap, ◌∙◌, subst}
 use Rattle.vlm_words.specs.declared.resources.Domain.{Domain}
 use Rattle.vlm_words.specs.Flags.{flag_bits}
-use Rattle.vlm_words.specs.Trees.{parent_resource, root_domain, site_below}
+use Rattle.vlm_model.specs.Trees.{parent_resource, root_domain, site_below}
 use Rattle.vlm_store.specs.Plain.{plain_resource}
 use Rattle.vlm_store.specs.Records.{StoredResource, resource_at}
 use Rattle.vlm_locks.proofs.Stood.{resource_among}

@@ -1,7 +1,7 @@
 use Rattle.std.proofs.Common.{◌∙◌, ℕ, ap, refl}
 use Rattle.vlm_words.specs.declared.steps.Answer.TheVariants.{Taken}
 use Rattle.vlm_words.specs.declared.steps.Step.TheVariants.{Take}
-use Rattle.vlm_words.specs.Take.{take_change, taken_ast}
+use Rattle.vlm_model.specs.Take.{take_change, taken_ast}
 use Rattle.vlm_machine.specs.Machine.{plain_state}
 use Rattle.vlm_machine.proofs.Made.{made_unswept}
 use Rattle.vlm_machine.proofs.records.Machine.take.Goals as goal

@@ -2,8 +2,8 @@ use Rattle.vlm_records.proofs.Rooms.{room_taken}
 use Rattle.std.proofs.Common.{◌≡◌, ◌∙◌, ◌+◌, ◌++◌, ◌∷◌, [], None, Some, ℕ, ap, refl, rules}
 use Rattle.std.specs.Option.{option_map}
 use Rattle.slab.specs.Slab.{get}
-use Rattle.vlm_links.specs.Lists.{IsIn}
-use Rattle.vlm_links.proofs.Keeping.{vacant_unlisted}
+use Rattle.vlm_collections.specs.Lists.{IsIn}
+use Rattle.vlm_collections.proofs.Keeping.{vacant_unlisted}
 use Rattle.vlm_records.specs.declared.handles.Place.{Place}
 use Rattle.vlm_records.specs.declared.queues.Queues.{Queues}
 use Rattle.vlm_records.specs.Armed.{armed_links, armed_list}

@@ -1,6 +1,6 @@
 use Rattle.vlm_records.proofs.Rooms.{room_relinked, room_taken}
 use Rattle.std.proofs.Common.{ap, ◌∙◌, ◌+◌, ℕ}
-use Rattle.vlm_links.proofs.Keeping.{updated-linked, vacant_unlisted}
+use Rattle.vlm_collections.proofs.Keeping.{updated-linked, vacant_unlisted}
 use Rattle.vlm_records.specs.Shown.{order_links, with_order_links}
 use Rattle.vlm_records.proofs.Arming.{armed_resources}
 use Rattle.vlm_records.proofs.Making.{added_armed, added_lists, added_tallies, both_empty, resources_handles, resources_placed, resources_tallied}

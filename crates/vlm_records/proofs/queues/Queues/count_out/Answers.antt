@@ -1,7 +1,7 @@
 use Rattle.std.proofs.Common.{ap, refl, arith}
 use Rattle.std.specs.Option.{option_map}
 use Rattle.slab.specs.Slab.{get, with_value}
-use Rattle.vlm_tallies.specs.Tallies.{how_many, weight_of}
+use Rattle.vlm_records.specs.Tallies.{how_many, weight_of}
 use Rattle.vlm_records.specs.declared.queues.Queues.{Queues}
 use Rattle.vlm_records.specs.Shown.{SameBut, but_tally, tally_in}
 use Rattle.vlm_records.proofs.Counting.{counted_out, tally_less, weighs_here}

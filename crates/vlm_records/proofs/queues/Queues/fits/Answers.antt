@@ -1,7 +1,7 @@
 use Rattle.std.proofs.Common.{◌∙◌, ap, sym, arith}
 use Rattle.vlm_records.specs.Shown.{tally_in}
-use Rattle.vlm_tallies.specs.Tallies.{held_beside, how_many, weight_of}
-use Rattle.vlm_tallies.specs.Tallies.Count.{of_held}
+use Rattle.vlm_records.specs.Tallies.{held_beside, how_many, weight_of}
+use Rattle.vlm_records.specs.Tallies.Count.{of_held}
 use Rattle.vlm_records.proofs.Counting.{own_weighs}
 use Rattle.vlm_records.proofs.Fitting.{shares-fit}
 use Rattle.vlm_records.proofs.queues.Queues.fits.Goals as goal

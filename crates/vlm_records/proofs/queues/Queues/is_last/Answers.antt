@@ -1,7 +1,7 @@
 use Rattle.std.proofs.Common.{◌∙◌, ap, not, subst, sym}
 use Rattle.std.proofs.lemmas.Bool.{OnTrue_from}
 use Rattle.std.proofs.lemmas.Option.{none-some, same_Some}
-use Rattle.vlm_links.specs.Lists.{handle_after, handles_of}
+use Rattle.vlm_collections.specs.Lists.{handle_after, handles_of}
 use Rattle.vlm_records.specs.Armed.{IsLast}
 use Rattle.vlm_records.specs.Shown.{handles_at, noted_in, queue_links}
 use Rattle.vlm_records.proofs.Staying.{is_nothing, none_after}

@@ -1,5 +1,5 @@
 use Rattle.std.proofs.Common.{◌∙◌, ap, subst, sym}
-use Rattle.vlm_links.specs.Lists.{IsIn, handles_of}
+use Rattle.vlm_collections.specs.Lists.{IsIn, handles_of}
 use Rattle.vlm_records.specs.Armed.{armed_links, armed_list_in, armed_on}
 use Rattle.vlm_records.proofs.Arming.{armed_resource, out_unlisted, relisted_joined, relisted_other, relisted_places, same_places, unarmed_joined}
 use Rattle.vlm_records.proofs.queues.Queues.join_list.Goals as goal

@@ -1,6 +1,6 @@
 use Rattle.std.proofs.Common.{◌∙◌, None, ap, subst, sym}
 use Rattle.std.proofs.lemmas.Option.{none-some}
-use Rattle.vlm_links.specs.Lists.{Lists}
+use Rattle.vlm_collections.specs.Lists.{Lists}
 use Rattle.vlm_records.specs.Armed.{armed_links, armed_list_in, armed_on}
 use Rattle.vlm_records.proofs.Arming.{armed_family, armed_resource, relisted_left, relisted_other, relisted_places, same_places, unarmed_left}
 use Rattle.vlm_records.proofs.queues.Queues.leave_list.Goals as goal

@@ -1,6 +1,6 @@
 use Rattle.std.proofs.Common.{◌∙◌, ◌++◌, ◌∷◌, [], Some, ap}
 use Rattle.slab.specs.Slab.{get}
-use Rattle.vlm_links.specs.Lists.{without}
+use Rattle.vlm_collections.specs.Lists.{without}
 use Rattle.vlm_records.specs.Shown.{but_armed, but_in_armed, but_requeued, named_row}
 use Rattle.vlm_records.proofs.Arming.{armed_but_one, armed_lists, armed_queues, armed_rewritten, counted_queues, in_armed_is, out_unlisted, place_still, requeued_granted, requeued_is, requeued_last}
 use Rattle.vlm_records.proofs.Places.{there_through}

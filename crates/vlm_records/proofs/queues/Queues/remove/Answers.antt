@@ -5,7 +5,7 @@ use Rattle.std.specs.Option.{option_map}
 use Rattle.slab.specs.Slab.{get}
 use Rattle.vlm_records.specs.declared.queues.Queues.{Queues}
 use Rattle.vlm_records.proofs.Arming.{armed_but_one, armed_lists, lists_counted, out_unlisted, removed_granted, tally_counted}
-use Rattle.vlm_links.specs.Lists.{without}
+use Rattle.vlm_collections.specs.Lists.{without}
 use Rattle.vlm_records.proofs.Counting.{removed_placed, removed_tallied, tallied_taken, updated_handles}
 use Rattle.vlm_records.proofs.Places.{counted_handles, counted_placed, lists_same, rows_relinked}
 use Rattle.vlm_records.proofs.queues.Queues.remove.Goals as goal

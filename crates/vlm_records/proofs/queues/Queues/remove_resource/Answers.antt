@@ -1,8 +1,8 @@
 use Rattle.vlm_records.proofs.Rooms.{room_relinked, room_given_back}
 use Rattle.std.proofs.Common.{◌∙◌, refl, subst, ap, ◌+◌, ℕ}
-use Rattle.vlm_links.specs.Lists.{IsIn}
-use Rattle.vlm_links.proofs.Keeping.{updated-handles, updated-linked}
-use Rattle.vlm_links.proofs.HandleLists.{IsIn-without}
+use Rattle.vlm_collections.specs.Lists.{IsIn}
+use Rattle.vlm_collections.proofs.Keeping.{updated-handles, updated-linked}
+use Rattle.vlm_collections.proofs.HandleLists.{IsIn-without}
 use Rattle.vlm_records.specs.Shown.{order_links, with_order_links}
 use Rattle.vlm_records.proofs.Arming.{armed_resources}
 use Rattle.vlm_records.proofs.Making.{removed_armed, removed_lists, removed_tally, resources_handles, resources_placed}

@@ -1,5 +1,5 @@
 use Rattle.std.proofs.Common.{◌∙◌, ◌++◌, ◌∷◌, [], None, Some, ap, rules}
-use Rattle.vlm_links.specs.Lists.{without}
+use Rattle.vlm_collections.specs.Lists.{without}
 use Rattle.slab.specs.Slab.{get}
 use Rattle.vlm_records.specs.Shown.{room_in, row_in, tally_in}
 use Rattle.vlm_records.proofs.Counting.{tallied_moved, tallied_put, tallied_taken}

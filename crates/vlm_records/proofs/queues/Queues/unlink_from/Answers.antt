@@ -1,6 +1,6 @@
 use Rattle.std.proofs.Common.{subst, sym}
 use Rattle.slab.proofs.SlabLemmas.{Updates-with_value}
-use Rattle.vlm_links.specs.Lists.{IsLinked}
+use Rattle.vlm_collections.specs.Lists.{IsLinked}
 use Rattle.vlm_records.specs.Shown.{list_in, queue_links}
 use Rattle.vlm_records.proofs.Rooms.{room_written}
 use Rattle.vlm_records.proofs.queues.Queues.unlink_from.Goals as goal

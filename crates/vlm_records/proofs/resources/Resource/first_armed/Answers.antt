@@ -1,5 +1,5 @@
 use Rattle.std.proofs.Common.{◌≡◌, subst, sym}
-use Rattle.vlm_links.specs.Lists.{IsLinked, first_handle, handles_of}
+use Rattle.vlm_collections.specs.Lists.{IsLinked, first_handle, handles_of}
 use Rattle.vlm_records.specs.Armed.{armed_links, list_of}
 use Rattle.vlm_records.proofs.resources.Resource.first_armed.Goals as goal
 

@@ -1,5 +1,5 @@
 use Rattle.std.proofs.Common.{◌≡◌, subst, sym}
-use Rattle.vlm_links.specs.Lists.{Lists, handle_after, handles_of}
+use Rattle.vlm_collections.specs.Lists.{Lists, handle_after, handles_of}
 use Rattle.vlm_records.specs.Armed.{armed_links, list_of}
 use Rattle.vlm_records.proofs.resources.Resource.next_armed.Goals as goal
 

@@ -1,6 +1,6 @@
 use Rattle.std.proofs.Common.{◌≡◌, ◌≢◌, ◌++◌, ◌∷◌, [], ℕ, refl, subst, sym}
 use Rattle.slab.specs.Slab.{get}
-use Rattle.vlm_links.specs.Lists.{IsIn, IsLinked, handles_of}
+use Rattle.vlm_collections.specs.Lists.{IsIn, IsLinked, handles_of}
 use Rattle.vlm_records.specs.Armed.{armed_links, list_of, with_list}
 use Rattle.vlm_records.proofs.resources.Resource.push_back_armed.Goals as goal
 

@@ -1,6 +1,6 @@
 use Rattle.std.proofs.Common.{ap, arith}
 use Rattle.indexmap.specs.IndexMap.{spare}
-use Rattle.vlm_links.specs.Parts.{spare_for, spares_of}
+use Rattle.vlm_collections.specs.Parts.{spare_for, spares_of}
 use Rattle.vlm_store.specs.declared.key_index.KeyIndex.{KeyIndex}
 use Rattle.vlm_store.proofs.Spares.{both_kept}
 use Rattle.vlm_store.proofs.key_index.KeyIndex.remove.Goals as goal

@@ -1,6 +1,6 @@
 use Rattle.std.proofs.Common.{rules, ◌≡◌, ◌∷◌, ap, sym, ◌∙◌}
-use Rattle.vlm_links.specs.Lists.{handle_after}
-use Rattle.vlm_links.proofs.Walks.{handle_after-in}
+use Rattle.vlm_collections.specs.Lists.{handle_after}
+use Rattle.vlm_collections.proofs.Walks.{handle_after-in}
 use Rattle.vlm_records.specs.Line.{line_handles}
 use Rattle.vlm_store.specs.Queued.{handles_on}
 use Rattle.vlm_store.proofs.QueuedSeen.{on_next}

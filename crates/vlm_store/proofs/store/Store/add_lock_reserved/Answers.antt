@@ -1,15 +1,14 @@
-use Rattle.vlm_links.specs.Parts.{handle_in, spare_for, spares_of}
+use Rattle.vlm_collections.specs.Parts.{handle_in, spare_for, spares_of}
 use Rattle.vlm_store.specs.declared.store.Store.TheInside.{Inside}
-use Rattle.slab.specs.Slab.{HasRoomFor}
-use Rattle.vlm_links.specs.declared.link.TheConstants.{LAST_HANDLE}
+use Rattle.slab.specs.Slab.{HasRoomFor, get as slot_of}
+use Rattle.vlm_collections.specs.declared.link.TheConstants.{LAST_HANDLE}
 use Rattle.vlm_store.specs.Index.{hash_key}
 use Rattle.vlm_store.proofs.Lined.{line_added, line_below, line_kin, line_own, line_queued, line_same}
 use Rattle.vlm_store.proofs.RoomShown.{room_shown, shown_room, is_taken, rooms_are, room_of_same, has_room}
 use Rattle.std.proofs.Common.{◌≡◌, ◌<◌, ◌≤◌, ◌≢◌, ◌∙◌, ◌++◌, ◌∷◌, [], ℕ, map, None, Some, IsSome, ap, sym, refl, arith, ◌+◌}
 use Rattle.std.specs.Option.{option_map}
-use Rattle.slab.specs.Slab.{get as slot_of}
-use Rattle.vlm_links.proofs.Keeping.{relinked_same, vacant_unlisted}
-use Rattle.vlm_links.specs.Lists.{IsIn}
+use Rattle.vlm_collections.proofs.Keeping.{relinked_same, vacant_unlisted}
+use Rattle.vlm_collections.specs.Lists.{IsIn}
 use Rattle.vlm_store.specs.HashedKeys.{hashed_at}
 use Rattle.vlm_store.proofs.HashedKeys.{labels_same}
 use Rattle.vlm_records.specs.declared.handles.Place.{Place}

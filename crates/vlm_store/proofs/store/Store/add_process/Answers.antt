@@ -4,12 +4,12 @@ use Rattle.std.proofs.Common.{◌≡◌, ◌≢◌, ◌∙◌, ◌++◌, ◌∷�
 use Rattle.std.proofs.lemmas.Option.{none-some}
 use Rattle.std.specs.Option.{option_map}
 use Rattle.slab.specs.Slab.{get}
-use Rattle.vlm_links.specs.Tables.{handle_of}
-use Rattle.vlm_links.proofs.HandleRows.{grows-itself}
-use Rattle.vlm_links.specs.Lists.{handles_of}
-use Rattle.vlm_links.proofs.Keeping.{vacant_unlisted}
-use Rattle.vlm_links.proofs.Rings.{same-handles, same-linked}
-use Rattle.vlm_words.specs.Declare.{new_process}
+use Rattle.vlm_collections.specs.Tables.{handle_of}
+use Rattle.vlm_collections.proofs.HandleRows.{grows-itself}
+use Rattle.vlm_collections.specs.Lists.{handles_of}
+use Rattle.vlm_collections.proofs.Keeping.{vacant_unlisted}
+use Rattle.vlm_collections.proofs.Rings.{same-handles, same-linked}
+use Rattle.vlm_words.specs.Processes.{new_process}
 use Rattle.vlm_words.specs.State.{Process as PlainProcess}
 use Rattle.vlm_records.specs.declared.locks.Lock.{Lock}
 use Rattle.vlm_records.specs.declared.processes.Process.{Process}
@@ -24,7 +24,7 @@ use Rattle.vlm_store.proofs.Kinship.{processes_changed}
 use Rattle.vlm_records.proofs.Places.{there_by_part, no_list_is}
 use Rattle.vlm_store.proofs.Living.{no_process_found, process_named, process_there}
 use Rattle.vlm_store.proofs.Marked.{added_marked, and_true, grown_marked, nodes_of_pid, nodes_same, none_written, unmarked, waits_by_order, waits_not, written_others}
-use Rattle.vlm_marks.specs.Nodes.{is_node}
+use Rattle.vlm_collections.specs.Nodes.{is_node}
 use Rattle.vlm_store.specs.Pending.{is_of_nodes, waits_in}
 use Rattle.vlm_records.proofs.Making.{whole_grown}
 use Rattle.vlm_store.proofs.Members.{process_made}

@@ -1,16 +1,15 @@
-use Rattle.vlm_links.specs.Parts.{handle_in, spare_for, spares_of}
+use Rattle.vlm_collections.specs.Parts.{handle_in, spare_for, spares_of}
 use Rattle.vlm_store.specs.declared.store.Store.TheInside.{Inside}
-use Rattle.slab.specs.Slab.{HasRoomFor}
-use Rattle.vlm_links.specs.declared.link.TheConstants.{LAST_HANDLE}
-use Rattle.vlm_links.specs.declared.hashing.HashKeys.{HashKeys}
+use Rattle.slab.specs.Slab.{HasRoomFor, get as slot_of}
+use Rattle.vlm_collections.specs.declared.link.TheConstants.{LAST_HANDLE}
+use Rattle.vlm_collections.specs.declared.hashing.HashKeys.{HashKeys}
 use Rattle.vlm_store.specs.Index.{hash_key}
 use Rattle.vlm_store.proofs.Lined.{line_same}
 use Rattle.vlm_store.proofs.RoomShown.{room_shown, shown_room, is_taken, rooms_are, room_of_same, has_room}
 use Rattle.std.proofs.Common.{◌≡◌, ◌<◌, ◌≤◌, arith, ◌∙◌, ◌++◌, ◌∷◌, [], ℕ, None, Some, IsSome, ap, sym, refl, subst}
 use Rattle.std.specs.Option.{option_map}
-use Rattle.slab.specs.Slab.{get as slot_of}
-use Rattle.vlm_links.proofs.Keeping.{vacant_unlisted}
-use Rattle.vlm_links.proofs.Rings.{same-handles, same-linked}
+use Rattle.vlm_collections.proofs.Keeping.{vacant_unlisted}
+use Rattle.vlm_collections.proofs.Rings.{same-handles, same-linked}
 use Rattle.vlm_words.specs.declared.resources.Queue.TheVariants.{Granted, Conversion, Waiting}
 use Rattle.vlm_records.specs.declared.handles.Place.TheVariants.{Queued}
 use Rattle.vlm_records.specs.declared.resources.Resource.{Resource}

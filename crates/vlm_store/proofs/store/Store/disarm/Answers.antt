@@ -1,4 +1,4 @@
-use Rattle.vlm_links.specs.Parts.{handle_in}
+use Rattle.vlm_collections.specs.Parts.{handle_in}
 use Rattle.vlm_store.specs.Index.{hash_key}
 use Rattle.vlm_store.proofs.Lined.{line_disarmed}
 use Rattle.std.proofs.Common.{None, ◌∙◌, ap, map, refl}

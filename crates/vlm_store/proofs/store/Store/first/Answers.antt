@@ -2,7 +2,7 @@ use Rattle.vlm_store.proofs.Living.{is_sound}
 use Rattle.std.proofs.Common.{◌∙◌, sym}
 use Rattle.vlm_records.specs.Shown.{handles_at, rows}
 use Rattle.vlm_store.specs.Store.{tables}
-use Rattle.vlm_links.proofs.Walks.{first_handle-in}
+use Rattle.vlm_collections.proofs.Walks.{first_handle-in}
 use Rattle.vlm_store.proofs.Layouts.{HasPlace-seen, under_handle-first, locks_at-seen}
 use Rattle.vlm_store.specs.Kept.{beside_shown}
 use Rattle.vlm_store.proofs.store.Store.first.Goals as goal

@@ -1,6 +1,6 @@
 use Rattle.std.proofs.Common.{◌∙◌, ap, subst, sym}
-use Rattle.vlm_links.specs.Lists.{IsLinked, first_handle}
-use Rattle.vlm_links.proofs.Walks.{first_handle-in}
+use Rattle.vlm_collections.specs.Lists.{IsLinked, first_handle}
+use Rattle.vlm_collections.proofs.Walks.{first_handle-in}
 use Rattle.vlm_records.specs.Armed.{armed_links, armed_list_handles, armed_list_in}
 use Rattle.vlm_store.specs.Records.{first_at}
 use Rattle.vlm_records.specs.Shown.{rows}

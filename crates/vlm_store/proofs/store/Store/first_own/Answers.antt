@@ -1,6 +1,6 @@
 use Rattle.std.proofs.Common.{◌∙◌, ap, sym}
-use Rattle.vlm_links.specs.Lists.{first_handle}
-use Rattle.vlm_links.proofs.Walks.{first_handle-in}
+use Rattle.vlm_collections.specs.Lists.{first_handle}
+use Rattle.vlm_collections.proofs.Walks.{first_handle-in}
 use Rattle.vlm_records.specs.Kin.{own_handles}
 use Rattle.vlm_store.proofs.Living.{process_there}
 use Rattle.vlm_store.proofs.Siblings.{own_handles_is, own_listed}

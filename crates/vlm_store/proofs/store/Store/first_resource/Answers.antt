@@ -1,9 +1,9 @@
 use Rattle.vlm_store.proofs.Living.{is_sound}
 use Rattle.std.proofs.Common.{◌∙◌, sym}
-use Rattle.vlm_links.specs.Lists.{handles_of}
+use Rattle.vlm_collections.specs.Lists.{handles_of}
 use Rattle.vlm_records.specs.Shown.{order_links}
 use Rattle.vlm_store.specs.Store.{tables}
-use Rattle.vlm_links.proofs.Walks.{first_handle-in}
+use Rattle.vlm_collections.proofs.Walks.{first_handle-in}
 use Rattle.vlm_store.proofs.Layouts.{first_resource-is}
 use Rattle.vlm_store.specs.Kept.{beside_shown}
 use Rattle.vlm_store.proofs.store.Store.first_resource.Goals as goal

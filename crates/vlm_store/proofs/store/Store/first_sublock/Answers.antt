@@ -1,6 +1,6 @@
 use Rattle.std.proofs.Common.{◌∙◌, ap, sym}
-use Rattle.vlm_links.specs.Lists.{first_handle}
-use Rattle.vlm_links.proofs.Walks.{first_handle-in}
+use Rattle.vlm_collections.specs.Lists.{first_handle}
+use Rattle.vlm_collections.proofs.Walks.{first_handle-in}
 use Rattle.vlm_records.specs.Kin.{below_handles}
 use Rattle.vlm_store.proofs.Living.{lock_there}
 use Rattle.vlm_store.proofs.Siblings.{below_listed, sublocks_is}

@@ -1,5 +1,5 @@
 use Rattle.std.proofs.Common.{◌≤◌, ap, subst}
-use Rattle.vlm_asts.specs.Asts.{Asts}
+use Rattle.vlm_collections.specs.Asts.{Asts}
 use Rattle.vlm_store.specs.Holdings.{faced, process_face, process_face_in}
 use Rattle.vlm_store.specs.Records.{owed_less}
 use Rattle.vlm_store.proofs.Living.{process_is, process_there}

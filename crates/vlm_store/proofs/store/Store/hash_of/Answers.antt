@@ -1,10 +1,10 @@
 use Rattle.std.proofs.Common.{take, ◌∙◌, ap, sym}
-use Rattle.vlm_links.specs.declared.hashing.HashKeys.{HashKeys}
+use Rattle.vlm_collections.specs.declared.hashing.HashKeys.{HashKeys}
 use Rattle.vlm_store.specs.Index.{hash_key}
 use Rattle.vlm_store.specs.Kept.{beside_shown}
 use Rattle.vlm_store.specs.Store.{tables}
 use Rattle.vlm_store.proofs.Kinship.{records_keys}
-use Rattle.vlm_links.specs.Hashing.{hash_of}
+use Rattle.vlm_collections.specs.Hashing.{hash_of}
 use Rattle.vlm_words.specs.NameWords.{word_count}
 use Rattle.vlm_store.proofs.store.Store.hash_of.Goals as goal
 

@@ -1,6 +1,6 @@
 use Rattle.std.proofs.Common.{◌∙◌, ap, refl, sym}
-use Rattle.vlm_tallies.specs.Tallies.{how_many}
-use Rattle.vlm_tallies.specs.Tallies.Count.{of_held}
+use Rattle.vlm_records.specs.Tallies.{how_many}
+use Rattle.vlm_records.specs.Tallies.Count.{of_held}
 use Rattle.vlm_store.specs.Kept.{beside_shown}
 use Rattle.vlm_records.specs.Shown.{tally_in}
 use Rattle.vlm_store.specs.Store.{tables}

@@ -1,6 +1,6 @@
 use Rattle.vlm_store.proofs.Living.{is_sound}
 use Rattle.vlm_store.proofs.Kept.{finds_lock}
-use Rattle.vlm_links.specs.Parts.{handle_in}
+use Rattle.vlm_collections.specs.Parts.{handle_in}
 use Rattle.vlm_store.specs.Kept.{beside_shown}
 use Rattle.vlm_store.proofs.store.Store.lock.Goals as goal
 

@@ -1,6 +1,6 @@
 use Rattle.std.proofs.Common.{◌∙◌, length, sym, ap, subst}
 use Rattle.std.proofs.lemmas.List.{length-map}
-use Rattle.vlm_links.specs.Lists.{handles_of}
+use Rattle.vlm_collections.specs.Lists.{handles_of}
 use Rattle.vlm_records.specs.Kin.{own_in, own_links}
 use Rattle.vlm_store.specs.Records.{IsSound}
 use Rattle.vlm_store.proofs.Counted.{own_count}

@@ -1,7 +1,7 @@
 use Rattle.std.proofs.Common.{◌≡◌, ◌∙◌, sym, ap, subst}
 use Rattle.std.proofs.lemmas.Option.{same_Some}
 use Rattle.vlm_words.specs.declared.locks.Row.{Row}
-use Rattle.vlm_links.specs.Lists.{IsIn}
+use Rattle.vlm_collections.specs.Lists.{IsIn}
 use Rattle.vlm_store.specs.Kept.{beside_shown, records_shown}
 use Rattle.vlm_store.specs.Records.{IsProcess, Records, StoredLock, Stores, locks_at}
 use Rattle.vlm_records.specs.Shown.{noted_in, row_in}

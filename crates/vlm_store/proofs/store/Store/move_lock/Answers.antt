@@ -1,8 +1,8 @@
-use Rattle.vlm_links.specs.Parts.{handle_in}
+use Rattle.vlm_collections.specs.Parts.{handle_in}
 use Rattle.vlm_store.specs.Index.{hash_key}
 use Rattle.vlm_store.proofs.RoomShown.{queues_room}
 use Rattle.std.proofs.Common.{None, ◌∙◌, ◌++◌, ◌∷◌, [], ap, refl}
-use Rattle.vlm_links.specs.Lists.{without}
+use Rattle.vlm_collections.specs.Lists.{without}
 use Rattle.vlm_store.specs.HashedKeys.{hashed_at}
 use Rattle.vlm_store.proofs.HashedKeys.{labels_same}
 use Rattle.vlm_records.specs.Shown.{but_in_line, but_queued, but_queues, handles_at, named_row, rows}

@@ -1,11 +1,11 @@
 use Rattle.std.proofs.Common.{◌≡◌, ◌∙◌, ap, sym, subst}
 use Rattle.std.proofs.lemmas.Option.{none-some, same_Some}
-use Rattle.vlm_links.specs.Lists.{IsIn}
+use Rattle.vlm_collections.specs.Lists.{IsIn}
 use Rattle.vlm_store.specs.Records.{Records, StoredLock, locks_at}
 use Rattle.vlm_records.specs.Shown.{handles_at, noted_in, rows}
 use Rattle.vlm_store.specs.Store.{tables}
 use Rattle.vlm_store.proofs.Kept.{stored_there}
-use Rattle.vlm_links.proofs.Walks.{handle_after-in}
+use Rattle.vlm_collections.proofs.Walks.{handle_after-in}
 use Rattle.vlm_store.proofs.Layouts.{under_handle-after, among-seen, locks_at-among, locks_at-seen}
 use Rattle.vlm_store.specs.Kept.{beside_shown}
 use Rattle.vlm_store.proofs.store.Store.next.Goals as goal

@@ -1,6 +1,6 @@
 use Rattle.std.proofs.Common.{◌∙◌, ap, subst, sym}
-use Rattle.vlm_links.specs.Lists.{Lists, handle_after}
-use Rattle.vlm_links.proofs.Walks.{handle_after-in}
+use Rattle.vlm_collections.specs.Lists.{Lists, handle_after}
+use Rattle.vlm_collections.proofs.Walks.{handle_after-in}
 use Rattle.vlm_records.specs.Armed.{armed_links, armed_list_handles, armed_list_in}
 use Rattle.vlm_store.specs.Records.{at_after}
 use Rattle.vlm_records.specs.Shown.{rows}

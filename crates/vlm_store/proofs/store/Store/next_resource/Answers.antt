@@ -1,8 +1,8 @@
 use Rattle.std.proofs.Common.{◌∙◌, sym}
-use Rattle.vlm_links.specs.Lists.{handles_of}
+use Rattle.vlm_collections.specs.Lists.{handles_of}
 use Rattle.vlm_records.specs.Shown.{order_links}
 use Rattle.vlm_store.specs.Store.{tables}
-use Rattle.vlm_links.proofs.Walks.{handle_after-in}
+use Rattle.vlm_collections.proofs.Walks.{handle_after-in}
 use Rattle.vlm_store.proofs.Layouts.{HasResource-order, resource_after-is}
 use Rattle.vlm_store.specs.Kept.{beside_shown}
 use Rattle.vlm_store.proofs.store.Store.next_resource.Goals as goal

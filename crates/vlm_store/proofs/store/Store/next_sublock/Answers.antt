@@ -1,7 +1,7 @@
 use Rattle.std.proofs.Common.{◌∙◌, ap, sym, subst}
 use Rattle.std.proofs.lemmas.Option.{none-some}
-use Rattle.vlm_links.specs.Lists.{Lists, handle_after}
-use Rattle.vlm_links.proofs.Walks.{handle_after-in}
+use Rattle.vlm_collections.specs.Lists.{Lists, handle_after}
+use Rattle.vlm_collections.proofs.Walks.{handle_after-in}
 use Rattle.vlm_records.specs.Kin.{below_handles, below_in, below_links, parent_in}
 use Rattle.vlm_store.proofs.Living.{lock_there}
 use Rattle.vlm_store.proofs.Siblings.{below_listed, below_of_lock, seen_below, unseen_below}

@@ -1,8 +1,8 @@
 use Rattle.std.proofs.Common.{Some, sym, ap, ◌∙◌}
 use Rattle.std.specs.Option.{option_map}
 use Rattle.slab.specs.Slab.{get}
-use Rattle.vlm_links.specs.Lists.{handles_of}
-use Rattle.vlm_links.proofs.Walks.{handle_index-in}
+use Rattle.vlm_collections.specs.Lists.{handles_of}
+use Rattle.vlm_collections.proofs.Walks.{handle_index-in}
 use Rattle.vlm_records.specs.Kin.{process_links}
 use Rattle.vlm_store.specs.Holdings.{holding, process_face_in}
 use Rattle.vlm_store.specs.Store.{records_of}

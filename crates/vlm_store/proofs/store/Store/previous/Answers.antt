@@ -1,12 +1,12 @@
 use Rattle.std.proofs.Common.{◌≡◌, ◌∙◌, ℕ, List, [], ◌∷◌, map, ap, sym, subst, refl}
 use Rattle.std.proofs.lemmas.Option.{none-some, same_Some}
-use Rattle.vlm_links.specs.Lists.{IsIn, handle_before}
+use Rattle.vlm_collections.specs.Lists.{IsIn, handle_before}
 use Rattle.vlm_store.specs.Records.{Records, StoredLock, locks_at}
 use Rattle.vlm_records.specs.Shown.{handles_at, noted_in, rows}
 use Rattle.vlm_store.specs.Store.{tables, under_handle}
 use Rattle.vlm_words.specs.declared.locks.Row.{Row}
 use Rattle.vlm_store.proofs.Kept.{stored_there}
-use Rattle.vlm_links.proofs.Walks.{handle_before-in}
+use Rattle.vlm_collections.proofs.Walks.{handle_before-in}
 use Rattle.vlm_store.proofs.Layouts.{among-seen, locks_at-among, locks_at-seen}
 use Rattle.vlm_store.specs.Kept.{beside_shown}
 use Rattle.vlm_store.proofs.store.Store.previous.Goals as goal

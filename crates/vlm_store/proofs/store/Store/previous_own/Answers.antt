@@ -1,7 +1,7 @@
 use Rattle.std.proofs.Common.{◌∙◌, ap, sym, subst}
 use Rattle.std.proofs.lemmas.Option.{none-some}
-use Rattle.vlm_links.specs.Lists.{Lists, handle_before}
-use Rattle.vlm_links.proofs.Walks.{handle_before-in}
+use Rattle.vlm_collections.specs.Lists.{Lists, handle_before}
+use Rattle.vlm_collections.proofs.Walks.{handle_before-in}
 use Rattle.vlm_records.specs.Kin.{own_handles, own_in, own_links, owner_in}
 use Rattle.vlm_store.proofs.Living.{lock_there}
 use Rattle.vlm_store.proofs.Siblings.{own_listed, own_of_lock}

@@ -1,6 +1,6 @@
 use Rattle.std.proofs.Common.{◌∙◌, sym, ap, subst}
-use Rattle.vlm_links.specs.Lists.{IsIn}
-use Rattle.vlm_links.proofs.Walks.{first_handle-in}
+use Rattle.vlm_collections.specs.Lists.{IsIn}
+use Rattle.vlm_collections.proofs.Walks.{first_handle-in}
 use Rattle.vlm_records.specs.Line.{line_handles}
 use Rattle.vlm_store.specs.Queued.{IsQueued, handles_on}
 use Rattle.vlm_store.proofs.QueuedSeen.{listed_queued, on_first, queued_listed}

@@ -1,11 +1,11 @@
-use Rattle.vlm_links.specs.Parts.{spares_of}
+use Rattle.vlm_collections.specs.Parts.{spares_of}
 use Rattle.vlm_store.specs.Index.{hash_key}
 use Rattle.vlm_store.proofs.Lined.{line_below, line_kin, line_own, line_queued, line_removed}
 use Rattle.vlm_store.proofs.RoomShown.{room_shown, is_given_back, rooms_are, room_of_same}
 use Rattle.std.proofs.Common.{◌≡◌, ◌≢◌, ◌∙◌, [], map, None, ap, sym, refl, ◌+◌, ℕ}
 use Rattle.std.specs.Option.{option_map}
 use Rattle.slab.specs.Slab.{get as slot_of}
-use Rattle.vlm_links.specs.Lists.{without}
+use Rattle.vlm_collections.specs.Lists.{without}
 use Rattle.vlm_store.specs.HashedKeys.{hashed_at}
 use Rattle.vlm_store.proofs.HashedKeys.{labels_same}
 use Rattle.vlm_records.specs.Kin.{below_handles, but_below, owner_in, pid_at}

@@ -1,5 +1,5 @@
 use Rattle.std.proofs.Common.{OnOk}
-use Rattle.vlm_links.specs.Parts.{spares_of}
+use Rattle.vlm_collections.specs.Parts.{spares_of}
 use Rattle.vlm_store.specs.Records.{HasRoom}
 use Rattle.vlm_store.specs.Store.{tables}
 use Rattle.vlm_store.specs.Kept.{beside_shown}

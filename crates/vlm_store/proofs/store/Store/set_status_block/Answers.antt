@@ -1,6 +1,6 @@
 use Rattle.std.proofs.Common.{ap}
 use Rattle.vlm_words.specs.State.{Process as PlainProcess}
-use Rattle.vlm_words.specs.StatusBlocks.{process_with_block}
+use Rattle.vlm_words.specs.Processes.{process_with_block}
 use Rattle.vlm_store.specs.Records.{changed_process}
 use Rattle.vlm_store.proofs.Living.{process_there}
 use Rattle.vlm_store.proofs.Rewriting.{changed_face, rewritten_kept, rewritten_shown}

@@ -1,4 +1,4 @@
-use Rattle.vlm_links.specs.Parts.{handle_in}
+use Rattle.vlm_collections.specs.Parts.{handle_in}
 use Rattle.vlm_store.specs.Index.{hash_key}
 use Rattle.vlm_store.proofs.Lined.{line_same}
 use Rattle.vlm_store.proofs.RoomShown.{queues_room}

@@ -1,6 +1,6 @@
 use Rattle.std.proofs.Common.{◌∙◌, List, sym, ap}
 use Rattle.vlm_words.specs.declared.asts.Ast.{Ast}
-use Rattle.vlm_words.specs.Asts.{oldest, without_oldest_ast}
+use Rattle.vlm_words.specs.Processes.{oldest, without_oldest_ast}
 use Rattle.vlm_records.specs.declared.processes.Process.{Process}
 use Rattle.vlm_records.specs.Kin.{plain_process, process_links}
 use Rattle.vlm_store.specs.Holdings.{process_face_in}

@@ -2,11 +2,11 @@ use Rattle.vlm_store.specs.Index.{hash_key}
 use Rattle.vlm_store.proofs.Lined.{empty_line}
 use Rattle.std.proofs.Common.{◌≡◌, ◌∙◌, ℕ, None, refl, sym, ap}
 use Rattle.std.proofs.lemmas.Option.{none-some}
-use Rattle.vlm_links.specs.Tables.{handle_of}
+use Rattle.vlm_collections.specs.Tables.{handle_of}
 use Rattle.slab.specs.Slab.{get}
 use Rattle.vlm_records.specs.Shown.{lkid_of}
 use Rattle.std.specs.Option.{option_map}
-use Rattle.vlm_links.specs.Parts.{handle_in}
+use Rattle.vlm_collections.specs.Parts.{handle_in}
 use Rattle.vlm_records.specs.declared.queues.Queues.{Queues}
 use Rattle.vlm_store.specs.HashedKeys.{hashed_at, hashed_in}
 use Rattle.vlm_store.proofs.HashedKeys.{hashed_empty}

@@ -1,0 +1,13 @@
+pub mod Chains
+pub mod Images
+pub mod Keeping
+pub mod HandleLists
+pub mod Rings
+pub mod Walks
+pub mod HandleRows
+pub mod IndexParts
+pub mod Bits
+pub mod Levels
+pub mod Numbers
+pub mod Placed
+pub mod Cleared

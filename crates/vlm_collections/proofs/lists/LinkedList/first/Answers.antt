@@ -1,0 +1,6 @@
+use Rattle.std.proofs.Common.{◌∙◌}
+use Rattle.vlm_collections.proofs.Rings.{first_is}
+use Rattle.vlm_collections.proofs.lists.LinkedList.first.Goals as goal
+
+pub returns : goal.returns
+returns g c = c.handle.ensures ∙ first_is g.T.Linked.links c.args.nodes.now c.args.self.now c.requires

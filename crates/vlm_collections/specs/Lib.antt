@@ -1,0 +1,10 @@
+pub mod Hashing
+pub mod Links
+pub mod Lists
+pub mod Parts
+pub mod Sip
+pub mod Tables
+pub mod Marks
+pub mod Nodes
+pub mod Words
+pub mod Asts

@@ -1,0 +1,50 @@
+//! Collections that the records are kept in. Each makes its room beforehand, and no removal takes memory:
+//!
+//! - `LinkedList`: doubly linked lists that run through the records of a slab.
+//! - `PartedIndex` and `HandleTable`: a record found by its number, with a hash and without one.
+//! - `Marks` and `NodeMarks`: sets of small numbers, and of processes, whose least member is found at once.
+//! - `AstQueue`: a queue with reserved room.
+//!
+//! # Linked lists
+//!
+//! A record has a pair of links for each kind of list: the handle of the record before it and of the record after it,
+//! each in four bytes. `Linked<Kind>` says which pair is meant, so a record may be in several lists at once, one of each
+//! kind. A list has its first record, its last, and its length. Where a record has no neighbour, the list's own end takes
+//! the neighbour's part. So a join writes the record's pair, one link of the last record, and the list. A leave writes a
+//! link of each neighbour, or an end of the list, and its length. The pair of a record that left stays as it was, and is
+//! written when it joins again.
+//!
+//! # Marks
+//!
+//! A number has a bit in a word of 64. Above these words are two levels: a bit for each word that has a bit set, and a bit
+//! for each word of these. So the least is found from the top by three words.
+//!
+//! # Queues with reserved room
+//!
+//! Room is reserved when a request is accepted (`owe`), and that is the one call that may want memory. An AST is queued
+//! into room that is there, and cannot fail. Room that no AST will need is given back (`forgive`).
+#![tactic(auto)]
+
+mod growth;
+mod handles;
+mod hashing;
+mod link;
+mod lists;
+mod marks;
+mod nodes;
+mod parted;
+mod queues;
+mod sip;
+mod tables;
+mod words;
+
+pub use growth::{reserve_one, reserve_slot};
+pub use handles::{At, MaybeAt};
+pub use hashing::{HashKeys, HashSpread};
+pub use link::{LAST_HANDLE, Links};
+pub use lists::{Linked, LinkedList};
+pub use marks::Marks;
+pub use nodes::NodeMarks;
+pub use parted::PartedIndex;
+pub use queues::AstQueue;
+pub use tables::HandleTable;

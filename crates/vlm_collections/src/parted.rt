@@ -1,0 +1,93 @@
+//! An index of handles by number, in parts.
+
+ghost use Rattle.std.specs.Prelude.{◌≡◌, ◌<◌, ℕ, None, Some, IsOk, OnOk};
+ghost use Rattle.indexmap.specs.IndexMap.{IsEmpty};
+ghost use Rattle.vlm_collections.specs.Parts.{FindsSame, KeepsSpares, UsesOneSpare, Writes, handle_in, spare_for, spares_of};
+
+use crate::handles::At;
+use crate::hashing::HashSpread;
+use indexmap::IndexMap;
+use std::alloc::{AllocError, Global};
+use std::array::from_fn;
+use std::marker::Model;
+
+const PARTS: usize = 64;
+
+/// Finds handles by number. It has 64 parts, and the low bits of a number choose its part. A full part grows alone,
+/// so a growth moves about a 64th of the index, in a 64th of the time.
+#[derive(Drop)]
+pub struct PartedIndex<Kind> {
+    // part k has the numbers with remainder k modulo 64
+    parts: [IndexMap<u32, At<Kind>, HashSpread>; PARTS],
+}
+
+impl<Kind> Model for PartedIndex<Kind> {
+    ghost use Rattle.std.specs.Prelude.{◌≡◌, length};
+    ghost use Rattle.std.specs.Coded.{coded_list, coded_ℕ};
+    ghost use Rattle.indexmap.specs.Layout.{hash_map_code};
+    ghost use Rattle.vlm_collections.specs.Parts.{Parts};
+    ghost use Rattle.vlm_collections.specs.contracts.hashing.HashSpread.{the_row as spread};
+
+    ghost Value = { Parts };
+
+    ghost coded = { coded_list (hash_map_code coded_ℕ coded_ℕ spread.coded) };
+
+    ghost view = { λ x. x.parts };
+
+    ghost invariant = { λ x. length x.parts ≡ 64 };
+}
+
+impl<Kind> PartedIndex<Kind> {
+    /// An empty index. It takes no memory.
+    pub fn new(alloc: Global) -> Self
+        ensures { (number : ℕ) → handle_in result number ≡ None }
+    {
+        PartedIndex {
+            parts: from_fn(
+                |_|
+                    ensures { IsEmpty result }
+                { IndexMap::with_hasher(alloc, HashSpread::new()) },
+            ),
+        }
+    }
+
+    /// The handle of a number, if it has one.
+    #[inline(always)]
+    pub fn get(&self, number: u32) -> Option<At<Kind>>
+        ensures { result ≡ handle_in self.now number }
+    {
+        self.parts[number as usize % PARTS].get(&number).copied()
+    }
+
+    /// Makes room for one more number in the part of this number.
+    #[inline(always)]
+    pub fn reserve(&mut self, number: u32) -> Result<(), AllocError>
+        ensures same { FindsSame self.old self.new }
+        ensures room { KeepsSpares (spares_of self.old) (spares_of self.new) }
+        ensures find { OnOk result (0 < spare_for (spares_of self.new) number) }
+        ensures succeeds { 0 < spare_for (spares_of self.old) number → IsOk result }
+    {
+        self.parts[number as usize % PARTS].reserve(1)
+    }
+
+    /// Gives a number this handle, and returns the handle that it had.
+    #[inline(always)]
+    pub fn insert(&mut self, number: u32, at: At<Kind>) -> Option<At<Kind>>
+        requires room { 0 < spare_for (spares_of self.old) number }
+        ensures before { result ≡ handle_in self.old number }
+        ensures writes { Writes number (Some at) self.old self.new }
+        ensures taken { UsesOneSpare (spares_of self.old) (spares_of self.new) }
+    {
+        self.parts[number as usize % PARTS]
+            .insert(number, at)
+            .unwrap()
+    }
+
+    #[inline(always)]
+    pub fn remove(&mut self, number: u32)
+        ensures writes { Writes number None self.old self.new }
+        ensures room { KeepsSpares (spares_of self.old) (spares_of self.new) }
+    {
+        self.parts[number as usize % PARTS].swap_remove(&number);
+    }
+}

@@ -1,5 +1,0 @@
-use Rattle.vlm_watch.specs.Watching.{IsAsBefore}
-use Rattle.vlm_hub_uses.proofs.onlookers.Onlooker.look_often.Given as goal
-
-abbrev pub invariant-loop : goal.invariant-loop
-invariant-loop l = IsAsBefore l.initial.self.watcher l.self.watcher

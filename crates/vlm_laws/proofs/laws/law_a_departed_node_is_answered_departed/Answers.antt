@@ -1,5 +1,0 @@
-use Rattle.vlm_laws.proofs.Departing.{told_always}
-use Rattle.vlm_laws.proofs.laws.law_a_departed_node_is_answered_departed.Goals as goal
-
-pub returns : goal.returns
-returns c = told_always

@@ -1,5 +1,0 @@
-use Rattle.vlm_laws.proofs.WarnedSince.{warned_since_always}
-use Rattle.vlm_laws.proofs.laws.law_a_grant_is_armed_or_was_warned.Goals as goal
-
-pub returns : goal.returns
-returns c = warned_since_always

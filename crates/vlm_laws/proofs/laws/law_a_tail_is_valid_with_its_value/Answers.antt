@@ -1,5 +1,0 @@
-use Rattle.vlm_laws.proofs.TailMarks.{tails_always}
-use Rattle.vlm_laws.proofs.laws.law_a_tail_is_valid_with_its_value.Goals as goal
-
-pub returns : goal.returns
-returns c = tails_always

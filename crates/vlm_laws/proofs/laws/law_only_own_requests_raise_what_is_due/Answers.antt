@@ -1,5 +1,0 @@
-use Rattle.vlm_laws.proofs.Raising.{raising_always}
-use Rattle.vlm_laws.proofs.laws.law_only_own_requests_raise_what_is_due.Goals as goal
-
-pub returns : goal.returns
-returns c = raising_always c.law_asts_are_taken_in_order.ensures

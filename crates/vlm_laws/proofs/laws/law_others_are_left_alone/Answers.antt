@@ -1,5 +1,0 @@
-use Rattle.vlm_laws.proofs.Owners.{left_alone_always}
-use Rattle.vlm_laws.proofs.laws.law_others_are_left_alone.Goals as goal
-
-pub returns : goal.returns
-returns c = left_alone_always

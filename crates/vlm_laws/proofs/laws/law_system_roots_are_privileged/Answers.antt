@@ -1,5 +1,0 @@
-use Rattle.vlm_laws.proofs.Privileges.{privileges_always}
-use Rattle.vlm_laws.proofs.laws.law_system_roots_are_privileged.Goals as goal
-
-pub returns : goal.returns
-returns c = privileges_always

@@ -1,5 +1,0 @@
-use Rattle.vlm_laws.proofs.Accounting.{taken_or_pending_always}
-use Rattle.vlm_laws.proofs.laws.law_what_is_queued_is_taken_or_pending.Goals as goal
-
-pub returns : goal.returns
-returns c = taken_or_pending_always c.law_asts_are_taken_in_order.ensures

@@ -1,4 +1,0 @@
-use Rattle.vlm_links.proofs.link.Links.none.Goals as goal
-
-pub returns-clause-prev : goal.returns-clause-prev
-returns-clause-prev c = c.none.ensures

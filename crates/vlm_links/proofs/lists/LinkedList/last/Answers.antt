@@ -1,6 +1,0 @@
-use Rattle.std.proofs.Common.{◌∙◌}
-use Rattle.vlm_links.proofs.Rings.{last_is}
-use Rattle.vlm_links.proofs.lists.LinkedList.last.Goals as goal
-
-pub returns : goal.returns
-returns g c = c.handle.ensures ∙ last_is g.T.Linked.links c.args.nodes.now c.args.self.now c.requires

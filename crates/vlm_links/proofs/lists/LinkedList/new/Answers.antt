@@ -1,5 +1,0 @@
-use Rattle.std.proofs.Common.{rules}
-use Rattle.vlm_links.proofs.lists.LinkedList.new.Goals as goal
-
-pub returns : goal.returns
-returns g c = search rules

@@ -1,6 +1,0 @@
-pub mod Hashing
-pub mod Links
-pub mod Lists
-pub mod Parts
-pub mod Sip
-pub mod Tables

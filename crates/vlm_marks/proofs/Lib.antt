@@ -1,5 +1,0 @@
-pub mod Bits
-pub mod Levels
-pub mod Numbers
-pub mod Placed
-pub mod Cleared

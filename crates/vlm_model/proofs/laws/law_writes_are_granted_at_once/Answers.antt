@@ -1,0 +1,5 @@
+use Rattle.vlm_model.proofs.Writes.{writes_at_once_always}
+use Rattle.vlm_model.proofs.laws.law_writes_are_granted_at_once.Goals as goal
+
+pub returns : goal.returns
+returns c = writes_at_once_always

@@ -1,2 +1,0 @@
-pub mod ModesThatFit
-pub mod Totals

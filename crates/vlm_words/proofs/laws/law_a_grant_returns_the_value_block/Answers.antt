@@ -1,5 +1,0 @@
-use Rattle.vlm_words.proofs.Returned.{returned_always}
-use Rattle.vlm_words.proofs.laws.law_a_grant_returns_the_value_block.Goals as goal
-
-pub returns : goal.returns
-returns c = returned_always

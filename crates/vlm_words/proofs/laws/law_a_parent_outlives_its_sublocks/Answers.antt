@@ -1,5 +1,0 @@
-use Rattle.vlm_words.proofs.Trees.{parents_always}
-use Rattle.vlm_words.proofs.laws.law_a_parent_outlives_its_sublocks.Goals as goal
-
-pub returns : goal.returns
-returns c = parents_always

@@ -1,5 +1,0 @@
-use Rattle.vlm_words.proofs.Circles.{finds_always}
-use Rattle.vlm_words.proofs.laws.law_a_search_finds_who_is_caught.Goals as goal
-
-pub returns : goal.returns
-returns c = finds_always

@@ -1,5 +1,0 @@
-use Rattle.vlm_words.proofs.Taking.{taking_always}
-use Rattle.vlm_words.proofs.laws.law_asts_are_taken_in_order.Goals as goal
-
-pub returns : goal.returns
-returns c = taking_always

@@ -1,5 +1,0 @@
-use Rattle.vlm_words.proofs.Joining.{order_kept_always}
-use Rattle.vlm_words.proofs.laws.law_changes_keep_the_order_of_queues.Goals as goal
-
-pub returns : goal.returns
-returns c = order_kept_always

@@ -1,5 +1,0 @@
-use Rattle.vlm_words.proofs.EndsOnce.{ends_once_always}
-use Rattle.vlm_words.proofs.laws.law_each_request_ends_once.Goals as goal
-
-pub returns : goal.returns
-returns c = ends_once_always

@@ -1,5 +1,0 @@
-use Rattle.vlm_words.proofs.Keys.{keys_always}
-use Rattle.vlm_words.proofs.laws.law_keys_are_apart.Goals as goal
-
-pub returns : goal.returns
-returns c = keys_always

@@ -1,5 +1,0 @@
-use Rattle.vlm_words.proofs.Queued.{noqueue_always}
-use Rattle.vlm_words.proofs.laws.law_noqueue_is_kept.Goals as goal
-
-pub returns : goal.returns
-returns c = noqueue_always

@@ -1,5 +1,0 @@
-use Rattle.vlm_words.proofs.NothingLeft.{nothing_left_always}
-use Rattle.vlm_words.proofs.laws.law_nothing_is_left_to_grant.Goals as goal
-
-pub returns : goal.returns
-returns c = nothing_left_always

@@ -1,5 +1,0 @@
-use Rattle.vlm_words.proofs.Numbers.{numbers_always}
-use Rattle.vlm_words.proofs.laws.law_numbers_are_given_once.Goals as goal
-
-pub returns : goal.returns
-returns c = numbers_always

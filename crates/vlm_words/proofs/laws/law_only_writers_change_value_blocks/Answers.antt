@@ -1,5 +1,0 @@
-use Rattle.vlm_words.proofs.Writers.{writers_always}
-use Rattle.vlm_words.proofs.laws.law_only_writers_change_value_blocks.Goals as goal
-
-pub returns : goal.returns
-returns c = writers_always

@@ -1,5 +1,0 @@
-use Rattle.vlm_words.proofs.RowsFit.{rows_fit_always}
-use Rattle.vlm_words.proofs.laws.law_rows_fit_their_queues.Goals as goal
-
-pub returns : goal.returns
-returns c = rows_fit_always

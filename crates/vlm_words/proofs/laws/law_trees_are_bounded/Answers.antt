@@ -1,5 +1,0 @@
-use Rattle.vlm_words.proofs.Trees.{trees_always}
-use Rattle.vlm_words.proofs.laws.law_trees_are_bounded.Goals as goal
-
-pub returns : goal.returns
-returns c = trees_always
