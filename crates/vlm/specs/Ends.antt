@@ -9,7 +9,7 @@ use Rattle.vlm_monitor.specs.declared.ends.WatchFault.TheVariants.{NoAnswer, NoS
 use Rattle.vlm_words.specs.declared.resources.Domain.{Domain}
 use Rattle.vlm_words.specs.declared.resources.Domain.TheVariants.{System}
 use Rattle.vlm_watch.specs.declared.rows.RootKey.{RootKey}
-use Rattle.vlm.specs.declared.words.Subject.{Subject}
+use Rattle.vlm.specs.declared.arguments.Subject.{Subject}
 use Rattle.vlm.specs.Clusters.{PrintsCluster}
 use Rattle.vlm_monitor.specs.Watches.{PrintsWatch}
 use Rattle.vlm.specs.Words.{AskForCluster, AskForPlay, AskForWatch, IsErrorOf, IsHelp, word_errors}

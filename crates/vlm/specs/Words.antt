@@ -9,9 +9,9 @@ use Rattle.clap.specs.declared.error.kind.ErrorKind.TheVariants.{DisplayHelp, Di
 use Rattle.vlm_words.specs.declared.resources.Domain.TheVariants.{Group, System}
 use Rattle.vlm_words.specs.Names.{name_of}
 use Rattle.vlm_lines.specs.Lines.{name_read}
-use Rattle.vlm.specs.declared.words.Subject.{Subject}
-use Rattle.vlm.specs.declared.words.Task.{Task}
-use Rattle.vlm.specs.declared.words.Task.TheVariants.{Cluster, Play, Watch}
+use Rattle.vlm.specs.declared.arguments.Subject.{Subject}
+use Rattle.vlm.specs.declared.arguments.Task.{Task}
+use Rattle.vlm.specs.declared.arguments.Task.TheVariants.{Cluster, Play, Watch}
 
 -- a command that needs one of its subcommands, or is asked for its version
 abbrev pub with_needed_subcommand : App → App

@@ -1,11 +1,11 @@
 //! Runs scripts of lock requests, and prints the answers.
 #![tactic(auto)]
 
+mod arguments;
 mod cluster;
 mod run;
 mod told;
 mod watch;
-mod words;
 
 use std::process::ExitCode;
 use std::{env, io};

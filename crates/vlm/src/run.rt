@@ -5,9 +5,9 @@ ghost use Rattle.clap.specs.Words.{kind_of};
 ghost use Rattle.vlm.specs.Words.{AreClusterWords, AreWatchWords, name_given};
 ghost use Rattle.vlm.specs.Ends.{ClustersOrWantsMemory, EndsByError, EndsByWords, FailsHelp, GivesHelp, PrintsFault, PrintsLine, PrintsNoRandomBytes, RunsOrWantsMemory, RunsScript, StartsRun, WatchesOrWantsMemory, output_of, status_of};
 
+use crate::arguments::{Task, chosen};
 use crate::cluster::start_cluster;
 use crate::watch::start_watch;
-use crate::words::{Task, chosen};
 use clap::Error;
 use clap::error::ErrorKind;
 use std::alloc::Global;

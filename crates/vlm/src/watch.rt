@@ -3,8 +3,8 @@
 ghost use Rattle.std.specs.Prelude.{◌≡◌, Err};
 ghost use Rattle.vlm.specs.Ends.{PrintsLine, RunsWatch, StartsNamedWatch, StartsWatch, output_of, watch_fault_line, watch_status_of};
 
+use crate::arguments::Subject;
 use crate::run::{DONE, FAILED, REFUSED, failed, random_keys, refused_by, without_random_bytes};
-use crate::words::Subject;
 use std::io::{Read, Write};
 use std::random::RandomSource;
 use std::sync::Wait;

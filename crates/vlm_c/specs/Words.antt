@@ -12,10 +12,10 @@ use Rattle.vlm_words.specs.declared.steps.Conversion.{Conversion}
 use Rattle.vlm_words.specs.declared.steps.Dequeue.{Dequeue}
 use Rattle.vlm_words.specs.declared.steps.Declaration.{Declaration}
 use Rattle.vlm_words.specs.declared.steps.ValueSetting.{ValueSetting}
-use Rattle.vlm_c.specs.declared.words.VlmDeclaration.{VlmDeclaration}
-use Rattle.vlm_c.specs.declared.words.VlmSetting.{VlmSetting}
-use Rattle.vlm_c.specs.declared.words.VlmRequest.{VlmRequest}
-use Rattle.vlm_c.specs.declared.words.VlmDequeue.{VlmDequeue}
+use Rattle.vlm_c.specs.declared.arguments.VlmDeclaration.{VlmDeclaration}
+use Rattle.vlm_c.specs.declared.arguments.VlmSetting.{VlmSetting}
+use Rattle.vlm_c.specs.declared.arguments.VlmRequest.{VlmRequest}
+use Rattle.vlm_c.specs.declared.arguments.VlmDequeue.{VlmDequeue}
 
 unfoldable pub mode_of : ℕ → Option Mode
 mode_of n =

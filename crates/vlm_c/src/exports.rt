@@ -10,15 +10,15 @@ ghost use Rattle.vlm_c.specs.Served.{AstReplied, Opened, OpenedIf, Replied, Stat
 ghost use Rattle.vlm_c.specs.Shown.{Told, block_shown, count_shown, lksb_of, pending_shown, process_count_shown, process_of, process_shown, resource_of, resource_shown, row_of, row_shown_at, sized};
 ghost use Rattle.vlm_c.specs.Words.{conversion_of, declaration_of, dequeue_of, node_of, request_of, setting_of, take_of};
 
+use crate::arguments::{
+    VlmDeclaration, VlmDequeue, VlmRequest, VlmSetting, conversion_of, declaration_of, dequeue_of,
+    node_of, request_of, setting_of, take_of,
+};
 use crate::handle::Vlm;
 use crate::replies::{VlmAst, answer_number, answer_status, status, write_ast};
 use crate::shown::{
     LKSB_SIZE, PROCESS_SIZE, RESOURCE_SIZE, ROW_SIZE, VlmLksb, VlmProcess, VlmResource, VlmRow,
     lksb_of, process_of, resource_of, row_of,
-};
-use crate::words::{
-    VlmDeclaration, VlmDequeue, VlmRequest, VlmSetting, conversion_of, declaration_of, dequeue_of,
-    node_of, request_of, setting_of, take_of,
 };
 use std::alloc::Global;
 use vlm_core::{Core, HashKeys};

@@ -6,9 +6,9 @@ ghost use Rattle.std.specs.Fn.{FnOnceReturnsAtMut};
 ghost use Rattle.vlm_c.specs.Served.{Called, Served};
 ghost use Rattle.vlm_c.specs.Shown.{block_shown, count_shown, pending_shown, process_count_shown, process_shown, resource_shown, row_shown_at};
 
+use crate::arguments::queue_of;
 use crate::loose::Loose;
 use crate::slot::Slot;
-use crate::words::queue_of;
 use std::alloc::Global;
 use std::mem::replace;
 use vlm_core::{Core, ProcessView, ResourceView, RowView};

@@ -13,10 +13,10 @@
 //! No export has a `requires`. The caller in C answers for pointers and handles; the exports check all else.
 #![tactic(auto)]
 
+mod arguments;
 mod exports;
 mod handle;
 mod loose;
 mod replies;
 mod shown;
 mod slot;
-mod words;

@@ -3,7 +3,7 @@ use Rattle.std.specs.Prelude.{◌≡◌, ◌<◌, ◌≤◌, ◌+◌, ◌++◌, 
 use Rattle.std.specs.declared.alloc.Global.{Global}
 use Rattle.std.specs.declared.vec.Vec.{Vec}
 use mathlib.Core.List.{IsPrefix}
-use Rattle.vlm_words.specs.declared.locks.Row.{Row}
+use Rattle.vlm_words.specs.declared.locks.LockRow.{LockRow}
 use Rattle.vlm_words.specs.declared.steps.Step.{Step}
 use Rattle.vlm_words.specs.declared.steps.Step.TheVariants.{Leave}
 use Rattle.vlm_model.specs.Laws.{EachRequestEndsOnce, GrantsFollowQueueOrder, HeldModesAreCompatible}
@@ -94,7 +94,7 @@ RequestsEndOnce entries last = HoldsThroughout (λ history state. EachRequestEnd
 -- each step that is not refused grants in queue order, conversions before new requests, at each place of the journal
 abbrev pub GrantsKeepOrder : List Entry → State → Type 0
 GrantsKeepOrder entries last = HoldsThroughout
-    (λ history state. (step : Step) (choice : Option Row) → IsChoice state step choice → step_refusal state step ≡ None
+    (λ history state. (step : Step) (choice : Option LockRow) → IsChoice state step choice → step_refusal state step ≡ None
     → GrantsFollowQueueOrder state step choice)
     entries last
 

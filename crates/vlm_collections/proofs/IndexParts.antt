@@ -6,7 +6,7 @@ use Rattle.std.specs.Option.{option_map_or}
 use Rattle.std.proofs.lemmas.Bool.{cases_eq}
 use Rattle.std.proofs.lemmas.Option.{get_or_from_slice_get, slice_get-get_or}
 use Rattle.indexmap.specs.IndexMap.{IndexMap, get, spare, IsEmpty, Updates}
-use Rattle.vlm_collections.specs.declared.hashing.HashSpread.{HashSpread}
+use Rattle.vlm_collections.specs.declared.hashers.HashSpread.{HashSpread}
 use Rattle.vlm_collections.specs.Parts.{FindsSame, KeepsSpares, Parts, UsesOneSpare, Writes, handle_in, spare_for, spares_of}
 
 -- what a call ensures where it succeeds

@@ -2,8 +2,8 @@
 use Rattle.std.specs.Prelude.{ℕ, ◌*◌, ◌/◌, ◌%◌, ◌^◌, ◌==◌, List, bit_and, length, if◌then◌else◌}
 use Rattle.std.specs.Int.{w32, w128, from_le_bytes}
 use Rattle.std.specs.List.{fold}
-use Rattle.vlm_collections.specs.declared.hashing.HashSpread.{HashSpread}
-use Rattle.vlm_collections.specs.declared.hashing.HashKeys.{HashKeys}
+use Rattle.vlm_collections.specs.declared.hashers.HashSpread.{HashSpread}
+use Rattle.vlm_collections.specs.declared.hashers.HashKeys.{HashKeys}
 use Rattle.vlm_collections.specs.Sip.{compressed, finished}
 
 -- sixteen bytes as two words of keys

@@ -2,7 +2,7 @@
 use Rattle.std.specs.Prelude.{◌≡◌, ◌+◌, ◌≤◌, ◌%◌, ℕ, nat_eq, slice_get, slice_index_or, map, List, Option, None}
 use Rattle.std.specs.Option.{option_map_or}
 use Rattle.indexmap.specs.IndexMap.{IndexMap, get, spare}
-use Rattle.vlm_collections.specs.declared.hashing.HashSpread.{HashSpread}
+use Rattle.vlm_collections.specs.declared.hashers.HashSpread.{HashSpread}
 
 -- the parts of an index
 abbrev pub Parts : Type 0

@@ -25,9 +25,10 @@
 //! into room that is there, and cannot fail. Room that no AST will need is given back (`forgive`).
 #![tactic(auto)]
 
+mod bit_words;
 mod growth;
 mod handles;
-mod hashing;
+mod hashers;
 mod link;
 mod lists;
 mod marks;
@@ -36,11 +37,10 @@ mod parted;
 mod queues;
 mod sip;
 mod tables;
-mod words;
 
 pub use growth::{reserve_one, reserve_slot};
 pub use handles::{At, MaybeAt};
-pub use hashing::{HashKeys, HashSpread};
+pub use hashers::{HashKeys, HashSpread};
 pub use link::{LAST_HANDLE, Links};
 pub use lists::{Linked, LinkedList};
 pub use marks::Marks;

@@ -2,7 +2,7 @@
 
 ghost use Rattle.std.specs.Prelude.{◌≡◌, ◌≤◌, ◌<◌, ◌-◌, ◌*◌, ◌/◌, ◌++◌, [], false, length, position, replicate, slice_index_or, slice_set, true, IsOk, OnErr, OnOk};
 
-use crate::words::{clear_bit, first_bit, has_bit, set_bit};
+use crate::bit_words::{clear_bit, first_bit, has_bit, set_bit};
 use std::alloc::{AllocError, Global};
 use std::marker::Model;
 

@@ -5,7 +5,7 @@ ghost use Rattle.indexmap.specs.IndexMap.{IsEmpty};
 ghost use Rattle.vlm_collections.specs.Parts.{FindsSame, KeepsSpares, UsesOneSpare, Writes, handle_in, spare_for, spares_of};
 
 use crate::handles::At;
-use crate::hashing::HashSpread;
+use crate::hashers::HashSpread;
 use indexmap::IndexMap;
 use std::alloc::{AllocError, Global};
 use std::array::from_fn;
@@ -26,7 +26,7 @@ impl<Kind> Model for PartedIndex<Kind> {
     ghost use Rattle.std.specs.Coded.{coded_list, coded_ℕ};
     ghost use Rattle.indexmap.specs.Layout.{hash_map_code};
     ghost use Rattle.vlm_collections.specs.Parts.{Parts};
-    ghost use Rattle.vlm_collections.specs.contracts.hashing.HashSpread.{the_row as spread};
+    ghost use Rattle.vlm_collections.specs.contracts.hashers.HashSpread.{the_row as spread};
 
     ghost Value = { Parts };
 

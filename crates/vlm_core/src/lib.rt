@@ -7,10 +7,10 @@
 
 mod public;
 mod readers;
-mod running;
+mod runs;
 
 pub use public::Core;
-pub use running::{Stopped, run_steps};
+pub use runs::{Stopped, run_steps};
 pub use vlm_procs::ProcessView;
 pub use vlm_queue::{ResourceView, RowView, Usage};
 pub use vlm_store::HashKeys;

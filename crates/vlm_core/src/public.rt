@@ -15,14 +15,14 @@ use std::alloc::Global;
 use std::marker::Model;
 use vlm_locks::Touched;
 use vlm_machine::{Machine, Scratch};
-use vlm_store::laws::law_records_are_sound;
-use vlm_store::{HashKeys, Store};
 use vlm_model::laws::{
     law_a_declaration_gives_a_new_identification, law_a_parent_outlives_its_sublocks,
     law_each_resource_is_settled, law_held_modes_are_compatible, law_identifications_are_apart,
     law_identifications_of_processes_rise, law_no_lock_is_more_than_15_levels_below,
     law_nothing_is_left_to_grant, law_rows_fit_their_queues, law_serials_rise,
 };
+use vlm_store::laws::law_records_are_sound;
+use vlm_store::{HashKeys, Store};
 use vlm_words::steps::{Answer, Conversion, Declaration, Dequeue, NewRequest, Step, ValueSetting};
 
 /// The lock manager's core: a machine that one thread steps. Some run of the plain machine leads to its state, so each

@@ -12,10 +12,10 @@ ghost use Rattle.vlm_core.specs.Readers.{root_of};
 
 use crate::public::Core;
 use vlm_machine::living;
+use vlm_model::laws::law_identifications_of_processes_rise;
 use vlm_procs::{ProcessView, pending, process_at, status_block};
 use vlm_queue::{ResourceView, RowView, Usage, resource_at, row_at, usage_of};
 use vlm_words::blocks::Block;
-use vlm_model::laws::law_identifications_of_processes_rise;
 use vlm_words::names::Name;
 use vlm_words::resources::{Domain, Key, Queue};
 

@@ -2,27 +2,27 @@
 use Rattle.std.proofs.Common.{◌≡◌, ℕ, List, [], ◌∷◌, ◌++◌, map, flat_map, Option, None, Some, refl, sym, ap, ◌∙◌, subst, inl, inr, arith}
 use Rattle.std.specs.Prelude.{Any}
 use Rattle.std.proofs.lemmas.Option.{same_Some}
-use Rattle.vlm_words.specs.declared.locks.Row.{Row}
+use Rattle.vlm_words.specs.declared.locks.LockRow.{LockRow}
 use Rattle.vlm_model.specs.Deadlocks.{IsDeadlocked, LeadsTo, ProcessWaitsFor, WaitsFor, WaitsOn, queue_of, wanted_number}
 use Rattle.vlm_words.specs.State.{State}
 use Rattle.vlm_collections.specs.Lists.{IsIn}
 use Rattle.vlm_store.specs.Plain.{plain_resource, plain_resources}
 use Rattle.vlm_store.specs.Records.{Records, StoredResource}
-use Rattle.vlm_locks.specs.declared.finding.Standing.{Standing}
-use Rattle.vlm_locks.specs.Standing.{IsStanding}
+use Rattle.vlm_locks.specs.declared.located_locks.LocatedLock.{LocatedLock}
+use Rattle.vlm_locks.specs.Standing.{IsLocated}
 use Rattle.vlm_cycle.specs.Finding.{Improves, IsCovered, IsFit, IsLater, IsNotLater, IsVictimOf}
 use Rattle.vlm_cycle.specs.Waiting.{searched}
 use Rattle.vlm_cycle.proofs.Keeping.{waiting_on}
 use Rattle.vlm_cycle.proofs.Listed.{among_is, in_either, in_first, in_second}
 
 -- the best of what is left makes, with the best so far, the best of all
-abbrev pub BestGoesOn : Records → List Row → List Row → Option Standing → Option Standing → Type 0
-BestGoesOn s left all initial now = (final : Option Standing) → Improves s left now final → Improves s all initial final
+abbrev pub BestGoesOn : Records → List LockRow → List LockRow → Option LocatedLock → Option LocatedLock → Type 0
+BestGoesOn s left all initial now = (final : Option LocatedLock) → Improves s left now final → Improves s all initial final
 
-pub improves_none : (s : Records) (best : Option Standing) → Improves s [] best best
+pub improves_none : (s : Records) (best : Option LocatedLock) → Improves s [] best best
 improves_none s best = record { fit = λ fit. fit; kept = λ row covered. covered; covered = λ row there. absurd there }
 
-pub improves_both : (s : Records) (xs ys : List Row) (a b c : Option Standing) → Improves s xs a b → Improves s ys b c → Improves s (xs ++ ys) a c
+pub improves_both : (s : Records) (xs ys : List LockRow) (a b c : Option LocatedLock) → Improves s xs a b → Improves s ys b c → Improves s (xs ++ ys) a c
 improves_both s xs ys a b c first second = record {
   fit = λ fit. second.fit (first.fit fit);
   kept = λ row covered. second.kept row (first.kept row covered);
@@ -33,7 +33,7 @@ improves_both s xs ys a b c first second = record {
 }
 
 -- one more is looked at
-pub best_on : (s : Records) (xs left rest all : List Row) (initial now after : Option Standing) → left ≡ xs ++ rest
+pub best_on : (s : Records) (xs left rest all : List LockRow) (initial now after : Option LocatedLock) → left ≡ xs ++ rest
     → Improves s xs now after → BestGoesOn s left all initial now → BestGoesOn s rest all initial after
 best_on s xs left rest all initial now after is step goes final last =
     goes final (subst (λ rows. Improves s rows now final) (sym is) (improves_both s xs rest now after final step last))
@@ -41,10 +41,10 @@ best_on s xs left rest all initial now after is step goes final last =
 -- ---- one lock
 
 -- a later one is deadlocked: it is the best
-pub better_one : (s : Records) (row : Row) (best : Option Standing) (f : Standing) → row ≡ f.row → IsStanding f s → IsLater f.row best → IsDeadlocked (searched s) f.row
+pub better_one : (s : Records) (row : LockRow) (best : Option LocatedLock) (f : LocatedLock) → row ≡ f.row → IsLocated f s → IsLater f.row best → IsDeadlocked (searched s) f.row
     → Improves s (row ∷ []) best (Some f)
-better_one s row best f is standing later dead = record {
-  fit = λ fit g same. subst (λ h. IsStanding h s × IsDeadlocked (searched s) h.row) (same_Some f g same) (standing, dead);
+better_one s row best f is located later dead = record {
+  fit = λ fit g same. subst (λ h. IsLocated h s × IsDeadlocked (searched s) h.row) (same_Some f g same) (located, dead);
   kept = of_best best later;
   covered = λ x there. elim there [
     | inl here ↦ (λ dead_x. (let same : wanted_number x ≡ wanted_number f.row = ap wanted_number (sym here ∙ is) in omega (arith, same)))
@@ -52,12 +52,12 @@ better_one s row best f is standing later dead = record {
   ];
 }
   where
-    of_best : (b : Option Standing) → IsLater f.row b → (x : Row) → IsCovered s b x → IsCovered s (Some f) x
+    of_best : (b : Option LocatedLock) → IsLater f.row b → (x : LockRow) → IsCovered s b x → IsCovered s (Some f) x
     of_best None later x covered dead_x = absurd (covered dead_x)
     of_best (Some b) later x covered dead_x = let less = covered dead_x in omega (arith, less, later)
 
 -- one that is not deadlocked changes nothing
-pub not_dead : (s : Records) (row : Row) (best : Option Standing) → (IsDeadlocked (searched s) row → ⊥) → Improves s (row ∷ []) best best
+pub not_dead : (s : Records) (row : LockRow) (best : Option LocatedLock) → (IsDeadlocked (searched s) row → ⊥) → Improves s (row ∷ []) best best
 not_dead s row best alive = record {
   fit = λ fit. fit;
   kept = λ x covered. covered;
@@ -67,12 +67,12 @@ not_dead s row best alive = record {
   ];
 }
   where
-    of_best : (b : Option Standing) (x : Row) → (IsDeadlocked (searched s) x → ⊥) → IsCovered s b x
+    of_best : (b : Option LocatedLock) (x : LockRow) → (IsDeadlocked (searched s) x → ⊥) → IsCovered s b x
     of_best None x alive_x = alive_x
     of_best (Some b) x alive_x = λ dead. absurd (alive_x dead)
 
 -- nor does one that was not made later
-pub not_later : (s : Records) (row : Row) (best : Option Standing) → IsNotLater row best → Improves s (row ∷ []) best best
+pub not_later : (s : Records) (row : LockRow) (best : Option LocatedLock) → IsNotLater row best → Improves s (row ∷ []) best best
 not_later s row best earlier = record {
   fit = λ fit. fit;
   kept = λ x covered. covered;
@@ -82,7 +82,7 @@ not_later s row best earlier = record {
   ];
 }
   where
-    of_best : (b : Option Standing) (x : Row) → IsNotLater x b → IsCovered s b x
+    of_best : (b : Option LocatedLock) (x : LockRow) → IsNotLater x b → IsCovered s b x
     of_best None x less = absurd less
     of_best (Some b) x less = λ dead. less
 
@@ -103,7 +103,7 @@ module _ (s t : State) (same : s.resources ≡ t.resources) where
   leads_same pid [] last leads = leads
   leads_same pid (next ∷ others) last leads = (waits_same pid next leads.0, leads_same next others last leads.1)
 
-  pub deadlocked_same : (row : Row) → IsDeadlocked s row → IsDeadlocked t row
+  pub deadlocked_same : (row : LockRow) → IsDeadlocked s row → IsDeadlocked t row
   deadlocked_same row dead = record {
     lock = dead.lock;
     waits = subst (λ rs. Any (λ r. WaitsOn r row dead.lock) rs) same dead.waits;
@@ -112,7 +112,7 @@ module _ (s t : State) (same : s.resources ≡ t.resources) where
   }
 
 -- a request that waits is queued on a resource
-pub waiting_queued : (s : Records) (row lock : Row) → WaitsFor (searched s) row lock → IsIn row (flat_map queue_of (plain_resources s))
+pub waiting_queued : (s : Records) (row lock : LockRow) → WaitsFor (searched s) row lock → IsIn row (flat_map queue_of (plain_resources s))
 waiting_queued s row lock waits =
     let w = waiting_on s row lock waits in
     in_all w.resource s.resources w.there (among_is row (queue_of (plain_resource w.resource)) w.waits.queued)
@@ -127,18 +127,18 @@ waiting_queued s row lock waits =
     ]
 
 -- and so is one that is deadlocked
-pub dead_queued : (s : Records) (row : Row) → IsDeadlocked (searched s) row → IsIn row (flat_map queue_of (plain_resources s))
+pub dead_queued : (s : Records) (row : LockRow) → IsDeadlocked (searched s) row → IsIn row (flat_map queue_of (plain_resources s))
 dead_queued s row dead = waiting_queued s row dead.lock dead.waits
 
 -- the best of all is the victim
-pub record IsBestOfAll (s : Records) (best : Option Standing) : Type 0 where
+pub record IsBestOfAll (s : Records) (best : Option LocatedLock) : Type 0 where
   pub victim : IsVictimOf s best
   pub fit : IsFit s best
 
-pub best_of_all : (s : Records) (first best : Option Standing) → IsFit s first → Improves s (flat_map queue_of (plain_resources s)) first best → IsBestOfAll s best
+pub best_of_all : (s : Records) (first best : Option LocatedLock) → IsFit s first → Improves s (flat_map queue_of (plain_resources s)) first best → IsBestOfAll s best
 best_of_all s first best fit_first improves = let fit = improves.fit fit_first in record { victim = of_best best fit improves.covered; fit = fit }
   where
-    of_best : (b : Option Standing) → IsFit s b → ((row : Row) → IsIn row (flat_map queue_of (plain_resources s)) → IsCovered s b row) → IsVictimOf s b
+    of_best : (b : Option LocatedLock) → IsFit s b → ((row : LockRow) → IsIn row (flat_map queue_of (plain_resources s)) → IsCovered s b row) → IsVictimOf s b
     of_best None fit covered state same =
         λ row dead. let here = deadlocked_same state (searched s) same row dead in covered row (dead_queued s row here) here
     of_best (Some b) fit covered state same = (

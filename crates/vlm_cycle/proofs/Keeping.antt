@@ -2,7 +2,7 @@
 use Rattle.std.proofs.Common.{◌≡◌, ◌≢◌, ◌⊎◌, ℕ, true, false, List, [], ◌∷◌, ◌++◌, None, Some, refl, sym, ap, ◌∙◌, subst, inl, inr}
 use Rattle.std.proofs.lemmas.Option.{same_Some}
 use Rattle.vlm_words.specs.declared.locks.Request.{Request}
-use Rattle.vlm_words.specs.declared.locks.Row.{Row}
+use Rattle.vlm_words.specs.declared.locks.LockRow.{LockRow}
 use Rattle.vlm_words.specs.declared.resources.Queue.{Queue}
 use Rattle.vlm_words.specs.declared.resources.Queue.TheVariants.{Granted, Conversion, Waiting}
 use Rattle.vlm_model.specs.Deadlocks.{KeepsWaiting, WaitsFor, WaitsOn, queue_of}
@@ -17,14 +17,14 @@ use Rattle.vlm_cycle.specs.Waiting.{OwnsWaitedFor, OwnsBefore, OwnsBlocker, Owns
 use Rattle.vlm_cycle.proofs.Listed.{RowsApart, among_is, any_resource, apart_both, before_differs, before_is, before_passes, before_stops, in_either, in_first, in_second, is_among, lock_of, row_in, some_resource, split_before}
 
 -- a lock that is queued and not granted
-pub record IsQueuedOn (s : Records) (r : StoredResource) (row : Row) : Type 0 where
+pub record IsQueuedOn (s : Records) (r : StoredResource) (row : LockRow) : Type 0 where
   pub queue : Queue
   pub not_granted : queue ≢ Granted
   pub lock : StoredLock
   pub among : IsIn lock (queued queue r)
   pub its : lock.row ≡ row
 
-pub queued_on : (s : Records) (r : StoredResource) (row : Row) → IsIn row (queue_of (plain_resource r)) → IsQueuedOn s r row
+pub queued_on : (s : Records) (r : StoredResource) (row : LockRow) → IsIn row (queue_of (plain_resource r)) → IsQueuedOn s r row
 queued_on s r row there = elim (in_either row (rows_of_locks r.converting) (rows_of_locks r.waiting) there) [
   | inl first ↦
       (let found = lock_of row r.converting first in
@@ -35,13 +35,13 @@ queued_on s r row there = elim (in_either row (rows_of_locks r.converting) (rows
 ]
 
 -- a request that waits is stored
-pub record IsWaitingOn (s : Records) (row lock : Row) : Type 0 where
+pub record IsWaitingOn (s : Records) (row lock : LockRow) : Type 0 where
   pub resource : StoredResource
   pub there : IsIn resource s.resources
   pub waits : WaitsOn (plain_resource resource) row lock
   pub stands : IsQueuedOn s resource row
 
-pub waiting_on : (s : Records) (row lock : Row) → WaitsFor (searched s) row lock → IsWaitingOn s row lock
+pub waiting_on : (s : Records) (row lock : LockRow) → WaitsFor (searched s) row lock → IsWaitingOn s row lock
 waiting_on s row lock waits =
     let found = some_resource (λ r. WaitsOn r row lock) s.resources waits in
     record {
@@ -52,14 +52,14 @@ waiting_on s row lock waits =
     }
 
 module _ (s : Records) (sound : IsSound s) where
-  pub row_stored : (row lock : Row) → WaitsFor (searched s) row lock → (at : ℕ) × Stores s at row
+  pub row_stored : (row lock : LockRow) → WaitsFor (searched s) row lock → (at : ℕ) × Stores s at row
   row_stored row lock waits =
       let w = waiting_on s row lock waits in
       let k = w.stands.lock in
       (k.at, subst (Stores s k.at) w.stands.its (queued_stored s sound w.resource w.there w.stands.queue k w.stands.among))
 
   -- and so is the lock that it waits for
-  pub lock_stored : (row lock : Row) → WaitsFor (searched s) row lock → (at : ℕ) × Stores s at lock
+  pub lock_stored : (row lock : LockRow) → WaitsFor (searched s) row lock → (at : ℕ) × Stores s at lock
   lock_stored row lock waits =
       let w = waiting_on s row lock waits in
       elim w.waits.kept [
@@ -86,7 +86,7 @@ module _ (s : Records) (sound : IsSound s) where
       λ other in_other same.
           let found = lock_of other ks in_other in
           let x = found.0 in
-          let handle : x.at ≡ k.at = sound.lkids_apart x.at k.at x.row k.row (stored x (inr found.1.0)) (stored k (inl refl)) (ap (λ (y : Row). y.lkid) found.1.1 ∙ same) in
+          let handle : x.at ≡ k.at = sound.lkids_apart x.at k.at x.row k.row (stored x (inr found.1.0)) (stored k (inl refl)) (ap (λ (y : LockRow). y.lkid) found.1.1 ∙ same) in
           apart.0 x.row (subst (λ h. IsIn (record { at = h; row = x.row }) ks) handle found.1.0),
       apart_in ks apart.1 (λ x in_x. stored x (inr in_x)),
     )
@@ -113,15 +113,15 @@ module _ (s : Records) (sound : IsSound s) where
         let kb = lock_of b own.waiting in_b in
         let one : Queued own.at Conversion ≡ Queued own.at Waiting =
         one_queue Conversion Waiting ka.0 kb.0 own there ka.1.0 kb.1.0
-        (ap (λ (y : Row). y.lkid) kb.1.1 ∙ same ∙ sym (ap (λ (y : Row). y.lkid) ka.1.1)) in
+        (ap (λ (y : LockRow). y.lkid) kb.1.1 ∙ same ∙ sym (ap (λ (y : LockRow). y.lkid) ka.1.1)) in
         cc)
 
     module _ (lock : StoredLock) where
-      not_converting : IsIn lock own.waiting → (x : Row) → IsIn x (rows_of_locks own.converting) → x.lkid ≢ lock.row.lkid
+      not_converting : IsIn lock own.waiting → (x : LockRow) → IsIn x (rows_of_locks own.converting) → x.lkid ≢ lock.row.lkid
       not_converting among x in_x same =
           let k = lock_of x own.converting in_x in
           let one : Queued own.at Conversion ≡ Queued own.at Waiting =
-          one_queue Conversion Waiting k.0 lock own there k.1.0 among (sym same ∙ sym (ap (λ (y : Row). y.lkid) k.1.1)) in
+          one_queue Conversion Waiting k.0 lock own there k.1.0 among (sym same ∙ sym (ap (λ (y : LockRow). y.lkid) k.1.1)) in
           cc
 
       -- the owners of blockers are those of blockers in the whole queue
@@ -163,7 +163,7 @@ module _ (s : Records) (sound : IsSound s) where
       module _ (queue : Queue) (among : IsIn lock (queued queue own)) where
         -- where its request waits: here, and it is not granted
         pub record WaitsHere (pid : ℕ) : Type 0 where
-          pub other : Row
+          pub other : LockRow
           pub waits : WaitsOn (plain_resource own) lock.row other
           pub owner : other.pid ≡ pid
           pub not_granted : queue ≢ Granted
@@ -172,7 +172,7 @@ module _ (s : Records) (sound : IsSound s) where
         waits_here pid waited =
             let w = waiting_on s lock.row waited.0 waited.1.0 in
             let one : Queued own.at queue ≡ Queued w.resource.at w.stands.queue =
-            one_queue queue w.stands.queue lock w.stands.lock w.resource w.there among w.stands.among (ap (λ (y : Row). y.lkid) w.stands.its) in
+            one_queue queue w.stands.queue lock w.stands.lock w.resource w.there among w.stands.among (ap (λ (y : LockRow). y.lkid) w.stands.its) in
             let same_at : own.at ≡ w.resource.at = cc in
             let same_queue : queue ≡ w.stands.queue = cc in
             let same : own ≡ w.resource =
@@ -232,7 +232,7 @@ module _ (s : Records) (sound : IsSound s) where
             ]
           ]
             where
-              waited : (other : Row) → other.lkid ≢ lock.row.lkid → KeepsWaiting (plain_resource own) request lock.row other → other.pid ≡ pid → OwnsWaitedFor s lock.row pid
+              waited : (other : LockRow) → other.lkid ≢ lock.row.lkid → KeepsWaiting (plain_resource own) request lock.row other → other.pid ≡ pid → OwnsWaitedFor s lock.row pid
               waited other differs kept owner = (
                 other,
                 (

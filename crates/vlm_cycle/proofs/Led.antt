@@ -1,7 +1,7 @@
 -- The locks that are first in line lead to all requests that are queued.
 use Rattle.std.proofs.Common.{◌≡◌, ◌≤◌, ◌⊎◌, ℕ, List, [], ◌∷◌, ◌++◌, map, flat_map, Option, Some, refl, sym, ap, ◌∙◌, subst, inl, inr}
 use Rattle.std.proofs.lemmas.Option.{none-some, same_Some}
-use Rattle.vlm_words.specs.declared.locks.Row.{Row}
+use Rattle.vlm_words.specs.declared.locks.LockRow.{LockRow}
 use Rattle.vlm_words.specs.declared.resources.Queue.{Queue}
 use Rattle.vlm_words.specs.declared.resources.Queue.TheVariants.{Conversion, Waiting}
 use Rattle.vlm_model.specs.Deadlocks.{WaitsFor, queue_of}
@@ -12,30 +12,30 @@ use Rattle.vlm_store.specs.Plain.{plain_resource, plain_resources}
 use Rattle.vlm_store.specs.Queued.{IsQueued}
 use Rattle.vlm_store.specs.Records.{IsSound, IsStored, Records, StoredLock, StoredResource, first_at, locks_at, rows_of_locks}
 use Rattle.vlm_store.proofs.Records.{queue_at}
-use Rattle.vlm_locks.specs.declared.finding.Standing.{Standing}
+use Rattle.vlm_locks.specs.declared.located_locks.LocatedLock.{LocatedLock}
 use Rattle.vlm_cycle.specs.declared.ranks.Ranks.{Ranks}
 use Rattle.vlm_cycle.specs.Finding.{Improves, IsCovered}
-use Rattle.vlm_cycle.specs.Leading.{IsFirstOn, IsLed, rows_in_line}
+use Rattle.vlm_cycle.specs.Leading.{IsFirstOn, IsLed, rows_queued_on}
 use Rattle.vlm_cycle.specs.Ranking.{Falls, FallsOn, rank_of}
 use Rattle.vlm_cycle.specs.Waiting.{searched}
 use Rattle.vlm_cycle.proofs.Found.{waiting_queued}
 use Rattle.vlm_cycle.proofs.Listed.{in_either}
 
 -- a queued request is led to by the first of these, or by one behind it
-pub led_cases : (s : Records) (at : ℕ) (rest : List ℕ) (row : Row) → IsLed s (at ∷ rest) row → ((res : ℕ) × (IsFirstOn s at res × IsIn row (rows_in_line res s))) ⊎ IsLed s rest row
+pub led_cases : (s : Records) (at : ℕ) (rest : List ℕ) (row : LockRow) → IsLed s (at ∷ rest) row → ((res : ℕ) × (IsFirstOn s at res × IsIn row (rows_queued_on res s))) ⊎ IsLed s rest row
 led_cases s at rest row led = elim led.2.0 [
   | inl here ↦ inl (led.1, (subst (λ k. IsFirstOn s k led.1) (sym here) led.2.1, led.2.2))
   | inr later ↦ inr (led.0, led.1, (later, led.2.1, led.2.2))
 ]
 
 -- where a request is queued some lock is first in line
-first_of : (xs ys : List StoredLock) (row : Row) → IsIn row (rows_of_locks xs ++ rows_of_locks ys) → (k : StoredLock) × ((first_at (xs ++ ys) ≡ Some k.at) × (IsIn k xs ⊎ IsIn k ys))
+first_of : (xs ys : List StoredLock) (row : LockRow) → IsIn row (rows_of_locks xs ++ rows_of_locks ys) → (k : StoredLock) × ((first_at (xs ++ ys) ≡ Some k.at) × (IsIn k xs ⊎ IsIn k ys))
 first_of [] [] row there = absurd there
 first_of [] (k ∷ ys) row there = (k, (refl, inr (inl refl)))
 first_of (k ∷ xs) ys row there = (k, (refl, inl (inl refl)))
 
 -- a request of all resources is queued on one of them
-in_some : (row : Row) (rs : List StoredResource) → IsIn row (flat_map queue_of (map plain_resource rs)) → (r : StoredResource) × (IsIn r rs × IsIn row (queue_of (plain_resource r)))
+in_some : (row : LockRow) (rs : List StoredResource) → IsIn row (flat_map queue_of (map plain_resource rs)) → (r : StoredResource) × (IsIn r rs × IsIn row (queue_of (plain_resource r)))
 in_some row [] there = absurd there
 in_some row (r ∷ rs) there = elim (in_either row (queue_of (plain_resource r)) (flat_map queue_of (map plain_resource rs)) there) [
   | inl here ↦ (r, (inl refl, here))
@@ -43,7 +43,7 @@ in_some row (r ∷ rs) there = elim (in_either row (queue_of (plain_resource r))
 ]
 
 -- the locks whose requests are queued lead to all of these
-pub all_led : (s : Records) → IsSound s → (all : List ℕ) → ((at : ℕ) → IsQueued at s → IsIn at all) → (row : Row) → IsIn row (flat_map queue_of (plain_resources s)) → IsLed s all row
+pub all_led : (s : Records) → IsSound s → (all : List ℕ) → ((at : ℕ) → IsQueued at s → IsIn at all) → (row : LockRow) → IsIn row (flat_map queue_of (plain_resources s)) → IsLed s all row
 all_led s sound all whole row there =
     let found = in_some row s.resources there in
     let r = found.0 in
@@ -70,13 +70,13 @@ pub queued_is_stored : (s : Records) (at : ℕ) → IsQueued at s → IsStored a
 queued_is_stored s at queued = (queued.1, (queued.0, queued.2.1))
 
 -- the first in line stands in one of the two queues
-first_among : (xs ys : List StoredLock) (at : ℕ) → first_at (xs ++ ys) ≡ Some at → (row : Row) × (IsIn (record { at = at; row = row }) xs ⊎ IsIn (record { at = at; row = row }) ys)
+first_among : (xs ys : List StoredLock) (at : ℕ) → first_at (xs ++ ys) ≡ Some at → (row : LockRow) × (IsIn (record { at = at; row = row }) xs ⊎ IsIn (record { at = at; row = row }) ys)
 first_among [] [] at is = absurd (none-some at is)
 first_among [] (k ∷ ys) at is = (k.row, inr (inl (ap (λ x. record { at = x; row = k.row }) (same_Some k.at at is))))
 first_among (k ∷ xs) ys at is = (k.row, inl (inl (ap (λ x. record { at = x; row = k.row }) (same_Some k.at at is))))
 
 -- a lock that is the first in line on a resource stands there in a queue
-pub first_stands : (s : Records) → IsSound s → (at : ℕ) (row : Row) (place : Place) → IsIn (record { at = at; row = row }) (locks_at place s) → (res : ℕ) → IsFirstOn s at res
+pub first_stands : (s : Records) → IsSound s → (at : ℕ) (row : LockRow) (place : Place) → IsIn (record { at = at; row = row }) (locks_at place s) → (res : ℕ) → IsFirstOn s at res
     → (place ≡ Queued res Conversion) ⊎ (place ≡ Queued res Waiting)
 first_stands s sound at row place stands res is =
     let found = first_among (locks_at (Queued res Conversion) s) (locks_at (Queued res Waiting) s) at is in
@@ -86,7 +86,7 @@ first_stands s sound at row place stands res is =
     ]
 
 -- no other resource is led by a lock that stands on one
-pub led_one : (s : Records) → IsSound s → (at : ℕ) (row : Row) (own : ℕ) (queue : Queue) → IsIn (record { at = at; row = row }) (locks_at (Queued own queue) s) → (res : ℕ) → IsFirstOn s at res → own ≡ res
+pub led_one : (s : Records) → IsSound s → (at : ℕ) (row : LockRow) (own : ℕ) (queue : Queue) → IsIn (record { at = at; row = row }) (locks_at (Queued own queue) s) → (res : ℕ) → IsFirstOn s at res → own ≡ res
 led_one s sound at row own queue stands res is = elim (first_stands s sound at row (Queued own queue) stands res is) [
   | inl converts ↦ cc
   | inr waits ↦ cc
@@ -96,14 +96,14 @@ led_one s sound at row own queue stands res is = elim (first_stands s sound at r
 
 -- no request waits for a process of a higher rank, but for those to which the locks that are left lead
 abbrev pub FallsLed : Records → Ranks → List ℕ → Type 0
-FallsLed s ranks left = (row lock : Row) → WaitsFor (searched s) row lock → (rank_of s ranks lock.pid ≤ rank_of s ranks row.pid) ⊎ IsLed s left row
+FallsLed s ranks left = (row lock : LockRow) → WaitsFor (searched s) row lock → (rank_of s ranks lock.pid ≤ rank_of s ranks row.pid) ⊎ IsLed s left row
 
 -- at its start all are left
 pub falls_led_begun : (s : Records) (ranks : Ranks) → IsSound s → (all : List ℕ) → ((at : ℕ) → IsQueued at s → IsIn at all) → FallsLed s ranks all
 falls_led_begun s ranks sound all whole row lock waits = inr (all_led s sound all whole row (waiting_queued s row lock waits))
 
 -- one is passed
-pub falls_led_on : (s : Records) (ranks : Ranks) (at : ℕ) (left rest : List ℕ) → left ≡ at ∷ rest → ((res : ℕ) → IsFirstOn s at res → FallsOn s ranks (rows_in_line res s))
+pub falls_led_on : (s : Records) (ranks : Ranks) (at : ℕ) (left rest : List ℕ) → left ≡ at ∷ rest → ((res : ℕ) → IsFirstOn s at res → FallsOn s ranks (rows_queued_on res s))
     → FallsLed s ranks left → FallsLed s ranks rest
 falls_led_on s ranks at left rest is falls but row lock waits = elim (but row lock waits) [
   | inl less ↦ inl less
@@ -123,14 +123,14 @@ falls_led_ended s ranks left is but row lock waits = elim (but row lock waits) [
 -- ---- a walk along them that looks for the victim
 
 -- the best covers all queued requests, but for those to which the locks that are left lead
-abbrev pub CoversLed : Records → List ℕ → Option Standing → Type 0
-CoversLed s left best = (row : Row) → IsIn row (flat_map queue_of (plain_resources s)) → IsCovered s best row ⊎ IsLed s left row
+abbrev pub CoversLed : Records → List ℕ → Option LocatedLock → Type 0
+CoversLed s left best = (row : LockRow) → IsIn row (flat_map queue_of (plain_resources s)) → IsCovered s best row ⊎ IsLed s left row
 
-pub covers_begun : (s : Records) → IsSound s → (all : List ℕ) (best : Option Standing) → ((at : ℕ) → IsQueued at s → IsIn at all) → CoversLed s all best
+pub covers_begun : (s : Records) → IsSound s → (all : List ℕ) (best : Option LocatedLock) → ((at : ℕ) → IsQueued at s → IsIn at all) → CoversLed s all best
 covers_begun s sound all best whole row there = inr (all_led s sound all whole row there)
 
-pub covers_on : (s : Records) (at : ℕ) (left rest : List ℕ) (now after : Option Standing) → left ≡ at ∷ rest → Improves s [] now after
-    → ((res : ℕ) → IsFirstOn s at res → Improves s (rows_in_line res s) now after) → CoversLed s left now → CoversLed s rest after
+pub covers_on : (s : Records) (at : ℕ) (left rest : List ℕ) (now after : Option LocatedLock) → left ≡ at ∷ rest → Improves s [] now after
+    → ((res : ℕ) → IsFirstOn s at res → Improves s (rows_queued_on res s) now after) → CoversLed s left now → CoversLed s rest after
 covers_on s at left rest now after is kept improves covers row there = elim (covers row there) [
   | inl covered ↦ inl (kept.kept row covered)
   | inr led ↦ elim (led_cases s at rest row (subst (λ ks. IsLed s ks row) is led)) [
@@ -139,7 +139,7 @@ covers_on s at left rest now after is kept improves covers row there = elim (cov
   ]
 ]
 
-pub covers_ended : (s : Records) (left : List ℕ) (best : Option Standing) → left ≡ [] → CoversLed s left best → Improves s (flat_map queue_of (plain_resources s)) best best
+pub covers_ended : (s : Records) (left : List ℕ) (best : Option LocatedLock) → left ≡ [] → CoversLed s left best → Improves s (flat_map queue_of (plain_resources s)) best best
 covers_ended s left best is covers = record {
   fit = λ fit. fit;
   kept = λ row covered. covered;

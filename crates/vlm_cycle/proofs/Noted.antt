@@ -2,7 +2,7 @@
 use Rattle.std.proofs.Common.{◌≡◌, ℕ, map, Option, None, Some, IfSome, refl, sym, ◌∙◌, subst}
 use Rattle.std.specs.Option.{ForSome}
 use Rattle.std.proofs.lemmas.Option.{none-some, same_Some}
-use Rattle.vlm_words.specs.declared.locks.Row.{Row}
+use Rattle.vlm_words.specs.declared.locks.LockRow.{LockRow}
 use Rattle.vlm_collections.specs.Lists.{IsIn, first_handle, handle_after, handle_before}
 use Rattle.vlm_collections.proofs.Images.{IsIn-of_image}
 use Rattle.vlm_collections.proofs.Walks.{first_handle-in, handle_after-in, handle_before-in}
@@ -25,7 +25,7 @@ if_there P (Some one) there = some_there P one there
 
 -- the lock that one follows is there
 pub previous_there : (s : Records) (lock : ℕ) (before : Option ℕ) → IsStored lock s
-    → ((place : Place) (row : Row) → IsIn (record { at = lock; row = row }) (locks_at place s) → before ≡ handle_before lock (map (λ (k : StoredLock). k.at) (locks_at place s)))
+    → ((place : Place) (row : LockRow) → IsIn (record { at = lock; row = row }) (locks_at place s) → before ≡ handle_before lock (map (λ (k : StoredLock). k.at) (locks_at place s)))
     → ForSome before (λ at. IsStored at s)
 previous_there s lock before stored follows at is =
     let place = stored.1.0 in
@@ -37,7 +37,7 @@ previous_there s lock before stored follows at is =
 module _ (s : Records) (sound : IsSound s) where
   -- so is the lock that follows it
   pub next_there : (lock : ℕ) (next : Option ℕ) → IsStored lock s
-      → ((place : Place) (row : Row) → IsIn (record { at = lock; row = row }) (locks_at place s) → next ≡ at_after lock (locks_at place s))
+      → ((place : Place) (row : LockRow) → IsIn (record { at = lock; row = row }) (locks_at place s) → next ≡ at_after lock (locks_at place s))
       → ForSome next (λ at. IsStored at s)
   next_there lock next stored follows at is =
       let place = stored.1.0 in

@@ -3,7 +3,7 @@ use Rattle.std.proofs.Common.{◌≡◌, ◌⊎◌, ◌<◌, ℕ, List, [], ◌�
 use Rattle.std.specs.Option.{ForSome}
 use Rattle.std.proofs.lemmas.List.{append_assoc}
 use Rattle.std.proofs.lemmas.Option.{same_Some}
-use Rattle.vlm_words.specs.declared.locks.Row.{Row}
+use Rattle.vlm_words.specs.declared.locks.LockRow.{LockRow}
 use Rattle.vlm_collections.specs.Lists.{IsApart, IsIn, first_handle, handle_after}
 use Rattle.vlm_collections.proofs.Walks.{handle_after-among}
 use Rattle.vlm_store.specs.Records.{FindsProcess, IsProcess, IsSound, Records, Stores, own_handles_at}
@@ -23,7 +23,7 @@ IsAtOwn at handles = ForSome at (λ lock. IsIn lock handles)
 
 -- the process owns a lock for which the request of one of these locks waits
 abbrev pub OwnWaitFor : Records → List ℕ → ℕ → Type 0
-OwnWaitFor s handles pid = (at : ℕ) × (row : Row) × (IsIn at handles × Stores s at row × OwnsWaitedFor s row pid)
+OwnWaitFor s handles pid = (at : ℕ) × (row : LockRow) × (IsIn at handles × Stores s at row × OwnsWaitedFor s row pid)
 
 -- ---- walks
 
@@ -76,7 +76,7 @@ fewer lock rest left is = rw is (omega arith)
 
 module _ (s : Records) (sound : IsSound s) where
   -- one lock more is looked at
-  pub owns_on : (lock : ℕ) (row : Row) → Stores s lock row → (left rest all : List ℕ) (initial now after : Scratch) → left ≡ lock ∷ rest
+  pub owns_on : (lock : ℕ) (row : LockRow) → Stores s lock row → (left rest all : List ℕ) (initial now after : Scratch) → left ≡ lock ∷ rest
       → Marks (OwnsWaitedFor s row) now after → GoesOn (OwnWaitFor s) left all initial now → GoesOn (OwnWaitFor s) rest all initial after
   owns_on lock row stored left rest all initial now after is marks goes =
       goes_step (OwnWaitFor s) (OwnsWaitedFor s row) left rest all initial now after
@@ -101,7 +101,7 @@ module _ (s : Records) (sound : IsSound s) where
       record {
         row = some.1;
         lock = some.2.2.0;
-        owner = ap (λ (r : Row). r.pid) same ∙ here.1.1;
+        owner = ap (λ (r : LockRow). r.pid) same ∙ here.1.1;
         holder = some.2.2.1.1;
         waits = some.2.2.1.0;
       }

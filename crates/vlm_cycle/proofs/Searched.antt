@@ -2,7 +2,7 @@
 use Rattle.std.proofs.Common.{◌≡◌, ◌<◌, ◌≤◌, ℕ, Bool, true, false, List, [], ◌∷◌, ◌++◌, ◌+◌, Some, refl, sym, ap, ◌∙◌, subst, inl, inr, arith}
 use Rattle.std.specs.Bool.{OnFalse}
 use Rattle.std.proofs.lemmas.Bool.{cases_eq}
-use Rattle.vlm_words.specs.declared.locks.Row.{Row}
+use Rattle.vlm_words.specs.declared.locks.LockRow.{LockRow}
 use Rattle.vlm_model.specs.Deadlocks.{IsDeadlocked, LeadsTo, WaitsFor}
 use Rattle.vlm_collections.specs.Lists.{IsIn}
 use Rattle.vlm_collections.specs.Nodes.{is_marked}
@@ -14,14 +14,14 @@ use Rattle.vlm_cycle.proofs.Keeping.{lock_stored}
 use Rattle.vlm_cycle.proofs.Marked.{of_mark, roomy_still}
 
 -- the process is led to from a lock that the request waits for
-pub record IsLedTo (s : Records) (row : Row) (pid : ℕ) : Type 0 where
+pub record IsLedTo (s : Records) (row : LockRow) (pid : ℕ) : Type 0 where
   pub first : ℕ
   pub waits : OwnsWaitedFor s row first
   pub others : List ℕ
   pub leads : LeadsTo (searched s) first others pid
 
 -- led back to its own process the request is deadlocked
-pub led_back : (s : Records) (row : Row) → IsLedTo s row row.pid → IsDeadlocked (searched s) row
+pub led_back : (s : Records) (row : LockRow) → IsLedTo s row row.pid → IsDeadlocked (searched s) row
 led_back s row led = record {
   lock = led.waits.0;
   waits = led.waits.1.0;
@@ -34,7 +34,7 @@ abbrev pub IsLiving : Records → ℕ → Type 0
 IsLiving s pid = (p : StoredProcess) × (IsIn p s.processes × (p.process.pid ≡ pid))
 
 -- what is found is led to; those that begin are found, and those behind each one that the search need not go to
-pub record IsSearched (s : Records) (row : Row) (marks : Scratch) : Type 0 where
+pub record IsSearched (s : Records) (row : LockRow) (marks : Scratch) : Type 0 where
   pub led : (pid : ℕ) → is_marked marks.seen pid ≡ true → IsLedTo s row pid
   pub begun : (pid : ℕ) → OwnsWaitedFor s row pid → is_marked marks.seen pid ≡ true
   pub closed : (pid other : ℕ) → is_marked marks.seen pid ≡ true → is_marked marks.todo pid ≡ false → IsBehind s pid other → is_marked marks.seen other ≡ true
@@ -59,14 +59,14 @@ both_ways b yes_is no_is = let never : true ≡ false = sym yes_is ∙ no_is in 
 
 module _ (s : Records) (sound : IsSound s) where
   -- the owner of a lock that is waited for lives
-  owner_living : (row lock : Row) → WaitsFor (searched s) row lock → (pid : ℕ) → lock.pid ≡ pid → IsLiving s pid
+  owner_living : (row lock : LockRow) → WaitsFor (searched s) row lock → (pid : ℕ) → lock.pid ≡ pid → IsLiving s pid
   owner_living row lock waits pid is =
       let stored = lock_stored s sound row lock waits in
       let owned = sound.owned.owned stored.0 lock stored.1 in
       (owned.0, (owned.2.0, owned.2.1 ∙ is))
 
   -- at first those are found that the request waits for
-  pub searched_begun : (row : Row) (a b : Scratch) → IsClear a → Marks (OwnsWaitedFor s row) a b → IsRoomy s b → IsSearched s row b
+  pub searched_begun : (row : LockRow) (a b : Scratch) → IsClear a → Marks (OwnsWaitedFor s row) a b → IsRoomy s b → IsSearched s row b
   searched_begun row a b clear marks roomy = record {
     led = λ pid is. elim (marks.others pid (clear.seen pid)) [
       | inl found ↦ record { first = pid; waits = found.1; others = []; leads = refl }
@@ -96,7 +96,7 @@ module _ (s : Records) (sound : IsSound s) where
   lead_more first [] pid other leads behind = (subst (λ p. IsBehind s p other) (sym leads) behind, refl)
   lead_more first (next ∷ others) pid other leads behind = (leads.0, lead_more next others pid other leads.1 behind)
 
-  module _ (row : Row) (a b c : Scratch) (pid : ℕ) (so_far : IsSearched s row a) (taken : TakesNext (Some pid) a b) (marks : Marks (IsBehind s pid) b c) where
+  module _ (row : LockRow) (a b c : Scratch) (pid : ℕ) (so_far : IsSearched s row a) (taken : TakesNext (Some pid) a b) (marks : Marks (IsBehind s pid) b c) where
     same_seen : (other : ℕ) → is_marked b.seen other ≡ is_marked a.seen other
     same_seen other = ap (λ m. is_marked m other) taken.2
 
@@ -206,7 +206,7 @@ module _ (s : Records) (sound : IsSound s) where
     less_to_go = let lives = so_far.living pid it_is_seen in less_at s.processes lives.0 lives.1.0 lives.1.1
 
   -- where the search has to go to no process, each that is led to is found
-  pub none_left : (row : Row) (a : Scratch) → IsSearched s row a → ((pid : ℕ) → is_marked a.todo pid ≡ false) → IsDeadlocked (searched s) row → is_marked a.seen row.pid ≡ true
+  pub none_left : (row : LockRow) (a : Scratch) → IsSearched s row a → ((pid : ℕ) → is_marked a.todo pid ≡ false) → IsDeadlocked (searched s) row → is_marked a.seen row.pid ≡ true
   none_left row a so_far none dead = along dead.others dead.lock.pid (so_far.begun dead.lock.pid (dead.lock, (dead.waits, refl))) dead.leads
     where
       along : (others : List ℕ) (p : ℕ) → is_marked a.seen p ≡ true → LeadsTo (searched s) p others row.pid → is_marked a.seen row.pid ≡ true

@@ -1,6 +1,6 @@
 -- Walks of a queue that find the owners of its locks.
 use Rattle.std.proofs.Common.{◌≡◌, ◌≢◌, ◌⊎◌, ℕ, List, [], ◌∷◌, refl, sym, ap, ◌∙◌, subst, inl, inr, eq-eqb, ne_eqb}
-use Rattle.vlm_words.specs.declared.locks.Row.{Row}
+use Rattle.vlm_words.specs.declared.locks.LockRow.{LockRow}
 use Rattle.vlm_words.specs.declared.modes.Mode.{Mode}
 use Rattle.vlm_model.specs.Deadlocks.{BlocksThoseBehind}
 use Rattle.vlm_collections.specs.Lists.{IsIn}
@@ -10,7 +10,7 @@ use Rattle.vlm_cycle.specs.Waiting.{IsHolder, OwnsBlocker, OwnsHolder, rows_befo
 use Rattle.vlm_cycle.proofs.Marked.{GoesOn, goes_step}
 
 -- a holder more is looked at
-pub holders_on : (lkid : ℕ) (mode : Mode) (row : Row) (left rest all : List Row) (initial now after : Scratch) → left ≡ row ∷ rest
+pub holders_on : (lkid : ℕ) (mode : Mode) (row : LockRow) (left rest all : List LockRow) (initial now after : Scratch) → left ≡ row ∷ rest
     → Marks (λ pid. IsHolder lkid mode row × (row.pid ≡ pid)) now after
     → GoesOn (λ rows. OwnsHolder lkid mode rows) left all initial now → GoesOn (λ rows. OwnsHolder lkid mode rows) rest all initial after
 holders_on lkid mode row left rest all initial now after is marks goes =
@@ -29,15 +29,15 @@ holders_on lkid mode row left rest all initial now after is marks goes =
     ]
 
 -- before a lock the row is one of those, and the first
-pub before_step : (lkid : ℕ) (row : Row) (rest : List Row) → row.lkid ≢ lkid → rows_before lkid (row ∷ rest) ≡ row ∷ rows_before lkid rest
+pub before_step : (lkid : ℕ) (row : LockRow) (rest : List LockRow) → row.lkid ≢ lkid → rows_before lkid (row ∷ rest) ≡ row ∷ rows_before lkid rest
 before_step lkid row rest differs = rw (ne_eqb row.lkid lkid differs) refl
 
 -- before the first row none is
-pub before_none : (lkid : ℕ) (row : Row) (rest : List Row) → row.lkid ≡ lkid → rows_before lkid (row ∷ rest) ≡ []
+pub before_none : (lkid : ℕ) (row : LockRow) (rest : List LockRow) → row.lkid ≡ lkid → rows_before lkid (row ∷ rest) ≡ []
 before_none lkid row rest same = rw (eq-eqb row.lkid lkid same) refl
 
 -- a request more is looked at
-pub blockers_on : (lkid : ℕ) (row : Row) (left rest all : List Row) (initial now after : Scratch) → left ≡ row ∷ rest → row.lkid ≢ lkid
+pub blockers_on : (lkid : ℕ) (row : LockRow) (left rest all : List LockRow) (initial now after : Scratch) → left ≡ row ∷ rest → row.lkid ≢ lkid
     → Marks (λ pid. BlocksThoseBehind row.want × (row.pid ≡ pid)) now after
     → GoesOn (λ rows. OwnsBlocker (rows_before lkid rows)) left all initial now → GoesOn (λ rows. OwnsBlocker (rows_before lkid rows)) rest all initial after
 blockers_on lkid row left rest all initial now after is differs marks goes =
@@ -54,13 +54,13 @@ blockers_on lkid row left rest all initial now after is differs marks goes =
 
     cases : (pid : ℕ) → OwnsBlocker (row ∷ rows_before lkid rest) pid → (BlocksThoseBehind row.want × (row.pid ≡ pid)) ⊎ OwnsBlocker (rows_before lkid rest) pid
     cases pid some = elim some.1.0 [
-      | inl here ↦ inl (subst (λ (x : Row). BlocksThoseBehind x.want × (x.pid ≡ pid)) (sym here) (some.1.1, some.1.2))
+      | inl here ↦ inl (subst (λ (x : LockRow). BlocksThoseBehind x.want × (x.pid ≡ pid)) (sym here) (some.1.1, some.1.2))
       | inr later ↦ inr (some.0, (later, some.1.1, some.1.2))
     ]
 
 -- nobody owns one of none
-pub no_holder : (lkid : ℕ) (mode : Mode) (rows : List Row) → rows ≡ [] → (pid : ℕ) → OwnsHolder lkid mode rows pid → ⊥
+pub no_holder : (lkid : ℕ) (mode : Mode) (rows : List LockRow) → rows ≡ [] → (pid : ℕ) → OwnsHolder lkid mode rows pid → ⊥
 no_holder lkid mode rows none pid some = subst (λ xs. IsIn some.0 xs) none some.1.0
 
-pub no_blocker : (rows : List Row) → rows ≡ [] → (pid : ℕ) → OwnsBlocker rows pid → ⊥
+pub no_blocker : (rows : List LockRow) → rows ≡ [] → (pid : ℕ) → OwnsBlocker rows pid → ⊥
 no_blocker rows none pid some = subst (λ xs. IsIn some.0 xs) none some.1.0

@@ -1,6 +1,6 @@
 -- The locks that are first in line on their resources.
 use Rattle.std.specs.Prelude.{◌≡◌, ℕ, List, ◌++◌, Some}
-use Rattle.vlm_words.specs.declared.locks.Row.{Row}
+use Rattle.vlm_words.specs.declared.locks.LockRow.{LockRow}
 use Rattle.vlm_words.specs.declared.resources.Queue.TheVariants.{Conversion, Waiting}
 use Rattle.vlm_collections.specs.Lists.{IsIn}
 use Rattle.vlm_records.specs.declared.handles.Place.TheVariants.{Queued}
@@ -8,8 +8,8 @@ use Rattle.vlm_store.specs.Records.{Records, first_at, locks_at}
 use Rattle.vlm_queue.specs.Walks.{rows_queued}
 
 -- the rows whose requests are queued on a resource, in their order
-abbrev pub rows_in_line : ℕ → Records → List Row
-rows_in_line res s = rows_queued res Conversion s ++ rows_queued res Waiting s
+abbrev pub rows_queued_on : ℕ → Records → List LockRow
+rows_queued_on res s = rows_queued res Conversion s ++ rows_queued res Waiting s
 
 -- the lock of this handle is the first in line on the resource: the first that converts, or the first that waits where
 -- none converts
@@ -17,5 +17,5 @@ abbrev pub IsFirstOn : Records → ℕ → ℕ → Type 0
 IsFirstOn s at res = first_at (locks_at (Queued res Conversion) s ++ locks_at (Queued res Waiting) s) ≡ Some at
 
 -- the request of the row is queued on a resource on which one of these locks is the first in line
-abbrev pub IsLed : Records → List ℕ → Row → Type 0
-IsLed s handles row = (at : ℕ) × (res : ℕ) × (IsIn at handles × IsFirstOn s at res × IsIn row (rows_in_line res s))
+abbrev pub IsLed : Records → List ℕ → LockRow → Type 0
+IsLed s handles row = (at : ℕ) × (res : ℕ) × (IsIn at handles × IsFirstOn s at res × IsIn row (rows_queued_on res s))

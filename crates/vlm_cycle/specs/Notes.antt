@@ -3,32 +3,32 @@ use Rattle.std.specs.Prelude.{ℕ}
 use Rattle.std.specs.List.{All}
 use Rattle.std.specs.Option.{ForSome}
 use Rattle.vlm_store.specs.Records.{HasResource, IsProcess, IsStored, Records}
-use Rattle.vlm_cycle.specs.declared.ranking.Walk.{Walk}
-use Rattle.vlm_cycle.specs.declared.ranks.Note.{Note}
+use Rattle.vlm_cycle.specs.declared.tarjan_walk.TarjanWalk.{TarjanWalk}
+use Rattle.vlm_cycle.specs.declared.ranks.TarjanNode.{TarjanNode}
 use Rattle.vlm_cycle.specs.Ranks.{Ranks}
-use Rattle.vlm_cycle.specs.declared.wanting.Wanting.{Wanting}
+use Rattle.vlm_cycle.specs.declared.waits.AwaitedModes.{AwaitedModes}
 
 -- a process of this handle lives
 abbrev pub LivesAt : Records → ℕ → Type 0
 LivesAt s at = (pid : ℕ) × IsProcess at pid s
 
 -- each lock and each process that the note names is there
-pub record IsNote (s : Records) (note : Note) : Type 0 where
-  pub caller : ForSome note.caller (LivesAt s)
-  pub opened : ForSome note.opened (LivesAt s)
+pub record IsTarjanNode (s : Records) (note : TarjanNode) : Type 0 where
+  pub tree_parent : ForSome note.tree_parent (LivesAt s)
+  pub stack_next : ForSome note.stack_next (LivesAt s)
   pub own : ForSome note.own (λ lock. IsStored lock s)
   pub at : ForSome note.at (λ lock. IsStored lock s)
 
 -- that of all notes
 abbrev pub AreNotes : Records → Ranks → Type 0
-AreNotes s ranks = All (IsNote s) ranks
+AreNotes s ranks = All (IsTarjanNode s) ranks
 
 -- each process that the walk names is there
-pub record IsWalk (s : Records) (walk : Walk) : Type 0 where
+pub record IsWalk (s : Records) (walk : TarjanWalk) : Type 0 where
   pub process : ForSome walk.process (LivesAt s)
-  pub opened : ForSome walk.opened (LivesAt s)
+  pub stack_next : ForSome walk.stack_next (LivesAt s)
 
 -- the lock and the resource of the request are there
-pub record IsWanting (s : Records) (wanting : Wanting) : Type 0 where
+pub record IsWanting (s : Records) (wanting : AwaitedModes) : Type 0 where
   pub lock : IsStored wanting.lock s
   pub res : HasResource wanting.res s

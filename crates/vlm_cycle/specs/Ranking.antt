@@ -2,7 +2,7 @@
 use Rattle.std.specs.Prelude.{◌≡◌, ◌≢◌, ◌<◌, ◌≤◌, ◌==◌, ℕ, false, List, Option, None, Some, find, slice_get, slice_index_or}
 use Rattle.std.specs.Option.{option_map_or}
 use Rattle.vlm_words.specs.declared.locks.Request.{Request}
-use Rattle.vlm_words.specs.declared.locks.Row.{Row}
+use Rattle.vlm_words.specs.declared.locks.LockRow.{LockRow}
 use Rattle.vlm_words.specs.declared.modes.Mode.{Mode}
 use Rattle.vlm_words.specs.declared.resources.Queue.{Queue}
 use Rattle.vlm_words.specs.declared.resources.Queue.TheVariants.{Granted, Conversion, Waiting}
@@ -12,9 +12,9 @@ use Rattle.vlm_words.specs.Modes.{is_compatible, rank as mode_rank}
 use Rattle.vlm_collections.specs.Lists.{IsIn}
 use Rattle.vlm_store.specs.Records.{Records}
 use Rattle.vlm_queue.specs.Walks.{rows_queued}
-use Rattle.vlm_locks.specs.declared.finding.Standing.{Standing}
-use Rattle.vlm_cycle.specs.declared.gauge.Gauge.{Gauge}
-use Rattle.vlm_cycle.specs.declared.gauge.Peak.{Peak}
+use Rattle.vlm_locks.specs.declared.located_locks.LocatedLock.{LocatedLock}
+use Rattle.vlm_cycle.specs.declared.blocker_ranks.BlockerRanks.{BlockerRanks}
+use Rattle.vlm_cycle.specs.declared.blocker_ranks.HighestRank.{HighestRank}
 use Rattle.vlm_cycle.specs.Ranks.{Ranks}
 use Rattle.vlm_cycle.specs.Waiting.{OwnsBefore, OwnsBlocker, rows_before, searched}
 
@@ -29,54 +29,54 @@ unfoldable pub rank_of : Records → Ranks → ℕ → ℕ
 rank_of s ranks pid = option_map_or (λ p. rank_at ranks p.at) (find (λ p. p.process.pid == pid) s.processes) 0
 
 -- the requests of these rows wait for no process of a higher rank than that of their own
-abbrev pub FallsOn : Records → Ranks → List Row → Type 0
+abbrev pub FallsOn : Records → Ranks → List LockRow → Type 0
 FallsOn s ranks rows =
-    (row lock : Row) → IsIn row rows → WaitsFor (searched s) row lock → rank_of s ranks lock.pid ≤ rank_of s ranks row.pid
+    (row lock : LockRow) → IsIn row rows → WaitsFor (searched s) row lock → rank_of s ranks lock.pid ≤ rank_of s ranks row.pid
 
 -- no process waits for one of a higher rank
 abbrev pub Falls : Records → Ranks → Type 0
-Falls s ranks = (row lock : Row) → WaitsFor (searched s) row lock → rank_of s ranks lock.pid ≤ rank_of s ranks row.pid
+Falls s ranks = (row lock : LockRow) → WaitsFor (searched s) row lock → rank_of s ranks lock.pid ≤ rank_of s ranks row.pid
 
 -- ---- what is counted
 
 -- a lock of this identification and rank is counted: the peak is above it, and above it too without the lock that has
 -- the peak, if that is another one
-pub record IsCounted (peak : Peak) (lkid rank : ℕ) : Type 0 where
-  pub most : rank < peak.most
-  pub rest : lkid ≢ peak.lkid → rank < peak.rest
+pub record IsCounted (highest : HighestRank) (lkid rank : ℕ) : Type 0 where
+  pub most : rank < highest.most
+  pub rest : lkid ≢ highest.lkid → rank < highest.rest
 
 -- nothing is counted
-abbrev pub no_peak : Peak
+abbrev pub no_peak : HighestRank
 no_peak = record { lkid = 0; most = 0; rest = 0 }
 
 -- the peak of those that hold a mode
-abbrev pub peak_of : List Peak → Mode → Peak
-peak_of peaks mode = slice_index_or peaks (mode_rank mode) no_peak
+abbrev pub highest_of : List HighestRank → Mode → HighestRank
+highest_of peaks mode = slice_index_or peaks (mode_rank mode) no_peak
 
 -- what a lock of this identification and rank holds is counted, if it is held without NODLCKBLK
-abbrev pub CountsHeld : List Peak → Option Request → ℕ → ℕ → Type 0
+abbrev pub CountsHeld : List HighestRank → Option Request → ℕ → ℕ → Type 0
 CountsHeld peaks None lkid rank = Unit {0}
 CountsHeld peaks (Some held) lkid rank =
-    has_flag (flag_bits held.flags) nodlckblk ≡ false → IsCounted (peak_of peaks held.mode) lkid rank
+    has_flag (flag_bits held.flags) nodlckblk ≡ false → IsCounted (highest_of peaks held.mode) lkid rank
 
 -- what these locks hold is counted with the ranks of their owners
-abbrev pub CountsHolders : Records → Ranks → List Peak → List Row → Type 0
+abbrev pub CountsHolders : Records → Ranks → List HighestRank → List LockRow → Type 0
 CountsHolders s ranks peaks rows =
-    (row : Row) → IsIn row rows → CountsHeld peaks row.held row.lkid (rank_of s ranks row.pid)
+    (row : LockRow) → IsIn row rows → CountsHeld peaks row.held row.lkid (rank_of s ranks row.pid)
 
 -- it is above the ranks of the other locks that are counted with a mode
-abbrev pub IsAbove : List Peak → Mode → ℕ → ℕ → Type 0
+abbrev pub IsAbove : List HighestRank → Mode → ℕ → ℕ → Type 0
 IsAbove peaks held lkid top =
-    (other rank : ℕ) → other ≢ lkid → IsCounted (peak_of peaks held) other rank → rank < top
+    (other rank : ℕ) → other ≢ lkid → IsCounted (highest_of peaks held) other rank → rank < top
 
 -- it is above the ranks of the other locks that are counted with a mode that is not compatible with this one
-abbrev pub IsAboveAll : List Peak → Mode → ℕ → ℕ → Type 0
+abbrev pub IsAboveAll : List HighestRank → Mode → ℕ → ℕ → Type 0
 IsAboveAll peaks mode lkid top = (held : Mode) → is_compatible mode held ≡ false → IsAbove peaks held lkid top
 
 -- ---- the gauge of a resource
 
 -- the owners of the requests of a queue that those behind wait for are below what is before
-abbrev pub HasPassedAll : Records → Ranks → ℕ → List Row → Type 0
+abbrev pub HasPassedAll : Records → Ranks → ℕ → List LockRow → Type 0
 HasPassedAll s ranks before rows =
     (lkid pid : ℕ) → OwnsBlocker (rows_before lkid rows) pid → rank_of s ranks pid < before
 
@@ -87,25 +87,25 @@ HasPassed s ranks before res Conversion = Unit {0}
 HasPassed s ranks before res Waiting = HasPassedAll s ranks before (rows_queued res Conversion s)
 
 -- the gauge of a resource, at the head of a queue: it has counted all that is held there, and passed the queue before
-pub record IsGaugeOf (s : Records) (ranks : Ranks) (gauge : Gauge) (res : ℕ) (queue : Queue) : Type 0 where
-  pub granted : CountsHolders s ranks gauge.held (rows_queued res Granted s)
-  pub converting : CountsHolders s ranks gauge.held (rows_queued res Conversion s)
-  pub passed : HasPassed s ranks gauge.before res queue
+pub record AreBlockerRanksOf (s : Records) (ranks : Ranks) (blocker_ranks : BlockerRanks) (res : ℕ) (queue : Queue) : Type 0 where
+  pub granted : CountsHolders s ranks blocker_ranks.held (rows_queued res Granted s)
+  pub converting : CountsHolders s ranks blocker_ranks.held (rows_queued res Conversion s)
+  pub passed : HasPassed s ranks blocker_ranks.before res queue
 
 -- the gauge of a resource, at a lock: it has passed the requests before that of the lock
-pub record IsGaugeAt (s : Records) (ranks : Ranks) (gauge : Gauge) (f : Standing) : Type 0 where
-  pub granted : CountsHolders s ranks gauge.held (rows_queued f.res Granted s)
-  pub converting : CountsHolders s ranks gauge.held (rows_queued f.res Conversion s)
-  pub passed : (pid : ℕ) → OwnsBefore f.row.lkid f.queue (rows_queued f.res Conversion s) (rows_queued f.res Waiting s) pid → rank_of s ranks pid < gauge.before
+pub record AreBlockerRanksAt (s : Records) (ranks : Ranks) (blocker_ranks : BlockerRanks) (f : LocatedLock) : Type 0 where
+  pub granted : CountsHolders s ranks blocker_ranks.held (rows_queued f.res Granted s)
+  pub converting : CountsHolders s ranks blocker_ranks.held (rows_queued f.res Conversion s)
+  pub passed : (pid : ℕ) → OwnsBefore f.row.lkid f.queue (rows_queued f.res Conversion s) (rows_queued f.res Waiting s) pid → rank_of s ranks pid < blocker_ranks.before
 
 -- the gauge passes a queue
-pub record PassesQueue (s : Records) (ranks : Ranks) (rows : List Row) (old new : Gauge) : Type 0 where
+pub record PassesQueue (s : Records) (ranks : Ranks) (rows : List LockRow) (old new : BlockerRanks) : Type 0 where
   pub held : new.held ≡ old.held
   pub before : old.before ≤ new.before
   pub passed : HasPassedAll s ranks new.before rows
 
 -- the gauge passes one request, whose owner has this rank
-pub record PassesOne (row : Row) (rank : ℕ) (old new : Gauge) : Type 0 where
+pub record PassesOne (row : LockRow) (rank : ℕ) (old new : BlockerRanks) : Type 0 where
   pub held : new.held ≡ old.held
   pub before : old.before ≤ new.before
   pub passed : BlocksThoseBehind row.want → rank < new.before

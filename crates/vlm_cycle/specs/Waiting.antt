@@ -1,6 +1,6 @@
 -- Whom a queued request waits for, as the records have it.
 use Rattle.std.specs.Prelude.{◌≡◌, ◌≢◌, ◌⊎◌, ◌==◌, ◌/◌, ℕ, List, [], ◌∷◌, true, if◌then◌else◌}
-use Rattle.vlm_words.specs.declared.locks.Row.{Row}
+use Rattle.vlm_words.specs.declared.locks.LockRow.{LockRow}
 use Rattle.vlm_words.specs.declared.modes.Mode.{Mode}
 use Rattle.vlm_words.specs.declared.resources.Queue.{Queue}
 use Rattle.vlm_words.specs.declared.resources.Queue.TheVariants.{Granted, Conversion, Waiting}
@@ -22,38 +22,38 @@ abbrev pub IsRoomy : Records → Scratch → Type 0
 IsRoomy s marks = (p : StoredProcess) → IsIn p s.processes → HasRoomInBoth marks p.process.pid × (is_node (p.process.pid / 65536) ≡ true)
 
 -- the process owns a lock for which the request of the row waits
-abbrev pub OwnsWaitedFor : Records → Row → ℕ → Type 0
-OwnsWaitedFor s row pid = (lock : Row) × (WaitsFor (searched s) row lock × (lock.pid ≡ pid))
+abbrev pub OwnsWaitedFor : Records → LockRow → ℕ → Type 0
+OwnsWaitedFor s row pid = (lock : LockRow) × (WaitsFor (searched s) row lock × (lock.pid ≡ pid))
 
 -- one of the requests of the process waits for a lock of the other
 abbrev pub IsBehind : Records → ℕ → ℕ → Type 0
 IsBehind s pid other = ProcessWaitsFor (searched s) pid other
 
 -- it is another lock, and what it holds is against the mode
-abbrev pub IsHolder : ℕ → Mode → Row → Type 0
+abbrev pub IsHolder : ℕ → Mode → LockRow → Type 0
 IsHolder lkid mode row = (row.lkid ≢ lkid) × HoldsAgainst mode row.held
 
 -- the process owns one of the locks, and that is a holder
-abbrev pub OwnsHolder : ℕ → Mode → List Row → ℕ → Type 0
-OwnsHolder lkid mode rows pid = (row : Row) × (IsIn row rows × IsHolder lkid mode row × (row.pid ≡ pid))
+abbrev pub OwnsHolder : ℕ → Mode → List LockRow → ℕ → Type 0
+OwnsHolder lkid mode rows pid = (row : LockRow) × (IsIn row rows × IsHolder lkid mode row × (row.pid ≡ pid))
 
 -- the rows before that of the lock of this identification, or all where it is not there
-abbrev pub rows_before : ℕ → List Row → List Row
+abbrev pub rows_before : ℕ → List LockRow → List LockRow
 rows_before lkid [] = []
 rows_before lkid (row ∷ rows) = if row.lkid == lkid then [] else row ∷ rows_before lkid rows
 
 -- the process owns one of the locks, and those behind that wait for it
-abbrev pub OwnsBlocker : List Row → ℕ → Type 0
-OwnsBlocker rows pid = (row : Row) × (IsIn row rows × BlocksThoseBehind row.want × (row.pid ≡ pid))
+abbrev pub OwnsBlocker : List LockRow → ℕ → Type 0
+OwnsBlocker rows pid = (row : LockRow) × (IsIn row rows × BlocksThoseBehind row.want × (row.pid ≡ pid))
 
 -- the process owns a lock before the one of this identification, in its queue or in one that is before it, that those
 -- behind wait for
-abbrev pub OwnsBefore : ℕ → Queue → List Row → List Row → ℕ → Type 0
+abbrev pub OwnsBefore : ℕ → Queue → List LockRow → List LockRow → ℕ → Type 0
 OwnsBefore lkid Granted converting waiting pid = ⊥
 OwnsBefore lkid Conversion converting waiting pid = OwnsBlocker (rows_before lkid converting) pid
 OwnsBefore lkid Waiting converting waiting pid = OwnsBlocker (rows_before lkid converting) pid ⊎ OwnsBlocker (rows_before lkid waiting) pid
 
 -- the process owns a lock that keeps the request of the lock of this identification from being granted
-abbrev pub OwnsKeeper : ℕ → Mode → Queue → List Row → List Row → List Row → ℕ → Type 0
+abbrev pub OwnsKeeper : ℕ → Mode → Queue → List LockRow → List LockRow → List LockRow → ℕ → Type 0
 OwnsKeeper lkid mode queue granted converting waiting pid =
     OwnsHolder lkid mode granted pid ⊎ OwnsHolder lkid mode converting pid ⊎ OwnsBefore lkid queue converting waiting pid

@@ -9,19 +9,19 @@
 //! rank costs searches, and changes no answer.
 #![tactic(auto)]
 
-mod falling;
-mod finding;
-mod gauge;
-mod judging;
-mod leading;
-mod marking;
-mod notes;
-mod ranking;
+mod blocker_ranks;
+mod blockers;
+mod conflicts;
+mod deadlocks;
+mod first_requests;
+mod rank_checks;
+mod ranked_requests;
 mod ranks;
 mod scratch;
-mod searching;
-mod waiting;
-mod wanting;
+mod tarjan_nodes;
+mod tarjan_walk;
+mod victims;
+mod waits;
 
-pub use finding::victim;
 pub use scratch::Scratch;
+pub use victims::victim;

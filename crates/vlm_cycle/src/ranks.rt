@@ -3,18 +3,18 @@
 ghost use Rattle.std.specs.Prelude.{◌≡◌, ◌≤◌, [], length, slice_index_or, slice_set};
 ghost use Rattle.std.specs.List.{All};
 ghost use Rattle.vlm_store.specs.Records.{Records};
-ghost use Rattle.vlm_cycle.specs.Notes.{AreNotes, IsNote};
+ghost use Rattle.vlm_cycle.specs.Notes.{AreNotes, IsTarjanNode};
 ghost use Rattle.vlm_cycle.specs.Ranking.{rank_at};
-ghost use Rattle.vlm_cycle.specs.Ranks.{blank_dated, blank_note};
+ghost use Rattle.vlm_cycle.specs.Ranks.{blank_dated, blank_node};
 
-use crate::notes::Part;
+use crate::tarjan_nodes::BlockerKind;
 use std::alloc::{AllocError, Global};
 use std::marker::Model;
 use vlm_store::{LockAt, ProcAt};
 
 /// The note of a process.
 #[derive(Clone, Copy)]
-pub(crate) struct Note {
+pub(crate) struct TarjanNode {
     /// Its rank, from 1, once its component is closed; 0 before.
     pub(crate) rank: u32,
     /// Its number in the order in which processes were found, from 1; 0 while it is not found.
@@ -22,32 +22,32 @@ pub(crate) struct Note {
     /// The least number to which it is known to lead back, of processes that are not closed.
     pub(crate) low: u32,
     /// The process from which the walk came to it.
-    pub(crate) caller: Option<ProcAt>,
+    pub(crate) tree_parent: Option<ProcAt>,
     /// The process found last before it, of those that are not closed.
-    pub(crate) opened: Option<ProcAt>,
+    pub(crate) stack_next: Option<ProcAt>,
     /// Its own lock at which its walk is.
     pub(crate) own: Option<LockAt>,
     /// The part of the locks for which that lock waits at which its walk is.
-    pub(crate) part: Part,
+    pub(crate) part: BlockerKind,
     /// The lock of that part at which its walk is.
     pub(crate) at: Option<LockAt>,
 }
 
 /// A note, and the number of the search that wrote it.
 #[derive(Clone, Copy)]
-struct DatedNote {
+struct DatedNode {
     search: u64,
-    note: Note,
+    note: TarjanNode,
 }
 
-impl DatedNote {
+impl DatedNode {
     // A blank note, by no search.
-    fn blank() -> DatedNote
+    fn blank() -> DatedNode
         ensures { result ≡ blank_dated }
     {
-        DatedNote {
+        DatedNode {
             search: 0,
-            note: Note::blank(),
+            note: TarjanNode::blank(),
         }
     }
 }
@@ -57,17 +57,17 @@ impl DatedNote {
 #[derive(Drop)]
 pub(crate) struct Ranks {
     // the last note of each process
-    notes: Vec<DatedNote>,
+    notes: Vec<DatedNode>,
     // the number of the search
     search: u64,
 }
 
 impl Model for Ranks {
     ghost use Rattle.std.specs.Prelude.{List};
-    ghost use Rattle.vlm_cycle.specs.declared.ranks.Note.{Note};
+    ghost use Rattle.vlm_cycle.specs.declared.ranks.TarjanNode.{TarjanNode};
 
     // The notes as the search reads them.
-    ghost Value = { List Note };
+    ghost Value = { List TarjanNode };
 
     ghost use Rattle.vlm_cycle.specs.Ranks.{IsDated, notes_read};
 
@@ -95,13 +95,13 @@ impl Ranks {
     }
 
     /// The note of a process, a blank one if there is no room for it.
-    pub(crate) fn note(&self, process: ProcAt) -> Note
-        ensures note { result ≡ slice_index_or self.now process blank_note }
-        ensures there { (s : Records) → AreNotes s self.now → IsNote s result }
+    pub(crate) fn note(&self, process: ProcAt) -> TarjanNode
+        ensures note { result ≡ slice_index_or self.now process blank_node }
+        ensures there { (s : Records) → AreNotes s self.now → IsTarjanNode s result }
     {
         match self.notes.get(process.slot()) {
             Some(dated) if dated.search == self.search => dated.note,
-            _ => Note::blank(),
+            _ => TarjanNode::blank(),
         }
     }
 
@@ -116,12 +116,12 @@ impl Ranks {
     }
 
     /// Notes this of a process, if there is room for it.
-    pub(crate) fn put(&mut self, process: ProcAt, note: Note)
+    pub(crate) fn put(&mut self, process: ProcAt, note: TarjanNode)
         ensures noted { self.new ≡ slice_set self.old process note }
-        ensures there { (s : Records) → AreNotes s self.old → IsNote s note → AreNotes s self.new }
+        ensures there { (s : Records) → AreNotes s self.old → IsTarjanNode s note → AreNotes s self.new }
     {
         if process.slot() < self.notes.len() {
-            self.notes[process.slot()] = DatedNote {
+            self.notes[process.slot()] = DatedNode {
                 search: self.search,
                 note,
             };
@@ -131,7 +131,7 @@ impl Ranks {
     /// Begins a search, to which all notes are blank. It takes constant time. After 2^64 searches the numbers begin anew,
     /// and the room for notes is lost: the search then has no ranks.
     pub(crate) fn begin(&mut self)
-        ensures blank { All (λ note. note ≡ blank_note) self.new }
+        ensures blank { All (λ note. note ≡ blank_node) self.new }
         ensures no_more { length self.new ≤ length self.old }
     {
         match self.search.checked_add(1) {
@@ -150,7 +150,7 @@ impl Ranks {
             let Some(count) = living.checked_add(1) else {
                 return Err(AllocError);
             };
-            self.notes.resize(count, DatedNote::blank())?;
+            self.notes.resize(count, DatedNode::blank())?;
         }
         Ok(())
     }

@@ -3,6 +3,7 @@
 //! It knows no machine and no process, and takes no memory.
 #![tactic(auto)]
 
+mod commands;
 mod cuts;
 mod faults;
 mod flags;
@@ -11,11 +12,10 @@ mod lines;
 mod locks;
 mod names;
 mod numbers;
-mod reading;
 mod values;
 mod words;
 
+pub use commands::read_line;
 pub use faults::LineFault;
 pub use lines::{Line, NO_PROCESS, ProcessName};
 pub use names::read_res;
-pub use reading::read_line;

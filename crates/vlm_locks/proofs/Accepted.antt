@@ -6,26 +6,26 @@ use Rattle.vlm_model.specs.Convert.{conversion_blocks, resource_after_conversion
 use Rattle.vlm_words.specs.State.{Resource}
 use Rattle.vlm_store.specs.Plain.{plain_resource, plain_resources}
 use Rattle.vlm_store.specs.Records.{Records, SameButNotices, StoredResource, resource_at}
-use Rattle.vlm_locks.specs.declared.finding.Standing.{Standing}
+use Rattle.vlm_locks.specs.declared.located_locks.LocatedLock.{LocatedLock}
 use Rattle.vlm_locks.specs.Converting.{IsConverted, admission_on, processes_converting}
-use Rattle.vlm_locks.specs.Standing.{IsStanding}
+use Rattle.vlm_locks.specs.Standing.{IsLocated}
 use Rattle.vlm_locks.proofs.Found.{process_still}
 
 -- the lock stands where it stood
-pub stands_accepted : (f : Standing) (s t : Records) → SameButNotices s t → IsStanding f s → IsStanding f t
-stands_accepted f s t same standing = record {
-  resource = standing.resource;
-  found = ap (resource_at f.res) same.resources ∙ standing.found;
-  among = standing.among;
-  owner = process_still s t f.owner f.row.pid same standing.owner;
+pub stands_accepted : (f : LocatedLock) (s t : Records) → SameButNotices s t → IsLocated f s → IsLocated f t
+stands_accepted f s t same located = record {
+  resource = located.resource;
+  found = ap (resource_at f.res) same.resources ∙ located.found;
+  among = located.among;
+  owner = process_still s t f.owner f.row.pid same located.owner;
 }
 
 -- what a conversion makes of resources
-abbrev made : Standing → Request → StoredResource → ValueBlock → List Resource → List Resource
+abbrev made : LocatedLock → Request → StoredResource → ValueBlock → List Resource → List Resource
 made f asked r block rs = map (resource_after_conversion asked (admission_on f asked r).at_once f.row.pid f.row.lkid block) rs
 
 -- its conversion
-pub converted_accepted : (f : Standing) (asked : Request) (s t new : Records) → SameButNotices s t → processes_converting f asked t ≡ processes_converting f asked s
+pub converted_accepted : (f : LocatedLock) (asked : Request) (s t new : Records) → SameButNotices s t → processes_converting f asked t ≡ processes_converting f asked s
     → IfSome (resource_at f.res t.resources) (λ r. IsConverted f asked (processes_converting f asked t) r t new)
     → IfSome (resource_at f.res s.resources) (λ r. IsConverted f asked (processes_converting f asked s) r s new)
 converted_accepted f asked s t new same accepted converted =

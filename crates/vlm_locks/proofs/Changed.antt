@@ -11,9 +11,9 @@ use Rattle.vlm_store.specs.Plain.{plain_processes, plain_resource}
 use Rattle.vlm_store.specs.Records.{IsSound, Records, Rooms, SameButNotices, StoredProcess, StoredResource, leaving, process_without_lock, queued, resource_at, resource_with, without_lock, without_stored_lock}
 use Rattle.vlm_store.proofs.Records.{map_on, queue_at, unmoved}
 use Rattle.vlm_locks.proofs.Found.{resource_alone}
-use Rattle.vlm_locks.specs.declared.finding.Standing.{Standing}
+use Rattle.vlm_locks.specs.declared.located_locks.LocatedLock.{LocatedLock}
 use Rattle.vlm_locks.specs.Rest.{IsAtRest, IsReplaced, OthersStay}
-use Rattle.vlm_locks.specs.Standing.{IsStanding}
+use Rattle.vlm_locks.specs.Standing.{IsLocated}
 use Rattle.vlm_locks.specs.Withdrawing.{IsChange}
 use Rattle.vlm_locks.proofs.Replaced.{others_stay, plain_replaced, rests, still_there}
 use Rattle.vlm_locks.specs.Staying.{LocksStay}
@@ -93,14 +93,14 @@ changed_room res change s new room changes = record {
   };
 }
 
-module _ (s : Records) (sound : IsSound s) (f : Standing) (standing : IsStanding f s) where
+module _ (s : Records) (sound : IsSound s) (f : LocatedLock) (located : IsLocated f s) where
   -- another resource stays as the lock goes
   stays : (x : StoredResource) → IsIn x s.resources → x.at ≢ f.res → resource_with (leaving f.lock) x ≡ x
   stays x among differs =
       let each : (queue : Queue) → without_lock f.lock (queued queue x) ≡ queued queue x =
       λ queue.
       ap (without_lock f.lock) (sym (queue_at s sound x among queue))
-      ∙ unmoved s f.lock f.row (Queued f.res f.queue) sound (stands s f standing) (Queued x.at queue) (λ e. differs (cc))
+      ∙ unmoved s f.lock f.row (Queued f.res f.queue) sound (stands s f located) (Queued x.at queue) (λ e. differs (cc))
       ∙ queue_at s sound x among queue
       in
       rw (each Granted, each Conversion, each Waiting) refl
@@ -110,35 +110,35 @@ module _ (s : Records) (sound : IsSound s) (f : Standing) (standing : IsStanding
   without_queued = record s { resources = map (resource_with (leaving f.lock)) s.resources }
 
   -- as the lock goes, just its resource is another
-  pub removed_replaced : IsReplaced f.res standing.resource (resource_with (leaving f.lock) standing.resource) s without_queued
+  pub removed_replaced : IsReplaced f.res located.resource (resource_with (leaving f.lock) located.resource) s without_queued
   removed_replaced = record {
-    was = standing.found;
+    was = located.found;
     same = refl;
-    resources = map_on (resource_with (leaving f.lock)) (λ x. cond (x.at == f.res) (resource_with (leaving f.lock) standing.resource) x) s.resources
+    resources = map_on (resource_with (leaving f.lock)) (λ x. cond (x.at == f.res) (resource_with (leaving f.lock) located.resource) x) s.resources
         (λ x among. elim (cases_eq x.at f.res) [
           | inl same ↦
-              ap (resource_with (leaving f.lock)) (resource_alone f.res s.resources standing.resource x sound.resources_apart standing.found among same)
-              ∙ sym (ap (λ b. cond b (resource_with (leaving f.lock) standing.resource) x) (eq-eqb x.at f.res same))
-          | inr other ↦ stays x among other ∙ sym (ap (λ b. cond b (resource_with (leaving f.lock) standing.resource) x) (ne_eqb x.at f.res other))
+              ap (resource_with (leaving f.lock)) (resource_alone f.res s.resources located.resource x sound.resources_apart located.found among same)
+              ∙ sym (ap (λ b. cond b (resource_with (leaving f.lock) located.resource) x) (eq-eqb x.at f.res same))
+          | inr other ↦ stays x among other ∙ sym (ap (λ b. cond b (resource_with (leaving f.lock) located.resource) x) (ne_eqb x.at f.res other))
         ]);
     processes = refl;
   }
 
   -- no lock joins as it goes
-  none_joins_by_leaving : LocksStay (resource_with (leaving f.lock) standing.resource) standing.resource
-  none_joins_by_leaving queue k among = stands_in standing.resource queue k (of_queue queue among)
+  none_joins_by_leaving : LocksStay (resource_with (leaving f.lock) located.resource) located.resource
+  none_joins_by_leaving queue k among = stands_in located.resource queue k (of_queue queue among)
     where
-      of_queue : (queue : Queue) → IsIn k (queued queue (resource_with (leaving f.lock) standing.resource)) → IsIn k (queued queue standing.resource)
-      of_queue Granted among = among_without f.lock k standing.resource.granted among
-      of_queue Conversion among = among_without f.lock k standing.resource.converting among
-      of_queue Waiting among = among_without f.lock k standing.resource.waiting among
+      of_queue : (queue : Queue) → IsIn k (queued queue (resource_with (leaving f.lock) located.resource)) → IsIn k (queued queue located.resource)
+      of_queue Granted among = among_without f.lock k located.resource.granted among
+      of_queue Conversion among = among_without f.lock k located.resource.converting among
+      of_queue Waiting among = among_without f.lock k located.resource.waiting among
 
   -- so a change of its resource is that which the plain change has there
-  pub removed_changed : (change : Resource → Resource) → IsAtRest s → change (plain_resource standing.resource) ≡ plain_resource (resource_with (leaving f.lock) standing.resource)
+  pub removed_changed : (change : Resource → Resource) → IsAtRest s → change (plain_resource located.resource) ≡ plain_resource (resource_with (leaving f.lock) located.resource)
       → ((x : StoredResource) → IsIn x s.resources → x.at ≢ f.res → change (plain_resource x) ≡ plain_resource x)
       → IsChange f.res change s (without_stored_lock f.lock s)
   removed_changed change rest here there =
-      let queues = changed f.res change standing.resource (resource_with (leaving f.lock) standing.resource) s without_queued sound rest removed_replaced none_joins_by_leaving here there refl in
+      let queues = changed f.res change located.resource (resource_with (leaving f.lock) located.resource) s without_queued sound rest removed_replaced none_joins_by_leaving here there refl in
       record {
         resources = queues.resources;
         statuses = removed_statuses f.lock s.processes;

@@ -3,11 +3,11 @@ use Rattle.std.proofs.Common.{◌≡◌, ◌<◌, ℕ, Bool, true, false, List, 
 use Rattle.std.specs.Prelude.{◌==◌, ◌||◌}
 use Rattle.std.specs.List.{AllByRecursion}
 use Rattle.std.proofs.lemmas.Bool.{eqb-true, or_right}
-use Rattle.vlm_words.specs.declared.locks.Row.{Row}
+use Rattle.vlm_words.specs.declared.locks.LockRow.{LockRow}
 use Rattle.vlm_collections.specs.Lists.{IsApart, IsIn, first_handle}
 use Rattle.vlm_store.specs.Plain.{plain_resources}
 use Rattle.vlm_store.specs.Records.{Records}
-use Rattle.vlm_locks.specs.declared.giving_up.Choice.{Choice}
+use Rattle.vlm_locks.specs.declared.joint_withdrawals.Scope.{Scope}
 use Rattle.vlm_locks.specs.GivingUp.{AreChosen, Rise, is_chosen}
 use Rattle.vlm_locks.specs.Left.{is_among}
 
@@ -53,18 +53,18 @@ same_rising (x ∷ xs) (y ∷ ys) rise_x rise_y to from =
     ]
 
 -- the identifications of the chosen locks are one list
-pub one_choice : (choice : Choice) (pid : ℕ) (s : Records) (xs ys : List ℕ) → AreChosen choice pid s xs → AreChosen choice pid s ys → xs ≡ ys
-one_choice choice pid s xs ys first second = same_rising xs ys first.rise second.rise (within xs ys first second) (within ys xs second first)
+pub one_scope : (scope : Scope) (pid : ℕ) (s : Records) (xs ys : List ℕ) → AreChosen scope pid s xs → AreChosen scope pid s ys → xs ≡ ys
+one_scope scope pid s xs ys first second = same_rising xs ys first.rise second.rise (within xs ys first second) (within ys xs second first)
   where
-    within : (these those : List ℕ) → AreChosen choice pid s these → AreChosen choice pid s those → (n : ℕ) → IsIn n these → IsIn n those
+    within : (these those : List ℕ) → AreChosen scope pid s these → AreChosen scope pid s those → (n : ℕ) → IsIn n these → IsIn n those
     within these those a b n there =
         let found = a.each n there in
         subst (λ m. IsIn m those) found.2.1
-        (b.all found.0 found.1 found.2.0 found.2.2 (ap (is_chosen choice (plain_resources s)) found.2.1 ∙ found.2.3))
+        (b.all found.0 found.1 found.2.0 found.2.2 (ap (is_chosen scope (plain_resources s)) found.2.1 ∙ found.2.3))
 
 -- ---- whether a lock is listed
 
-pub among_in : (row : Row) (lkids : List ℕ) → is_among lkids row ≡ true → IsIn row.lkid lkids
+pub among_in : (row : LockRow) (lkids : List ℕ) → is_among lkids row ≡ true → IsIn row.lkid lkids
 among_in row [] is = cc
 among_in row (n ∷ lkids) is = of_test (row.lkid == n) refl is (among_in row lkids)
   where
@@ -72,14 +72,14 @@ among_in row (n ∷ lkids) is = of_test (row.lkid == n) refl is (among_in row lk
     of_test true here some later = inl (sym (eqb-true row.lkid n here))
     of_test false other some later = inr (later some)
 
-pub in_among : (row : Row) (lkids : List ℕ) → IsIn row.lkid lkids → is_among lkids row ≡ true
+pub in_among : (row : LockRow) (lkids : List ℕ) → IsIn row.lkid lkids → is_among lkids row ≡ true
 in_among row [] there = absurd there
 in_among row (n ∷ lkids) there = elim there [
   | inl here ↦ rw (eq-eqb row.lkid n (sym here)) refl
   | inr later ↦ or_right (row.lkid == n) (is_among lkids row) (in_among row lkids later)
 ]
 
-pub among_push : (row : Row) (lkids : List ℕ) (last : ℕ) → is_among (lkids ++ last ∷ []) row ≡ (is_among lkids row || (row.lkid == last))
+pub among_push : (row : LockRow) (lkids : List ℕ) (last : ℕ) → is_among (lkids ++ last ∷ []) row ≡ (is_among lkids row || (row.lkid == last))
 among_push row [] last = or_none (row.lkid == last)
   where
     or_none : (b : Bool) → (b || false) ≡ b

@@ -1,7 +1,7 @@
 -- What a conversion makes of the lock's resource.
 use Rattle.std.proofs.Common.{◌≡◌, ◌≢◌, Bool, true, false, List, [], ◌∷◌, ◌++◌, map, find, cond, Some, IfSome, refl, sym, ap, ◌∙◌, subst}
 use Rattle.vlm_words.specs.declared.locks.Request.{Request}
-use Rattle.vlm_words.specs.declared.locks.Row.{Row}
+use Rattle.vlm_words.specs.declared.locks.LockRow.{LockRow}
 use Rattle.vlm_words.specs.declared.modes.Mode.{Mode}
 use Rattle.vlm_words.specs.declared.resources.Queue.{Queue}
 use Rattle.vlm_words.specs.declared.resources.Queue.TheVariants.{Granted, Conversion, Waiting}
@@ -15,10 +15,10 @@ use Rattle.vlm_records.specs.declared.handles.Place.TheVariants.{Queued}
 use Rattle.vlm_store.specs.Plain.{plain_processes, plain_resource, plain_resources}
 use Rattle.vlm_store.specs.Records.{IsSound, Records, SameButNotices, StoredLock, StoredResource, but_notices, fits_beside, moving, on_resource, queued, resource_at, rows_of_locks, with_lists, without_lock}
 use Rattle.vlm_locks.proofs.Found.{on_resource-put, resource_at-at}
-use Rattle.vlm_locks.specs.declared.finding.Standing.{Standing}
+use Rattle.vlm_locks.specs.declared.located_locks.LocatedLock.{LocatedLock}
 use Rattle.vlm_locks.specs.Converting.{IsConverted, IsConvertedAtOnce, admission_on, blocks_granted, moved_in}
 use Rattle.vlm_locks.specs.Rest.{IsReplaced}
-use Rattle.vlm_locks.specs.Standing.{IsStanding}
+use Rattle.vlm_locks.specs.Standing.{IsLocated}
 use Rattle.vlm_words.specs.State.{Process}
 use Rattle.vlm_locks.proofs.Owing.{notices_twice}
 use Rattle.vlm_locks.proofs.Moved.{joins, leaves, moved_replaced, not_in}
@@ -26,9 +26,9 @@ use Rattle.vlm_locks.proofs.Named.{find-absent, find-only, without-handle}
 use Rattle.vlm_locks.proofs.Replaced.{plain_replaced}
 use Rattle.vlm_locks.proofs.Stood.{absent, only, own_among}
 
-module _ (s : Records) (sound : IsSound s) (f : Standing) (standing : IsStanding f s) where
+module _ (s : Records) (sound : IsSound s) (f : LocatedLock) (located : IsLocated f s) where
   -- what end_by_grant and the writing of the value block make of the lock that moved, once its request is accepted
-  pub granted_at_once : (row : Row) (accepted : List Process) (moved mid ended new : Records) (old_block block : ValueBlock) → IfSome (resource_at f.res s.resources) (λ r. old_block ≡ r.value_block)
+  pub granted_at_once : (row : LockRow) (accepted : List Process) (moved mid ended new : Records) (old_block block : ValueBlock) → IfSome (resource_at f.res s.resources) (λ r. old_block ≡ r.value_block)
       → moved ≡ with_lists (moving (Queued f.res Granted) (record { at = f.lock; row = granted_row row })) s
       → SameButNotices moved mid → plain_processes mid ≡ accepted
       → record {
@@ -37,24 +37,24 @@ module _ (s : Records) (sound : IsSound s) (f : Standing) (standing : IsStanding
         only_notices : SameButNotices mid ended;
       }
       → new ≡ record ended { resources = on_resource f.res (λ r. record r { value_block = block }) ended.resources }
-      → IsConvertedAtOnce f row accepted standing.resource s new
+      → IsConvertedAtOnce f row accepted located.resource s new
   granted_at_once row accepted moved mid ended new old_block block told is noticed takes ends wrote =
-      let first = moved_replaced s sound f standing (granted_row row) Granted moved is in
-      let was : old_block ≡ standing.resource.value_block = subst (λ o. IfSome o (λ r. old_block ≡ r.value_block)) standing.found told in
-      let blocks_are : blocks_with old_block (plain_processes mid) ≡ blocks_with standing.resource.value_block accepted =
-      ap (λ b. blocks_with b (plain_processes mid)) was ∙ ap (λ ps. blocks_with standing.resource.value_block ps) takes in
-      let block_is : block ≡ (blocks_granted row standing.resource accepted).value_block = ends.value_block ∙ ap (λ b. (blocks_after (grant_endings true row) b).value_block) blocks_are in
+      let first = moved_replaced s sound f located (granted_row row) Granted moved is in
+      let was : old_block ≡ located.resource.value_block = subst (λ o. IfSome o (λ r. old_block ≡ r.value_block)) located.found told in
+      let blocks_are : blocks_with old_block (plain_processes mid) ≡ blocks_with located.resource.value_block accepted =
+      ap (λ b. blocks_with b (plain_processes mid)) was ∙ ap (λ ps. blocks_with located.resource.value_block ps) takes in
+      let block_is : block ≡ (blocks_granted row located.resource accepted).value_block = ends.value_block ∙ ap (λ b. (blocks_after (grant_endings true row) b).value_block) blocks_are in
       let same = notices_twice moved mid ended noticed ends.only_notices in
       record {
         replaced = record {
-          was = standing.found;
+          was = located.found;
           same = refl;
           resources =
               ap (λ (x : Records). x.resources) wrote
               ∙ ap (on_resource f.res (λ r. record r { value_block = block })) (same.resources ∙ first.resources)
-              ∙ on_resource-put f.res (moved_in f (granted_row row) Granted standing.resource) (λ r. record r { value_block = block }) s.resources
-              (resource_at-at f.res s.resources standing.resource standing.found)
-              ∙ ap (λ b. on_resource f.res (λ r. record (moved_in f (granted_row row) Granted standing.resource) { value_block = b }) s.resources) block_is;
+              ∙ on_resource-put f.res (moved_in f (granted_row row) Granted located.resource) (λ r. record r { value_block = block }) s.resources
+              (resource_at-at f.res s.resources located.resource located.found)
+              ∙ ap (λ b. on_resource f.res (λ r. record (moved_in f (granted_row row) Granted located.resource) { value_block = b }) s.resources) block_is;
           processes = ap (λ (x : Records). map but_notices x.processes) wrote ∙ same.processes ∙ first.processes;
         };
         statuses =
@@ -62,16 +62,16 @@ module _ (s : Records) (sound : IsSound s) (f : Standing) (standing : IsStanding
       }
 
   -- and what grant_without_value_block makes of it
-  pub granted_without_value_block : (row : Row) (accepted : List Process) (moved ended : Records) → moved ≡ with_lists (moving (Queued f.res Granted) (record { at = f.lock; row = granted_row row })) s
+  pub granted_without_value_block : (row : LockRow) (accepted : List Process) (moved ended : Records) → moved ≡ with_lists (moving (Queued f.res Granted) (record { at = f.lock; row = granted_row row })) s
       → ((block : ValueBlock) → blocks_with block (plain_processes ended) ≡ blocks_after (grant_endings true row) (blocks_with block accepted))
-      → SameButNotices moved ended → IsConvertedAtOnce f row accepted standing.resource s ended
+      → SameButNotices moved ended → IsConvertedAtOnce f row accepted located.resource s ended
   granted_without_value_block row accepted moved ended is ends same =
-      let first = moved_replaced s sound f standing (granted_row row) Granted moved is in
-      let r = standing.resource in
+      let first = moved_replaced s sound f located (granted_row row) Granted moved is in
+      let r = located.resource in
       let blocks_are : blocks_with r.value_block (plain_processes ended) ≡ blocks_granted row r accepted = ends r.value_block in
       record {
         replaced = record {
-          was = standing.found;
+          was = located.found;
           same = refl;
           resources =
               same.resources ∙ first.resources
@@ -83,7 +83,7 @@ module _ (s : Records) (sound : IsSound s) (f : Standing) (standing : IsStanding
 
   -- whether it is granted at once
   abbrev now : Request → Bool
-  now asked = converts_at_once asked f.row.lkid (plain_resource standing.resource)
+  now asked = converts_at_once asked f.row.lkid (plain_resource located.resource)
 
   -- a conversion changes no other resource
   others_kept : (asked : Request) (block : ValueBlock) (x : StoredResource) → IsIn x s.resources → x.at ≢ f.res
@@ -91,13 +91,13 @@ module _ (s : Records) (sound : IsSound s) (f : Standing) (standing : IsStanding
   unfolding resource_after_conversion
   others_kept asked block x among differs =
       ap (resource_after_conversion_of asked (now asked) f.row.lkid block (plain_resource x))
-      (find-absent f.row.pid f.row.lkid x.granted (absent s sound f standing x among Granted (λ e. differs (cc))))
+      (find-absent f.row.pid f.row.lkid x.granted (absent s sound f located x among Granted (λ e. differs (cc))))
 
   -- the lock is found in its queue
-  found_here : f.queue ≡ Granted → find (is_lock_of f.row.pid f.row.lkid) (rows_of_locks standing.resource.granted) ≡ Some f.row
+  found_here : f.queue ≡ Granted → find (is_lock_of f.row.pid f.row.lkid) (rows_of_locks located.resource.granted) ≡ Some f.row
   found_here granted =
-      find-only (record { at = f.lock; row = f.row }) standing.resource.granted (only s sound f standing standing.resource (own_among s sound f standing) Granted)
-      (subst (λ q. IsIn (record { at = f.lock; row = f.row }) (queued q standing.resource)) granted standing.among)
+      find-only (record { at = f.lock; row = f.row }) located.resource.granted (only s sound f located located.resource (own_among s sound f located) Granted)
+      (subst (λ q. IsIn (record { at = f.lock; row = f.row }) (queued q located.resource)) granted located.among)
 
   -- it stands in no other queue
   elsewhere : f.queue ≡ Granted → (queue : Queue) → queue ≢ Granted → queue ≢ f.queue
@@ -105,20 +105,20 @@ module _ (s : Records) (sound : IsSound s) (f : Standing) (standing : IsStanding
 
   -- what fits beside the other locks by their handles fits beside them by their identifications
   pub fits_are : (mode : Mode) → f.queue ≡ Granted
-      → fits_beside mode (Some f.lock) standing.resource ≡ fits mode (rows_without f.row.lkid (rows_of_locks standing.resource.granted)) (rows_of_locks standing.resource.converting)
+      → fits_beside mode (Some f.lock) located.resource ≡ fits mode (rows_without f.row.lkid (rows_of_locks located.resource.granted)) (rows_of_locks located.resource.converting)
   fits_are mode granted =
-      let own = own_among s sound f standing in
+      let own = own_among s sound f located in
       let lock : StoredLock = record { at = f.lock; row = f.row } in
-      ap (λ rows. fits mode rows (rows_of_locks (without_lock f.lock standing.resource.converting))) (without-handle lock standing.resource.granted (only s sound f standing standing.resource own Granted))
-      ∙ ap (λ rows. fits mode (rows_without f.row.lkid (rows_of_locks standing.resource.granted)) rows)
-      (without-handle lock standing.resource.converting (only s sound f standing standing.resource own Conversion) ∙ not_in s sound f standing Conversion (elsewhere granted Conversion (λ e. cc)))
+      ap (λ rows. fits mode rows (rows_of_locks (without_lock f.lock located.resource.converting))) (without-handle lock located.resource.granted (only s sound f located located.resource own Granted))
+      ∙ ap (λ rows. fits mode (rows_without f.row.lkid (rows_of_locks located.resource.granted)) rows)
+      (without-handle lock located.resource.converting (only s sound f located located.resource own Conversion) ∙ not_in s sound f located Conversion (elsewhere granted Conversion (λ e. cc)))
 
   -- the conversion is granted
-  pub converted_now : (asked : Request) (accepted : List Process) (new : Records) → f.queue ≡ Granted → converts_at_once asked f.row.lkid (plain_resource standing.resource) ≡ true
-      → IsConvertedAtOnce f (wanting_row f.row asked) accepted standing.resource s new → IsConverted f asked accepted standing.resource s new
+  pub converted_now : (asked : Request) (accepted : List Process) (new : Records) → f.queue ≡ Granted → converts_at_once asked f.row.lkid (plain_resource located.resource) ≡ true
+      → IsConvertedAtOnce f (wanting_row f.row asked) accepted located.resource s new → IsConverted f asked accepted located.resource s new
   unfolding resource_after_conversion
   converted_now asked accepted new granted at_once done =
-      let r = standing.resource in
+      let r = located.resource in
       let row = wanting_row f.row asked in
       let blocks_are : conversion_blocks (admission_on f asked r) accepted ≡ blocks_granted row r accepted =
       ap (λ b. blocks_after (cond b (grant_endings true row) []) (blocks_with r.value_block accepted)) at_once in
@@ -127,11 +127,11 @@ module _ (s : Records) (sound : IsSound s) (f : Standing) (standing : IsStanding
       let here : resource_after_conversion asked (now asked) f.row.pid f.row.lkid block (plain_resource r) ≡ plain_resource left =
       ap (resource_after_conversion_of asked (now asked) f.row.lkid block (plain_resource r)) (found_here granted)
       ∙ rw at_once
-      (ap (λ rows. record (plain_resource r) { value_block = block; granted = rows }) (sym (joins s sound f standing (granted_row row) Granted))
+      (ap (λ rows. record (plain_resource r) { value_block = block; granted = rows }) (sym (joins s sound f located (granted_row row) Granted))
       ∙ ap (λ rows. record (plain_resource left) { converting = rows; waiting = rows_of_locks r.waiting })
-      (sym (leaves s sound f standing (granted_row row) Granted Conversion (λ e. cc) ∙ not_in s sound f standing Conversion (elsewhere granted Conversion (λ e. cc))))
+      (sym (leaves s sound f located (granted_row row) Granted Conversion (λ e. cc) ∙ not_in s sound f located Conversion (elsewhere granted Conversion (λ e. cc))))
       ∙ ap (λ rows. record (plain_resource left) { waiting = rows })
-      (sym (leaves s sound f standing (granted_row row) Granted Waiting (λ e. cc) ∙ not_in s sound f standing Waiting (elsewhere granted Waiting (λ e. cc)))))
+      (sym (leaves s sound f located (granted_row row) Granted Waiting (λ e. cc) ∙ not_in s sound f located Waiting (elsewhere granted Waiting (λ e. cc)))))
       in
       record {
         resources =
@@ -141,12 +141,12 @@ module _ (s : Records) (sound : IsSound s) (f : Standing) (standing : IsStanding
       }
 
   -- the conversion waits
-  pub converted_later : (asked : Request) (accepted : List Process) (new : Records) → f.queue ≡ Granted → converts_at_once asked f.row.lkid (plain_resource standing.resource) ≡ false
-      → IsReplaced f.res standing.resource (moved_in f (wanting_row f.row asked) Conversion standing.resource) s new → plain_processes new ≡ accepted
-      → IsConverted f asked accepted standing.resource s new
+  pub converted_later : (asked : Request) (accepted : List Process) (new : Records) → f.queue ≡ Granted → converts_at_once asked f.row.lkid (plain_resource located.resource) ≡ false
+      → IsReplaced f.res located.resource (moved_in f (wanting_row f.row asked) Conversion located.resource) s new → plain_processes new ≡ accepted
+      → IsConverted f asked accepted located.resource s new
   unfolding resource_after_conversion
   converted_later asked accepted new granted later replaced statuses =
-      let r = standing.resource in
+      let r = located.resource in
       let row = wanting_row f.row asked in
       let blocks_are : conversion_blocks (admission_on f asked r) accepted ≡ blocks_with r.value_block accepted =
       ap (λ b. blocks_after (cond b (grant_endings true row) []) (blocks_with r.value_block accepted)) later in
@@ -154,11 +154,11 @@ module _ (s : Records) (sound : IsSound s) (f : Standing) (standing : IsStanding
       let here : resource_after_conversion asked (now asked) f.row.pid f.row.lkid r.value_block (plain_resource r) ≡ plain_resource left =
       ap (resource_after_conversion_of asked (now asked) f.row.lkid r.value_block (plain_resource r)) (found_here granted)
       ∙ rw later
-      (ap (λ rows. record (plain_resource r) { granted = rows; converting = rows_of_locks r.converting ++ row ∷ [] }) (sym (leaves s sound f standing row Conversion Granted (λ e. cc)))
-      ∙ ap (λ rows. record (plain_resource left) { converting = rows ++ row ∷ []; waiting = rows_of_locks r.waiting }) (sym (not_in s sound f standing Conversion (elsewhere granted Conversion (λ e. cc))))
-      ∙ ap (λ rows. record (plain_resource left) { converting = rows; waiting = rows_of_locks r.waiting }) (sym (joins s sound f standing row Conversion))
+      (ap (λ rows. record (plain_resource r) { granted = rows; converting = rows_of_locks r.converting ++ row ∷ [] }) (sym (leaves s sound f located row Conversion Granted (λ e. cc)))
+      ∙ ap (λ rows. record (plain_resource left) { converting = rows ++ row ∷ []; waiting = rows_of_locks r.waiting }) (sym (not_in s sound f located Conversion (elsewhere granted Conversion (λ e. cc))))
+      ∙ ap (λ rows. record (plain_resource left) { converting = rows; waiting = rows_of_locks r.waiting }) (sym (joins s sound f located row Conversion))
       ∙ ap (λ rows. record (plain_resource left) { waiting = rows })
-      (sym (leaves s sound f standing row Conversion Waiting (λ e. cc) ∙ not_in s sound f standing Waiting (elsewhere granted Waiting (λ e. cc)))))
+      (sym (leaves s sound f located row Conversion Waiting (λ e. cc) ∙ not_in s sound f located Waiting (elsewhere granted Waiting (λ e. cc)))))
       in
       record {
         resources =

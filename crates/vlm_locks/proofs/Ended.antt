@@ -3,7 +3,7 @@ use Rattle.std.proofs.Common.{◌≡◌, ℕ, List, [], ◌∷◌, ◌++◌, map
 use Rattle.std.proofs.lemmas.Bool.{and_parts}
 use Rattle.std.proofs.lemmas.List.{append-nil}
 use Rattle.std.proofs.lemmas.Option.{same_Some}
-use Rattle.vlm_words.specs.declared.locks.Row.{Row}
+use Rattle.vlm_words.specs.declared.locks.LockRow.{LockRow}
 use Rattle.vlm_words.specs.declared.resources.Queue.TheVariants.{Conversion, Waiting}
 use Rattle.vlm_words.specs.declared.resources.ValueBlock.{ValueBlock}
 use Rattle.vlm_model.specs.Effects.{Blocks, blocks_after, blocks_with, with_value_block}
@@ -156,7 +156,7 @@ module _ (res : ℕ) (old s new : Records) (old_block block : ValueBlock) (sound
 -- ---- nothing is queued
 
 -- a queue without locks
-pub empty_is : (rows : List Row) → is_empty rows ≡ true → rows ≡ []
+pub empty_is : (rows : List LockRow) → is_empty rows ≡ true → rows ≡ []
 empty_is [] empty = refl
 empty_is (row ∷ rows) empty = cc
 
@@ -165,7 +165,7 @@ none_served : (r : Resource) → nothing_queued r ≡ true → service r ≡ no_
 unfolding service
 none_served r nothing =
     let both = and_parts (is_empty r.converting) (is_empty r.waiting) nothing in
-    ap (λ (rows : List Row). service_then (service_of_conversions r rows) (service_of_new_requests (service_of_conversions r rows).resource)) (empty_is r.converting both.0)
+    ap (λ (rows : List LockRow). service_then (service_of_conversions r rows) (service_of_new_requests (service_of_conversions r rows).resource)) (empty_is r.converting both.0)
     ∙ rw (both.0, empty_is r.waiting both.1) refl
 
 pub none_granted : (res : ℕ) (s : Records) → IsSound s → HasResource res s → IfSome (resource_at res s.resources) (λ r. true ≡ nothing_queued (plain_resource r)) → HasGranted res s s

@@ -1,7 +1,7 @@
 -- The requests of locks that are given up together end, lock by lock.
 use Rattle.std.proofs.Common.{◌≡◌, ◌≤◌, ◌<◌, ◌+◌, ℕ, Bool, true, false, List, [], ◌∷◌, ◌++◌, map, flat_map, length, get_or, Option, None, Some, refl, sym, ap, ◌∙◌, subst, inl, inr, arith}
 use Rattle.std.proofs.lemmas.List.{append_assoc, append-nil, length-append, length-map}
-use Rattle.vlm_words.specs.declared.locks.Row.{Row}
+use Rattle.vlm_words.specs.declared.locks.LockRow.{LockRow}
 use Rattle.std.specs.List.{AllByRecursion}
 use Rattle.vlm_words.specs.declared.locks.Request.{Request}
 use Rattle.vlm_words.specs.declared.resources.ValueBlock.{ValueBlock}
@@ -45,7 +45,7 @@ same_handles s t sound sound_t same owner pid lives =
     ∙ ap handles_of_own q.1.3 ∙ sym (its_handles owner pid s sound lives)
 
 -- and each lock stands as it did
-pub stands_alike : (at : ℕ) (row : Row) (s t : Records) → t.resources ≡ s.resources → (place : Place)
+pub stands_alike : (at : ℕ) (row : LockRow) (s t : Records) → t.resources ≡ s.resources → (place : Place)
     → IsIn (record { at = at; row = row }) (locks_at place s) → IsIn (record { at = at; row = row }) (locks_at place t)
 stands_alike at row s t resources (Queued res queue) among =
     subst (λ rs. IsIn (record { at = at; row = row }) (option_map_or (queued queue) (resource_at res rs) [])) (sym resources) among
@@ -65,7 +65,7 @@ ends_push f (n ∷ lkids) last s =
 abbrev IsByAbort : Ending → Type 0
 IsByAbort ending = ending.how ≡ by_abort
 
-rows_abort : (rows : List Row) → AllByRecursion IsByAbort (flat_map (row_endings by_abort false) rows)
+rows_abort : (rows : List LockRow) → AllByRecursion IsByAbort (flat_map (row_endings by_abort false) rows)
 rows_abort [] = tt
 rows_abort (row ∷ rows) = each_append IsByAbort (row_endings by_abort false row) (flat_map (row_endings by_abort false) rows) (of_want row.want) (rows_abort rows)
   where
@@ -151,11 +151,11 @@ module _ (notes : List Note) (invalidates : Bool) (old s : Records) (many : ℕ)
   others : (those : List ℕ) × (so_far.todo ≡ t.number ∷ those)
   others = number_there so_far.done so_far.todo notes many t so_far.split so_far.count within is
 
-  module _ (sound_old : IsSound old) (row : Row) (stored : Stores s t.at row) where
+  module _ (sound_old : IsSound old) (row : LockRow) (stored : Stores s t.at row) where
     named : row.lkid ≡ t.number
     named =
         let its = locks t (note_in notes many t within is) in
-        ap (λ (x : Row). x.lkid)
+        ap (λ (x : LockRow). x.lkid)
         (one_lock old sound_old t.at row its.0 (stored.0, stands_alike t.at row s old (sym so_far.only_notices.resources) stored.0 stored.1) its.1.0)
         ∙ its.1.1
 

@@ -3,7 +3,7 @@ use Rattle.std.proofs.Common.{◌≡◌, ◌≢◌, ◌⊎◌, ℕ, Bool, List, 
 use Rattle.std.specs.Prelude.{◌==◌}
 use Rattle.std.proofs.lemmas.Bool.{cases_eq}
 use Rattle.std.proofs.lemmas.List.{map-append}
-use Rattle.vlm_words.specs.declared.locks.Row.{Row}
+use Rattle.vlm_words.specs.declared.locks.LockRow.{LockRow}
 use Rattle.vlm_words.specs.declared.resources.Queue.{Queue}
 use Rattle.vlm_words.specs.declared.resources.Queue.TheVariants.{Granted, Conversion, Waiting}
 use Rattle.vlm_model.specs.Enqueue.{resource_after_entry, resources_after_entry}
@@ -17,8 +17,8 @@ use Rattle.vlm_store.specs.Records.{AreResourcesApart, FindsResource, HasResourc
 use Rattle.vlm_store.proofs.Records.{joins_queue, map_on, resource_is}
 use Rattle.vlm_locks.specs.Rest.{but_service, IsAtRest, IsReplaced, OtherLocksStay}
 use Rattle.vlm_locks.proofs.Found.{resource_alone, resource_at-put}
-use Rattle.vlm_locks.specs.declared.entering.Entry.{Entry}
-use Rattle.vlm_locks.specs.Owing.{entered_row}
+use Rattle.vlm_locks.specs.declared.new_locks.NewLock.{NewLock}
+use Rattle.vlm_locks.specs.Owing.{granted_if_at_once}
 use Rattle.vlm_locks.specs.Entering.{IsAdded, IsEntered, entered_queue, resource_for, new_row}
 use Rattle.vlm_locks.proofs.Keyed.{AreKeyed, finds_one, key_cases}
 use Rattle.vlm_locks.proofs.Replaced.{keyed_still, others_stay, still_there, stored_cases}
@@ -44,8 +44,8 @@ joined-value_block Conversion lock r = refl
 joined-value_block Waiting lock r = refl
 
 -- a request that is granted at once has its lock among the granted ones, another at the end of the waiting queue
-pub joins_entered : (at : ℕ) (row : Row) (at_once : Bool) (r : StoredResource)
-    → plain_resource (joined_by (entered_queue at_once) (record { at = at; row = entered_row at_once row }) r) ≡ resource_after_entry row at_once (plain_resource r)
+pub joins_entered : (at : ℕ) (row : LockRow) (at_once : Bool) (r : StoredResource)
+    → plain_resource (joined_by (entered_queue at_once) (record { at = at; row = granted_if_at_once at_once row }) r) ≡ resource_after_entry row at_once (plain_resource r)
 unfolding resource_after_entry
 joins_entered at row true r =
     ap (λ rows. record (plain_resource r) { granted = rows }) (map-append (λ (k : StoredLock). k.row) r.granted (record { at = at; row = granted_row row } ∷ []))
@@ -53,12 +53,12 @@ joins_entered at row false r =
     ap (λ rows. record (plain_resource r) { waiting = rows }) (map-append (λ (k : StoredLock). k.row) r.waiting (record { at = at; row = row } ∷ []))
 
 -- its row is that of the same lock
-pub entered_same : (at_once : Bool) (row : Row) → IsSameLock row (entered_row at_once row)
+pub entered_same : (at_once : Bool) (row : LockRow) → IsSameLock row (granted_if_at_once at_once row)
 entered_same true row = record { lkid = refl; pid = refl; parent = refl }
 entered_same false row = record { lkid = refl; pid = refl; parent = refl }
 
 -- which has the same parent
-pub parent_same : (parent : Option ℕ) (a b : Row) (s : Records) → IsSameLock a b → IsParentOf parent a s → IsParentOf parent b s
+pub parent_same : (parent : Option ℕ) (a b : LockRow) (s : Records) → IsSameLock a b → IsParentOf parent a s → IsParentOf parent b s
 parent_same None a b s same is = sym same.parent ∙ is
 parent_same (Some up) a b s same is = (is.0, (is.1.0, is.1.1 ∙ same.parent))
 
@@ -86,7 +86,7 @@ on_resource-absent res left [] absent = refl
 on_resource-absent res left (x ∷ rest) absent =
     rw (ne_eqb x.at res (absent x (inl refl))) (ap (λ xs. x ∷ xs) (on_resource-absent res left rest (λ y there. absent y (inr there))))
 
-module _ (e : Entry) (keyed : IsKeyed e.site.domain e.site.key) where
+module _ (e : NewLock) (keyed : IsKeyed e.site.domain e.site.key) where
   -- the resource of the key is the only one that changes
   pub entered_one : (r left : StoredResource) (rs : List StoredResource) → AreKeyed rs → AreResourcesApart rs → IsIn r rs → r.key ≡ e.site.key
       → ((x : StoredResource) → IsIn x rs → x.key ≡ e.site.key → x.at ≡ r.at) → plain_resource left ≡ resource_after_entry (new_row e) e.at_once (plain_resource r)
@@ -112,10 +112,10 @@ module _ (e : Entry) (keyed : IsKeyed e.site.domain e.site.key) where
 -- ---- the entry, on a resource that is there
 
 -- the records once the lock stands in the list of its process, but for its queue
-abbrev pub owned_by : Entry → ℕ → Records → Records
+abbrev pub owned_by : NewLock → ℕ → Records → Records
 owned_by e at s = record s { processes = map (process_with_lock e.owner e.parent at) s.processes }
 
-module _ (s : Records) (sound : IsSound s) (rest : IsAtRest s) (e : Entry) (keyed : IsKeyed e.site.domain e.site.key) (res : ℕ) (found : FindsResource s e.site.key (Some res)) where
+module _ (s : Records) (sound : IsSound s) (rest : IsAtRest s) (e : NewLock) (keyed : IsKeyed e.site.domain e.site.key) (res : ℕ) (found : FindsResource s e.site.key (Some res)) where
   -- the resource of the key is there
   pub found_there : resource_at res s.resources ≡ Some found.0
   found_there = ap (λ x. resource_at x s.resources) (sym found.1.1) ∙ resource_is found.0 s.resources sound.resources_apart found.1.0
@@ -123,7 +123,7 @@ module _ (s : Records) (sound : IsSound s) (rest : IsAtRest s) (e : Entry) (keye
   pub is_there : HasResource res s
   is_there = subst (λ (o : Option StoredResource). IsSome o) (sym found_there) refl
 
-  module _ (at : ℕ) (row : Row) (to : Queue) (room : Room) (new : Records) (added : new ≡ with_lock_room room (with_new_lock at row e.owner e.parent (Queued res to) s)) where
+  module _ (at : ℕ) (row : LockRow) (to : Queue) (room : Room) (new : Records) (added : new ≡ with_lock_room room (with_new_lock at row e.owner e.parent (Queued res to) s)) where
     -- the resource with the lock in its queue
     abbrev left : StoredResource
     left = joined_by to (record { at = at; row = row }) found.0
@@ -156,7 +156,7 @@ module _ (s : Records) (sound : IsSound s) (rest : IsAtRest s) (e : Entry) (keye
     }
 
     -- a lock that is stored is the new one, or was stored
-    lock_cases : (x : ℕ) (other : Row) → Stores new x other → ((x ≡ at) × (other ≡ row)) ⊎ Stores s x other
+    lock_cases : (x : ℕ) (other : LockRow) → Stores new x other → ((x ≡ at) × (other ≡ row)) ⊎ Stores s x other
     lock_cases = stored_cases res found.0 left (owned_by e at s) new replaced {P = λ x other. ((x ≡ at) × (other ≡ row)) ⊎ Stores s x other} (of_queue to) was
       where
         joined : (locks : List StoredLock) (k : StoredLock) → IsIn k (locks ++ record { at = at; row = row } ∷ []) → (IsIn k locks → Stores s k.at k.row)
@@ -180,7 +180,7 @@ module _ (s : Records) (sound : IsSound s) (rest : IsAtRest s) (e : Entry) (keye
         of_queue Waiting Conversion k here = inr (in_queue Conversion k here)
         of_queue Waiting Waiting k here = joined found.0.waiting k here (in_queue Waiting k)
 
-        was : (x : ℕ) (other : Row) → Stores (owned_by e at s) x other → ((x ≡ at) × (other ≡ row)) ⊎ Stores s x other
+        was : (x : ℕ) (other : LockRow) → Stores (owned_by e at s) x other → ((x ≡ at) × (other ≡ row)) ⊎ Stores s x other
         was x other stored = inr (by_place stored.0 stored.1)
           where
             by_place : (place : Place) → IsIn (record { at = x; row = other }) (locks_at place (owned_by e at s)) → Stores s x other
@@ -192,7 +192,7 @@ module _ (s : Records) (sound : IsSound s) (rest : IsAtRest s) (e : Entry) (keye
       keyed = keyed_still res found.0 left (owned_by e at s) new replaced rest.keyed;
       rising = subst (AllRise new) (sym new_processes)
           (all_rise_with e.owner e.parent at s new sound e.lkid fresh above
-          (λ x other stored. elim (lock_cases x other stored) [ inl is ↦ inl (is.0, ap (λ (r : Row). r.lkid) is.1 ∙ sym same.lkid) | inr there ↦ inr there ])
+          (λ x other stored. elim (lock_cases x other stored) [ inl is ↦ inl (is.0, ap (λ (r : LockRow). r.lkid) is.1 ∙ sym same.lkid) | inr there ↦ inr there ])
           rest.rising);
     }
 

@@ -3,16 +3,16 @@ use Rattle.std.proofs.Common.{◌≡◌, ◌≢◌, ◌≤◌, ◌<◌, ◌+◌,
 use Rattle.std.specs.Prelude.{◌==◌, ◌||◌}
 use Rattle.std.proofs.lemmas.Bool.{cases_eq, eqb-true, or_cases}
 use Rattle.std.proofs.lemmas.List.{append_assoc, append-nil, length-append, length-map}
-use Rattle.vlm_words.specs.declared.locks.Row.{Row}
+use Rattle.vlm_words.specs.declared.locks.LockRow.{LockRow}
 use Rattle.vlm_model.specs.OwnLocks.{is_below, parent_of}
 use Rattle.vlm_collections.specs.Lists.{IsApart, IsIn}
 use Rattle.vlm_collections.proofs.HandleLists.{IsIn-push, IsIn-push_kept, IsIn-push_last}
 use Rattle.vlm_store.specs.Plain.{plain_resources}
 use Rattle.vlm_store.specs.Records.{FindsLock, IsProcess, IsSound, IsStored, Records, Stores, own_handles_at, sublocks_at}
 use Rattle.vlm_store.specs.Total.{lock_total}
-use Rattle.vlm_locks.specs.declared.giving_up.Choice.TheVariants.{All, Below}
+use Rattle.vlm_locks.specs.declared.joint_withdrawals.Scope.TheVariants.{All, Below}
 use Rattle.vlm_locks.specs.declared.touched.Note.{Note}
-use Rattle.vlm_locks.specs.GivingUp.{AreChosen, AreOfLocks, IsOwnChoice, SublocksGoToo, noted_lkids}
+use Rattle.vlm_locks.specs.GivingUp.{AreChosen, AreOfLocks, IsOwnScope, SublocksGoToo, noted_lkids}
 use Rattle.vlm_locks.specs.Rest.{IsAtRest}
 use Rattle.vlm_locks.specs.Rising.{StandByIdentification}
 use Rattle.vlm_locks.specs.RunningDown.{SublocksAreOwn}
@@ -42,31 +42,31 @@ module _ (owner pid : ℕ) (s : Records) (sound : IsSound s) (lives : IsProcess 
         let t = note_of lkid notes there in
         let row = locks t.0 t.1.0 in
         let here = stored_here owner pid s sound lives t.0.at (subst (IsIn t.0.at) noted (handle_among notes t.0 t.1.0)) in
-        (t.0.at, row.0, (row.1.0, row.1.1 ∙ t.1.1, ap (λ (x : Row). x.pid) (one_lock s sound t.0.at row.0 here.0 row.1.0 here.1.0) ∙ here.1.1, refl));
+        (t.0.at, row.0, (row.1.0, row.1.1 ∙ t.1.1, ap (λ (x : LockRow). x.pid) (one_lock s sound t.0.at row.0 here.0 row.1.0 here.1.0) ∙ here.1.1, refl));
     all = λ at row stored mine chosen.
         let t = touch_of at notes
         (subst (IsIn at) (sym (noted ∙ its_handles owner pid s sound lives)) (owned_here owner pid s sound lives at row stored mine)) in
         let its = locks t.0 t.1.0 in
         let same : its.0 ≡ row = one_lock s sound at its.0 row (subst (λ h. Stores s h its.0) t.1.1 its.1.0) stored in
-        subst (λ n. IsIn n (noted_lkids notes)) (sym its.1.1 ∙ ap (λ (x : Row). x.lkid) same) (in_map (λ (x : Note). x.number) t.0 notes t.1.0);
+        subst (λ n. IsIn n (noted_lkids notes)) (sym its.1.1 ∙ ap (λ (x : LockRow). x.lkid) same) (in_map (λ (x : Note). x.number) t.0 notes t.1.0);
   }
 
 -- ---- the locks below a lock
 
 -- the lock has one of these as its parent
-abbrev pub IsUnder : Records → List ℕ → Row → Type 0
-IsUnder s parents row = (h : ℕ) × (up : Row) × (IsIn h parents × Stores s h up × (row.parent ≡ up.lkid))
+abbrev pub IsUnder : Records → List ℕ → LockRow → Type 0
+IsUnder s parents row = (h : ℕ) × (up : LockRow) × (IsIn h parents × Stores s h up × (row.parent ≡ up.lkid))
 
 -- a lock below the one of this identification, of its process
 abbrev pub IsBelowTop : Records → ℕ → ℕ → ℕ → Type 0
-IsBelowTop s pid top at = (row : Row) × (Stores s at row × (row.pid ≡ pid) × (top < row.lkid) × (is_below 15 top (plain_resources s) row.lkid ≡ true))
+IsBelowTop s pid top at = (row : LockRow) × (Stores s at row × (row.pid ≡ pid) × (top < row.lkid) × (is_below 15 top (plain_resources s) row.lkid ≡ true))
 
 -- these are the sublocks of these parents, each once
 pub record AreGathered (s : Records) (pid top : ℕ) (parents handles : List ℕ) : Type 0 where
   pub each : (at : ℕ) → IsIn at handles → IsBelowTop s pid top at
   pub apart : IsApart handles
-  pub under : (at : ℕ) (row : Row) → IsIn at handles → Stores s at row → IsUnder s parents row
-  pub all : (at : ℕ) (row : Row) → Stores s at row → IsUnder s parents row → IsIn at handles
+  pub under : (at : ℕ) (row : LockRow) → IsIn at handles → Stores s at row → IsUnder s parents row
+  pub all : (at : ℕ) (row : LockRow) → Stores s at row → IsUnder s parents row → IsIn at handles
 
 -- those of no parent are none
 none_gathered : (s : Records) (pid top : ℕ) → AreGathered s pid top [] []
@@ -88,20 +88,20 @@ pub record AreLevels (s : Records) (pid top at_top : ℕ) (was touched : Touches
   pub room : touched.room ≡ was.room
 
 -- the top is the lock that is found
-pub top_found : (s : Records) → IsSound s → (pid top : ℕ) → IsOwnChoice (Below top) pid s → (lock : ℕ) → FindsLock s top (Some lock)
-    → (row : Row) × (Stores s lock row × (row.lkid ≡ top) × (row.pid ≡ pid))
+pub top_found : (s : Records) → IsSound s → (pid top : ℕ) → IsOwnScope (Below top) pid s → (lock : ℕ) → FindsLock s top (Some lock)
+    → (row : LockRow) × (Stores s lock row × (row.lkid ≡ top) × (row.pid ≡ pid))
 top_found s sound pid top own lock found =
     let handle : own.1 ≡ lock = sound.lkids_apart own.1 lock own.2 found.0 own.3.0 found.1.0 (own.3.1 ∙ sym found.1.1) in
     (own.2, (subst (λ h. Stores s h own.2) handle own.3.0, own.3.1, own.3.2))
 
-module _ (s : Records) (sound : IsSound s) (rest : IsAtRest s) (pid top : ℕ) (own : IsOwnChoice (Below top) pid s) (together : SublocksAreOwn s) (closed : SublocksGoToo (Below top) s) where
+module _ (s : Records) (sound : IsSound s) (rest : IsAtRest s) (pid top : ℕ) (own : IsOwnScope (Below top) pid s) (together : SublocksAreOwn s) (closed : SublocksGoToo (Below top) s) where
   abbrev at_top : ℕ
   at_top = own.1
 
   -- a lock whose sublocks are below the top
   abbrev HasChosenSublocks : ℕ → Type 0
-  HasChosenSublocks h = (up : Row) × (Stores s h up × (up.pid ≡ pid) × (top ≤ up.lkid)
-      × ((at : ℕ) (row : Row) → Stores s at row → row.parent ≡ up.lkid → is_below 15 top (plain_resources s) row.lkid ≡ true))
+  HasChosenSublocks h = (up : LockRow) × (Stores s h up × (up.pid ≡ pid) × (top ≤ up.lkid)
+      × ((at : ℕ) (row : LockRow) → Stores s at row → row.parent ≡ up.lkid → is_below 15 top (plain_resources s) row.lkid ≡ true))
 
   -- the top is one
   of_top : HasChosenSublocks at_top
@@ -126,16 +126,16 @@ module _ (s : Records) (sound : IsSound s) (rest : IsAtRest s) (pid top : ℕ) (
 
   -- its sublocks are gathered too
   module _ (parents handles : List ℕ) (gathered : AreGathered s pid top parents handles) (h : ℕ) (chosen : HasChosenSublocks h) (fresh : ¬ IsIn h parents) where
-    abbrev up : Row
+    abbrev up : LockRow
     up = chosen.0
 
     not_0 : up.lkid ≢ 0
     not_0 is = own.0 (omega (arith, is, chosen.1.2))
 
-    sublock : (at : ℕ) → IsIn at (sublocks_at h s) → (row : Row) × (Stores s at row × (row.parent ≡ up.lkid))
+    sublock : (at : ℕ) → IsIn at (sublocks_at h s) → (row : LockRow) × (Stores s at row × (row.parent ≡ up.lkid))
     sublock at there =
         let below = below_of s sound h at there in
-        (below.1, (below.2.1, below.2.2 ∙ ap (λ (x : Row). x.lkid) (one_lock s sound h below.0 up below.2.0 chosen.1.0)))
+        (below.1, (below.2.1, below.2.2 ∙ ap (λ (x : LockRow). x.lkid) (one_lock s sound h below.0 up below.2.0 chosen.1.0)))
 
     one_parent_more : AreGathered s pid top (parents ++ h ∷ []) (handles ++ sublocks_at h s)
     one_parent_more = record {
@@ -164,13 +164,13 @@ module _ (s : Records) (sound : IsSound s) (rest : IsAtRest s) (pid top : ℕ) (
             (under.0, under.1, (IsIn-push_kept h under.0 parents under.2.0, under.2.1, under.2.2)))
         | inr behind ↦
             (let below = sublock at behind in
-            (h, up, (IsIn-push_last h parents, chosen.1.0, ap (λ (x : Row). x.parent) (one_lock s sound at row below.0 stored below.1.0) ∙ below.1.1)))
+            (h, up, (IsIn-push_last h parents, chosen.1.0, ap (λ (x : LockRow). x.parent) (one_lock s sound at row below.0 stored below.1.0) ∙ below.1.1)))
       ];
       all = λ at row stored under. elim (IsIn-push h under.0 parents under.2.0) [
         | inl before ↦ in_ahead at handles (sublocks_at h s) (gathered.all at row stored (under.0, under.1, (before, under.2.1, under.2.2)))
         | inr same ↦
             (let names : row.parent ≡ up.lkid =
-            under.2.2 ∙ ap (λ (x : Row). x.lkid) (one_lock s sound h under.1 up (subst (λ k. Stores s k under.1) (sym same) under.2.1) chosen.1.0) in
+            under.2.2 ∙ ap (λ (x : LockRow). x.lkid) (one_lock s sound h under.1 up (subst (λ k. Stores s k under.1) (sym same) under.2.1) chosen.1.0) in
             in_behind at handles (sublocks_at h s) (is_below_it s sound h at up row chosen.1.0 stored (λ is. not_0 (sym names ∙ is)) names))
       ];
     }
@@ -220,7 +220,7 @@ module _ (s : Records) (sound : IsSound s) (rest : IsAtRest s) (pid top : ℕ) (
     fresh here = elim here [
       | inl same ↦
           (let row : below.0 ≡ own.2 = one_lock s sound t.at below.0 own.2 below.1.0 (subst (λ k. Stores s k own.2) same own.3.0) in
-          absurd (omega (arith, below.1.2, ap (λ (x : Row). x.lkid) row, own.3.1)))
+          absurd (omega (arith, below.1.2, ap (λ (x : LockRow). x.lkid) row, own.3.1)))
       | inr before ↦ absent_before so_far.front t.at there.0 (subst (λ hs. IsApart (so_far.front ++ hs)) there.1 so_far.gathered.apart) before
     ]
 
@@ -290,7 +290,7 @@ module _ (s : Records) (sound : IsSound s) (rest : IsAtRest s) (pid top : ℕ) (
       ]
 
   -- where the sublocks of all are gathered, each lock below the top is
-  each_below : (handles : List ℕ) → AreGathered s pid top (at_top ∷ handles) handles → (levels at : ℕ) (row : Row) → Stores s at row
+  each_below : (handles : List ℕ) → AreGathered s pid top (at_top ∷ handles) handles → (levels at : ℕ) (row : LockRow) → Stores s at row
       → is_below levels top (plain_resources s) row.lkid ≡ true → IsIn at handles
   each_below handles gathered zero at row stored below = cc
   each_below handles gathered (suc levels) at row stored below =
@@ -350,9 +350,9 @@ module _ (s : Records) (sound : IsSound s) (rest : IsAtRest s) (pid top : ℕ) (
             its.0,
             (
               its.1.0,
-              ap (λ (x : Row). x.lkid) same ∙ row.1.1 ∙ t.1.1,
+              ap (λ (x : LockRow). x.lkid) same ∙ row.1.1 ∙ t.1.1,
               its.1.1,
-              ap (is_below 15 top (plain_resources s)) (sym (ap (λ (x : Row). x.lkid) same ∙ row.1.1 ∙ t.1.1)) ∙ its.1.3,
+              ap (is_below 15 top (plain_resources s)) (sym (ap (λ (x : LockRow). x.lkid) same ∙ row.1.1 ∙ t.1.1)) ∙ its.1.3,
             ),
           );
       all = λ at row stored mine chosen.
@@ -360,6 +360,6 @@ module _ (s : Records) (sound : IsSound s) (rest : IsAtRest s) (pid top : ℕ) (
           let its = so_far.locks t.0 t.1.0 in
           let same : its.0 ≡ row = one_lock s sound at its.0 row (subst (λ h. Stores s h its.0) t.1.1 its.1.0) stored in
           let left = each t.0 t.1.0 in
-          subst (λ n. IsIn n (noted_lkids ordered)) (left.1.1 ∙ sym its.1.1 ∙ ap (λ (x : Row). x.lkid) same)
+          subst (λ n. IsIn n (noted_lkids ordered)) (left.1.1 ∙ sym its.1.1 ∙ ap (λ (x : LockRow). x.lkid) same)
           (in_map (λ (x : Note). x.number) left.0 ordered left.1.0);
     }

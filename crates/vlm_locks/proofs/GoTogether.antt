@@ -2,11 +2,11 @@
 use Rattle.std.proofs.Common.{◌≡◌, ◌≢◌, ◌<◌, ◌+◌, ℕ, zero, suc, Bool, true, false, List, [], ◌∷◌, ◌++◌, length, get_or, refl, sym, ap, ◌∙◌, subst, inl, inr, arith}
 use Rattle.std.proofs.lemmas.List.{append_assoc, append-nil, length-append, map-append}
 use Rattle.std.proofs.lemmas.Bool.{cases_Bool}
-use Rattle.vlm_words.specs.declared.locks.Row.{Row}
+use Rattle.vlm_words.specs.declared.locks.LockRow.{LockRow}
 use Rattle.vlm_model.specs.Withdrawals.{Withdrawal}
 use Rattle.vlm_collections.specs.Lists.{IsIn}
 use Rattle.vlm_store.specs.Records.{HasNoSublocks, IsProcess, IsSound, IsStored, Records, Stores, locks_at, own_handles_at}
-use Rattle.vlm_locks.specs.declared.finding.Standing.{Standing}
+use Rattle.vlm_locks.specs.declared.located_locks.LocatedLock.{LocatedLock}
 use Rattle.vlm_locks.specs.declared.touched.Note.{Note}
 use Rattle.vlm_locks.specs.GivingUp.{AreGone, AreOfLocks, CanGo, IsPaidBut, Rise, noted_lkids}
 use Rattle.vlm_locks.specs.Left.{is_among}
@@ -42,7 +42,7 @@ pub record AreLeaving (invalidates : Bool) (owner pid : ℕ) (old s : Records) (
   pub all : (t : Note) → IsIn t touched.noted → IsIn t resources
   pub paid : IsPaidBut (noted_lkids before.noted) s
   pub stay : AreOfLocks front s
-  pub left : (at : ℕ) (row : Row) → Stores s at row → IsIn row.lkid (noted_lkids before.noted) → IsIn row.lkid (noted_lkids front)
+  pub left : (at : ℕ) (row : LockRow) → Stores s at row → IsIn row.lkid (noted_lkids before.noted) → IsIn row.lkid (noted_lkids front)
 
 -- at first none is
 pub none_is_gone : (invalidates : Bool) (owner pid : ℕ) (s : Records) (before : Touches) → IsProcess owner pid s → IsSound s → CanGo pid before s
@@ -136,7 +136,7 @@ module _ (invalidates : Bool) (owner pid : ℕ) (old s : Records) (before now : 
       subst (λ ts. IsIn last.number (noted_lkids ts)) (sym had_whole)
       (in_map (λ (t : Note). t.number) last (init ++ last ∷ so_far.passed) (in_behind last init (last ∷ so_far.passed) (inl refl)))
 
-  were : (at : ℕ) (row : Row) → Stores s at row → Stores old at row
+  were : (at : ℕ) (row : LockRow) → Stores s at row → Stores old at row
   were at row stored = (stored.0, going.were_there stored.0 (record { at = at; row = row }) stored.1)
 
   -- each before it is below it
@@ -145,11 +145,11 @@ module _ (invalidates : Bool) (owner pid : ℕ) (old s : Records) (before now : 
       below_later (noted_lkids init) last.number (noted_lkids so_far.passed)
       (subst Rise (ap noted_lkids had_whole ∙ map-append (λ (t : Note). t.number) init (last ∷ so_far.passed)) can_go.rise) n there
 
-  module _ (row : Row) (stored : Stores s last.at row) where
+  module _ (row : LockRow) (stored : Stores s last.at row) where
     named : row.lkid ≡ last.number
     named =
         let its = so_far.stay last last_in in
-        ap (λ (x : Row). x.lkid) (one_lock s going.sound last.at row its.0 stored its.1.0) ∙ its.1.1
+        ap (λ (x : LockRow). x.lkid) (one_lock s going.sound last.at row its.0 stored its.1.0) ∙ its.1.1
 
     listed : IsIn row.lkid (noted_lkids before.noted)
     listed = subst (λ n. IsIn n (noted_lkids before.noted)) (sym named) listed_last
@@ -170,10 +170,10 @@ module _ (invalidates : Bool) (owner pid : ℕ) (old s : Records) (before now : 
         none_below : (sub : ℕ) → IsIn sub own.sublocks → ⊥
         none_below sub there =
             let below = going.sound.owned.below p own sub in_p in_own there in
-            let up : Row = below.0 in
-            let its : Row = below.1 in
+            let up : LockRow = below.0 in
+            let its : LockRow = below.1 in
             let above : Stores s last.at up = subst (λ h. Stores s h up) same below.2.0 in
-            let is : up.lkid ≡ row.lkid = ap (λ (x : Row). x.lkid) (one_lock s going.sound last.at up row above stored) in
+            let is : up.lkid ≡ row.lkid = ap (λ (x : LockRow). x.lkid) (one_lock s going.sound last.at up row above stored) in
             let older = ((going.rest.rising p in_p).sublocks own in_own).0 sub there up its below.2.0 below.2.1 in
             let goes : IsIn its.lkid (noted_lkids so_far.front) =
             so_far.left sub its below.2.1
@@ -193,15 +193,15 @@ module _ (invalidates : Bool) (owner pid : ℕ) (old s : Records) (before now : 
         of_sublocks (sub ∷ subs) is = absurd (none_below sub (subst (IsIn sub) (sym is) (inl refl)))
 
     -- it goes
-    module _ (new : Records) (noted : Touches) (then : Touches) (f : Standing) (w : Withdrawal)
+    module _ (new : Records) (noted : Touches) (then : Touches) (f : LocatedLock) (w : Withdrawal)
         (turn : IsTurn (is_among (noted_lkids before.noted)) invalidates owner s new so_far.touched noted f w)
         (same : f.lock ≡ last.at) (its : f.row ≡ row) (own : new.processes ≡ owned_after true f.lock s.processes) (loses : LosesOne (record { at = f.lock; row = f.row }) s new)
         (touch : Note) (as_noted : noted.noted ≡ so_far.touched.noted ++ touch ∷ []) (put : then.noted ≡ init ++ touch ∷ so_far.resources) (room : then.room ≡ now.room) where
-      was_there : (at : ℕ) (x : Row) → Stores new at x → Stores s at x
+      was_there : (at : ℕ) (x : LockRow) → Stores new at x → Stores s at x
       was_there at x there =
-          (there.0, one_were_there s new going.sound turn.sound f turn.standing turn.beside turn.own_locks there.0 (record { at = at; row = x }) there.1)
+          (there.0, one_were_there s new going.sound turn.sound f turn.located turn.beside turn.own_locks there.0 (record { at = at; row = x }) there.1)
 
-      others_stay : (at : ℕ) (x : Row) → at ≢ last.at → Stores s at x → Stores new at x
+      others_stay : (at : ℕ) (x : LockRow) → at ≢ last.at → Stores s at x → Stores new at x
       others_stay at x differs there = (
         there.0,
         among_without f.lock (record { at = at; row = x }) (locks_at there.0 new)
@@ -244,7 +244,7 @@ module _ (invalidates : Bool) (owner pid : ℕ) (old s : Records) (before now : 
               (
                 others_stay t.at was.0
                     (λ e. let here : was.0 ≡ row = one_lock s going.sound last.at was.0 row (subst (λ h. Stores s h was.0) e was.1.0) stored in
-                    omega (arith, lower, was.1.1, ap (λ (x : Row). x.lkid) here, named))
+                    omega (arith, lower, was.1.1, ap (λ (x : LockRow). x.lkid) here, named))
                     was.1.0,
                 was.1.1,
               ),
@@ -257,7 +257,7 @@ module _ (invalidates : Bool) (owner pid : ℕ) (old s : Records) (before now : 
                 | inr none ↦ absurd none
                 | inl here ↦
                     (let handle : at ≡ f.lock = going.sound.lkids_apart at last.at x row (was_there at x there) stored (sym here ∙ sym named) ∙ sym same in
-                    absurd (gone s new going.sound turn.sound f turn.standing turn.beside turn.own_locks x (subst (λ h. Stores new h x) handle there)))
+                    absurd (gone s new going.sound turn.sound f turn.located turn.beside turn.own_locks x (subst (λ h. Stores new h x) handle there)))
               ]
             ];
       }
@@ -272,7 +272,7 @@ module _ (invalidates : Bool) (owner pid : ℕ) (old s : Records) (before now : 
       none [] is = refl
       none (t ∷ ts) is = absurd (omega (arith, is))
 
-  none_listed : (at : ℕ) (row : Row) → Stores s at row → is_among (noted_lkids before.noted) row ≡ false
+  none_listed : (at : ℕ) (row : LockRow) → Stores s at row → is_among (noted_lkids before.noted) row ≡ false
   none_listed at row stored = elim (cases_Bool (is_among (noted_lkids before.noted) row)) [
     | inr other ↦ other
     | inl listed ↦

@@ -2,7 +2,7 @@
 use Rattle.std.proofs.Common.{◌≡◌, ◌≢◌, ◌<◌, ℕ, Bool, true, false, List, [], ◌∷◌, ◌++◌, length, Option, None, Some, IfSome, IsSome, refl, sym, ap, ◌∙◌, subst, arith}
 use Rattle.std.proofs.lemmas.List.{map-append}
 use Rattle.vlm_words.specs.declared.locks.Request.{Request}
-use Rattle.vlm_words.specs.declared.locks.Row.{Row}
+use Rattle.vlm_words.specs.declared.locks.LockRow.{LockRow}
 use Rattle.vlm_words.specs.declared.resources.Queue.{Queue}
 use Rattle.vlm_words.specs.declared.resources.Queue.TheVariants.{Granted, Conversion, Waiting}
 use Rattle.vlm_words.specs.declared.resources.ValueBlock.{ValueBlock}
@@ -26,12 +26,12 @@ blocks_after_append (ending ∷ first) later b =
     blocks_after_append first later (blocks_after_ending ending b)
 
 -- what the first of a queue wants fits beside the others
-abbrev fits_first : Queue → Row → List StoredLock → StoredResource → Bool
+abbrev fits_first : Queue → LockRow → List StoredLock → StoredResource → Bool
 fits_first Granted row rest r = false
 fits_first Conversion row rest r = wanted_fits row.want (rows_of_locks r.granted) (rows_of_locks rest)
 fits_first Waiting row rest r = wanted_fits row.want (rows_of_locks r.granted) (rows_of_locks r.converting)
 
-fits_are : (s : Records) (sound : IsSound s) (res : ℕ) (r : StoredResource) (queue : Queue) (at : ℕ) (row : Row) (found : resource_at res s.resources ≡ Some r) (head : IsHead queue r at row)
+fits_are : (s : Records) (sound : IsSound s) (res : ℕ) (r : StoredResource) (queue : Queue) (at : ℕ) (row : LockRow) (found : resource_at res s.resources ≡ Some r) (head : IsHead queue r at row)
     → Granted ≢ queue → wanted_fits_beside row.want at r ≡ fits_first queue row head.rest r
 fits_are s sound res r Granted at row found head differs = absurd (differs refl)
 fits_are s sound res r Conversion at row found head differs = of_want row.want
@@ -47,7 +47,7 @@ fits_are s sound res r Waiting at row found head differs = of_want row.want
         rw (alone_here s sound res r Waiting at row found head Granted (λ e. cc), alone_here s sound res r Waiting at row found head Conversion (λ e. cc)) refl
 
 -- the service of a queue whose first lock is granted, that does not fit, and that is empty
-service_next : (queue : Queue) (r : StoredResource) (at : ℕ) (row : Row) (head : IsHead queue r at row) → fits_first queue row head.rest r ≡ true
+service_next : (queue : Queue) (r : StoredResource) (at : ℕ) (row : LockRow) (head : IsHead queue r at row) → fits_first queue row head.rest r ≡ true
     → service_from queue (plain_resource r)
     ≡ service_after_grant row (service_from queue (plain_resource (granted_first queue (record { at = at; row = granted_row row }) head.rest r)))
 service_next Granted r at row head fits = cc
@@ -56,7 +56,7 @@ service_next Conversion r at row head fits =
 service_next Waiting r at row head fits =
     rw (head.is, fits, map-append (λ (k : StoredLock). k.row) r.granted (record { at = at; row = granted_row row } ∷ [])) refl
 
-service_stopped : (queue : Queue) (r : StoredResource) (at : ℕ) (row : Row) (head : IsHead queue r at row) → fits_first queue row head.rest r ≡ false
+service_stopped : (queue : Queue) (r : StoredResource) (at : ℕ) (row : LockRow) (head : IsHead queue r at row) → fits_first queue row head.rest r ≡ false
     → service_from queue (plain_resource r) ≡ no_service (plain_resource r)
 service_stopped Granted r at row head fits = refl
 service_stopped Conversion r at row head fits = rw (head.is, fits) refl
@@ -123,7 +123,7 @@ module _ (queue : Queue) (res : ℕ) (old_block : ValueBlock) (old : Records) (b
   pub serving_there : HasResource res s
   serving_there = subst IsSome (sym serving.change.now) refl
 
-  module _ (at : ℕ) (row : Row) (sound : IsSound s) (first : Some at ≡ first_at (locks_at (Queued res queue) s)) (only : (x : Row) → Stores s at x → x ≡ row) (differs : Granted ≢ queue) where
+  module _ (at : ℕ) (row : LockRow) (sound : IsSound s) (first : Some at ≡ first_at (locks_at (Queued res queue) s)) (only : (x : LockRow) → Stores s at x → x ≡ row) (differs : Granted ≢ queue) where
     abbrev head : IsHead queue serving.left at row
     head = head_is s res serving.left queue at row serving.change.now (sym first) only
 

@@ -3,7 +3,7 @@ use Rattle.std.proofs.Common.{◌≡◌, ℕ, Bool, true, false, not, List, [], 
 use Rattle.std.specs.Prelude.{◌==◌, ◌&&◌, ◌||◌}
 use Rattle.std.specs.List.{AllByRecursion}
 use Rattle.std.proofs.lemmas.Bool.{eqb-true}
-use Rattle.vlm_words.specs.declared.locks.Row.{Row}
+use Rattle.vlm_words.specs.declared.locks.LockRow.{LockRow}
 use Rattle.vlm_words.specs.declared.resources.ValueBlock.{ValueBlock}
 use Rattle.vlm_words.specs.Rows.{rows_without}
 use Rattle.vlm_model.specs.Endings.{How}
@@ -13,11 +13,11 @@ use Rattle.vlm_model.specs.Withdrawals.{Withdrawal, has_writer, is_held_by_write
 use Rattle.vlm_locks.specs.Left.{giving_up, has_writer_among, resource_left, rows_left}
 
 -- a row of the lock is one that goes
-abbrev pub IsOwnRow : (Row → Bool) → ℕ → Row → Type 0
+abbrev pub IsOwnRow : (LockRow → Bool) → ℕ → LockRow → Type 0
 IsOwnRow goes lkid row = row.lkid ≡ lkid → goes row ≡ true
 
 -- the rows that are left are the same without a lock that goes
-others_same : (goes : Row → Bool) (lkid : ℕ) (rows : List Row) → AllByRecursion (IsOwnRow goes lkid) rows
+others_same : (goes : LockRow → Bool) (lkid : ℕ) (rows : List LockRow) → AllByRecursion (IsOwnRow goes lkid) rows
     → rows_left goes (rows_without lkid rows) ≡ rows_left goes rows
 others_same goes lkid [] own = refl
 others_same goes lkid (row ∷ rows) own = of_test (row.lkid == lkid) refl (others_same goes lkid rows own.1)
@@ -26,7 +26,7 @@ others_same goes lkid (row ∷ rows) own = of_test (row.lkid == lkid) refl (othe
         → rows_left goes (cond (not b) (row ∷ rows_without lkid rows) (rows_without lkid rows))
         ≡ cond (not (goes row)) (row ∷ rows_left goes rows) (rows_left goes rows)
     of_test true is same = rw (own.0 (eqb-true row.lkid lkid is)) same
-    of_test false is same = ap (λ (kept : List Row). cond (not (goes row)) (row ∷ kept) kept) same
+    of_test false is same = ap (λ (kept : List LockRow). cond (not (goes row)) (row ∷ kept) kept) same
 
 -- of three tests that are or-ed, the order and the grouping are all one
 pub swap : (a b c : Bool) → (a || (b || c)) ≡ (b || (a || c))
@@ -39,7 +39,7 @@ assoc true b c = refl
 assoc false b c = refl
 
 -- a writer that goes is this lock or another
-writers_parted : (goes : Row → Bool) (lkid : ℕ) (rows : List Row) → AllByRecursion (IsOwnRow goes lkid) rows
+writers_parted : (goes : LockRow → Bool) (lkid : ℕ) (rows : List LockRow) → AllByRecursion (IsOwnRow goes lkid) rows
     → has_writer_among goes rows ≡ (has_writer lkid rows || has_writer_among goes (rows_without lkid rows))
 writers_parted goes lkid [] own = refl
 writers_parted goes lkid (row ∷ rows) own = of_test (row.lkid == lkid) refl (writers_parted goes lkid rows own.1)
@@ -66,13 +66,13 @@ marked_twice false true b block = refl
 marked_twice false false b block = refl
 
 -- all rows of the lock on the resource go
-pub record OwnRows (goes : Row → Bool) (lkid : ℕ) (r : Resource) : Type 0 where
+pub record OwnRows (goes : LockRow → Bool) (lkid : ℕ) (r : Resource) : Type 0 where
   pub granted : AllByRecursion (IsOwnRow goes lkid) r.granted
   pub converting : AllByRecursion (IsOwnRow goes lkid) r.converting
   pub waiting : AllByRecursion (IsOwnRow goes lkid) r.waiting
 
 -- what is left is the same once one of the locks that go is withdrawn so
-pub one_withdrawn : (goes : Row → Bool) (waiting converting : How) (invalidates : Bool) (lkid : ℕ) (r : Resource) → OwnRows goes lkid r
+pub one_withdrawn : (goes : LockRow → Bool) (waiting converting : How) (invalidates : Bool) (lkid : ℕ) (r : Resource) → OwnRows goes lkid r
     → resource_left goes invalidates (resource_after_withdrawals (giving_up waiting converting invalidates lkid ∷ []) r) ≡ resource_left goes invalidates r
 unfolding resource_left resource_without
 one_withdrawn goes waiting_ends converting_ends invalidates lkid r own = of_test (is_held_by_writer lkid r) refl
@@ -113,7 +113,7 @@ one_withdrawn goes waiting_ends converting_ends invalidates lkid r own = of_test
         marked_twice invalidates b left r.value_block
         ∙ ap (λ (marks : Bool). marked (invalidates && marks) r.value_block) (ap (λ (x : Bool). x || left) (sym is) ∙ sym all)
 
-    made : ValueBlock → List Row → List Row → List Row → Resource
+    made : ValueBlock → List LockRow → List LockRow → List LockRow → Resource
     made value_block g c w = record r { value_block = value_block; granted = g; converting = c; waiting = w }
 
     of_test : (b : Bool) → is_held_by_writer lkid r ≡ b → resource_left goes invalidates (after b) ≡ resource_left goes invalidates r
@@ -127,23 +127,23 @@ one_withdrawn goes waiting_ends converting_ends invalidates lkid r own = of_test
         ∙ rw (granted, converting, waiting) refl
 
 -- the row stays
-abbrev pub IsOthers : (Row → Bool) → Row → Type 0
+abbrev pub IsOthers : (LockRow → Bool) → LockRow → Type 0
 IsOthers goes row = goes row ≡ false
 
-none_of_them : (goes : Row → Bool) (rows : List Row) → AllByRecursion (IsOthers goes) rows → (rows_left goes rows ≡ rows) × (has_writer_among goes rows ≡ false)
+none_of_them : (goes : LockRow → Bool) (rows : List LockRow) → AllByRecursion (IsOthers goes) rows → (rows_left goes rows ≡ rows) × (has_writer_among goes rows ≡ false)
 none_of_them goes [] others = (refl, refl)
 none_of_them goes (row ∷ rows) others =
     let behind = none_of_them goes rows others.1 in
-    (rw (others.0) (ap (λ (kept : List Row). row ∷ kept) behind.0), rw (others.0) behind.1)
+    (rw (others.0) (ap (λ (kept : List LockRow). row ∷ kept) behind.0), rw (others.0) behind.1)
 
 -- none of its rows goes
-pub record OthersAlone (goes : Row → Bool) (r : Resource) : Type 0 where
+pub record OthersAlone (goes : LockRow → Bool) (r : Resource) : Type 0 where
   pub granted : AllByRecursion (IsOthers goes) r.granted
   pub converting : AllByRecursion (IsOthers goes) r.converting
   pub waiting : AllByRecursion (IsOthers goes) r.waiting
 
 -- then nothing changes
-pub nothing_left : (goes : Row → Bool) (invalidates : Bool) (r : Resource) → OthersAlone goes r → resource_left goes invalidates r ≡ r
+pub nothing_left : (goes : LockRow → Bool) (invalidates : Bool) (r : Resource) → OthersAlone goes r → resource_left goes invalidates r ≡ r
 unfolding resource_left
 nothing_left goes invalidates r others =
     let granted = none_of_them goes r.granted others.granted in

@@ -27,7 +27,7 @@ pub mod Warned
 pub mod Paying
 pub mod Ready
 pub mod Swept
-pub mod Sweeps
+pub mod SweptResources
 pub mod Withdrawn
 pub mod Left
 pub mod TogetherDown

@@ -12,8 +12,8 @@ use Rattle.vlm_records.specs.declared.handles.Place.{Place}
 use Rattle.vlm_records.specs.declared.handles.Place.TheVariants.{Queued}
 use Rattle.vlm_store.specs.Plain.{plain_resource, plain_resources}
 use Rattle.vlm_store.specs.Records.{FindsResource, IsNewKey, IsParentOf, Records, Rooms, StoredResource, Stores, locks_at, new_stored_resource, queued, resource_at, with_resource_room, without_lock, without_resource}
-use Rattle.vlm_words.specs.declared.locks.Row.{Row}
-use Rattle.vlm_locks.specs.declared.entering.Entry.{Entry}
+use Rattle.vlm_words.specs.declared.locks.LockRow.{LockRow}
+use Rattle.vlm_locks.specs.declared.new_locks.NewLock.{NewLock}
 use Rattle.vlm_locks.specs.Entering.{IsEntered, resource_for, new_row}
 use Rattle.vlm_words.specs.Resources.{IsKeyed}
 use Rattle.vlm_locks.specs.Rest.{IsAtRest}
@@ -23,15 +23,15 @@ use Rattle.vlm_locks.proofs.Staying.{same_lock}
 use Rattle.vlm_locks.proofs.Keyed.{AreKeyed, IsKeyFree, find-free, find-key, key_cases}
 
 -- the resource at its making
-abbrev pub made : Entry → ℕ → StoredResource
+abbrev pub made : NewLock → ℕ → StoredResource
 made e res = new_stored_resource res e.serial e.site
 
 -- the records with the resource, the last
-abbrev pub with_made : Entry → ℕ → Rooms → Records → Records
+abbrev pub with_made : NewLock → ℕ → Rooms → Records → Records
 with_made e res room s = record s { resources = s.resources ++ made e res ∷ []; room = room }
 
 -- that is what making the resource leaves
-pub made_is : (e : Entry) (res : ℕ) (old new : Records) → new ≡ with_resource_room new.room.resources (record old { resources = old.resources ++ made e res ∷ [] })
+pub made_is : (e : NewLock) (res : ℕ) (old new : Records) → new ≡ with_resource_room new.room.resources (record old { resources = old.resources ++ made e res ∷ [] })
     → new ≡ with_made e res new.room old
 made_is e res old new added = added ∙ ap (λ r. with_made e res r old) (sym (ap (λ (x : Records). x.room) added))
 
@@ -58,7 +58,7 @@ made_at r (x ∷ rest) =
       | inr differs ↦ rw (ne_eqb x.at r.at differs) (made_at r rest)
     ]
 
-module _ (e : Entry) (res : ℕ) (room : Rooms) (s : Records) where
+module _ (e : NewLock) (res : ℕ) (room : Rooms) (s : Records) where
   -- no lock stands in a queue of the new resource
   queued_none : (queue : Queue) → queued queue (made e res) ≡ []
   queued_none Granted = refl
@@ -83,14 +83,14 @@ module _ (e : Entry) (res : ℕ) (room : Rooms) (s : Records) where
   same_locks (Queued x queue) = same_queue x queue s.resources
 
   -- no lock is made with it
-  was_stored : (at : ℕ) (row : Row) → Stores (with_made e res room s) at row → Stores s at row
+  was_stored : (at : ℕ) (row : LockRow) → Stores (with_made e res room s) at row → Stores s at row
   was_stored at row stored = (stored.0, subst (IsIn (record { at = at; row = row })) (same_locks stored.0) stored.1)
 
   pub above_still : (lkid : ℕ) → IsAboveEachLock lkid s → IsAboveEachLock lkid (with_made e res room s)
   above_still lkid above at row stored = above at row (was_stored at row stored)
 
   -- a parent is stored still
-  pub parent_still : (parent : Option ℕ) (row : Row) → IsParentOf parent row s → IsParentOf parent row (with_made e res room s)
+  pub parent_still : (parent : Option ℕ) (row : LockRow) → IsParentOf parent row s → IsParentOf parent row (with_made e res room s)
   parent_still None row is = is
   parent_still (Some at) row is =
       (is.0, ((is.1.0.0, subst (IsIn (record { at = at; row = is.0 })) (sym (same_locks is.1.0.0)) is.1.0.1), is.1.1))

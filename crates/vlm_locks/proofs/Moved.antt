@@ -3,7 +3,7 @@ use Rattle.std.proofs.Common.{◌≡◌, ◌≢◌, ◌⊎◌, Bool, true, false
 use Rattle.std.specs.Prelude.{◌==◌}
 use Rattle.std.proofs.lemmas.Bool.{cases_eq}
 use Rattle.std.proofs.lemmas.List.{map-append}
-use Rattle.vlm_words.specs.declared.locks.Row.{Row}
+use Rattle.vlm_words.specs.declared.locks.LockRow.{LockRow}
 use Rattle.vlm_words.specs.declared.resources.Queue.{Queue}
 use Rattle.vlm_words.specs.declared.resources.Queue.TheVariants.{Granted, Conversion, Waiting}
 use Rattle.vlm_words.specs.Rows.{rows_without}
@@ -12,17 +12,17 @@ use Rattle.vlm_records.specs.declared.handles.Place.{Place}
 use Rattle.vlm_records.specs.declared.handles.Place.TheVariants.{Queued}
 use Rattle.vlm_store.specs.Records.{IsSameLock, IsSound, Records, StoredLock, StoredResource, but_notices, is_place, moving, on_resource, queued, rows_of_locks, with_lists, without_lock}
 use Rattle.vlm_store.proofs.Records.{is_place-other, is_place-same, map_on, queue_at, unmoved}
-use Rattle.vlm_locks.specs.declared.finding.Standing.{Standing}
+use Rattle.vlm_locks.specs.declared.located_locks.LocatedLock.{LocatedLock}
 use Rattle.vlm_locks.specs.Converting.{moved_in}
 use Rattle.vlm_locks.specs.Rest.{IsReplaced}
-use Rattle.vlm_locks.specs.Standing.{IsStanding}
+use Rattle.vlm_locks.specs.Standing.{IsLocated}
 use Rattle.vlm_locks.specs.Staying.{LocksStay, StandsStill}
 use Rattle.vlm_locks.proofs.Staying.{among_without, of_joined, same_back, stands_in}
 use Rattle.vlm_locks.proofs.Named.{without-absent, without-handle}
 use Rattle.vlm_locks.proofs.Stood.{absent, only, own_among, stands}
 use Rattle.vlm_locks.proofs.Found.{resource_alone, resource_at-at}
 
-module _ (s : Records) (sound : IsSound s) (f : Standing) (standing : IsStanding f s) (row : Row) (to : Queue) where
+module _ (s : Records) (sound : IsSound s) (f : LocatedLock) (located : IsLocated f s) (row : LockRow) (to : Queue) where
   -- another resource stays as it was
   stays : (x : StoredResource) → IsIn x s.resources → x.at ≢ f.res → moved_in f row to x ≡ x
   stays x among differs =
@@ -31,43 +31,43 @@ module _ (s : Records) (sound : IsSound s) (f : Standing) (standing : IsStanding
       ap (λ b. cond b (without_lock f.lock (queued queue x) ++ record { at = f.lock; row = row } ∷ []) (without_lock f.lock (queued queue x)))
       (is_place-other (Queued x.at queue) (Queued f.res to) (λ e. differs (cc)))
       ∙ ap (without_lock f.lock) (sym (queue_at s sound x among queue))
-      ∙ unmoved s f.lock f.row (Queued f.res f.queue) sound (stands s f standing) (Queued x.at queue) (λ e. differs (cc))
+      ∙ unmoved s f.lock f.row (Queued f.res f.queue) sound (stands s f located) (Queued x.at queue) (λ e. differs (cc))
       ∙ queue_at s sound x among queue
       in
       rw (each Granted, each Conversion, each Waiting) refl
 
   -- the resource of the lock is changed, and nothing else
   pub moved : with_lists (moving (Queued f.res to) (record { at = f.lock; row = row })) s
-      ≡ record s { resources = on_resource f.res (λ x. moved_in f row to standing.resource) s.resources }
+      ≡ record s { resources = on_resource f.res (λ x. moved_in f row to located.resource) s.resources }
   moved =
       ap (λ x. record s { resources = x })
-      (map_on (moved_in f row to) (λ x. cond (x.at == f.res) (moved_in f row to standing.resource) x) s.resources
+      (map_on (moved_in f row to) (λ x. cond (x.at == f.res) (moved_in f row to located.resource) x) s.resources
       (λ x among. elim (cases_eq x.at f.res) [
         | inl same ↦
-            ap (moved_in f row to) (resource_alone f.res s.resources standing.resource x sound.resources_apart standing.found among same)
-            ∙ sym (ap (λ b. cond b (moved_in f row to standing.resource) x) (eq-eqb x.at f.res same))
-        | inr other ↦ stays x among other ∙ sym (ap (λ b. cond b (moved_in f row to standing.resource) x) (ne_eqb x.at f.res other))
+            ap (moved_in f row to) (resource_alone f.res s.resources located.resource x sound.resources_apart located.found among same)
+            ∙ sym (ap (λ b. cond b (moved_in f row to located.resource) x) (eq-eqb x.at f.res same))
+        | inr other ↦ stays x among other ∙ sym (ap (λ b. cond b (moved_in f row to located.resource) x) (ne_eqb x.at f.res other))
       ]))
 
-  own_at : standing.resource.at ≡ f.res
-  own_at = resource_at-at f.res s.resources standing.resource standing.found
+  own_at : located.resource.at ≡ f.res
+  own_at = resource_at-at f.res s.resources located.resource located.found
 
   -- the queue that it joins
-  pub joins : rows_of_locks (moving (Queued f.res to) (record { at = f.lock; row = row }) (Queued standing.resource.at to) (queued to standing.resource))
-      ≡ rows_without f.row.lkid (rows_of_locks (queued to standing.resource)) ++ row ∷ []
+  pub joins : rows_of_locks (moving (Queued f.res to) (record { at = f.lock; row = row }) (Queued located.resource.at to) (queued to located.resource))
+      ≡ rows_without f.row.lkid (rows_of_locks (queued to located.resource)) ++ row ∷ []
   joins =
-      ap (λ b. rows_of_locks (cond b (without_lock f.lock (queued to standing.resource) ++ record { at = f.lock; row = row } ∷ []) (without_lock f.lock (queued to standing.resource))))
+      ap (λ b. rows_of_locks (cond b (without_lock f.lock (queued to located.resource) ++ record { at = f.lock; row = row } ∷ []) (without_lock f.lock (queued to located.resource))))
       (ap (λ x. is_place (Queued x to) (Queued f.res to)) own_at ∙ is_place-same (Queued f.res to))
-      ∙ map-append (λ (k : StoredLock). k.row) (without_lock f.lock (queued to standing.resource)) (record { at = f.lock; row = row } ∷ [])
-      ∙ ap (λ rows. rows ++ row ∷ []) (without-handle (record { at = f.lock; row = f.row }) (queued to standing.resource) (only s sound f standing standing.resource (own_among s sound f standing) to))
+      ∙ map-append (λ (k : StoredLock). k.row) (without_lock f.lock (queued to located.resource)) (record { at = f.lock; row = row } ∷ [])
+      ∙ ap (λ rows. rows ++ row ∷ []) (without-handle (record { at = f.lock; row = f.row }) (queued to located.resource) (only s sound f located located.resource (own_among s sound f located) to))
 
   -- a queue that it does not join
-  pub leaves : (queue : Queue) → queue ≢ to → rows_of_locks (moving (Queued f.res to) (record { at = f.lock; row = row }) (Queued standing.resource.at queue) (queued queue standing.resource))
-      ≡ rows_without f.row.lkid (rows_of_locks (queued queue standing.resource))
+  pub leaves : (queue : Queue) → queue ≢ to → rows_of_locks (moving (Queued f.res to) (record { at = f.lock; row = row }) (Queued located.resource.at queue) (queued queue located.resource))
+      ≡ rows_without f.row.lkid (rows_of_locks (queued queue located.resource))
   leaves queue differs =
-      ap (λ b. rows_of_locks (cond b (without_lock f.lock (queued queue standing.resource) ++ record { at = f.lock; row = row } ∷ []) (without_lock f.lock (queued queue standing.resource))))
-      (is_place-other (Queued standing.resource.at queue) (Queued f.res to) (λ e. differs (cc)))
-      ∙ without-handle (record { at = f.lock; row = f.row }) (queued queue standing.resource) (only s sound f standing standing.resource (own_among s sound f standing) queue)
+      ap (λ b. rows_of_locks (cond b (without_lock f.lock (queued queue located.resource) ++ record { at = f.lock; row = row } ∷ []) (without_lock f.lock (queued queue located.resource))))
+      (is_place-other (Queued located.resource.at queue) (Queued f.res to) (λ e. differs (cc)))
+      ∙ without-handle (record { at = f.lock; row = f.row }) (queued queue located.resource) (only s sound f located located.resource (own_among s sound f located) queue)
 
 -- a lock of a list after a move is the moved one, or was there
 among_moved : (to : Place) (moved : StoredLock) (place : Place) (locks : List StoredLock) (k : StoredLock) → IsIn k (moving to moved place locks) → (moved ≡ k) ⊎ IsIn k locks
@@ -78,33 +78,33 @@ among_moved to moved place locks k among = of_test (is_place place to) among
     of_test false among = inr (among_without moved.at k locks among)
 
 -- so none joins the resource
-pub none_joins_by_moving : (s : Records) (f : Standing) (standing : IsStanding f s) (row : Row) (to : Queue) → IsSameLock f.row row → LocksStay (moved_in f row to standing.resource) standing.resource
-none_joins_by_moving s f standing row to same queue k among =
+pub none_joins_by_moving : (s : Records) (f : LocatedLock) (located : IsLocated f s) (row : LockRow) (to : Queue) → IsSameLock f.row row → LocksStay (moved_in f row to located.resource) located.resource
+none_joins_by_moving s f located row to same queue k among =
     elim (of_queue queue among) [
       | inl is ↦
-          subst (λ (x : StoredLock). StandsStill x standing.resource) is
-          (record { queue = f.queue; row = f.row; among = standing.among; same = same_back f.row row same })
-      | inr was ↦ stands_in standing.resource queue k was
+          subst (λ (x : StoredLock). StandsStill x located.resource) is
+          (record { queue = f.queue; row = f.row; among = located.among; same = same_back f.row row same })
+      | inr was ↦ stands_in located.resource queue k was
     ]
   where
-    of_queue : (queue : Queue) → IsIn k (queued queue (moved_in f row to standing.resource)) → (record { at = f.lock; row = row } ≡ k) ⊎ IsIn k (queued queue standing.resource)
-    of_queue Granted among = among_moved (Queued f.res to) (record { at = f.lock; row = row }) (Queued standing.resource.at Granted) standing.resource.granted k among
-    of_queue Conversion among = among_moved (Queued f.res to) (record { at = f.lock; row = row }) (Queued standing.resource.at Conversion) standing.resource.converting k among
-    of_queue Waiting among = among_moved (Queued f.res to) (record { at = f.lock; row = row }) (Queued standing.resource.at Waiting) standing.resource.waiting k among
+    of_queue : (queue : Queue) → IsIn k (queued queue (moved_in f row to located.resource)) → (record { at = f.lock; row = row } ≡ k) ⊎ IsIn k (queued queue located.resource)
+    of_queue Granted among = among_moved (Queued f.res to) (record { at = f.lock; row = row }) (Queued located.resource.at Granted) located.resource.granted k among
+    of_queue Conversion among = among_moved (Queued f.res to) (record { at = f.lock; row = row }) (Queued located.resource.at Conversion) located.resource.converting k among
+    of_queue Waiting among = among_moved (Queued f.res to) (record { at = f.lock; row = row }) (Queued located.resource.at Waiting) located.resource.waiting k among
 
 -- a queue of the resource in which the lock does not stand
-pub not_in : (s : Records) (sound : IsSound s) (f : Standing) (standing : IsStanding f s) (queue : Queue) → queue ≢ f.queue
-    → rows_without f.row.lkid (rows_of_locks (queued queue standing.resource)) ≡ rows_of_locks (queued queue standing.resource)
-not_in s sound f standing queue differs =
-    without-absent f.row.lkid (queued queue standing.resource) (absent s sound f standing standing.resource (own_among s sound f standing) queue (λ e. differs (cc)))
+pub not_in : (s : Records) (sound : IsSound s) (f : LocatedLock) (located : IsLocated f s) (queue : Queue) → queue ≢ f.queue
+    → rows_without f.row.lkid (rows_of_locks (queued queue located.resource)) ≡ rows_of_locks (queued queue located.resource)
+not_in s sound f located queue differs =
+    without-absent f.row.lkid (queued queue located.resource) (absent s sound f located located.resource (own_among s sound f located) queue (λ e. differs (cc)))
 
 -- so of the resources just that of the lock is another
-pub moved_replaced : (s : Records) (sound : IsSound s) (f : Standing) (standing : IsStanding f s) (row : Row) (to : Queue) (new : Records)
-    → new ≡ with_lists (moving (Queued f.res to) (record { at = f.lock; row = row })) s → IsReplaced f.res standing.resource (moved_in f row to standing.resource) s new
-moved_replaced s sound f standing row to new is =
-    let moved = is ∙ moved s sound f standing row to in
+pub moved_replaced : (s : Records) (sound : IsSound s) (f : LocatedLock) (located : IsLocated f s) (row : LockRow) (to : Queue) (new : Records)
+    → new ≡ with_lists (moving (Queued f.res to) (record { at = f.lock; row = row })) s → IsReplaced f.res located.resource (moved_in f row to located.resource) s new
+moved_replaced s sound f located row to new is =
+    let moved = is ∙ moved s sound f located row to in
     record {
-      was = standing.found;
+      was = located.found;
       same = refl;
       resources = ap (λ (x : Records). x.resources) moved;
       processes = ap (λ (x : Records). map but_notices x.processes) moved;

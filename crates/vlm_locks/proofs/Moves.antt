@@ -4,7 +4,7 @@ use Rattle.std.specs.Prelude.{◌==◌}
 use Rattle.std.specs.Option.{option_map_or}
 use Rattle.std.proofs.lemmas.Bool.{cases_eq}
 use Rattle.std.proofs.lemmas.Option.{none-some, same_Some}
-use Rattle.vlm_words.specs.declared.locks.Row.{Row}
+use Rattle.vlm_words.specs.declared.locks.LockRow.{LockRow}
 use Rattle.vlm_words.specs.declared.resources.Queue.{Queue}
 use Rattle.vlm_words.specs.declared.resources.Queue.TheVariants.{Granted, Conversion, Waiting}
 use Rattle.vlm_collections.specs.Lists.{IsIn}
@@ -16,7 +16,7 @@ use Rattle.vlm_locks.specs.Serving.{IsLeft, but_stored_queues}
 use Rattle.vlm_locks.proofs.Found.{on_resource-put, resource_alone, resource_at-at, resource_at-put}
 
 -- the lock of this handle and this row is the first of the queue, and these are behind it
-pub record IsHead (queue : Queue) (r : StoredResource) (at : ℕ) (row : Row) : Type 0 where
+pub record IsHead (queue : Queue) (r : StoredResource) (at : ℕ) (row : LockRow) : Type 0 where
   pub rest : List StoredLock
   pub is : queued queue r ≡ record { at = at; row = row } ∷ rest
 
@@ -45,8 +45,8 @@ pub locks_found : (s : Records) (res : ℕ) (r : StoredResource) (queue : Queue)
 locks_found s res r queue found = ap (λ o. option_map_or (queued queue) o []) found
 
 -- the lock that is the first, with its row
-pub head_is : (s : Records) (res : ℕ) (r : StoredResource) (queue : Queue) (at : ℕ) (row : Row) → resource_at res s.resources ≡ Some r
-    → first_at (locks_at (Queued res queue) s) ≡ Some at → ((x : Row) → Stores s at x → x ≡ row) → IsHead queue r at row
+pub head_is : (s : Records) (res : ℕ) (r : StoredResource) (queue : Queue) (at : ℕ) (row : LockRow) → resource_at res s.resources ≡ Some r
+    → first_at (locks_at (Queued res queue) s) ≡ Some at → ((x : LockRow) → Stores s at x → x ≡ row) → IsHead queue r at row
 head_is s res r queue at row found first only =
     of_list (queued queue r) refl (ap first_at (sym (locks_found s res r queue found)) ∙ first)
   where
@@ -67,10 +67,10 @@ no_first (k ∷ rest) none = absurd (none-some k.at (sym none))
 pub none_queued : (s : Records) (res : ℕ) (r : StoredResource) (queue : Queue) → resource_at res s.resources ≡ Some r → first_at (locks_at (Queued res queue) s) ≡ None → queued queue r ≡ []
 none_queued s res r queue found first = no_first (queued queue r) (ap first_at (sym (locks_found s res r queue found)) ∙ first)
 
-without_first : (at : ℕ) (row : Row) (rest : List StoredLock) → AreApart (record { at = at; row = row } ∷ rest) → without_lock at (record { at = at; row = row } ∷ rest) ≡ rest
+without_first : (at : ℕ) (row : LockRow) (rest : List StoredLock) → AreApart (record { at = at; row = row } ∷ rest) → without_lock at (record { at = at; row = row } ∷ rest) ≡ rest
 without_first at row rest apart = rw (eq-eqb at at refl) (without_absent at rest apart.0)
 
-module _ (s : Records) (sound : IsSound s) (res : ℕ) (r : StoredResource) (queue : Queue) (at : ℕ) (row : Row) (found : resource_at res s.resources ≡ Some r) (head : IsHead queue r at row) where
+module _ (s : Records) (sound : IsSound s) (res : ℕ) (r : StoredResource) (queue : Queue) (at : ℕ) (row : LockRow) (found : resource_at res s.resources ≡ Some r) (head : IsHead queue r at row) where
   head_stands : IsIn (record { at = at; row = row }) (locks_at (Queued res queue) s)
   head_stands = subst (IsIn (record { at = at; row = row })) (sym (locks_found s res r queue found ∙ head.is)) (inl refl)
 
@@ -96,14 +96,14 @@ module _ (s : Records) (sound : IsSound s) (res : ℕ) (r : StoredResource) (que
       ∙ without_first at row head.rest (subst AreApart (locks_found s res r queue found ∙ head.is) (sound.locks_apart (Queued res queue)))
 
   -- a list that the lock does not join
-  not_joined : (granted : Row) (x : StoredResource) (other : Queue) → Queued x.at other ≢ Queued res Granted
+  not_joined : (granted : LockRow) (x : StoredResource) (other : Queue) → Queued x.at other ≢ Queued res Granted
       → moving (Queued res Granted) (record { at = at; row = granted }) (Queued x.at other) (queued other x) ≡ without_lock at (queued other x)
   not_joined granted x other differs =
       ap (λ b. cond b (without_lock at (queued other x) ++ record { at = at; row = granted } ∷ []) (without_lock at (queued other x)))
       (is_place-other (Queued x.at other) (Queued res Granted) differs)
 
   -- the granted locks, with one more
-  joined : (granted : Row) → Granted ≢ queue
+  joined : (granted : LockRow) → Granted ≢ queue
       → moving (Queued res Granted) (record { at = at; row = granted }) (Queued r.at Granted) r.granted ≡ r.granted ++ record { at = at; row = granted } ∷ []
   joined granted differs =
       ap (λ b. cond b (without_lock at r.granted ++ record { at = at; row = granted } ∷ []) (without_lock at r.granted))
@@ -111,7 +111,7 @@ module _ (s : Records) (sound : IsSound s) (res : ℕ) (r : StoredResource) (que
       ∙ ap (λ xs. xs ++ record { at = at; row = granted } ∷ []) (alone_here Granted (λ e. differs (sym e)))
 
   -- another resource stays
-  moved_there : (granted : Row) (x : StoredResource) → IsIn x s.resources → x.at ≢ res
+  moved_there : (granted : LockRow) (x : StoredResource) → IsIn x s.resources → x.at ≢ res
       → resource_with (moving (Queued res Granted) (record { at = at; row = granted })) x ≡ x
   moved_there granted x among differs =
       let stays : (other : Queue) → moving (Queued res Granted) (record { at = at; row = granted }) (Queued x.at other) (queued other x) ≡ queued other x =
@@ -119,8 +119,8 @@ module _ (s : Records) (sound : IsSound s) (res : ℕ) (r : StoredResource) (que
       rw (stays Granted, stays Conversion, stays Waiting) refl
 
 -- the resource of the lock has it granted
-moved_here : (s : Records) (sound : IsSound s) (res : ℕ) (r : StoredResource) (queue : Queue) (at : ℕ) (row : Row) (found : resource_at res s.resources ≡ Some r) (head : IsHead queue r at row)
-    (granted : Row) → Granted ≢ queue
+moved_here : (s : Records) (sound : IsSound s) (res : ℕ) (r : StoredResource) (queue : Queue) (at : ℕ) (row : LockRow) (found : resource_at res s.resources ≡ Some r) (head : IsHead queue r at row)
+    (granted : LockRow) → Granted ≢ queue
     → resource_with (moving (Queued res Granted) (record { at = at; row = granted })) r ≡ granted_first queue (record { at = at; row = granted }) head.rest r
 moved_here s sound res r Granted at row found head granted differs = absurd (differs refl)
 moved_here s sound res r Conversion at row found head granted differs =
@@ -137,8 +137,8 @@ moved_here s sound res r Waiting at row found head granted differs =
     ) refl
 
 -- the first lock of a queue joins the granted locks of its resource, and nothing else moves
-pub first_moved : (s : Records) (sound : IsSound s) (res : ℕ) (r : StoredResource) (queue : Queue) (at : ℕ) (row : Row) (found : resource_at res s.resources ≡ Some r) (head : IsHead queue r at row)
-    (granted : Row) → Granted ≢ queue
+pub first_moved : (s : Records) (sound : IsSound s) (res : ℕ) (r : StoredResource) (queue : Queue) (at : ℕ) (row : LockRow) (found : resource_at res s.resources ≡ Some r) (head : IsHead queue r at row)
+    (granted : LockRow) → Granted ≢ queue
     → with_lists (moving (Queued res Granted) (record { at = at; row = granted })) s
     ≡ record s { resources = on_resource res (λ x. granted_first queue (record { at = at; row = granted }) head.rest r) s.resources }
 first_moved s sound res r queue at row found head granted differs =
@@ -155,8 +155,8 @@ first_moved s sound res r queue at row found head granted differs =
     ]))
 
 -- so the queues of the resource are left like this
-pub left_next : (old s new : Records) (sound : IsSound s) (res : ℕ) (had r : StoredResource) (queue : Queue) (at : ℕ) (row : Row) (change : IsLeft res had r old s) (head : IsHead queue r at row)
-    (granted : Row) → Granted ≢ queue → SameButNotices (with_lists (moving (Queued res Granted) (record { at = at; row = granted })) s) new
+pub left_next : (old s new : Records) (sound : IsSound s) (res : ℕ) (had r : StoredResource) (queue : Queue) (at : ℕ) (row : LockRow) (change : IsLeft res had r old s) (head : IsHead queue r at row)
+    (granted : LockRow) → Granted ≢ queue → SameButNotices (with_lists (moving (Queued res Granted) (record { at = at; row = granted })) s) new
     → IsLeft res had (granted_first queue (record { at = at; row = granted }) head.rest r) old new
 left_next old s new sound res had r queue at row change head granted differs same =
     let next : StoredResource = granted_first queue (record { at = at; row = granted }) head.rest r in

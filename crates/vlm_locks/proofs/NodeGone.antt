@@ -1,7 +1,7 @@
 -- The processes of a node end one by one.
 use Rattle.std.proofs.Common.{◌≡◌, ◌+◌, ◌≤◌, ℕ, Bool, true, false, not, cond, List, [], ◌∷◌, map, length, Option, None, Some, refl, sym, ap, ◌∙◌, subst, inl, inr, arith, eq-eqb}
 use Rattle.std.specs.Prelude.{◌==◌, ◌&&◌, ◌||◌}
-use Rattle.vlm_words.specs.declared.locks.Row.{Row}
+use Rattle.vlm_words.specs.declared.locks.LockRow.{LockRow}
 use Rattle.vlm_words.specs.declared.resources.ValueBlock.{ValueBlock}
 use Rattle.vlm_words.specs.Steps.{is_of_node}
 use Rattle.vlm_model.specs.Rundown.{processes_but}
@@ -43,18 +43,18 @@ none_ended is_one s touched can_end = record {
 
 -- ---- one more ends
 
-module _ (goes first : Row → Bool) (within : (row : Row) → first row ≡ true → goes row ≡ true) where
-  but_both : (rows : List Row) → rows_left goes (rows_left first rows) ≡ rows_left goes rows
+module _ (goes first : LockRow → Bool) (within : (row : LockRow) → first row ≡ true → goes row ≡ true) where
+  but_both : (rows : List LockRow) → rows_left goes (rows_left first rows) ≡ rows_left goes rows
   but_both [] = refl
   but_both (row ∷ rows) = of_test (first row) refl (but_both rows)
     where
       of_test : (b : Bool) → first row ≡ b → rows_left goes (rows_left first rows) ≡ rows_left goes rows → rows_left goes (cond (not b) (row ∷ rows_left first rows) (rows_left first rows))
           ≡ cond (not (goes row)) (row ∷ rows_left goes rows) (rows_left goes rows)
       of_test true is rest = rw (within row is) rest
-      of_test false is rest = ap (λ (kept : List Row). cond (not (goes row)) (row ∷ kept) kept) rest
+      of_test false is rest = ap (λ (kept : List LockRow). cond (not (goes row)) (row ∷ kept) kept) rest
 
   -- a writer that goes is one of the first or of the others
-  writer_of_both : (rows : List Row) → has_writer_among goes rows ≡ (has_writer_among first rows || has_writer_among goes (rows_left first rows))
+  writer_of_both : (rows : List LockRow) → has_writer_among goes rows ≡ (has_writer_among first rows || has_writer_among goes (rows_left first rows))
   writer_of_both [] = refl
   writer_of_both (row ∷ rows) = of_test (first row) refl (writer_of_both rows)
     where
@@ -182,7 +182,7 @@ all_ended is_one old s before touched sound so_far none = record {
   same_room = so_far.same_room;
 }
   where
-    none_stored : (at : ℕ) (row : Row) → Stores s at row → is_one row.pid ≡ false
+    none_stored : (at : ℕ) (row : LockRow) → Stores s at row → is_one row.pid ≡ false
     none_stored at row stored =
         let owned = sound.owned.owned at row stored in
         ap is_one (sym owned.2.1) ∙ none owned.0 owned.2.0

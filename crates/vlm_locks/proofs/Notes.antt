@@ -1,7 +1,7 @@
 -- Lists of notes of locks: their identifications and handles.
 use Rattle.std.proofs.Common.{◌≡◌, ◌<◌, ℕ, zero, suc, List, [], ◌∷◌, ◌++◌, map, length, get_or, refl, sym, ap, ◌∙◌, inl, inr, arith}
 use Rattle.std.specs.List.{AllByRecursion}
-use Rattle.vlm_words.specs.declared.locks.Row.{Row}
+use Rattle.vlm_words.specs.declared.locks.LockRow.{LockRow}
 use Rattle.vlm_collections.specs.Lists.{IsIn}
 use Rattle.vlm_store.specs.Records.{Records, Stores}
 use Rattle.vlm_locks.specs.declared.touched.Note.{Note}
@@ -24,10 +24,10 @@ rise_in_order s [] locks stand = tt
 rise_in_order s (t ∷ notes) locks stand =
     (each_noted notes (λ x there. locks x (inr there)) (λ at there. stand.0 at there), rise_in_order s notes (λ x there. locks x (inr there)) stand.1)
   where
-    first : (row : Row) × (Stores s t.at row × (row.lkid ≡ t.number))
+    first : (row : LockRow) × (Stores s t.at row × (row.lkid ≡ t.number))
     first = locks t (inl refl)
 
-    each_noted : (ts : List Note) → AreOfLocks ts s → ((at : ℕ) → IsIn at (touched_handles ts) → (a b : Row) → Stores s t.at a → Stores s at b → a.lkid < b.lkid)
+    each_noted : (ts : List Note) → AreOfLocks ts s → ((at : ℕ) → IsIn at (touched_handles ts) → (a b : LockRow) → Stores s t.at a → Stores s at b → a.lkid < b.lkid)
         → AllByRecursion (λ later. t.number < later) (noted_lkids ts)
     each_noted [] those older = tt
     each_noted (x ∷ ts) those older =

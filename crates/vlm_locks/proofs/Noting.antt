@@ -2,7 +2,7 @@
 use Rattle.std.proofs.Common.{◌≡◌, ◌≤◌, ◌<◌, ◌+◌, ℕ, List, [], ◌∷◌, ◌++◌, length, Option, None, Some, refl, sym, ap, ◌∙◌, subst, inl, inr, arith}
 use Rattle.std.proofs.lemmas.Option.{same_Some}
 use Rattle.std.proofs.lemmas.List.{append_assoc, append-nil, length-append, length-map, map-append}
-use Rattle.vlm_words.specs.declared.locks.Row.{Row}
+use Rattle.vlm_words.specs.declared.locks.LockRow.{LockRow}
 use Rattle.vlm_collections.specs.Lists.{IsApart, IsIn, first_handle, handle_after}
 use Rattle.vlm_collections.proofs.Walks.{handle_after-among}
 use Rattle.vlm_store.specs.Records.{Records, Stores}
@@ -92,7 +92,7 @@ module _ (s : Records) (handles : List ℕ) (was touched : Touches) (lock : ℕ)
       )
 
   -- it is noted too
-  pub one_more : (t : Note) → t.at ≡ lock → (row : Row) → Stores s lock row → row.lkid ≡ t.number → (noted : Touches) → noted.noted ≡ touched.noted ++ t ∷ []
+  pub one_more : (t : Note) → t.at ≡ lock → (row : LockRow) → Stores s lock row → row.lkid ≡ t.number → (noted : Touches) → noted.noted ≡ touched.noted ++ t ∷ []
       → noted.room ≡ touched.room → (next : Option ℕ) → next ≡ first_handle others → AreNoted s handles was noted next
   one_more t its row stored lkid noted notes room next is = record {
     done = so_far.done ++ lock ∷ [];

@@ -3,7 +3,7 @@ use Rattle.std.proofs.Common.{◌≡◌, ℕ, Bool, true, false, not, cond, List
 use Rattle.std.specs.Prelude.{◌==◌}
 use Rattle.std.specs.Option.{option_map_or}
 use Rattle.std.proofs.lemmas.Bool.{cases_eq}
-use Rattle.vlm_words.specs.declared.locks.Row.{Row}
+use Rattle.vlm_words.specs.declared.locks.LockRow.{LockRow}
 use Rattle.vlm_words.specs.declared.resources.Queue.{Queue}
 use Rattle.vlm_words.specs.declared.resources.Queue.TheVariants.{Granted, Conversion, Waiting}
 use Rattle.vlm_words.specs.declared.resources.ValueBlock.{ValueBlock}
@@ -63,7 +63,7 @@ pub moved_alone : (to : Place) (k : StoredLock) (s : Records) → OtherLocksStay
 moved_alone to k s = lists_stay k.at (moving to k) (without_moved to k) s
 
 -- a lock is made that joins a list
-pub added_alone : (lock : ℕ) (row : Row) (owner : ℕ) (parent : Option ℕ) (to : Place) (room : Room) (s : Records)
+pub added_alone : (lock : ℕ) (row : LockRow) (owner : ℕ) (parent : Option ℕ) (to : Place) (room : Room) (s : Records)
     → OtherLocksStay lock s (with_lock_room room (with_new_lock lock row owner parent to s))
 added_alone lock row owner parent to room s place =
     shown place ∙ lists_stay lock (joining to (record { at = lock; row = row })) (without_come (record { at = lock; row = row })) s place

@@ -5,7 +5,7 @@ use Rattle.std.specs.Option.{option_map_or}
 use Rattle.std.proofs.lemmas.Bool.{cases_eq}
 use Rattle.std.proofs.lemmas.Option.{same_Some}
 use Rattle.vlm_words.specs.declared.locks.Request.{Request}
-use Rattle.vlm_words.specs.declared.locks.Row.{Row}
+use Rattle.vlm_words.specs.declared.locks.LockRow.{LockRow}
 use Rattle.vlm_words.specs.declared.resources.Queue.{Queue}
 use Rattle.vlm_words.specs.declared.resources.Queue.TheVariants.{Granted}
 use Rattle.vlm_words.specs.declared.modes.Act.{Act}
@@ -20,7 +20,7 @@ use Rattle.vlm_words.specs.Rows.{granted_row, is_arming}
 use Rattle.vlm_records.specs.declared.handles.Place.TheVariants.{Queued}
 use Rattle.vlm_store.specs.Records.{DueChanges, DuesStay, HasResource, IsIdle, IsProcess, IsSound, Records, Room, SameButNotices, StoredLock, StoredProcess, Stores, due_of, leaving, moving, on_resource, process_at, process_without_lock, resource_with, with_lists, with_resource_room, without_resource}
 use Rattle.vlm_store.proofs.Plain.{process_at-stored}
-use Rattle.vlm_locks.specs.Owing.{DueMoves, IsPaid, LosesOne, WeighsTheSame, total_weight, OwedMoves, blocks_written, completions_queued, completions_spared, due_for, row_after_end, row_at_end}
+use Rattle.vlm_locks.specs.Owing.{DueMoves, IsPaid, LosesOne, WeighsTheSame, total_weight, OwedMoves, blocks_written, completions_queued, suppressed_completions, due_for, row_after_end, row_at_end}
 use Rattle.vlm_locks.specs.Withdrawing.{owned_after}
 use Rattle.vlm_locks.proofs.Found.{process_still}
 use Rattle.vlm_words.specs.declared.resources.ValueBlock.{ValueBlock}
@@ -57,7 +57,7 @@ changes_then pid f s t u stay changes other =
     changes other ∙ ap (λ (due : ℕ). cond (other == pid) (f due) due) (stay other)
 
 -- of a named completion the one part is queued and the other spared
-completion_parts : (at_once : Bool) (request : Request) → completions_queued at_once request + completions_spared at_once request ≡ one_where (is_some request.completion)
+completion_parts : (at_once : Bool) (request : Request) → completions_queued at_once request + suppressed_completions at_once request ≡ one_where (is_some request.completion)
 completion_parts at_once request = of_test (is_synchronous at_once request)
   where
     of_test : (b : Bool) → cond b 0 (one_where (is_some request.completion)) + cond b (one_where (is_some request.completion)) 0 ≡ one_where (is_some request.completion)
@@ -65,7 +65,7 @@ completion_parts at_once request = of_test (is_synchronous at_once request)
     of_test false = omega arith
 
 -- what is owed to the process of a row, and to others
-module _ (row : Row) (f : ℕ → ℕ) (old new : Records) (changes : DueChanges row.pid f old new) where
+module _ (row : LockRow) (f : ℕ → ℕ) (old new : Records) (changes : DueChanges row.pid f old new) where
   pub owed_own : due_of row.pid new ≡ f (due_of row.pid old)
   owed_own = changes row.pid ∙ ap (λ (b : Bool). cond b (f (due_of row.pid old)) (due_of row.pid old)) (eq-eqb row.pid row.pid refl)
 
@@ -73,14 +73,14 @@ module _ (row : Row) (f : ℕ → ℕ) (old new : Records) (changes : DueChanges
   owed_other pid differs = changes pid ∙ ap (λ (b : Bool). cond b (f (due_of pid old)) (due_of pid old)) (ne_eqb pid row.pid (λ same. differs (sym same)))
 
 -- what is due to the process of a row for it, and to others
-pub due_own : (row : Row) → due_to row.pid row ≡ row_due row
+pub due_own : (row : LockRow) → due_to row.pid row ≡ row_due row
 due_own row = ap (λ (b : Bool). cond b (row_due row) 0) (eq-eqb row.pid row.pid refl)
 
-pub due_other : (row : Row) (pid : ℕ) → row.pid ≢ pid → due_to pid row ≡ 0
+pub due_other : (row : LockRow) (pid : ℕ) → row.pid ≢ pid → due_to pid row ≡ 0
 due_other row pid differs = ap (λ (b : Bool). cond b (row_due row) 0) (ne_eqb row.pid pid differs)
 
 -- what is owed moves from one row of a process to another, where what it is owed changes so
-pub owed_moves : (was now : Row) (old new : Records) → now.pid ≡ was.pid → due_of was.pid new + row_due was ≡ due_of was.pid old + row_due now
+pub owed_moves : (was now : LockRow) (old new : Records) → now.pid ≡ was.pid → due_of was.pid new + row_due was ≡ due_of was.pid old + row_due now
     → ((pid : ℕ) → was.pid ≢ pid → due_of pid new ≡ due_of pid old) → OwedMoves was now old new
 owed_moves was now old new same own others pid =
     elim (cases_eq was.pid pid) [
@@ -92,7 +92,7 @@ owed_moves was now old new same own others pid =
 
 -- ---- a request is granted
 
-module _ (row : Row) (request : Request) (want : row.want ≡ Some request) (at_once : Bool) where
+module _ (row : LockRow) (request : Request) (want : row.want ≡ Some request) (at_once : Bool) where
   -- what is due for it before and after
   pub due_before : row_due row ≡ one_where (is_some request.completion) + one_where (is_some request.blocking) + one_where row.armed
   due_before = ap (λ (o : Option Request). routines_of o + one_where row.armed) want
@@ -102,29 +102,29 @@ module _ (row : Row) (request : Request) (want : row.want ≡ Some request) (at_
 
   module _ (old mid : Records) (queued : DueChanges row.pid (λ due. due - completions_queued at_once request) old mid) (enough : row_due row ≤ due_of row.pid old) where
     -- what is spared is owed still
-    pub spared_fits : one_where row.armed + completions_spared at_once request ≤ due_of row.pid mid
+    pub spared_fits : one_where row.armed + suppressed_completions at_once request ≤ due_of row.pid mid
     spared_fits =
         omega (arith, owed_own row (λ due. due - completions_queued at_once request) old mid queued, enough, due_before, completion_parts at_once request)
 
     -- once it is forgiven, what is due for the granted lock is owed
-    pub granted_owed : (new : Records) → DueChanges row.pid (λ due. due - (one_where row.armed + completions_spared at_once request)) mid new → OwedMoves row (granted_row row) old new
+    pub granted_owed : (new : Records) → DueChanges row.pid (λ due. due - (one_where row.armed + suppressed_completions at_once request)) mid new → OwedMoves row (granted_row row) old new
     granted_owed new spared =
         owed_moves row (granted_row row) old new refl
         (omega (
           arith,
           owed_own row (λ due. due - completions_queued at_once request) old mid queued,
-          owed_own row (λ due. due - (one_where row.armed + completions_spared at_once request)) mid new spared,
+          owed_own row (λ due. due - (one_where row.armed + suppressed_completions at_once request)) mid new spared,
           enough,
           due_before,
           due_after,
           completion_parts at_once request,
         ))
         (λ pid differs.
-        owed_other row (λ due. due - (one_where row.armed + completions_spared at_once request)) mid new spared pid differs
+        owed_other row (λ due. due - (one_where row.armed + suppressed_completions at_once request)) mid new spared pid differs
         ∙ owed_other row (λ due. due - completions_queued at_once request) old mid queued pid differs)
 
 -- where a lock wants nothing, its warning alone is forgiven
-pub nothing_granted_owed : (row : Row) → row.want ≡ None → (old new : Records) → row_due row ≤ due_of row.pid old
+pub nothing_granted_owed : (row : LockRow) → row.want ≡ None → (old new : Records) → row_due row ≤ due_of row.pid old
     → DueChanges row.pid (λ due. due - one_where row.armed) old new → OwedMoves row (granted_row row) old new
 nothing_granted_owed row none old new enough spared =
     let before : row_due row ≡ one_where row.armed = omega (arith, ap routines_of none) in
@@ -144,7 +144,7 @@ same_written Return first second b pid request = rw (pid, request) refl
 same_written Write first second b pid request = rw (pid, request) refl
 
 -- a grant writes, and then its completion is queued
-pub granted_blocks : (row : Row) (request : Request) (at_once : Bool) (b : Blocks) → row.want ≡ Some request
+pub granted_blocks : (row : LockRow) (request : Request) (at_once : Bool) (b : Blocks) → row.want ≡ Some request
     → blocks_after (grant_endings at_once row) b ≡ blocks_after_asts (completion_asts at_once request row.lkid row.pid) (blocks_written row request b)
 granted_blocks row request at_once b want =
     rw want
@@ -161,16 +161,16 @@ abbrev pub weight : ℕ → StoredLock → ℕ
 weight pid k = due_to pid k.row
 
 -- what is due for a lock that is stored is owed, where each process is owed what is due to it
-pub due_fits : (s : Records) → IsSound s → IsPaid s → (at : ℕ) (row : Row) → Stores s at row → row_due row ≤ due_of row.pid s
+pub due_fits : (s : Records) → IsSound s → IsPaid s → (at : ℕ) (row : LockRow) → Stores s at row → row_due row ≤ due_of row.pid s
 due_fits s sound paid at row stored =
     omega (arith, paid row.pid, gone_weighs (weight row.pid) s sound at row stored, due_own row)
 
 -- both change alike
-pub paid_still : (was now : Row) (old new : Records) → DueMoves was now old new → OwedMoves was now old new → IsPaid old → IsPaid new
+pub paid_still : (was now : LockRow) (old new : Records) → DueMoves was now old new → OwedMoves was now old new → IsPaid old → IsPaid new
 paid_still was now old new due owed paid pid = omega (arith, due pid, owed pid, paid pid)
 
 -- what is due changes as a lock moves to a queue with another row
-pub due_moved : (s : Records) → IsSound s → (at : ℕ) (was now : Row) (res : ℕ) (to : Queue) → Stores s at was → HasResource res s
+pub due_moved : (s : Records) → IsSound s → (at : ℕ) (was now : LockRow) (res : ℕ) (to : Queue) → Stores s at was → HasResource res s
     → DueMoves was now s (with_lists (moving (Queued res to) (record { at = at; row = now })) s)
 due_moved s sound at was now res to stored there pid = moved_weighs (weight pid) s sound at was now res to stored there
 
@@ -179,7 +179,7 @@ pub due_noticed : (s t : Records) → SameButNotices s t → (pid : ℕ) → due
 due_noticed s t same pid = rw same.resources refl
 
 -- a lock that is granted on its resource
-pub paid_granted : (s t : Records) → IsSound s → (at : ℕ) (row : Row) (res : ℕ) → Stores s at row → HasResource res s
+pub paid_granted : (s t : Records) → IsSound s → (at : ℕ) (row : LockRow) (res : ℕ) → Stores s at row → HasResource res s
     → SameButNotices (with_lists (moving (Queued res Granted) (record { at = at; row = granted_row row })) s) t
     → OwedMoves row (granted_row row) s t → IsPaid s → IsPaid t
 paid_granted s t sound at row res stored there moved owed paid =
@@ -192,14 +192,14 @@ paid_granted s t sound at row res stored there moved owed paid =
 -- ---- a lock is withdrawn
 
 -- what is due for it once its request has ended, and once it is gone
-pub due_after_end : (row : Row) → row_due (row_after_end row) ≡ one_where row.armed
+pub due_after_end : (row : LockRow) → row_due (row_after_end row) ≡ one_where row.armed
 due_after_end row = omega arith
 
-pub due_at_end : (row : Row) → row_due (row_at_end row) ≡ 0
+pub due_at_end : (row : LockRow) → row_due (row_at_end row) ≡ 0
 due_at_end row = omega arith
 
 -- its request ends: the completion is queued, and what was owed for a blocking routine forgiven
-pub ended_owed : (row : Row) (request : Request) → row.want ≡ Some request → (old mid new : Records) → row_due row ≤ due_of row.pid old
+pub ended_owed : (row : LockRow) (request : Request) → row.want ≡ Some request → (old mid new : Records) → row_due row ≤ due_of row.pid old
     → DueChanges row.pid (λ due. due - completions_queued false request) old mid
     → DueChanges row.pid (λ due. due - one_where (is_some request.blocking)) mid new → OwedMoves row (row_after_end row) old new
 ended_owed row request want old mid new enough queued spared =
@@ -217,17 +217,17 @@ ended_owed row request want old mid new enough queued spared =
     ∙ owed_other row (λ due. due - completions_queued false request) old mid queued pid differs)
 
 -- what is owed for a blocking routine is owed still once the completion is queued
-pub blocking_fits : (row : Row) (request : Request) → row.want ≡ Some request → (old mid : Records) → row_due row ≤ due_of row.pid old
+pub blocking_fits : (row : LockRow) (request : Request) → row.want ≡ Some request → (old mid : Records) → row_due row ≤ due_of row.pid old
     → DueChanges row.pid (λ due. due - completions_queued false request) old mid → one_where (is_some request.blocking) ≤ due_of row.pid mid
 blocking_fits row request want old mid enough queued =
     omega (arith, owed_own row (λ due. due - completions_queued false request) old mid queued, enough, due_before row request want false)
 
 -- where it wants nothing nothing is to come of that
-pub nothing_wanted : (row : Row) → row.want ≡ None → (pid : ℕ) → due_to pid (row_after_end row) ≡ due_to pid row
+pub nothing_wanted : (row : LockRow) → row.want ≡ None → (pid : ℕ) → due_to pid (row_after_end row) ≡ due_to pid row
 nothing_wanted row none pid = ap (λ (o : Option Request). due_to pid (record row { want = o })) (sym none)
 
 -- what is owed for the routines of what it wants is forgiven where its process ends
-pub untold_owed : (row : Row) (old new : Records) → row_due row ≤ due_of row.pid old → DueChanges row.pid (λ due. due - routines_of row.want) old new
+pub untold_owed : (row : LockRow) (old new : Records) → row_due row ≤ due_of row.pid old → DueChanges row.pid (λ due. due - routines_of row.want) old new
     → OwedMoves row (row_after_end row) old new
 untold_owed row old new enough forgiven =
     owed_moves row (row_after_end row) old new refl
@@ -235,7 +235,7 @@ untold_owed row old new enough forgiven =
     (λ pid differs. owed_other row (λ due. due - routines_of row.want) old new forgiven pid differs)
 
 -- its warning is forgiven as it goes
-pub spared_owed : (row : Row) (old new : Records) → one_where row.armed ≤ due_of row.pid old → DueChanges row.pid (λ due. due - one_where row.armed) old new
+pub spared_owed : (row : LockRow) (old new : Records) → one_where row.armed ≤ due_of row.pid old → DueChanges row.pid (λ due. due - one_where row.armed) old new
     → OwedMoves (row_after_end row) (row_at_end row) old new
 spared_owed row old new enough spared =
     owed_moves (row_after_end row) (row_at_end row) old new refl
@@ -243,7 +243,7 @@ spared_owed row old new enough spared =
     (λ pid differs. owed_other row (λ due. due - one_where row.armed) old new spared pid differs)
 
 -- what is owed moves on
-pub owed_then : (a b c : Row) (s t u : Records) → OwedMoves a b s t → OwedMoves b c t u → OwedMoves a c s u
+pub owed_then : (a b c : LockRow) (s t u : Records) → OwedMoves a b s t → OwedMoves b c t u → OwedMoves a c s u
 owed_then a b c s t u first second pid = omega (arith, first pid, second pid)
 
 -- and is the same where the processes are, but for their locks
@@ -264,7 +264,7 @@ owed_by_locks true lock s t is pid = rw is (each s.processes)
 owed_by_locks false lock s t is pid = rw is refl
 
 -- a part of a withdrawal pays what it leaves due
-pub paid_withdrawn : (was now : Row) (gone : Bool) (lock : ℕ) (s t u v : Records) → IsPaid s → OwedMoves was now s t → SameButNotices s t
+pub paid_withdrawn : (was now : LockRow) (gone : Bool) (lock : ℕ) (s t u v : Records) → IsPaid s → OwedMoves was now s t → SameButNotices s t
     → u.processes ≡ owned_after false lock t.processes → WeighsTheSame t u
     → v.processes ≡ owned_after gone lock u.processes → DueMoves was now u v → IsPaid v
 paid_withdrawn was now gone lock s t u v paid owed same left left_due part part_due pid =
@@ -280,14 +280,14 @@ paid_withdrawn was now gone lock s t u v paid owed same left left_due part part_
     )
 
 -- a lock goes
-pub weighs_gone : (s : Records) → IsSound s → (at : ℕ) (row : Row) → Stores s at row → (t : Records) → t.resources ≡ map (resource_with (leaving at)) s.resources
+pub weighs_gone : (s : Records) → IsSound s → (at : ℕ) (row : LockRow) → Stores s at row → (t : Records) → t.resources ≡ map (resource_with (leaving at)) s.resources
     → LosesOne (record { at = at; row = row }) s t
 weighs_gone s sound at row stored t resources measure =
     let gone : total_weight measure t ≡ total_weight measure (with_lists (leaving at) s) = rw resources refl in
     omega (arith, gone, gone_weighs measure s sound at row stored)
 
 -- for a lock at its end nothing is due
-pub nothing_due : (row : Row) (pid : ℕ) → due_to pid (row_at_end row) ≡ 0
+pub nothing_due : (row : LockRow) (pid : ℕ) → due_to pid (row_at_end row) ≡ 0
 nothing_due row pid = of_test (row.pid == pid)
   where
     of_test : (b : Bool) → cond b (row_due (row_at_end row)) 0 ≡ 0
@@ -295,7 +295,7 @@ nothing_due row pid = of_test (row.pid == pid)
     of_test false = refl
 
 -- so nothing is due for it any more
-pub due_gone : (at : ℕ) (row : Row) (s t : Records) → LosesOne (record { at = at; row = row }) s t → DueMoves row (row_at_end row) s t
+pub due_gone : (at : ℕ) (row : LockRow) (s t : Records) → LosesOne (record { at = at; row = row }) s t → DueMoves row (row_at_end row) s t
 due_gone at row s t loses pid = omega (arith, loses (weight pid), nothing_due row pid)
 
 -- a value block that is written leaves the locks

@@ -3,7 +3,7 @@ use Rattle.std.proofs.Common.{◌≡◌, ◌≢◌, ◌<◌, ◌⊎◌, ℕ, zer
 use Rattle.std.specs.Prelude.{◌==◌, ◌||◌, slice_get}
 use Rattle.std.specs.Option.{option_map_or}
 use Rattle.std.proofs.lemmas.Bool.{cases_eq}
-use Rattle.vlm_words.specs.declared.locks.Row.{Row}
+use Rattle.vlm_words.specs.declared.locks.LockRow.{LockRow}
 use Rattle.vlm_words.specs.declared.resources.Queue.{Queue}
 use Rattle.vlm_words.specs.declared.resources.Queue.TheVariants.{Granted, Conversion, Waiting}
 use Rattle.vlm_model.specs.OwnLocks.{all_rows_of, is_below, parent_of}
@@ -17,76 +17,76 @@ use Rattle.vlm_locks.proofs.Named.{IsAbsent, rows-absent}
 use Rattle.vlm_locks.proofs.Stood.{in_queue, one_lock, queued_stored}
 
 -- the row stands first in the list
-abbrev IsFirst : Row → List Row → Type 0
-IsFirst row rows = (rest : List Row) × (rows ≡ row ∷ rest)
+abbrev IsFirst : LockRow → List LockRow → Type 0
+IsFirst row rows = (rest : List LockRow) × (rows ≡ row ∷ rest)
 
 -- the list is empty, or the row stands first in it
-abbrev IsFirstIfAny : Row → List Row → Type 0
+abbrev IsFirstIfAny : LockRow → List LockRow → Type 0
 IsFirstIfAny row rows = (rows ≡ []) ⊎ IsFirst row rows
 
 -- ---- lists of which one is put behind another
 
-first_before : (row : Row) (xs ys : List Row) → IsFirst row xs → IsFirst row (xs ++ ys)
-first_before row xs ys first = (first.0 ++ ys, ap (λ (rows : List Row). rows ++ ys) first.1)
+first_before : (row : LockRow) (xs ys : List LockRow) → IsFirst row xs → IsFirst row (xs ++ ys)
+first_before row xs ys first = (first.0 ++ ys, ap (λ (rows : List LockRow). rows ++ ys) first.1)
 
-first_behind : (row : Row) (xs ys : List Row) → IsFirstIfAny row xs → IsFirst row ys → IsFirst row (xs ++ ys)
-first_behind row xs ys (inl none) first = (first.0, ap (λ (rows : List Row). rows ++ ys) none ∙ first.1)
+first_behind : (row : LockRow) (xs ys : List LockRow) → IsFirstIfAny row xs → IsFirst row ys → IsFirst row (xs ++ ys)
+first_behind row xs ys (inl none) first = (first.0, ap (λ (rows : List LockRow). rows ++ ys) none ∙ first.1)
 first_behind row xs ys (inr before) first = first_before row xs ys before
 
-if_any_both : (row : Row) (xs ys : List Row) → IsFirstIfAny row xs → IsFirstIfAny row ys → IsFirstIfAny row (xs ++ ys)
-if_any_both row xs ys (inl none) (inl empty) = inl (ap (λ (rows : List Row). rows ++ ys) none ∙ empty)
+if_any_both : (row : LockRow) (xs ys : List LockRow) → IsFirstIfAny row xs → IsFirstIfAny row ys → IsFirstIfAny row (xs ++ ys)
+if_any_both row xs ys (inl none) (inl empty) = inl (ap (λ (rows : List LockRow). rows ++ ys) none ∙ empty)
 if_any_both row xs ys (inl none) (inr first) = inr (first_behind row xs ys (inl none) first)
 if_any_both row xs ys (inr first) any = inr (first_before row xs ys first)
 
 -- ---- the rows of one identification, where each of them is this row
 
 -- each lock of the list with the identification of the row has the row
-abbrev AreItsOwn : Row → List StoredLock → Type 0
+abbrev AreItsOwn : LockRow → List StoredLock → Type 0
 AreItsOwn row locks = (k : StoredLock) → IsIn k locks → k.row.lkid ≡ row.lkid → k.row ≡ row
 
-if_any_of : (row : Row) (locks : List StoredLock) → AreItsOwn row locks → IsFirstIfAny row (rows_of row.lkid (rows_of_locks locks))
+if_any_of : (row : LockRow) (locks : List StoredLock) → AreItsOwn row locks → IsFirstIfAny row (rows_of row.lkid (rows_of_locks locks))
 if_any_of row [] own = inl refl
 if_any_of row (k ∷ rest) own =
     elim (cases_eq k.row.lkid row.lkid) [
       | inl same ↦
           rw (eq-eqb k.row.lkid row.lkid same)
-          (inr (rows_of row.lkid (rows_of_locks rest), ap (λ (x : Row). x ∷ rows_of row.lkid (rows_of_locks rest)) (own k (inl refl) same)))
+          (inr (rows_of row.lkid (rows_of_locks rest), ap (λ (x : LockRow). x ∷ rows_of row.lkid (rows_of_locks rest)) (own k (inl refl) same)))
       | inr differs ↦ rw (ne_eqb k.row.lkid row.lkid differs) (if_any_of row rest (λ x there. own x (inr there)))
     ]
 
-first_of : (row : Row) (locks : List StoredLock) (k : StoredLock) → AreItsOwn row locks → IsIn k locks → k.row ≡ row
+first_of : (row : LockRow) (locks : List StoredLock) (k : StoredLock) → AreItsOwn row locks → IsIn k locks → k.row ≡ row
     → IsFirst row (rows_of row.lkid (rows_of_locks locks))
 first_of row [] k own among is = absurd among
 first_of row (x ∷ rest) k own among is =
     elim (cases_eq x.row.lkid row.lkid) [
       | inl same ↦
           rw (eq-eqb x.row.lkid row.lkid same)
-          (rows_of row.lkid (rows_of_locks rest), ap (λ (y : Row). y ∷ rows_of row.lkid (rows_of_locks rest)) (own x (inl refl) same))
+          (rows_of row.lkid (rows_of_locks rest), ap (λ (y : LockRow). y ∷ rows_of row.lkid (rows_of_locks rest)) (own x (inl refl) same))
       | inr differs ↦
           rw (ne_eqb x.row.lkid row.lkid differs)
           (elim among [
-            | inl here ↦ absurd (differs (ap (λ (y : StoredLock). y.row.lkid) here ∙ ap (λ (y : Row). y.lkid) is))
+            | inl here ↦ absurd (differs (ap (λ (y : StoredLock). y.row.lkid) here ∙ ap (λ (y : LockRow). y.lkid) is))
             | inr there ↦ first_of row rest k (λ y later. own y (inr later)) there is
           ])
     ]
 
 -- the rows of one identification on a resource
-abbrev rows_here : ℕ → StoredResource → List Row
+abbrev rows_here : ℕ → StoredResource → List LockRow
 rows_here lkid r = rows_of lkid (rows_of_locks r.granted) ++ rows_of lkid (rows_of_locks r.converting) ++ rows_of lkid (rows_of_locks r.waiting)
 
 -- each lock of the resource with the identification of the row has the row
-abbrev AreItsOwnOn : Row → StoredResource → Type 0
+abbrev AreItsOwnOn : LockRow → StoredResource → Type 0
 AreItsOwnOn row r = (queue : Queue) → AreItsOwn row (queued queue r)
 
-module _ (row : Row) (r : StoredResource) (own : AreItsOwnOn row r) where
+module _ (row : LockRow) (r : StoredResource) (own : AreItsOwnOn row r) where
   -- its rows in each queue, and in those that hold
-  abbrev granted : List Row
+  abbrev granted : List LockRow
   granted = rows_of row.lkid (rows_of_locks r.granted)
 
-  abbrev converting : List Row
+  abbrev converting : List LockRow
   converting = rows_of row.lkid (rows_of_locks r.converting)
 
-  abbrev waiting : List Row
+  abbrev waiting : List LockRow
   waiting = rows_of row.lkid (rows_of_locks r.waiting)
 
   if_any_held : IsFirstIfAny row (granted ++ converting)
@@ -103,7 +103,7 @@ module _ (row : Row) (r : StoredResource) (own : AreItsOwnOn row r) where
       (first_behind row granted converting (if_any_of row r.granted (own Granted)) (first_of row r.converting k (own Conversion) among is))
   first_here Waiting k among is = first_behind row (granted ++ converting) waiting if_any_held (first_of row r.waiting k (own Waiting) among is)
 
-first_among : (row : Row) (rs : List StoredResource) → ((r : StoredResource) → IsIn r rs → AreItsOwnOn row r)
+first_among : (row : LockRow) (rs : List StoredResource) → ((r : StoredResource) → IsIn r rs → AreItsOwnOn row r)
     → (r : StoredResource) → IsIn r rs → (queue : Queue) (k : StoredLock) → IsIn k (queued queue r) → k.row ≡ row
     → IsFirst row (all_rows_of row.lkid (map plain_resource rs))
 first_among row [] own r among queue k here is = absurd among
@@ -132,18 +132,18 @@ none_among lkid (r ∷ rest) none =
 
 -- no stored lock has this identification
 abbrev pub IsNowhere : ℕ → Records → Type 0
-IsNowhere lkid s = (at : ℕ) (row : Row) → Stores s at row → row.lkid ≢ lkid
+IsNowhere lkid s = (at : ℕ) (row : LockRow) → Stores s at row → row.lkid ≢ lkid
 
 -- some stored lock has this identification
 abbrev pub IsSomewhere : ℕ → Records → Type 0
-IsSomewhere lkid s = (at : ℕ) × (row : Row) × (Stores s at row × (row.lkid ≡ lkid))
+IsSomewhere lkid s = (at : ℕ) × (row : LockRow) × (Stores s at row × (row.lkid ≡ lkid))
 
 module _ (s : Records) (sound : IsSound s) where
   -- the parent lock of a lock is the one that its row names
-  pub parent_named : (at : ℕ) (row : Row) → Stores s at row → parent_of row.lkid (plain_resources s) ≡ row.parent
+  pub parent_named : (at : ℕ) (row : LockRow) → Stores s at row → parent_of row.lkid (plain_resources s) ≡ row.parent
   unfolding parent_of
   parent_named at row stored =
-      ap (λ (rows : List Row). option_map_or (λ (x : Row). x.parent) (slice_get rows 0) 0) first.1
+      ap (λ (rows : List LockRow). option_map_or (λ (x : LockRow). x.parent) (slice_get rows 0) 0) first.1
     where
       own : (r : StoredResource) → IsIn r s.resources → AreItsOwnOn row r
       own r among queue k here same =
@@ -159,7 +159,7 @@ module _ (s : Records) (sound : IsSound s) where
   pub parent_nowhere : (lkid : ℕ) → IsNowhere lkid s → parent_of lkid (plain_resources s) ≡ 0
   unfolding parent_of
   parent_nowhere lkid none =
-      ap (λ (rows : List Row). option_map_or (λ (x : Row). x.parent) (slice_get rows 0) 0)
+      ap (λ (rows : List LockRow). option_map_or (λ (x : LockRow). x.parent) (slice_get rows 0) 0)
       (none_among lkid s.resources (λ r among queue k here. none k.at k.row (queued_stored s sound r among queue k here)))
 
 -- what is its own parent is below no other
@@ -240,7 +240,7 @@ somewhere_or_not s sound lkid =
 
 -- each stored parent has a lower identification than a lock that names it
 abbrev pub ParentsComeFirst : Records → Type 0
-ParentsComeFirst s = (at other : ℕ) (sub up : Row) → Stores s at sub → Stores s other up → sub.parent ≢ 0 → sub.parent ≡ up.lkid → up.lkid < sub.lkid
+ParentsComeFirst s = (at other : ℕ) (sub up : LockRow) → Stores s at sub → Stores s other up → sub.parent ≢ 0 → sub.parent ≡ up.lkid → up.lkid < sub.lkid
 
 -- between two steps they do
 pub parents_come_first : (s : Records) → IsSound s → IsAtRest s → ParentsComeFirst s

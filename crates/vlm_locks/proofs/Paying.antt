@@ -6,7 +6,7 @@ use Rattle.std.specs.Option.{option_map_or}
 use Rattle.std.proofs.lemmas.Bool.{cases_eq, cond_both}
 use Rattle.std.proofs.lemmas.List.Sums.{sum_by-append, sum_by-cons}
 use Rattle.vlm_words.specs.declared.locks.Request.{Request}
-use Rattle.vlm_words.specs.declared.locks.Row.{Row}
+use Rattle.vlm_words.specs.declared.locks.LockRow.{LockRow}
 use Rattle.vlm_words.specs.declared.resources.Queue.{Queue}
 use Rattle.vlm_words.specs.declared.resources.ValueBlock.{ValueBlock}
 use Rattle.vlm_words.specs.Rows.{wanting_row, granted_row}
@@ -14,10 +14,10 @@ use Rattle.vlm_words.specs.Dues.{due_to, routines_of, row_due}
 use Rattle.vlm_records.specs.declared.handles.Place.TheVariants.{Queued}
 use Rattle.vlm_store.specs.Records.{DueChanges, DuesStay, HasResource, IsSound, Records, Room, SameButNotices, StoredProcess, StoredResource, Stores, due_of, on_resource, process_with_lock, with_lock_room, with_new_lock}
 use Rattle.vlm_locks.specs.Entering.{IsDueMore, IsReady}
-use Rattle.vlm_locks.specs.declared.entering.Entry.{Entry}
+use Rattle.vlm_locks.specs.declared.new_locks.NewLock.{NewLock}
 use Rattle.vlm_locks.specs.Owing.{DueMoves, IsPaid, OwedMoves, OwesMore, due_for, due_on}
-use Rattle.vlm_locks.specs.declared.finding.Standing.{Standing}
-use Rattle.vlm_locks.specs.Standing.{IsStanding}
+use Rattle.vlm_locks.specs.declared.located_locks.LocatedLock.{LocatedLock}
+use Rattle.vlm_locks.specs.Standing.{IsLocated}
 use Rattle.vlm_locks.proofs.Owing.{due_noticed, due_own, weight}
 use Rattle.vlm_locks.proofs.Weighing.{gone_weighs, joined_weighs}
 
@@ -64,11 +64,11 @@ due_valued pid res block s = each s.resources
 -- ---- a conversion
 
 -- the resource of a lock that stands is there
-pub found_there : (s : Records) (f : Standing) → IsStanding f s → HasResource f.res s
-found_there s f standing = subst (λ (o : Option StoredResource). IsSome o) (sym standing.found) refl
+pub found_there : (s : Records) (f : LocatedLock) → IsLocated f s → HasResource f.res s
+found_there s f located = subst (λ (o : Option StoredResource). IsSome o) (sym located.found) refl
 
 -- a lock that wanted nothing has this row as it wants the request
-module _ (was : Row) (request : Request) (nothing : was.want ≡ None) (row : Row) (is : row ≡ wanting_row was request) where
+module _ (was : LockRow) (request : Request) (nothing : was.want ≡ None) (row : LockRow) (is : row ≡ wanting_row was request) where
   -- for it the routines of the request are due beside what was
   wanting_due : row_due row ≡ row_due was + routines_of (Some request)
   wanting_due = ap row_due is ∙ omega (arith, ap routines_of nothing)
@@ -84,7 +84,7 @@ module _ (was : Row) (request : Request) (nothing : was.want ≡ None) (row : Ro
     -- it is owed
     pub wanting_fits : IsSound s → (at : ℕ) → Stores s at was → row_due row ≤ due_of row.pid s
     wanting_fits sound at stored =
-        subst (λ (pid : ℕ). row_due row ≤ due_of pid s) (sym (ap (λ (r : Row). r.pid) is))
+        subst (λ (pid : ℕ). row_due row ≤ due_of pid s) (sym (ap (λ (r : LockRow). r.pid) is))
         (omega (
           arith,
           wanting_due,
@@ -116,7 +116,7 @@ same_dues owner parent at pid (p ∷ ps) =
     ]
 
 -- a lock is made that joins a queue
-pub due_entered : (s : Records) → IsSound s → (at : ℕ) (row : Row) (owner : ℕ) (parent : Option ℕ) (res : ℕ) (to : Queue) → HasResource res s → (room : Room) (new : Records)
+pub due_entered : (s : Records) → IsSound s → (at : ℕ) (row : LockRow) (owner : ℕ) (parent : Option ℕ) (res : ℕ) (to : Queue) → HasResource res s → (room : Room) (new : Records)
     → new ≡ with_lock_room room (with_new_lock at row owner parent (Queued res to) s) → IsDueMore row s new
 due_entered s sound at row owner parent res to there room new added = record {
   due = λ pid. ap (due_for pid) added ∙ joined_weighs (weight pid) (record { at = at; row = row }) res to s sound there;
@@ -124,7 +124,7 @@ due_entered s sound at row owner parent res to there room new added = record {
 }
 
 -- for a resource that is made nothing is due
-pub due_with_resource : (r : StoredResource) → ((pid : ℕ) → due_on pid r ≡ 0) → (s : Records) (row : Row) (mid new : Records)
+pub due_with_resource : (r : StoredResource) → ((pid : ℕ) → due_on pid r ≡ 0) → (s : Records) (row : LockRow) (mid new : Records)
     → mid.resources ≡ s.resources ++ r ∷ [] → mid.processes ≡ s.processes → IsDueMore row mid new → IsDueMore row s new
 due_with_resource r none s row mid new resources processes more = record {
   due = λ pid.
@@ -140,10 +140,10 @@ due_with_resource r none s row mid new resources processes more = record {
 }
 
 -- what is owed stays for a lock that waits
-pub owed_waiting : (row : Row) (s t : Records) → DuesStay s t → OwedMoves row row s t
+pub owed_waiting : (row : LockRow) (s t : Records) → DuesStay s t → OwedMoves row row s t
 owed_waiting row s t stay pid = ap (λ (due : ℕ). due + due_to pid row) (stay pid)
 
-module _ (row : Row) (unarmed : row.armed ≡ false) where
+module _ (row : LockRow) (unarmed : row.armed ≡ false) where
   new_due : row_due row ≡ routines_of row.want
   new_due = ap (λ (b : Bool). routines_of row.want + cond b 1 0) unarmed ∙ omega arith
 
@@ -154,7 +154,7 @@ module _ (row : Row) (unarmed : row.armed ≡ false) where
         | inr differs ↦ rw (ne_eqb row.pid pid differs, ne_eqb pid row.pid (λ e. differs (sym e))) refl
       ]
 
-  module _ (s : Records) (owes : OwesMore row.pid (routines_of row.want) s) (last : Row) (t : Records) (more : IsDueMore last s t) where
+  module _ (s : Records) (owes : OwesMore row.pid (routines_of row.want) s) (last : LockRow) (t : Records) (more : IsDueMore last s t) where
     -- what is due for a new lock is owed
     pub new_fits : row_due row ≤ due_of row.pid t
     new_fits =
@@ -172,7 +172,7 @@ module _ (row : Row) (unarmed : row.armed ≡ false) where
         omega (arith, due_noticed t u same pid, owed pid, more.due pid, more.dues pid, owes pid, new_due_to pid)
 
 -- each process is owed what was due to it, and that of the entry the ASTs of the routines that its request names
-pub owes_ready : (e : Entry) (s t : Records) → IsReady e s t → IsPaid s → OwesMore e.pid (routines_of (Some e.asked)) t
+pub owes_ready : (e : NewLock) (s t : Records) → IsReady e s t → IsPaid s → OwesMore e.pid (routines_of (Some e.asked)) t
 owes_ready e s t ready paid =
     owes_more e.pid (routines_of (Some e.asked)) (record s { room = t.room }) t paid ready.owed
     (record { resources = ready.resources; processes = ready.processes; room = refl; keys = ready.keys })

@@ -5,7 +5,7 @@ use Rattle.std.specs.Option.{option_map_or}
 use Rattle.std.specs.List.{sum_by}
 use Rattle.std.proofs.lemmas.Bool.{eqb-true}
 use Rattle.std.proofs.lemmas.List.Sums.{sum_by-cons}
-use Rattle.vlm_words.specs.declared.locks.Row.{Row}
+use Rattle.vlm_words.specs.declared.locks.LockRow.{LockRow}
 use Rattle.vlm_words.specs.declared.resources.Queue.TheVariants.{Granted, Conversion, Waiting}
 use Rattle.vlm_words.specs.Dues.{due_to}
 use Rattle.vlm_model.specs.Rundown.{processes_but}
@@ -153,7 +153,7 @@ module _ (s : Records) (sound : IsSound s) (owner pid : ℕ) (lives : IsProcess 
     pub together_left : SublocksAreOwn s → SublocksAreOwn gone
     together_left together at other row up stored above named = together at other row up (was_stored at row stored) (was_stored other up above) named
       where
-        was_stored : (handle : ℕ) (its : Row) → Stores gone handle its → Stores s handle its
+        was_stored : (handle : ℕ) (its : LockRow) → Stores gone handle its → Stores s handle its
         was_stored handle its there = (there.0, by_place there.0 there.1)
           where
             by_place : (place : Place) → IsIn (record { at = handle; row = its }) (locks_at place gone) → IsIn (record { at = handle; row = its }) (locks_at place s)

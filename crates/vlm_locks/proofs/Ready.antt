@@ -3,9 +3,9 @@
 use Rattle.std.proofs.Common.{◌≡◌, ◌+◌, ℕ, cond, List, [], ◌∷◌, map, Option, None, Some, Result, Ok, Err, OnOk, refl, sym, ap, ◌∙◌, subst}
 use Rattle.std.specs.Prelude.{◌==◌}
 use Rattle.std.specs.Option.{option_map_or}
-use Rattle.vlm_collections.specs.declared.hashing.HashKeys.{HashKeys}
+use Rattle.vlm_collections.specs.declared.hashers.HashKeys.{HashKeys}
 use Rattle.vlm_store.specs.Index.{hash_key}
-use Rattle.vlm_words.specs.declared.locks.Row.{Row}
+use Rattle.vlm_words.specs.declared.locks.LockRow.{LockRow}
 use Rattle.vlm_words.specs.Dues.{routines_of}
 use Rattle.vlm_model.specs.Enqueue.{resources_after_entry}
 use Rattle.vlm_collections.specs.Lists.{IsIn}
@@ -13,7 +13,7 @@ use Rattle.vlm_records.specs.declared.handles.Place.{Place}
 use Rattle.vlm_records.specs.declared.handles.Place.TheVariants.{Queued}
 use Rattle.vlm_store.specs.Plain.{plain_processes, plain_resource, plain_resources}
 use Rattle.vlm_store.specs.Records.{DueChanges, FindsResource, HasRoom, HasRoomForLock, HasRoomForResource, IsParentOf, IsProcess, IsUnchanged, Records, Rooms, SameButNotices, StoredProcess, Stores, but_notices, due_of, locks_at, process_with_lock, queued, resource_at, without_lock, without_resource}
-use Rattle.vlm_locks.specs.declared.entering.Entry.{Entry}
+use Rattle.vlm_locks.specs.declared.new_locks.NewLock.{NewLock}
 use Rattle.vlm_locks.specs.Entering.{HasEntered, IsAdded, IsReady, MayEnter, processes_entered, resource_for, new_row}
 use Rattle.vlm_locks.proofs.Found.{process_still}
 use Rattle.vlm_locks.proofs.Rising.{all_rise_still, were_stored}
@@ -27,19 +27,19 @@ joined_alike owner parent at a b same = shown a ∙ ap (map (process_with_lock o
     shown [] = refl
     shown (p ∷ ps) = ap (λ qs. but_notices (process_with_lock owner parent at p) ∷ qs) (shown ps)
 
-module _ (e : Entry) (s o : Records) (ready : IsReady e s o) where
+module _ (e : NewLock) (s o : Records) (ready : IsReady e s o) where
   -- each place has the locks that it had
   same_locks : (place : Place) → locks_at place o ≡ locks_at place s
   same_locks (Queued x queue) = ap (λ rs. option_map_or (queued queue) (resource_at x rs) []) ready.resources
 
-  was_stored : (at : ℕ) (row : Row) → Stores o at row → Stores s at row
+  was_stored : (at : ℕ) (row : LockRow) → Stores o at row → Stores s at row
   was_stored at row stored = (stored.0, subst (IsIn (record { at = at; row = row })) (same_locks stored.0) stored.1)
 
-  still_stored : (at : ℕ) (row : Row) → Stores s at row → Stores o at row
+  still_stored : (at : ℕ) (row : LockRow) → Stores s at row → Stores o at row
   still_stored at row stored = (stored.0, subst (IsIn (record { at = at; row = row })) (sym (same_locks stored.0)) stored.1)
 
   -- a parent is stored still
-  parent_ready : (parent : Option ℕ) (row : Row) → IsParentOf parent row s → IsParentOf parent row o
+  parent_ready : (parent : Option ℕ) (row : LockRow) → IsParentOf parent row s → IsParentOf parent row o
   parent_ready None row is = is
   parent_ready (Some at) row is = (is.0, (still_stored at is.0 is.1.0, is.1.1))
 
@@ -102,7 +102,7 @@ on_ok_of (Ok x) f a b c = f a b c
 on_ok_of (Err e) f a b c = tt
 
 -- room is made, and then the ASTs are owed
-pub made_ready : {T E : Type 0} (r : Result T E) (e : Entry) (s mid o : Records) → IsUnchanged s mid → HasRoomForLock e.lkid mid → (e.res ≡ None → HasRoomForResource e.hash mid) → IsProcess e.owner e.pid mid
+pub made_ready : {T E : Type 0} (r : Result T E) (e : NewLock) (s mid o : Records) → IsUnchanged s mid → HasRoomForLock e.lkid mid → (e.res ≡ None → HasRoomForResource e.hash mid) → IsProcess e.owner e.pid mid
     → OnOk r (plain_processes o ≡ plain_processes mid)
     → OnOk r ((pid : ℕ) → IsProcess e.owner pid mid → DueChanges pid (λ due. due + routines_of (Some e.asked)) mid o)
     → OnOk r (SameButNotices mid o) → OnOk r (IsReady e s o)

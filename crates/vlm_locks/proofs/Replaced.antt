@@ -4,7 +4,7 @@ use Rattle.std.specs.Prelude.{◌==◌}
 use Rattle.std.proofs.lemmas.Bool.{cases_eq}
 use Rattle.std.specs.Option.{option_map_or}
 use Rattle.vlm_words.specs.State.{Resource}
-use Rattle.vlm_words.specs.declared.locks.Row.{Row}
+use Rattle.vlm_words.specs.declared.locks.LockRow.{LockRow}
 use Rattle.vlm_words.specs.declared.resources.Queue.{Queue}
 use Rattle.vlm_collections.specs.Lists.{IsIn}
 use Rattle.vlm_records.specs.declared.handles.Place.{Place}
@@ -93,8 +93,8 @@ module _ (res : ℕ) (had left : StoredResource) (old new : Records) (replaced :
       ]
 
   -- a lock that is stored after stands on the new one, or was stored
-  pub stored_cases : {P : ℕ → Row → Type 0} → ((queue : Queue) (k : StoredLock) → IsIn k (queued queue left) → P k.at k.row)
-      → ((at : ℕ) (row : Row) → Stores old at row → P at row) → (at : ℕ) (row : Row) → Stores new at row → P at row
+  pub stored_cases : {P : ℕ → LockRow → Type 0} → ((queue : Queue) (k : StoredLock) → IsIn k (queued queue left) → P k.at k.row)
+      → ((at : ℕ) (row : LockRow) → Stores old at row → P at row) → (at : ℕ) (row : LockRow) → Stores new at row → P at row
   stored_cases {P} here else at row stored = by_place stored.0 stored.1
     where
       by_place : (place : Place) → IsIn (record { at = at; row = row }) (locks_at place new) → P at row

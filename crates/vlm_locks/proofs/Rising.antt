@@ -4,7 +4,7 @@ use Rattle.std.specs.Prelude.{◌==◌}
 use Rattle.std.proofs.lemmas.Bool.{cases_eq}
 use Rattle.std.proofs.lemmas.List.{append-nil, map-append}
 use Rattle.std.specs.Option.{option_map_or}
-use Rattle.vlm_words.specs.declared.locks.Row.{Row}
+use Rattle.vlm_words.specs.declared.locks.LockRow.{LockRow}
 use Rattle.vlm_collections.specs.Lists.{IsIn, without}
 use Rattle.vlm_collections.proofs.HandleLists.{IsIn-push, IsIn-without}
 use Rattle.vlm_records.specs.declared.handles.Place.{Place}
@@ -22,7 +22,7 @@ AllRise s ps = (p : StoredProcess) → IsIn p ps → HasRisingLocks s p
 
 -- each lock that is stored was stored under its handle, as the same lock
 abbrev pub WereStored : Records → Records → Type 0
-WereStored old new = (at : ℕ) (row : Row) → Stores new at row → IsRowOf at row old
+WereStored old new = (at : ℕ) (row : LockRow) → Stores new at row → IsRowOf at row old
 
 -- ---- handles
 
@@ -207,9 +207,9 @@ module _ (owner : ℕ) (parent : Option ℕ) (lock : ℕ) where
   handles_with (o ∷ owns) = ap (λ at. at ∷ handles_of_own (map (with_sublock parent lock) owns)) (same_at parent o) ∙ ap (λ handles. o.at ∷ handles) (handles_with owns)
 
   module _ (s new : Records) (sound : IsSound s) (lkid : ℕ) (fresh : ¬ IsStored lock s) (above : IsAboveEachLock lkid s)
-      (cases : (at : ℕ) (row : Row) → Stores new at row → ((at ≡ lock) × (row.lkid ≡ lkid)) ⊎ Stores s at row) where
+      (cases : (at : ℕ) (row : LockRow) → Stores new at row → ((at ≡ lock) × (row.lkid ≡ lkid)) ⊎ Stores s at row) where
     -- another lock was stored
-    was_stored : (at : ℕ) → IsStored at s → (row : Row) → Stores new at row → Stores s at row
+    was_stored : (at : ℕ) → IsStored at s → (row : LockRow) → Stores new at row → Stores s at row
     was_stored at stored row now = elim (cases at row now) [ inl is ↦ absurd (fresh (subst (λ k. IsStored k s) is.0 stored)) | inr was ↦ was ]
 
     before_kept : (first second : ℕ) → IsStored first s → IsStored second s → IsOlder s first second → IsOlder new first second

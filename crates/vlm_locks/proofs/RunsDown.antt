@@ -15,7 +15,7 @@ use Rattle.std.specs.Option.{option_map_or}
 use Rattle.std.proofs.lemmas.Option.{none-some, same_Some}
 use Rattle.std.proofs.lemmas.Bool.{eqb-true, cases_eq, eqb-false}
 use Rattle.vlm_collections.specs.Lists.{IsIn, last_from, last_handle, without, IsApart}
-use Rattle.vlm_words.specs.declared.locks.Row.{Row}
+use Rattle.vlm_words.specs.declared.locks.LockRow.{LockRow}
 use Rattle.vlm_words.specs.declared.resources.Queue.TheVariants.{Granted, Conversion, Waiting}
 use Rattle.vlm_store.proofs.Counted.{one_process, own_handle, own_handles-apart, own_under_handle}
 use Rattle.vlm_store.proofs.Plain.{process_at-stored}
@@ -24,9 +24,9 @@ use Rattle.vlm_locks.proofs.Left.{IsOthers, nothing_left, IsOwnRow, OwnRows, one
 use Rattle.vlm_locks.proofs.Stood.{one_lock, queued_stored, only, own_among, resource_among, stored}
 use Rattle.vlm_collections.proofs.HandleLists.{IsIn-without, length-without}
 use Rattle.vlm_records.specs.declared.handles.Place.TheVariants.{Queued}
-use Rattle.vlm_locks.specs.declared.finding.Standing.{Standing}
+use Rattle.vlm_locks.specs.declared.located_locks.LocatedLock.{LocatedLock}
 use Rattle.vlm_locks.specs.declared.touched.Note.{Note}
-use Rattle.vlm_locks.specs.Standing.{IsStanding}
+use Rattle.vlm_locks.specs.Standing.{IsLocated}
 use Rattle.vlm_locks.proofs.Rising.{handles_without, same_own, was_process}
 use Rattle.vlm_locks.proofs.Staying.{among_without}
 use Rattle.std.proofs.lemmas.List.Sums.{sum_by-cons}
@@ -45,7 +45,7 @@ use Rattle.vlm_locks.proofs.Found.{resource_alone, resource_at-at}
 use Rattle.std.proofs.lemmas.List.{length-append}
 
 -- some locks of the process are gone so far: what is left without all that go is the same as at first
-pub record AreGoing (goes : Row → Bool) (invalidates : Bool) (owner pid : ℕ) (old s : Records) (before touched : Touches) : Type 0 where
+pub record AreGoing (goes : LockRow → Bool) (invalidates : Bool) (owner pid : ℕ) (old s : Records) (before touched : Touches) : Type 0 where
   pub resources : map (resource_left goes invalidates) (plain_resources s) ≡ map (resource_left goes invalidates) (plain_resources old)
   pub statuses : plain_processes s ≡ plain_processes old
   pub lives : IsProcess owner pid s
@@ -61,7 +61,7 @@ pub record AreGoing (goes : Row → Bool) (invalidates : Bool) (owner pid : ℕ)
   pub same_room : touched.room ≡ before.room
 
 -- the row is one of the process
-abbrev pub is_row_of : ℕ → Row → Bool
+abbrev pub is_row_of : ℕ → LockRow → Bool
 is_row_of pid row = row.pid == pid
 
 -- the process is run down so far
@@ -117,7 +117,7 @@ no_own [] is = refl
 no_own (own ∷ owns) is = cc
 
 -- where no row goes, what is left is what is there
-module _ (s : Records) (sound : IsSound s) (goes : Row → Bool) (invalidates : Bool) (none : (at : ℕ) (row : Row) → Stores s at row → goes row ≡ false) where
+module _ (s : Records) (sound : IsSound s) (goes : LockRow → Bool) (invalidates : Bool) (none : (at : ℕ) (row : LockRow) → Stores s at row → goes row ≡ false) where
   each_other : (locks : List StoredLock) → ((k : StoredLock) → IsIn k locks → Stores s k.at k.row) → AllByRecursion (IsOthers goes) (rows_of_locks locks)
   each_other [] each = tt
   each_other (k ∷ locks) each = (none k.at k.row (each k (inl refl)), each_other locks (λ x there. each x (inr there)))
@@ -169,14 +169,14 @@ module _ (owner pid : ℕ) (s : Records) (sound : IsSound s) (lives : IsProcess 
   only_it q among same = one_process s.processes sound.processes_apart q p among lives.1.0 (same ∙ sym lives.1.2)
 
   -- each of its locks is among its own
-  pub owned_here : (at : ℕ) (row : Row) → Stores s at row → row.pid ≡ pid → IsIn at (handles_of_own p.own)
+  pub owned_here : (at : ℕ) (row : LockRow) → Stores s at row → row.pid ≡ pid → IsIn at (handles_of_own p.own)
   owned_here at row stored mine =
       let owned = sound.owned.owned at row stored in
       let same : owned.0 ≡ p = only_it owned.0 owned.2.0 (owned.2.1 ∙ mine) in
       subst (λ h. IsIn h (handles_of_own p.own)) owned.2.3 (own_under_handle p.own owned.1 (subst (λ (q : StoredProcess). IsIn owned.1 q.own) same owned.2.2))
 
   -- and stands with its identification
-  pub stored_here : (at : ℕ) → IsIn at (own_handles_at owner s) → (row : Row) × (Stores s at row × (row.pid ≡ pid))
+  pub stored_here : (at : ℕ) → IsIn at (own_handles_at owner s) → (row : LockRow) × (Stores s at row × (row.pid ≡ pid))
   stored_here at there =
       let own = own_handle p.own at (subst (IsIn at) its_handles there) in
       let owns = sound.owned.owns p own.0 lives.1.0 own.1.0 in
@@ -196,9 +196,9 @@ module _ (owner pid : ℕ) (s : Records) (sound : IsSound s) (lives : IsProcess 
         rises : HasRisingLocks s q
         rises = rest.rising q in_q
 
-        of_order : (up row : Row) (sub : ℕ) → up.lkid < row.lkid → (sub ≡ lock) ⊎ IsOlder s sub lock → Stores s lock up → Stores s sub row → ⊥
+        of_order : (up row : LockRow) (sub : ℕ) → up.lkid < row.lkid → (sub ≡ lock) ⊎ IsOlder s sub lock → Stores s lock up → Stores s sub row → ⊥
         of_order up row sub more (inl is) stored_up stored_row =
-            omega (arith, more, ap (λ (x : Row). x.lkid) (one_lock s sound lock up row stored_up (subst (λ h. Stores s h row) is stored_row)))
+            omega (arith, more, ap (λ (x : LockRow). x.lkid) (one_lock s sound lock up row stored_up (subst (λ h. Stores s h row) is stored_row)))
         of_order up row sub more (inr before) stored_up stored_row = omega (arith, more, before row up stored_row stored_up)
 
         none_below : (sub : ℕ) → IsIn sub own.sublocks → ⊥
@@ -208,7 +208,7 @@ module _ (owner pid : ℕ) (s : Records) (sound : IsSound s) (lives : IsProcess 
             let here = stored_here lock last_there in
             let up_same : here.0 ≡ below.0 = one_lock s sound lock here.0 below.0 here.1.0 up_stored in
             let mine : below.1.pid ≡ pid =
-            together sub lock below.1 below.0 below.2.1 up_stored below.2.2 ∙ ap (λ (row : Row). row.pid) (sym up_same) ∙ here.1.1 in
+            together sub lock below.1 below.0 below.2.1 up_stored below.2.2 ∙ ap (λ (row : LockRow). row.pid) (sym up_same) ∙ here.1.1 in
             let after : IsOlder s lock sub = subst (λ h. IsOlder s h sub) same ((rises.sublocks own in_own).0 sub there) in
             let order = before_last s (handles_of_own p.own) lock sub (rest.rising p lives.1.0).own (sym (ap last_handle its_handles) ∙ last)
             (owned_here sub below.1 below.2.1 mine) in
@@ -219,7 +219,7 @@ module _ (owner pid : ℕ) (s : Records) (sound : IsSound s) (lives : IsProcess 
         of_sublocks (sub ∷ subs) is = absurd (none_below sub (subst (IsIn sub) (sym is) (inl refl)))
 
   -- where the process has no lock, no row is its own
-  pub none_is_own : own_handles_at owner s ≡ [] → (at : ℕ) (row : Row) → Stores s at row → (row.pid == pid) ≡ false
+  pub none_is_own : own_handles_at owner s ≡ [] → (at : ℕ) (row : LockRow) → Stores s at row → (row.pid == pid) ≡ false
   none_is_own none at row stored = of_test (row.pid == pid) refl
     where
       of_test : (b : Bool) → (row.pid == pid) ≡ b → b ≡ false
@@ -319,10 +319,10 @@ mapped_in f x (y ∷ ps) there = elim there [
   | inr later ↦ inr (mapped_in f x ps later)
 ]
 
-module _ (s new : Records) (sound : IsSound s) (sound_new : IsSound new) (f : Standing) (standing : IsStanding f s) (beside : LeavesOthers f.res f.lock s new)
+module _ (s new : Records) (sound : IsSound s) (sound_new : IsSound new) (f : LocatedLock) (standing : IsLocated f s) (beside : LeavesOthers f.res f.lock s new)
     (own_locks : map but_notices new.processes ≡ map but_notices (map (process_without_lock f.lock) s.processes)) where
   -- the lock is gone
-  pub gone : (row : Row) → Stores new f.lock row → ⊥
+  pub gone : (row : LockRow) → Stores new f.lock row → ⊥
   gone row stored =
       let owned = sound_new.owned.owned f.lock row stored in
       let was = same_own (map (process_without_lock f.lock) s.processes) new.processes own_locks owned.0 owned.2.0 in
@@ -385,7 +385,7 @@ module _ (s new : Records) (sound : IsSound s) (sound_new : IsSound new) (f : St
 -- ---- what the plain machine makes of it
 
 -- all rows of the lock go
-module _ (s : Records) (sound : IsSound s) (f : Standing) (standing : IsStanding f s) (goes : Row → Bool) (invalidates : Bool) (its : goes f.row ≡ true) where
+module _ (s : Records) (sound : IsSound s) (f : LocatedLock) (standing : IsLocated f s) (goes : LockRow → Bool) (invalidates : Bool) (its : goes f.row ≡ true) where
   each_own : (r : StoredResource) → IsIn r s.resources → (queue : Queue) → (locks : List StoredLock) → ((k : StoredLock) → IsIn k locks → IsIn k (queued queue r))
       → AllByRecursion (IsOwnRow goes f.row.lkid) (rows_of_locks locks)
   each_own r among queue [] there = tt
@@ -433,9 +433,9 @@ one_untold new s lkid w is after =
 rows_count : List Resource → ℕ
 rows_count rs = sum_by (weigh (λ row. 1)) rs
 
-ones : (locks : List StoredLock) → sum_by (λ (row : Row). 1) (rows_of_locks locks) ≡ length locks
+ones : (locks : List StoredLock) → sum_by (λ (row : LockRow). 1) (rows_of_locks locks) ≡ length locks
 ones [] = refl
-ones (k ∷ locks) = omega (arith, ones locks, sum_by-cons (λ (row : Row). 1) k.row (rows_of_locks locks))
+ones (k ∷ locks) = omega (arith, ones locks, sum_by-cons (λ (row : LockRow). 1) k.row (rows_of_locks locks))
 
 pub total_is : (rs : List StoredResource) → sum_by (λ r. length r.granted + length r.converting + length r.waiting) rs ≡ sum_by (weigh (λ row. 1)) (map plain_resource rs)
 total_is [] = refl
@@ -450,16 +450,16 @@ total_is (r ∷ rs) =
       sum_by-cons (weigh (λ row. 1)) (plain_resource r) (map plain_resource rs),
     )
 
-rows_parted : (lkid : ℕ) (rows : List Row) → sum_by (λ (row : Row). 1) (rows_without lkid rows) + sum_by (stands lkid) rows ≡ sum_by (λ (row : Row). 1) rows
+rows_parted : (lkid : ℕ) (rows : List LockRow) → sum_by (λ (row : LockRow). 1) (rows_without lkid rows) + sum_by (stands lkid) rows ≡ sum_by (λ (row : LockRow). 1) rows
 rows_parted lkid [] = refl
 rows_parted lkid (row ∷ rows) = of_test (row.lkid == lkid) refl (rows_parted lkid rows)
   where
     of_test : (b : Bool) → (row.lkid == lkid) ≡ b
-        → sum_by (λ (x : Row). 1) (rows_without lkid rows) + sum_by (stands lkid) rows ≡ sum_by (λ (x : Row). 1) rows
-        → sum_by (λ (x : Row). 1) (cond (not b) (row ∷ rows_without lkid rows) (rows_without lkid rows)) + sum_by (stands lkid) (row ∷ rows) ≡ sum_by (λ (x : Row). 1) (row ∷ rows)
+        → sum_by (λ (x : LockRow). 1) (rows_without lkid rows) + sum_by (stands lkid) rows ≡ sum_by (λ (x : LockRow). 1) rows
+        → sum_by (λ (x : LockRow). 1) (cond (not b) (row ∷ rows_without lkid rows) (rows_without lkid rows)) + sum_by (stands lkid) (row ∷ rows) ≡ sum_by (λ (x : LockRow). 1) (row ∷ rows)
     of_test true is behind =
         let one : stands lkid row ≡ 1 = ap (λ (b : Bool). cond b 1 0) is in
-        omega (arith, behind, one, sum_by-cons (stands lkid) row rows, sum_by-cons (λ (x : Row). 1) row rows)
+        omega (arith, behind, one, sum_by-cons (stands lkid) row rows, sum_by-cons (λ (x : LockRow). 1) row rows)
     of_test false is behind =
         let none : stands lkid row ≡ 0 = ap (λ (b : Bool). cond b 1 0) is in
         omega (
@@ -467,8 +467,8 @@ rows_parted lkid (row ∷ rows) = of_test (row.lkid == lkid) refl (rows_parted l
           behind,
           none,
           sum_by-cons (stands lkid) row rows,
-          sum_by-cons (λ (x : Row). 1) row rows,
-          sum_by-cons (λ (x : Row). 1) row (rows_without lkid rows),
+          sum_by-cons (λ (x : LockRow). 1) row rows,
+          sum_by-cons (λ (x : LockRow). 1) row (rows_without lkid rows),
         )
 
 module _ (waiting converting : How) (invalidates : Bool) (lkid : ℕ) where
@@ -525,7 +525,7 @@ counted_among k r queue there (x ∷ rs) among = elim among [
 ]
 
 -- there is one lock less
-pub one_less : (s new : Records) (sound : IsSound s) (f : Standing) (standing : IsStanding f s) → IsAtRest s → IsAtRest new
+pub one_less : (s new : Records) (sound : IsSound s) (f : LocatedLock) (standing : IsLocated f s) → IsAtRest s → IsAtRest new
     → (waiting converting : How) (invalidates : Bool) (w : Withdrawal) → w ≡ giving_up waiting converting invalidates f.row.lkid
     → plain_resources new ≡ map (resource_after_withdrawals (w ∷ [])) (plain_resources s) → lock_total new + 1 ≤ lock_total s
 one_less s new sound f standing rest rest_new waiting converting invalidates w is after =
@@ -589,7 +589,7 @@ serials_kept w (r ∷ rs) =
       sum_by-cons (λ (x : Resource). x.serial) (resource_after_withdrawals (w ∷ []) r) (map (resource_after_withdrawals (w ∷ [])) rs),
     )
 
-module _ (s new : Records) (sound : IsSound s) (sound_new : IsSound new) (f : Standing) (standing : IsStanding f s) (beside : LeavesOthers f.res f.lock s new)
+module _ (s new : Records) (sound : IsSound s) (sound_new : IsSound new) (f : LocatedLock) (standing : IsLocated f s) (beside : LeavesOthers f.res f.lock s new)
     (w : Withdrawal) (after : plain_resources new ≡ map (resource_after_withdrawals (w ∷ [])) (plain_resources s)) where
   -- the lock's resource has its serial still
   same_serial : (r : StoredResource) → IsIn r new.resources → r.at ≡ f.res → r.serial ≡ standing.resource.serial
@@ -659,9 +659,9 @@ noted_before t (x ∷ touches) last there = elim there [
 -- ---- a turn
 
 -- what a turn has, which withdraws a lock of the process that goes, and notes its resource
-pub record IsTurn (goes : Row → Bool) (invalidates : Bool) (owner : ℕ) (s new : Records) (touched noted : Touches) (f : Standing) (w : Withdrawal) : Type 0 where
+pub record IsTurn (goes : LockRow → Bool) (invalidates : Bool) (owner : ℕ) (s new : Records) (touched noted : Touches) (f : LocatedLock) (w : Withdrawal) : Type 0 where
   pub sound : IsSound new
-  pub standing : IsStanding f s
+  pub standing : IsLocated f s
   pub mine : IsIn f.lock (own_handles_at owner s)
   pub its : goes f.row ≡ true
   pub waiting : How
@@ -677,13 +677,13 @@ pub record IsTurn (goes : Row → Bool) (invalidates : Bool) (owner : ℕ) (s ne
   pub room : noted.room ≡ touched.room
 
 -- a lock of the process is a row of it
-pub its_row : (owner pid : ℕ) (s : Records) (sound : IsSound s) (lives : IsProcess owner pid s) (f : Standing) → IsStanding f s → IsIn f.lock (own_handles_at owner s)
+pub its_row : (owner pid : ℕ) (s : Records) (sound : IsSound s) (lives : IsProcess owner pid s) (f : LocatedLock) → IsLocated f s → IsIn f.lock (own_handles_at owner s)
     → f.row.pid ≡ pid
 its_row owner pid s sound lives f standing there =
     let here = stored_here owner pid s sound lives f.lock there in
-    ap (λ (row : Row). row.pid) (one_lock s sound f.lock f.row here.0 (stored s f standing) here.1.0) ∙ here.1.1
+    ap (λ (row : LockRow). row.pid) (one_lock s sound f.lock f.row here.0 (stored s f standing) here.1.0) ∙ here.1.1
 
-module _ (goes : Row → Bool) (invalidates : Bool) (owner pid : ℕ) (old s new : Records) (before touched noted : Touches) (f : Standing) (w : Withdrawal)
+module _ (goes : LockRow → Bool) (invalidates : Bool) (owner pid : ℕ) (old s new : Records) (before touched noted : Touches) (f : LocatedLock) (w : Withdrawal)
     (so_far : AreGoing goes invalidates owner pid old s before touched) (turn : IsTurn goes invalidates owner s new touched noted f w) where
   own_left : own_handles_at owner new ≡ without f.lock (own_handles_at owner s)
   own_left = handles_left s new so_far.sound turn.sound f turn.standing turn.beside turn.own_locks owner pid so_far.lives
@@ -728,7 +728,7 @@ module _ (goes : Row → Bool) (invalidates : Bool) (owner pid : ℕ) (old s new
   }
 
 -- a lock that stands is counted: there is room to note its resource
-pub one_at_least : (s : Records) (sound : IsSound s) (f : Standing) (standing : IsStanding f s) → 1 ≤ lock_total s
+pub one_at_least : (s : Records) (sound : IsSound s) (f : LocatedLock) (standing : IsLocated f s) → 1 ≤ lock_total s
 one_at_least s sound f standing =
     omega (
       arith,

@@ -3,7 +3,7 @@ use Rattle.std.proofs.Common.{◌≡◌, ℕ, Bool, true, false, nat_lt, List, [
 use Rattle.std.specs.Prelude.{◌&&◌, ◌||◌}
 use Rattle.std.specs.List.{list_any}
 use Rattle.vlm_words.specs.declared.locks.Request.{Request}
-use Rattle.vlm_words.specs.declared.locks.Row.{Row}
+use Rattle.vlm_words.specs.declared.locks.LockRow.{LockRow}
 use Rattle.vlm_words.specs.declared.modes.Mode.{Mode}
 use Rattle.vlm_words.specs.declared.modes.Mode.TheVariants.{Nl, Cr, Cw, Pr, Pw, Ex}
 use Rattle.vlm_model.specs.Asts.{is_in_the_way, is_to_warn}
@@ -29,11 +29,11 @@ nl_admits : (want : Option Request) → keeps_out Nl want ≡ false
 nl_admits None = refl
 nl_admits (Some want) = rw (nl_fits want.mode) refl
 
-nl_admits_all : (rows : List Row) → list_any (λ row. keeps_out Nl row.want) rows ≡ false
+nl_admits_all : (rows : List LockRow) → list_any (λ row. keeps_out Nl row.want) rows ≡ false
 nl_admits_all [] = refl
 nl_admits_all (row ∷ rows) = rw (nl_admits row.want) (nl_admits_all rows)
 
-module _ (converting waiting : List Row) where
+module _ (converting waiting : List LockRow) where
   -- a lock that holds the mode is in nobody's way
   abbrev pub IsFree : Mode → Type 0
   IsFree mode = (list_any (λ row. keeps_out mode row.want) converting || list_any (λ row. keeps_out mode row.want) waiting) ≡ false
@@ -58,7 +58,7 @@ module _ (converting waiting : List Row) where
   free_above_cr cr Ex low = cc
 
   -- where no mode below a list is in anybody's way, nobody is to be warned but those in the list
-  spared : (which : Armed) → ((mode : Mode) → nat_lt (floor which) (rank mode) ≡ false → IsFree mode) → (row : Row) → is_listed which row ≡ false → is_to_warn converting waiting row ≡ false
+  spared : (which : Armed) → ((mode : Mode) → nat_lt (floor which) (rank mode) ≡ false → IsFree mode) → (row : LockRow) → is_listed which row ≡ false → is_to_warn converting waiting row ≡ false
   unfolding is_to_warn
   spared which free row unlisted = of_parts row.armed row.held unlisted
     where

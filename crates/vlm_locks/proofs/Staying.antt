@@ -1,7 +1,7 @@
 -- Grants leave each lock on its resource.
 use Rattle.std.proofs.Common.{◌≡◌, ℕ, List, [], ◌∷◌, ◌++◌, refl, sym, ap, ◌∙◌, subst, inl, inr, eq-eqb, ne_eqb}
 use Rattle.std.proofs.lemmas.Bool.{cases_eq}
-use Rattle.vlm_words.specs.declared.locks.Row.{Row}
+use Rattle.vlm_words.specs.declared.locks.LockRow.{LockRow}
 use Rattle.vlm_words.specs.declared.resources.Queue.{Queue}
 use Rattle.vlm_words.specs.declared.resources.Queue.TheVariants.{Granted, Conversion, Waiting}
 use Rattle.vlm_words.specs.declared.resources.ValueBlock.{ValueBlock}
@@ -13,10 +13,10 @@ use Rattle.vlm_locks.proofs.Moves.{IsHead, granted_first}
 use Rattle.vlm_locks.proofs.Parting.{among_after, among_before}
 
 -- a lock is the same as itself
-pub same_lock : (row : Row) → IsSameLock row row
+pub same_lock : (row : LockRow) → IsSameLock row row
 same_lock row = record { lkid = refl; pid = refl; parent = refl }
 
-pub same_back : (a b : Row) → IsSameLock a b → IsSameLock b a
+pub same_back : (a b : LockRow) → IsSameLock a b → IsSameLock b a
 same_back a b same = record { lkid = sym same.lkid; pid = sym same.pid; parent = sym same.parent }
 
 -- a lock that stands in a queue stands there still
@@ -48,7 +48,7 @@ stays_under_block had left block stay queue lock among =
     let still = stay queue lock among in
     record { queue = still.queue; row = still.row; among = of_queue still.queue still.row still.among; same = still.same }
   where
-    of_queue : (queue : Queue) (row : Row) → IsIn (record { at = lock.at; row = row }) (queued queue left) → IsIn (record { at = lock.at; row = row }) (queued queue (record left { value_block = block }))
+    of_queue : (queue : Queue) (row : LockRow) → IsIn (record { at = lock.at; row = row }) (queued queue left) → IsIn (record { at = lock.at; row = row }) (queued queue (record left { value_block = block }))
     of_queue Granted row among = among
     of_queue Conversion row among = among
     of_queue Waiting row among = among
@@ -83,7 +83,7 @@ of_joined {X} lock last (x ∷ xs) among is was =
 
 -- ---- the first of a queue is granted
 
-module _ (r : StoredResource) (at : ℕ) (row : Row) where
+module _ (r : StoredResource) (at : ℕ) (row : LockRow) where
   abbrev granted : StoredLock
   granted = record { at = at; row = granted_row row }
 

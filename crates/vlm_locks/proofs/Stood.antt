@@ -3,15 +3,15 @@ use Rattle.std.proofs.Common.{◌≡◌, ◌≢◌, ℕ, List, [], ◌∷◌, Op
 use Rattle.std.specs.Option.{option_map_or}
 use Rattle.std.proofs.lemmas.Option.{none-some, same_Some}
 use Rattle.std.proofs.lemmas.Bool.{cases_eq}
-use Rattle.vlm_words.specs.declared.locks.Row.{Row}
+use Rattle.vlm_words.specs.declared.locks.LockRow.{LockRow}
 use Rattle.vlm_words.specs.declared.resources.Queue.{Queue}
 use Rattle.vlm_collections.specs.Lists.{IsIn}
 use Rattle.vlm_records.specs.declared.handles.Place.{Place}
 use Rattle.vlm_records.specs.declared.handles.Place.TheVariants.{Queued}
 use Rattle.vlm_store.specs.Records.{AreApart, IsProcess, IsSound, Records, StoredLock, StoredResource, Stores, locks_at, queued, resource_at}
 use Rattle.vlm_store.proofs.Records.{queue_at}
-use Rattle.vlm_locks.specs.declared.finding.Standing.{Standing}
-use Rattle.vlm_locks.specs.Standing.{IsStanding}
+use Rattle.vlm_locks.specs.declared.located_locks.LocatedLock.{LocatedLock}
+use Rattle.vlm_locks.specs.Standing.{IsLocated}
 use Rattle.vlm_locks.proofs.Named.{IsAbsent, IsOnly}
 
 -- the resource that is found is one of these
@@ -24,14 +24,14 @@ resource_among res (x ∷ rs) r found =
     ]
 
 -- a stored lock in its queue
-pub record IsQueued (at : ℕ) (row : Row) (s : Records) : Type 0 where
+pub record IsQueued (at : ℕ) (row : LockRow) (s : Records) : Type 0 where
   pub resource : StoredResource
   pub there : IsIn resource s.resources
   pub queue : Queue
   pub among : IsIn (record { at = at; row = row }) (queued queue resource)
 
 -- each stored lock stands in a queue
-pub in_queue : (s : Records) (at : ℕ) (row : Row) → Stores s at row → IsQueued at row s
+pub in_queue : (s : Records) (at : ℕ) (row : LockRow) → Stores s at row → IsQueued at row s
 in_queue s at row stored = by_place stored.0 stored.1
   where
     by_place : (place : Place) → IsIn (record { at = at; row = row }) (locks_at place s) → IsQueued at row s
@@ -57,13 +57,13 @@ one_row (k ∷ rest) apart a b in_a in_b same =
     ]
 
 -- whose a lock is, by any row that is the one on record
-pub owner_is : (s : Records) (owner : ℕ) (given row : Row) → row ≡ given → IsProcess owner given.pid s → IsProcess owner row.pid s
-owner_is s owner given row same is = subst (λ (x : Row). IsProcess owner x.pid s) (sym same) is
+pub owner_is : (s : Records) (owner : ℕ) (given row : LockRow) → row ≡ given → IsProcess owner given.pid s → IsProcess owner row.pid s
+owner_is s owner given row same is = subst (λ (x : LockRow). IsProcess owner x.pid s) (sym same) is
 
-module _ (s : Records) (f : Standing) (standing : IsStanding f s) where
+module _ (s : Records) (f : LocatedLock) (located : IsLocated f s) where
   -- where it stands
   pub stands : IsIn (record { at = f.lock; row = f.row }) (locks_at (Queued f.res f.queue) s)
-  stands = subst (IsIn (record { at = f.lock; row = f.row })) (sym (ap (λ o. option_map_or (queued f.queue) o []) standing.found)) standing.among
+  stands = subst (IsIn (record { at = f.lock; row = f.row })) (sym (ap (λ o. option_map_or (queued f.queue) o []) located.found)) located.among
 
   -- it is stored
   pub stored : Stores s f.lock f.row
@@ -75,23 +75,23 @@ module _ (s : Records) (sound : IsSound s) where
   queued_stored r among queue k here = (Queued r.at queue, subst (IsIn k) (sym (queue_at s sound r among queue)) here)
 
   -- one handle is that of one lock
-  pub one_lock : (at : ℕ) (a b : Row) → Stores s at a → Stores s at b → a ≡ b
+  pub one_lock : (at : ℕ) (a b : LockRow) → Stores s at a → Stores s at b → a ≡ b
   one_lock at a b stored_a stored_b =
       let same : stored_a.0 ≡ stored_b.0 = sound.one_place at a b stored_a.0 stored_b.0 stored_a.1 stored_b.1 in
       let there = subst (λ p. IsIn (record { at = at; row = a }) (locks_at p s)) same stored_a.1 in
       ap (λ (x : StoredLock). x.row) (one_row (locks_at stored_b.0 s) (sound.locks_apart stored_b.0) (record { at = at; row = a }) (record { at = at; row = b }) there stored_b.1 refl)
 
-  module _ (f : Standing) (standing : IsStanding f s) where
+  module _ (f : LocatedLock) (located : IsLocated f s) where
     -- the lock under its handle
     abbrev pub lock : StoredLock
     lock = record { at = f.lock; row = f.row }
 
     -- its resource
     abbrev pub own : StoredResource
-    own = standing.resource
+    own = located.resource
 
     pub own_among : IsIn own s.resources
-    own_among = resource_among f.res s.resources own standing.found
+    own_among = resource_among f.res s.resources own located.found
 
     -- no other lock has its handle, or its identification
     pub only : (r : StoredResource) → IsIn r s.resources → (queue : Queue) → IsOnly lock (queued queue r)
@@ -99,15 +99,15 @@ module _ (s : Records) (sound : IsSound s) where
       where
         by_handle : k.at ≡ f.lock → k ≡ lock
         by_handle same =
-            ap (λ (x : Row). record { at = k.at; row = x }) (one_lock k.at k.row f.row (queued_stored r among queue k here) (subst (λ x. Stores s x f.row) (sym same) (stored s f standing)))
+            ap (λ (x : LockRow). record { at = k.at; row = x }) (one_lock k.at k.row f.row (queued_stored r among queue k here) (subst (λ x. Stores s x f.row) (sym same) (stored s f located)))
             ∙ ap (λ x. record { at = x; row = f.row }) same
 
         by_lkid : k.row.lkid ≡ f.row.lkid → k ≡ lock
-        by_lkid same = by_handle (sound.lkids_apart k.at f.lock k.row f.row (queued_stored r among queue k here) (stored s f standing) same)
+        by_lkid same = by_handle (sound.lkids_apart k.at f.lock k.row f.row (queued_stored r among queue k here) (stored s f located) same)
 
     -- it stands in no other queue
     pub absent : (r : StoredResource) → IsIn r s.resources → (queue : Queue) → Queued r.at queue ≢ Queued f.res f.queue → IsAbsent f.row.lkid (queued queue r)
     absent r among queue differs k here same =
         let is : k ≡ lock = (only r among queue k here).0 same in
         let there : IsIn lock (locks_at (Queued r.at queue) s) = subst (λ x. IsIn x (locks_at (Queued r.at queue) s)) is (subst (IsIn k) (sym (queue_at s sound r among queue)) here) in
-        differs (sound.one_place f.lock f.row f.row (Queued r.at queue) (Queued f.res f.queue) there (stands s f standing))
+        differs (sound.one_place f.lock f.row f.row (Queued r.at queue) (Queued f.res f.queue) there (stands s f located))

@@ -5,7 +5,7 @@ use Rattle.std.specs.List.{sum_by}
 use Rattle.std.proofs.lemmas.Bool.{cases_eq}
 use Rattle.std.proofs.lemmas.List.{length-append, length-map}
 use Rattle.std.proofs.lemmas.List.Sums.{sum_by-cons}
-use Rattle.vlm_words.specs.declared.locks.Row.{Row}
+use Rattle.vlm_words.specs.declared.locks.LockRow.{LockRow}
 use Rattle.vlm_words.specs.declared.resources.Queue.{Queue}
 use Rattle.vlm_words.specs.declared.resources.Queue.TheVariants.{Granted, Conversion, Waiting}
 use Rattle.vlm_collections.specs.Lists.{IsApart, IsIn, without}
@@ -163,7 +163,7 @@ module _ (s : Records) (sound : IsSound s) where
       let second = sound.owned.owns q u in_q in_u in
       let row : first.0 ≡ second.0 = one_lock s sound o.at first.0 second.0 first.1.0 (subst (λ h. Stores s h second.0) (sym same) second.1.0) in
       let process : p ≡ q =
-      one_process s.processes sound.processes_apart p q in_p in_q (sym first.1.1 ∙ ap (λ (x : Row). x.pid) row ∙ second.1.1) in
+      one_process s.processes sound.processes_apart p q in_p in_q (sym first.1.1 ∙ ap (λ (x : LockRow). x.pid) row ∙ second.1.1) in
       one_apart q.own (sound.own_apart q in_q) o u (subst (λ (x : StoredProcess). IsIn o x.own) process in_o) in_u same
 
   -- handles that stand by rising identification are apart
@@ -179,7 +179,7 @@ module _ (s : Records) (sound : IsSound s) where
     owns = flat_map (λ (p : StoredProcess). p.own) s.processes
 
     -- a sublock names the lock as its parent
-    pub below_of : (at : ℕ) → IsIn at (sublocks_at h s) → (up : Row) × (row : Row) × (Stores s h up × Stores s at row × (row.parent ≡ up.lkid))
+    pub below_of : (at : ℕ) → IsIn at (sublocks_at h s) → (up : LockRow) × (row : LockRow) × (Stores s h up × Stores s at row × (row.parent ≡ up.lkid))
     below_of at there =
         elim (own_found h owns) [
           | inr none ↦ absurd (subst (IsIn at) (ap (λ o. option_map_or (λ (x : OwnLock). x.sublocks) o []) none.0) there)
@@ -190,7 +190,7 @@ module _ (s : Records) (sound : IsSound s) where
         ]
 
     -- a lock that names it is a sublock
-    pub is_below_it : (at : ℕ) (up row : Row) → Stores s h up → Stores s at row → row.parent ≢ 0 → row.parent ≡ up.lkid → IsIn at (sublocks_at h s)
+    pub is_below_it : (at : ℕ) (up row : LockRow) → Stores s h up → Stores s at row → row.parent ≢ 0 → row.parent ≡ up.lkid → IsIn at (sublocks_at h s)
     is_below_it at up row above stored has names =
         let named = sound.owned.named at row stored has in
         let same : named.1.at ≡ h = sound.lkids_apart named.1.at h named.2 up named.3.3 above (named.3.4 ∙ names) in

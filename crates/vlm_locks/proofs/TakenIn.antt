@@ -8,18 +8,18 @@ use Rattle.vlm_records.specs.declared.handles.Place.{Place}
 use Rattle.vlm_records.specs.declared.handles.Place.TheVariants.{Queued}
 use Rattle.vlm_store.specs.Plain.{plain_processes, plain_resource}
 use Rattle.vlm_store.specs.Records.{Records, SameButNotices, StoredResource, locks_at, queued, resource_at, without_lock, without_resource}
-use Rattle.vlm_locks.specs.declared.entering.Entry.{Entry}
+use Rattle.vlm_locks.specs.declared.new_locks.NewLock.{NewLock}
 use Rattle.vlm_locks.specs.Entering.{HasEntered, IsEntered, IsTakenIn, processes_entered}
 use Rattle.vlm_locks.specs.Owing.{IsPaid}
 use Rattle.vlm_locks.proofs.Changed.{rests_still}
 
 -- the status blocks, by the value block of the resource
-by_block : (e : Entry) (block : ValueBlock) (slot : Option StoredResource) (old new : List Process) → IsSome slot → IfSome slot (λ r. new ≡ processes_entered e r.value_block old)
+by_block : (e : NewLock) (block : ValueBlock) (slot : Option StoredResource) (old new : List Process) → IsSome slot → IfSome slot (λ r. new ≡ processes_entered e r.value_block old)
     → IfSome slot (λ r. r.value_block ≡ block) → new ≡ processes_entered e block old
 by_block e block None old new there told is = cc
 by_block e block (Some r) old new there told is = told ∙ ap (λ b. processes_entered e b old) is
 
-module _ (e : Entry) (res : ℕ) (s mid new : Records) (same : SameButNotices mid new) where
+module _ (e : NewLock) (res : ℕ) (s mid new : Records) (same : SameButNotices mid new) where
   -- each place has the locks that it had
   same_locks : (place : Place) → locks_at place new ≡ locks_at place mid
   same_locks (Queued x queue) = ap (λ rs. option_map_or (queued queue) (resource_at x rs) []) same.resources

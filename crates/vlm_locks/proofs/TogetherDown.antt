@@ -4,7 +4,7 @@ use Rattle.std.specs.Prelude.{◌==◌, ◌||◌, Any}
 use Rattle.std.specs.List.{AllByRecursion, filter, list_any, sum_by}
 use Rattle.std.proofs.lemmas.Bool.{eq-eqb, or_right}
 use Rattle.std.proofs.lemmas.List.Sums.{sum_by-cons}
-use Rattle.vlm_words.specs.declared.locks.Row.{Row}
+use Rattle.vlm_words.specs.declared.locks.LockRow.{LockRow}
 use Rattle.vlm_model.specs.OwnLocks.{own_lkids}
 use Rattle.vlm_model.specs.Rundown.{rundowns}
 use Rattle.vlm_words.specs.State.{Resource, State}
@@ -46,7 +46,7 @@ same_images f g (x ∷ xs) same =
 -- ---- the locks are theirs
 
 -- where no row of the lock is a stranger's, all are theirs
-rows_own : (is_one : ℕ → Bool) (lkid : ℕ) (rows : List Row) → sum_by (strangers is_one lkid) rows ≡ 0
+rows_own : (is_one : ℕ → Bool) (lkid : ℕ) (rows : List LockRow) → sum_by (strangers is_one lkid) rows ≡ 0
     → AllByRecursion (IsOwnRow (is_theirs is_one) lkid) rows
 rows_own is_one lkid rows none =
     each_weaker (λ row. strangers is_one lkid row ≡ 0) (IsOwnRow (is_theirs is_one) lkid) (λ row zero same. no_stranger is_one lkid row zero same) rows
@@ -60,7 +60,7 @@ own_here is_one lkid r none = record {
 }
 
 -- and they are still, once another lock is gone
-own_still : (goes : Row → Bool) (waiting converting : How) (invalidates : Bool) (lkid other : ℕ) (r : Resource) → OwnRows goes other r
+own_still : (goes : LockRow → Bool) (waiting converting : How) (invalidates : Bool) (lkid other : ℕ) (r : Resource) → OwnRows goes other r
     → OwnRows goes other (resource_after_withdrawals (giving_up waiting converting invalidates lkid ∷ []) r)
 own_still goes waiting converting invalidates lkid other r own =
     let left = rows_left_behind (giving_up waiting converting invalidates lkid ∷ []) (refl, tt) r in
@@ -70,14 +70,14 @@ own_still goes waiting converting invalidates lkid other r own =
       waiting = subst (AllByRecursion (IsOwnRow goes other)) (sym left.waiting) (but_one r.waiting own.waiting);
     }
   where
-    but_one : (rows : List Row) → AllByRecursion (IsOwnRow goes other) rows
+    but_one : (rows : List LockRow) → AllByRecursion (IsOwnRow goes other) rows
         → AllByRecursion (IsOwnRow goes other) (filter (λ row. not (row.lkid == lkid)) rows)
     but_one rows each = each_filter (IsOwnRow goes other) (λ row. not (row.lkid == lkid)) rows each
 
 -- ---- lock by lock
 
 -- what is left is the same once some of the locks that go are withdrawn
-some_withdrawn : (goes : Row → Bool) (waiting converting : How) (invalidates : Bool) (lkids : List ℕ)
+some_withdrawn : (goes : LockRow → Bool) (waiting converting : How) (invalidates : Bool) (lkids : List ℕ)
     → OfOneEach (map (giving_up waiting converting invalidates) lkids) → (r : Resource) → AllByRecursion (λ lkid. OwnRows goes lkid r) lkids
     → resource_left goes invalidates (resource_after_withdrawals (map (giving_up waiting converting invalidates) lkids) r) ≡ resource_left goes invalidates r
 some_withdrawn goes waiting converting invalidates [] apart r own = refl
@@ -90,7 +90,7 @@ some_withdrawn goes waiting converting invalidates (lkid ∷ lkids) apart r own 
     ∙ one_withdrawn goes waiting converting invalidates lkid r own.0
 
 -- where none of the rows that go is left, all stay
-others_rows : (goes : Row → Bool) (rows : List Row) → sum_by (so_many goes) rows ≡ 0 → AllByRecursion (IsOthers goes) rows
+others_rows : (goes : LockRow → Bool) (rows : List LockRow) → sum_by (so_many goes) rows ≡ 0 → AllByRecursion (IsOthers goes) rows
 others_rows goes rows none =
     each_weaker (λ row. so_many goes row ≡ 0) (IsOthers goes) (λ row zero. of_test (goes row) zero) rows
     (each_is_0 (so_many goes) rows none)
@@ -99,7 +99,7 @@ others_rows goes rows none =
     of_test true one = cc
     of_test false none = refl
 
-others_here : (goes : Row → Bool) (r : Resource) → weigh (so_many goes) r ≡ 0 → OthersAlone goes r
+others_here : (goes : LockRow → Bool) (r : Resource) → weigh (so_many goes) r ≡ 0 → OthersAlone goes r
 others_here goes r none = record {
   granted = others_rows goes r.granted (omega (arith, none));
   converting = others_rows goes r.converting (omega (arith, none));
@@ -121,7 +121,7 @@ module _ (waiting converting : How) (invalidates : Bool) (lkids : List ℕ) wher
     | inr later ↦ or_right (lkid == x) (list_any (λ y. lkid == y) ns) (list_has n lkid ns later same)
   ]
 
-  rows_listed : (n : ℕ) → Any (λ x. n ≡ x) lkids → (rows : List Row) → AllByRecursion (IsOwnRow (is_among lkids) n) rows
+  rows_listed : (n : ℕ) → Any (λ x. n ≡ x) lkids → (rows : List LockRow) → AllByRecursion (IsOwnRow (is_among lkids) n) rows
   rows_listed n there [] = tt
   rows_listed n there (row ∷ rows) = (list_has n row.lkid lkids there, rows_listed n there rows)
 
@@ -143,7 +143,7 @@ module _ (waiting converting : How) (invalidates : Bool) (lkids : List ℕ) wher
       of_test true is later = refl
       of_test false is later = later is
 
-  each_listed : (rows : List Row) → AllByRecursion (IsListed (is_among lkids) (map (giving_up waiting converting invalidates) lkids)) rows
+  each_listed : (rows : List LockRow) → AllByRecursion (IsListed (is_among lkids) (map (giving_up waiting converting invalidates) lkids)) rows
   each_listed [] = tt
   each_listed (row ∷ rows) = (any_mapped row.lkid lkids, each_listed rows)
 

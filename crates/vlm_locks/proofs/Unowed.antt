@@ -2,7 +2,7 @@
 use Rattle.std.proofs.Common.{◌≡◌, ◌≤◌, ◌+◌, ℕ, Bool, true, false, List, [], ◌∷◌, ◌++◌, cond, refl, sym, ap, ◌∙◌, subst, inl, inr, arith, eq-eqb, ne_eqb}
 use Rattle.std.specs.Prelude.{◌==◌, ◌||◌}
 use Rattle.std.proofs.lemmas.Bool.{cases_eq}
-use Rattle.vlm_words.specs.declared.locks.Row.{Row}
+use Rattle.vlm_words.specs.declared.locks.LockRow.{LockRow}
 use Rattle.vlm_words.specs.declared.resources.Queue.TheVariants.{Granted, Conversion, Waiting}
 use Rattle.vlm_words.specs.Dues.{due_to, row_due}
 use Rattle.vlm_store.specs.Records.{IsSound, Records, SameButNotices, StoredLock, Stores, due_of}
@@ -39,7 +39,7 @@ weigh_both f h s =
       sum_both (weight_on f) (weight_on h) s.resources,
     )
 
-module _ (lkids : List ℕ) (s : Records) (sound : IsSound s) (at : ℕ) (row : Row) (stored : Stores s at row) (fresh : is_among lkids row ≡ false) where
+module _ (lkids : List ℕ) (s : Records) (sound : IsSound s) (at : ℕ) (row : LockRow) (stored : Stores s at row) (fresh : is_among lkids row ≡ false) where
   -- what is due for a lock is not due once it is one of these
   pub one_fewer : (pid : ℕ) → total_weight (due_but (lkids ++ row.lkid ∷ []) pid) s + due_to pid row ≡ total_weight (due_but lkids pid) s
   one_fewer pid =
@@ -55,7 +55,7 @@ module _ (lkids : List ℕ) (s : Records) (sound : IsSound s) (at : ℕ) (row : 
       same_tests k there = elim (cases_eq k.at at) [
         | inl same ↦
             rw (eq-eqb k.at at same)
-            (eq-eqb k.row.lkid row.lkid (ap (λ (x : Row). x.lkid) (one_lock s sound at k.row row (subst (λ h. Stores s h k.row) same there) stored)))
+            (eq-eqb k.row.lkid row.lkid (ap (λ (x : LockRow). x.lkid) (one_lock s sound at k.row row (subst (λ h. Stores s h k.row) same there) stored)))
         | inr differs ↦ rw (ne_eqb k.at at differs) (ne_eqb k.row.lkid row.lkid (λ same. differs (sound.lkids_apart k.at at k.row row there stored same)))
       ]
 
@@ -82,7 +82,7 @@ module _ (lkids : List ℕ) (s : Records) (sound : IsSound s) (at : ℕ) (row : 
       omega (arith, owed pid, paid pid, one_fewer pid, there, nothing_due row pid)
 
 -- one of these goes
-pub paid_without : (lkids : List ℕ) (s t : Records) (at : ℕ) (row : Row) → is_among lkids row ≡ true → LosesOne (record { at = at; row = row }) s t
+pub paid_without : (lkids : List ℕ) (s t : Records) (at : ℕ) (row : LockRow) → is_among lkids row ≡ true → LosesOne (record { at = at; row = row }) s t
     → t.processes ≡ owned_after true at s.processes → IsPaidBut lkids s → IsPaidBut lkids t
 paid_without lkids s t at row is loses own paid pid =
     omega (
@@ -94,7 +94,7 @@ paid_without lkids s t at row is loses own paid pid =
     )
 
 -- where none of these is left, each process is owed what is due to it
-pub paid_whole : (lkids : List ℕ) (s : Records) → IsSound s → ((at : ℕ) (row : Row) → Stores s at row → is_among lkids row ≡ false) → IsPaidBut lkids s → IsPaid s
+pub paid_whole : (lkids : List ℕ) (s : Records) → IsSound s → ((at : ℕ) (row : LockRow) → Stores s at row → is_among lkids row ≡ false) → IsPaidBut lkids s → IsPaid s
 paid_whole lkids s sound none paid pid =
     paid pid
     ∙ weigh_alike s sound (due_but lkids pid) (λ k. due_to pid k.row) (λ k there. ap {B = ℕ} (λ (b : Bool). cond b 0 (due_to pid k.row)) (none k.at k.row there))

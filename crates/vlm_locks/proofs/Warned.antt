@@ -7,7 +7,7 @@ use Rattle.std.proofs.lemmas.Bool.{and_parts, cases_Bool, cases_eq}
 use Rattle.std.proofs.lemmas.List.{append-nil, map-append}
 use Rattle.std.proofs.lemmas.Option.{none-some, same_Some}
 use Rattle.vlm_words.specs.declared.locks.Request.{Request}
-use Rattle.vlm_words.specs.declared.locks.Row.{Row}
+use Rattle.vlm_words.specs.declared.locks.LockRow.{LockRow}
 use Rattle.vlm_words.specs.declared.resources.Queue.{Queue}
 use Rattle.vlm_words.specs.declared.resources.Queue.TheVariants.{Granted, Conversion, Waiting}
 use Rattle.vlm_words.specs.Rows.{is_empty}
@@ -43,7 +43,7 @@ use Rattle.vlm_locks.proofs.Weighing.{disarmed_weighs}
 -- ---- one lock
 
 -- its warning is owed, and is queued or forgiven
-pub warned_owed : (row : Row) (old new : Records) → row.armed ≡ true → row_due row ≤ due_of row.pid old → DueChanges row.pid (λ due. due - 1) old new
+pub warned_owed : (row : LockRow) (old new : Records) → row.armed ≡ true → row_due row ≤ due_of row.pid old → DueChanges row.pid (λ due. due - 1) old new
     → OwedMoves row (disarmed_row row) old new
 warned_owed row old new armed enough changes =
     let before : row_due row ≡ routines_of row.want + 1 = ap (λ (b : Bool). routines_of row.want + one_where b) armed in
@@ -53,13 +53,13 @@ warned_owed row old new armed enough changes =
     (λ pid differs. owed_other row (λ due. due - 1) old new changes pid differs)
 
 -- an armed lock is owed one AST at least
-pub warning_fits : (row : Row) (s : Records) → row.armed ≡ true → row_due row ≤ due_of row.pid s → 1 ≤ due_of row.pid s
+pub warning_fits : (row : LockRow) (s : Records) → row.armed ≡ true → row_due row ≤ due_of row.pid s → 1 ≤ due_of row.pid s
 warning_fits row s armed enough =
     let before : row_due row ≡ routines_of row.want + 1 = ap (λ (b : Bool). routines_of row.want + one_where b) armed in
     omega (arith, before, enough)
 
 -- a lock that is to be warned is armed
-pub armed_there : (res : ℕ) (s : Records) (row : Row) → HasResource res s → ((r : StoredResource) → resource_at res s.resources ≡ Some r → is_warned_on r row ≡ true) → row.armed ≡ true
+pub armed_there : (res : ℕ) (s : Records) (row : LockRow) → HasResource res s → ((r : StoredResource) → resource_at res s.resources ≡ Some r → is_warned_on r row ≡ true) → row.armed ≡ true
 unfolding is_to_warn
 armed_there res s row there warned = of_found (resource_at res s.resources) refl there
   where
@@ -68,7 +68,7 @@ armed_there res s row there warned = of_found (resource_at res s.resources) refl
     of_found (Some r) found there = (and_parts row.armed (is_in_the_way row.held (rows_of_locks r.converting) (rows_of_locks r.waiting)) (warned r found)).0
 
 -- one that is not to be warned stays as it is
-pub lock_unwarned : (r : StoredResource) (lock : ℕ) (row : Row) (s : Records) → is_warned_on r row ≡ false → IsLockWarned r lock row s s
+pub lock_unwarned : (r : StoredResource) (lock : ℕ) (row : LockRow) (s : Records) → is_warned_on r row ≡ false → IsLockWarned r lock row s s
 unfolding row_warnings row_after_warning
 lock_unwarned r lock row s is = record {
   queued = rw is refl;
@@ -77,7 +77,7 @@ lock_unwarned r lock row s is = record {
 }
 
 -- and one that is queues its warning, and is armed no more
-pub lock_warned : (r : StoredResource) (lock : ℕ) (row : Row) (s t new : Records) → is_warned_on r row ≡ true
+pub lock_warned : (r : StoredResource) (lock : ℕ) (row : LockRow) (s t new : Records) → is_warned_on r row ≡ true
     → plain_processes t ≡ processes_after_asts (blocking_asts row.held row.lkid row.pid) (plain_processes s) → OwedMoves row (disarmed_row row) s t → SameButNotices s t
     → new ≡ with_lists (disarming lock) t → IsLockWarned r lock row s new
 unfolding row_warnings row_after_warning
@@ -94,7 +94,7 @@ lock_warned r lock row s t new is told owed same wrote = record {
 }
 
 -- what is due for it changes so
-due_warned : (s t : Records) → IsSound s → (r : StoredResource) (lock : ℕ) (row : Row) → Stores s lock row → IsLockWarned r lock row s t
+due_warned : (s t : Records) → IsSound s → (r : StoredResource) (lock : ℕ) (row : LockRow) → Stores s lock row → IsLockWarned r lock row s t
     → DueMoves row (row_after_warning (rows_of_locks r.converting) (rows_of_locks r.waiting) row) s t
 unfolding row_after_warning
 due_warned s t sound r lock row stored warned pid = of_test (is_warned_on r row) refl
@@ -107,7 +107,7 @@ due_warned s t sound r lock row stored warned pid = of_test (is_warned_on r row)
         let same : SameButNotices s t = subst (λ b. SameButNotices (disarmed_if b lock s) t) is warned.only in
         omega (arith, due_noticed s t same pid)
 
-pub paid_warned : (s t : Records) → IsSound s → (r : StoredResource) (lock : ℕ) (row : Row) → Stores s lock row → IsLockWarned r lock row s t → IsPaid s → IsPaid t
+pub paid_warned : (s t : Records) → IsSound s → (r : StoredResource) (lock : ℕ) (row : LockRow) → Stores s lock row → IsLockWarned r lock row s t → IsPaid s → IsPaid t
 paid_warned s t sound r lock row stored warned =
     paid_still row (row_after_warning (rows_of_locks r.converting) (rows_of_locks r.waiting) row) s t (due_warned s t sound r lock row stored warned) warned.owed
 
@@ -222,7 +222,7 @@ warning_begun which res s next sound there spares is = of_found (resource_at res
         to_armed which res s s spares r.granted (first_at r.granted) next w refl (is ∙ ap (λ o. first_at (armed_among which (option_map_or (queued Granted) o []))) found)
 
 -- a list without the lock stays
-disarm_absent : (at : ℕ) (locks : List StoredLock) → ((row : Row) → ¬ IsIn (record { at = at; row = row }) locks) → map (λ (k : StoredLock). cond (k.at == at) (disarmed k) k) locks ≡ locks
+disarm_absent : (at : ℕ) (locks : List StoredLock) → ((row : LockRow) → ¬ IsIn (record { at = at; row = row }) locks) → map (λ (k : StoredLock). cond (k.at == at) (disarmed k) k) locks ≡ locks
 disarm_absent at [] absent = refl
 disarm_absent at (k ∷ rest) absent =
     elim (cases_eq k.at at) [
@@ -306,7 +306,7 @@ warned_resource had left granted rest =
     rows_warned (k ∷ locks) = ap (λ rows. row_after_warning (rows_of_locks had.converting) (rows_of_locks had.waiting) k.row ∷ rows) (rows_warned locks)
 
 -- a lock is disarmed where it stands: of the resources just its own is another
-disarmed_resources : (s : Records) → IsSound s → (res : ℕ) (r : StoredResource) (lock : ℕ) (row : Row) (before rest : List StoredLock) → resource_at res s.resources ≡ Some r
+disarmed_resources : (s : Records) → IsSound s → (res : ℕ) (r : StoredResource) (lock : ℕ) (row : LockRow) (before rest : List StoredLock) → resource_at res s.resources ≡ Some r
     → r.granted ≡ before ++ record { at = lock; row = row } ∷ rest → (then : StoredResource) → then ≡ record r { granted = then.granted }
     → then.granted ≡ before ++ disarmed (record { at = lock; row = row }) ∷ rest
     → map (resource_with (disarming lock)) s.resources ≡ on_resource res (λ x. then) s.resources
@@ -391,7 +391,7 @@ module _ (res : ℕ) (old s : Records) (next : Option ℕ) (warning : IsWarning 
   module _ (sound : IsSound s) (lock : ℕ) (first : Some lock ≡ next) where
     -- the next lock and those behind it
     pub record HasNext : Type 0 where
-      pub row : Row
+      pub row : LockRow
       pub rest : List StoredLock
       pub is : warning.todo ≡ record { at = lock; row = row } ∷ rest
 
@@ -507,10 +507,10 @@ module _ (res : ℕ) (old s : Records) (next : Option ℕ) (warning : IsWarning 
           } in
           to_armed which res old t spares has_next.rest (first_at has_next.rest) after w refl is
         where
-          converting : List Row
+          converting : List LockRow
           converting = rows_of_locks warning.had.converting
 
-          waiting : List Row
+          waiting : List LockRow
           waiting = rows_of_locks warning.had.waiting
 
       -- with one lock less to look at
@@ -552,7 +552,7 @@ none_warned res s sound there none = of_found (resource_at res s.resources) refl
     }
 
 -- where nothing is queued nobody is to be warned
-unwarned : (queued : Resource) → nothing_queued queued ≡ true → (row : Row) → is_to_warn queued.converting queued.waiting row ≡ false
+unwarned : (queued : Resource) → nothing_queued queued ≡ true → (row : LockRow) → is_to_warn queued.converting queued.waiting row ≡ false
 unfolding is_to_warn
 unwarned queued nothing row = rw (not_held row.held) (one row.armed)
   where
@@ -567,7 +567,7 @@ unwarned queued nothing row = rw (not_held row.held) (one row.armed)
     one true = refl
     one false = refl
 
-none_unwarned : (queued : Resource) → nothing_queued queued ≡ true → (rows : List Row) → list_any (is_to_warn queued.converting queued.waiting) rows ≡ false
+none_unwarned : (queued : Resource) → nothing_queued queued ≡ true → (rows : List LockRow) → list_any (is_to_warn queued.converting queued.waiting) rows ≡ false
 none_unwarned queued nothing [] = refl
 none_unwarned queued nothing (row ∷ rows) = rw (unwarned queued nothing row) (none_unwarned queued nothing rows)
 

@@ -5,7 +5,7 @@ use Rattle.std.specs.List.{sum_by}
 use Rattle.std.specs.Option.{option_map_or}
 use Rattle.std.proofs.lemmas.Bool.{cases_eq, cond_both}
 use Rattle.std.proofs.lemmas.List.Sums.{sum_by-append, sum_by-cons}
-use Rattle.vlm_words.specs.declared.locks.Row.{Row}
+use Rattle.vlm_words.specs.declared.locks.LockRow.{LockRow}
 use Rattle.vlm_words.specs.declared.resources.Queue.{Queue}
 use Rattle.vlm_words.specs.declared.resources.Queue.TheVariants.{Granted, Conversion, Waiting}
 use Rattle.vlm_collections.specs.Lists.{IsIn}
@@ -104,7 +104,7 @@ module _ (g : StoredLock → ℕ) (at : ℕ) where
   all_leaving s = resources_leaving s.resources
 
   -- where it does not stand it weighs nothing
-  list_absent : (locks : List StoredLock) → ((row : Row) → ¬ IsIn (record { at = at; row = row }) locks) → sum_by (only at g) locks ≡ 0
+  list_absent : (locks : List StoredLock) → ((row : LockRow) → ¬ IsIn (record { at = at; row = row }) locks) → sum_by (only at g) locks ≡ 0
   list_absent locks absent =
       sum_none (only at g) locks (λ k among. elim (cases_eq k.at at) [
         | inl same ↦ absurd (absent k.row (subst (λ (x : ℕ). IsIn (record { at = x; row = k.row }) locks) same among))
@@ -112,14 +112,14 @@ module _ (g : StoredLock → ℕ) (at : ℕ) where
       ])
 
   -- and where it does, it weighs what it weighs
-  list_present : (row : Row) (locks : List StoredLock) → AreApart locks → IsIn (record { at = at; row = row }) locks → sum_by (only at g) locks ≡ g (record { at = at; row = row })
+  list_present : (row : LockRow) (locks : List StoredLock) → AreApart locks → IsIn (record { at = at; row = row }) locks → sum_by (only at g) locks ≡ g (record { at = at; row = row })
   list_present row [] apart among = absurd among
   list_present row (k ∷ rest) apart among =
       elim among [
         | inl here ↦ (
             let keyed : k.at ≡ at = ap (λ (x : StoredLock). x.at) here in
             let none : sum_by (only at g) rest ≡ 0 =
-            list_absent rest (subst (λ (x : ℕ). (other : Row) → ¬ IsIn (record { at = x; row = other }) rest) keyed apart.0) in
+            list_absent rest (subst (λ (x : ℕ). (other : LockRow) → ¬ IsIn (record { at = x; row = other }) rest) keyed apart.0) in
             let own : only at g k ≡ g (record { at = at; row = row }) = rw (eq-eqb k.at at keyed) (ap g here) in
             omega (arith, sum_by-cons (only at g) k rest, own, none)
             )
@@ -131,7 +131,7 @@ module _ (g : StoredLock → ℕ) (at : ℕ) where
       ]
 
   -- a stored lock stands at one place
-  module _ (s : Records) (sound : IsSound s) (row : Row) where
+  module _ (s : Records) (sound : IsSound s) (row : LockRow) where
     -- a queue of a resource, where the lock stands elsewhere
     queue_absent : (from : Place) → IsIn (record { at = at; row = row }) (locks_at from s) → (r : StoredResource) → IsIn r s.resources
         → (queue : Queue) → Queued r.at queue ≢ from → sum_by (only at g) (queued queue r) ≡ 0
@@ -259,13 +259,13 @@ module _ (g : StoredLock → ℕ) (k : StoredLock) (res : ℕ) (to : Queue) wher
 
 module _ (g : StoredLock → ℕ) (s : Records) (sound : IsSound s) where
   -- a lock moves to a queue, with another row
-  pub moved_weighs : (at : ℕ) (was now : Row) (res : ℕ) (to : Queue) → Stores s at was → HasResource res s
+  pub moved_weighs : (at : ℕ) (was now : LockRow) (res : ℕ) (to : Queue) → Stores s at was → HasResource res s
       → all g (with_lists (moving (Queued res to) (record { at = at; row = now })) s) + g (record { at = at; row = was }) ≡ all g s + g (record { at = at; row = now })
   moved_weighs at was now res to stored there =
       omega (arith, all_moving g (record { at = at; row = now }) res to s sound there, all_leaving g at s, stored_weighs g at s sound was stored)
 
   -- a lock goes
-  pub gone_weighs : (at : ℕ) (was : Row) → Stores s at was → all g (with_lists (leaving at) s) + g (record { at = at; row = was }) ≡ all g s
+  pub gone_weighs : (at : ℕ) (was : LockRow) → Stores s at was → all g (with_lists (leaving at) s) + g (record { at = at; row = was }) ≡ all g s
   gone_weighs at was stored = omega (arith, all_leaving g at s, stored_weighs g at s sound was stored)
 
   -- resources that keep their locks
@@ -334,7 +334,7 @@ module _ (g : StoredLock → ℕ) (at : ℕ) where
       )
 
   -- all weigh as with its disarmed row
-  pub disarmed_weighs : (s : Records) → IsSound s → (row : Row) → Stores s at row
+  pub disarmed_weighs : (s : Records) → IsSound s → (row : LockRow) → Stores s at row
       → all g (with_lists (disarming at) s) + g (record { at = at; row = row }) ≡ all g s + g (record { at = at; row = record row { armed = false } })
   disarmed_weighs s sound row stored =
       omega (arith, resources_disarmed s.resources, stored_weighs g at s sound row stored, stored_weighs (λ k. g (disarmed k)) at s sound row stored)

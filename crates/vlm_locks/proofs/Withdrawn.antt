@@ -3,7 +3,7 @@ use Rattle.std.proofs.Common.{◌≡◌, ◌≢◌, ℕ, Bool, true, false, ◌|
 use Rattle.std.specs.List.{list_any}
 use Rattle.std.proofs.lemmas.Bool.{cases_eq}
 use Rattle.std.proofs.lemmas.List.{append-nil}
-use Rattle.vlm_words.specs.declared.locks.Row.{Row}
+use Rattle.vlm_words.specs.declared.locks.LockRow.{LockRow}
 use Rattle.vlm_words.specs.declared.resources.Queue.{Queue}
 use Rattle.vlm_words.specs.declared.resources.Queue.TheVariants.{Granted, Conversion, Waiting}
 use Rattle.vlm_words.specs.declared.resources.ValueBlock.{ValueBlock}
@@ -17,10 +17,10 @@ use Rattle.vlm_records.specs.declared.handles.Place.TheVariants.{Queued}
 use Rattle.vlm_store.specs.Plain.{plain_processes, plain_resource}
 use Rattle.vlm_store.specs.Records.{AreApart, IsSound, Records, StoredResource, leaving, moving, on_resource, queued, resource_at, resource_with, rows_of_locks, with_lists, without_stored_lock}
 use Rattle.vlm_locks.proofs.Found.{on_resource-own, on_resource-put, resource_alone, resource_at-at, resource_at-put}
-use Rattle.vlm_locks.specs.declared.finding.Standing.{Standing}
+use Rattle.vlm_locks.specs.declared.located_locks.LocatedLock.{LocatedLock}
 use Rattle.vlm_locks.specs.Converting.{moved_in}
 use Rattle.vlm_locks.specs.Rest.{IsAtRest}
-use Rattle.vlm_locks.specs.Standing.{IsStanding}
+use Rattle.vlm_locks.specs.Standing.{IsLocated}
 use Rattle.vlm_locks.specs.Withdrawing.{IsChange, may_write}
 use Rattle.vlm_locks.proofs.Changed.{changed, changed_alike, removed_changed, unchanged}
 use Rattle.vlm_locks.proofs.Moved.{joins, leaves, moved_replaced, none_joins_by_moving, not_in}
@@ -30,7 +30,7 @@ use Rattle.vlm_locks.proofs.Stood.{absent, only, own_among}
 use Rattle.vlm_store.proofs.Records.{queue_at}
 
 -- a queue has the lock with PW or EX if one of its rows there has
-pub writer_rows : (lkid : ℕ) (rows : List Row) → has_writer lkid rows ≡ list_any (λ (row : Row). is_writer row.held) (plain.rows_of lkid rows)
+pub writer_rows : (lkid : ℕ) (rows : List LockRow) → has_writer lkid rows ≡ list_any (λ (row : LockRow). is_writer row.held) (plain.rows_of lkid rows)
 writer_rows lkid [] = refl
 writer_rows lkid (row ∷ rows) =
     elim (cases_eq row.lkid lkid) [
@@ -65,24 +65,24 @@ left_staying w lkid named stays rs =
     left_and_gone w (resource_after_cancel lkid)
     (λ r. ap (λ k. resource_after_cancel k r) (sym named) ∙ sym (ap (λ b. cond b (resource_after_cancel w.lkid r) (resource_without w.lkid r)) stays)) rs
 
-module _ (s : Records) (sound : IsSound s) (f : Standing) (standing : IsStanding f s) where
+module _ (s : Records) (sound : IsSound s) (f : LocatedLock) (located : IsLocated f s) where
   -- the rows of the lock in its queue
-  pub rows_here : plain.rows_of f.row.lkid (rows_of_locks (queued f.queue standing.resource)) ≡ f.row ∷ []
+  pub rows_here : plain.rows_of f.row.lkid (rows_of_locks (queued f.queue located.resource)) ≡ f.row ∷ []
   rows_here =
-      let r = standing.resource in
-      let among = own_among s sound f standing in
+      let r = located.resource in
+      let among = own_among s sound f located in
       rows-only (record { at = f.lock; row = f.row }) (queued f.queue r) (subst AreApart (queue_at s sound r among f.queue) (sound.locks_apart (Queued r.at f.queue)))
-      (only s sound f standing r among f.queue) standing.among
+      (only s sound f located r among f.queue) located.among
 
   -- the rows of the lock in another queue
   pub rows_elsewhere : (x : StoredResource) → IsIn x s.resources → (queue : Queue) → Queued x.at queue ≢ Queued f.res f.queue
       → plain.rows_of f.row.lkid (rows_of_locks (queued queue x)) ≡ []
-  rows_elsewhere x among queue differs = rows-absent f.row.lkid (queued queue x) (absent s sound f standing x among queue differs)
+  rows_elsewhere x among queue differs = rows-absent f.row.lkid (queued queue x) (absent s sound f located x among queue differs)
 
   -- another queue without the lock
   pub stays_elsewhere : (x : StoredResource) → IsIn x s.resources → (queue : Queue) → Queued x.at queue ≢ Queued f.res f.queue
       → rows_without f.row.lkid (rows_of_locks (queued queue x)) ≡ rows_of_locks (queued queue x)
-  stays_elsewhere x among queue differs = without-absent f.row.lkid (queued queue x) (absent s sound f standing x among queue differs)
+  stays_elsewhere x among queue differs = without-absent f.row.lkid (queued queue x) (absent s sound f located x among queue differs)
 
   -- ---- the lock goes
 
@@ -93,17 +93,17 @@ module _ (s : Records) (sound : IsSound s) (f : Standing) (standing : IsStanding
       rw (stays_elsewhere x among Granted (λ e. differs (cc)), stays_elsewhere x among Conversion (λ e. differs (cc)), stays_elsewhere x among Waiting (λ e. differs (cc))) refl
 
   -- the resource of the lock without it
-  own_without : resource_without f.row.lkid (plain_resource standing.resource) ≡ plain_resource (resource_with (leaving f.lock) standing.resource)
+  own_without : resource_without f.row.lkid (plain_resource located.resource) ≡ plain_resource (resource_with (leaving f.lock) located.resource)
   unfolding resource_without
   own_without =
-      let r = standing.resource in
+      let r = located.resource in
       let each : (queue : Queue) → rows_without f.row.lkid (rows_of_locks (queued queue r)) ≡ rows_of_locks (leaving f.lock (Queued r.at queue) (queued queue r)) =
-      λ queue. sym (without-handle (record { at = f.lock; row = f.row }) (queued queue r) (only s sound f standing r (own_among s sound f standing) queue)) in
+      λ queue. sym (without-handle (record { at = f.lock; row = f.row }) (queued queue r) (only s sound f located r (own_among s sound f located) queue)) in
       rw (each Granted, each Conversion, each Waiting) refl
 
   -- so its resource changes as it goes, and nothing else
   pub removed : IsAtRest s → IsChange f.res (resource_without f.row.lkid) s (without_stored_lock f.lock s)
-  removed rest = removed_changed s sound f standing (resource_without f.row.lkid) rest own_without others_without
+  removed rest = removed_changed s sound f located (resource_without f.row.lkid) rest own_without others_without
 
   -- ---- what it leaves in the value block
 
@@ -111,25 +111,25 @@ module _ (s : Records) (sound : IsSound s) (f : Standing) (standing : IsStanding
   not_held : (x : StoredResource) → IsIn x s.resources → x.at ≢ f.res → is_held_by_writer f.row.lkid (plain_resource x) ≡ false
   not_held x among differs =
       let each : (queue : Queue) → has_writer f.row.lkid (rows_of_locks (queued queue x)) ≡ false =
-      λ queue. writer_rows f.row.lkid (rows_of_locks (queued queue x)) ∙ ap (list_any (λ (row : Row). is_writer row.held)) (rows_elsewhere x among queue (λ e. differs (cc))) in
+      λ queue. writer_rows f.row.lkid (rows_of_locks (queued queue x)) ∙ ap (list_any (λ (row : LockRow). is_writer row.held)) (rows_elsewhere x among queue (λ e. differs (cc))) in
       rw (each Granted, each Conversion) refl
 
   -- its own is, where it may write
-  pub held_own : is_held_by_writer f.row.lkid (plain_resource standing.resource) ≡ may_write f.queue f.row
+  pub held_own : is_held_by_writer f.row.lkid (plain_resource located.resource) ≡ may_write f.queue f.row
   held_own = of_queue f.queue refl
     where
       r : StoredResource
-      r = standing.resource
+      r = located.resource
 
       there : (queue : Queue) → queue ≢ f.queue → has_writer f.row.lkid (rows_of_locks (queued queue r)) ≡ false
       there queue differs =
-          writer_rows f.row.lkid (rows_of_locks (queued queue r)) ∙ ap (list_any (λ (row : Row). is_writer row.held)) (rows_elsewhere r (own_among s sound f standing) queue (λ e. differs (cc)))
+          writer_rows f.row.lkid (rows_of_locks (queued queue r)) ∙ ap (list_any (λ (row : LockRow). is_writer row.held)) (rows_elsewhere r (own_among s sound f located) queue (λ e. differs (cc)))
 
       here : (queue : Queue) → f.queue ≡ queue → has_writer f.row.lkid (rows_of_locks (queued queue r)) ≡ is_writer f.row.held
       here queue is =
           writer_rows f.row.lkid (rows_of_locks (queued queue r))
-          ∙ ap (λ q. list_any (λ (row : Row). is_writer row.held) (plain.rows_of f.row.lkid (rows_of_locks (queued q r)))) (sym is)
-          ∙ ap (list_any (λ (row : Row). is_writer row.held)) rows_here
+          ∙ ap (λ q. list_any (λ (row : LockRow). is_writer row.held) (plain.rows_of f.row.lkid (rows_of_locks (queued q r)))) (sym is)
+          ∙ ap (list_any (λ (row : LockRow). is_writer row.held)) rows_here
           ∙ or_false (is_writer f.row.held)
 
       of_queue : (queue : Queue) → f.queue ≡ queue → is_held_by_writer f.row.lkid (plain_resource r) ≡ may_write queue f.row
@@ -146,10 +146,10 @@ module _ (s : Records) (sound : IsSound s) (f : Standing) (standing : IsStanding
   -- a lock that may not write leaves nothing
   pub left_nothing : (w : Withdrawal) → w.lkid ≡ f.row.lkid → may_write f.queue f.row ≡ false → IsAtRest s → IsChange f.res (resource_after_writer w) s s
   left_nothing w named may_not rest =
-      unchanged f.res (resource_after_writer w) standing.resource s sound rest standing.found
+      unchanged f.res (resource_after_writer w) located.resource s sound rest located.found
       (λ x among. not_left w named x (elim (cases_eq x.at f.res) [
         | inl same ↦
-            ap (λ y. is_held_by_writer f.row.lkid (plain_resource y)) (resource_alone f.res s.resources standing.resource x sound.resources_apart standing.found among same)
+            ap (λ y. is_held_by_writer f.row.lkid (plain_resource y)) (resource_alone f.res s.resources located.resource x sound.resources_apart located.found among same)
             ∙ held_own ∙ may_not
         | inr differs ↦ not_held x among differs
       ]))
@@ -157,7 +157,7 @@ module _ (s : Records) (sound : IsSound s) (f : Standing) (standing : IsStanding
   -- a withdrawal that writes nothing leaves nothing
   pub left_unwritten : (w : Withdrawal) → is_some w.value ≡ false → w.invalidates ≡ false → IsAtRest s → IsChange f.res (resource_after_writer w) s s
   left_unwritten w ungiven keeps rest =
-      unchanged f.res (resource_after_writer w) standing.resource s sound rest standing.found (λ x among. stays (plain_resource x) w.value w.invalidates (is_held_by_writer w.lkid (plain_resource x)) ungiven keeps)
+      unchanged f.res (resource_after_writer w) located.resource s sound rest located.found (λ x among. stays (plain_resource x) w.value w.invalidates (is_held_by_writer w.lkid (plain_resource x)) ungiven keeps)
     where
       stays : (r : Resource) (given : Option (List ℕ)) (invalidates held : Bool) → is_some given ≡ false → invalidates ≡ false
           → cond held (record r { value_block = cond invalidates (invalid_value_block (value_block_after_gift given w.tail r.value_block)) (value_block_after_gift given w.tail r.value_block) }) r ≡ r
@@ -168,19 +168,19 @@ module _ (s : Records) (sound : IsSound s) (f : Standing) (standing : IsStanding
 
   -- the value block is written on its resource alone
   block_put : (block : ValueBlock) → on_resource f.res (λ (x : StoredResource). record x { value_block = block }) s.resources
-      ≡ on_resource f.res (λ x. record standing.resource { value_block = block }) s.resources
+      ≡ on_resource f.res (λ x. record located.resource { value_block = block }) s.resources
   block_put block =
-      ap (on_resource f.res (λ (x : StoredResource). record x { value_block = block })) (sym (on_resource-own f.res standing.resource s.resources sound.resources_apart standing.found))
-      ∙ on_resource-put f.res standing.resource (λ x. record x { value_block = block }) s.resources (resource_at-at f.res s.resources standing.resource standing.found)
+      ap (on_resource f.res (λ (x : StoredResource). record x { value_block = block })) (sym (on_resource-own f.res located.resource s.resources sound.resources_apart located.found))
+      ∙ on_resource-put f.res located.resource (λ x. record x { value_block = block }) s.resources (resource_at-at f.res s.resources located.resource located.found)
 
   -- one that may leaves the value block so
   pub left_block : (w : Withdrawal) (had block : ValueBlock) → w.lkid ≡ f.row.lkid → may_write f.queue f.row ≡ true → IsAtRest s
       → IfSome (resource_at f.res s.resources) (λ r. had ≡ r.value_block) → block ≡ value_block_after_writer w had
       → IsChange f.res (resource_after_writer w) s (record s { resources = on_resource f.res (λ r. record r { value_block = block }) s.resources })
   left_block w had block named may rest told written =
-      let r = standing.resource in
+      let r = located.resource in
       let left : StoredResource = record r { value_block = block } in
-      let had_is : had ≡ r.value_block = subst (λ o. IfSome o (λ x. had ≡ x.value_block)) standing.found told in
+      let had_is : had ≡ r.value_block = subst (λ o. IfSome o (λ x. had ≡ x.value_block)) located.found told in
       let block_is : block ≡ value_block_after_writer w r.value_block = written ∙ ap (value_block_after_writer w) had_is in
       let here : resource_after_writer w (plain_resource r) ≡ plain_resource left =
       ap (λ b. cond b (record (plain_resource r) { value_block = value_block_after_writer w r.value_block }) (plain_resource r))
@@ -189,7 +189,7 @@ module _ (s : Records) (sound : IsSound s) (f : Standing) (standing : IsStanding
       in
       changed f.res (resource_after_writer w) r left s (record s { resources = on_resource f.res (λ x. record x { value_block = block }) s.resources }) sound rest
       (record {
-        was = standing.found;
+        was = located.found;
         same = refl;
         resources = block_put block;
         processes = refl;
@@ -198,18 +198,18 @@ module _ (s : Records) (sound : IsSound s) (f : Standing) (standing : IsStanding
       here (λ x among differs. not_left w named x (not_held x among differs)) refl
 
   -- and the lock stands there still
-  pub stands_left : (block : ValueBlock) → IsStanding f (record s { resources = on_resource f.res (λ r. record r { value_block = block }) s.resources })
+  pub stands_left : (block : ValueBlock) → IsLocated f (record s { resources = on_resource f.res (λ r. record r { value_block = block }) s.resources })
   stands_left block = record {
-    resource = record standing.resource { value_block = block };
+    resource = record located.resource { value_block = block };
     found =
         ap (resource_at f.res) (block_put block)
-        ∙ resource_at-put f.res (record standing.resource { value_block = block }) s.resources standing.resource (resource_at-at f.res s.resources standing.resource standing.found) standing.found;
-    among = of_queue f.queue standing.among;
-    owner = standing.owner;
+        ∙ resource_at-put f.res (record located.resource { value_block = block }) s.resources located.resource (resource_at-at f.res s.resources located.resource located.found) located.found;
+    among = of_queue f.queue located.among;
+    owner = located.owner;
   }
     where
-      of_queue : (queue : Queue) → IsIn (record { at = f.lock; row = f.row }) (queued queue standing.resource)
-          → IsIn (record { at = f.lock; row = f.row }) (queued queue (record standing.resource { value_block = block }))
+      of_queue : (queue : Queue) → IsIn (record { at = f.lock; row = f.row }) (queued queue located.resource)
+          → IsIn (record { at = f.lock; row = f.row }) (queued queue (record located.resource { value_block = block }))
       of_queue Granted among = among
       of_queue Conversion among = among
       of_queue Waiting among = among
@@ -237,7 +237,7 @@ module _ (s : Records) (sound : IsSound s) (f : Standing) (standing : IsStanding
   -- a granted lock has no request
   pub cancelled_none : f.queue ≡ Granted → IsAtRest s → IsChange f.res (resource_after_cancel f.row.lkid) s s
   cancelled_none granted rest =
-      unchanged f.res (resource_after_cancel f.row.lkid) standing.resource s sound rest standing.found
+      unchanged f.res (resource_after_cancel f.row.lkid) located.resource s sound rest located.found
       (λ x among. uncancelled x among (λ e. cc) (λ e. cc))
 
   -- a lock that waits goes with its request
@@ -258,13 +258,13 @@ module _ (s : Records) (sound : IsSound s) (f : Standing) (standing : IsStanding
   cancelled_waiting waits new gone = changed_alike f.res (resource_without f.row.lkid) (resource_after_cancel f.row.lkid) s new (cancelled_alike waits) gone
 
   -- a lock that converts joins the granted locks
-  cancelled_own : f.queue ≡ Conversion → resource_after_cancel f.row.lkid (plain_resource standing.resource) ≡ plain_resource (moved_in f (row_after_cancel f.row) Granted standing.resource)
+  cancelled_own : f.queue ≡ Conversion → resource_after_cancel f.row.lkid (plain_resource located.resource) ≡ plain_resource (moved_in f (row_after_cancel f.row) Granted located.resource)
   unfolding resource_after_cancel
   cancelled_own converts =
-      let r = standing.resource in
+      let r = located.resource in
       let left : StoredResource = moved_in f (row_after_cancel f.row) Granted r in
       let gone : (queue : Queue) → queue ≢ Granted → rows_without f.row.lkid (rows_of_locks (queued queue r)) ≡ rows_of_locks (moving (Queued f.res Granted) (record { at = f.lock; row = row_after_cancel f.row }) (Queued r.at queue) (queued queue r)) =
-      λ queue differs. sym (leaves s sound f standing (row_after_cancel f.row) Granted queue differs) in
+      λ queue differs. sym (leaves s sound f located (row_after_cancel f.row) Granted queue differs) in
       ap (λ rows. record (plain_resource r) {
         granted = rows;
         converting = rows_without f.row.lkid (rows_of_locks r.converting);
@@ -272,8 +272,8 @@ module _ (s : Records) (sound : IsSound s) (f : Standing) (standing : IsStanding
       })
       (ap (λ rows. rows_of_locks r.granted ++ map row_after_cancel rows)
       (ap (λ q. plain.rows_of f.row.lkid (rows_of_locks (queued q r))) (sym converts) ∙ rows_here)
-      ∙ ap (λ rows. rows ++ row_after_cancel f.row ∷ []) (sym (not_in s sound f standing Granted (λ e. cc)))
-      ∙ sym (joins s sound f standing (row_after_cancel f.row) Granted))
+      ∙ ap (λ rows. rows ++ row_after_cancel f.row ∷ []) (sym (not_in s sound f located Granted (λ e. cc)))
+      ∙ sym (joins s sound f located (row_after_cancel f.row) Granted))
       ∙ ap (λ rows. record (plain_resource left) { converting = rows; waiting = rows_without f.row.lkid (rows_of_locks r.waiting) }) (gone Conversion (λ e. cc))
       ∙ ap (λ rows. record (plain_resource left) { waiting = rows }) (gone Waiting (λ e. cc))
 
@@ -282,8 +282,8 @@ module _ (s : Records) (sound : IsSound s) (f : Standing) (standing : IsStanding
       → new ≡ with_lists (moving (Queued f.res Granted) (record { at = f.lock; row = row_after_cancel f.row })) s
       → IsChange f.res (resource_after_cancel f.row.lkid) s new
   cancelled_conversion converts rest new is =
-      changed f.res (resource_after_cancel f.row.lkid) standing.resource (moved_in f (row_after_cancel f.row) Granted standing.resource) s new sound rest
-      (moved_replaced s sound f standing (row_after_cancel f.row) Granted new is)
-      (none_joins_by_moving s f standing (row_after_cancel f.row) Granted (record { lkid = refl; pid = refl; parent = refl })) (cancelled_own converts)
+      changed f.res (resource_after_cancel f.row.lkid) located.resource (moved_in f (row_after_cancel f.row) Granted located.resource) s new sound rest
+      (moved_replaced s sound f located (row_after_cancel f.row) Granted new is)
+      (none_joins_by_moving s f located (row_after_cancel f.row) Granted (record { lkid = refl; pid = refl; parent = refl })) (cancelled_own converts)
       (λ x among differs. uncancelled x among (λ e. differs (cc)) (λ e. differs (cc)))
       (ap plain_processes is)

@@ -1,7 +1,7 @@
 -- The conversion of a lock that stands in the granted queue.
 use Rattle.std.specs.Prelude.{◌≡◌, true, List, map}
 use Rattle.vlm_words.specs.declared.locks.Request.{Request}
-use Rattle.vlm_words.specs.declared.locks.Row.{Row}
+use Rattle.vlm_words.specs.declared.locks.LockRow.{LockRow}
 use Rattle.vlm_words.specs.declared.resources.Queue.{Queue}
 use Rattle.vlm_words.specs.declared.resources.Queue.TheVariants.{Granted}
 use Rattle.vlm_model.specs.Convert.{ConversionAdmission, conversion_blocks, converts_at_once, resource_after_conversion}
@@ -13,11 +13,11 @@ use Rattle.vlm_model.specs.StatusBlocks.{processes_after_acceptance}
 use Rattle.vlm_records.specs.declared.handles.Place.TheVariants.{Queued}
 use Rattle.vlm_store.specs.Plain.{plain_processes, plain_resource, plain_resources}
 use Rattle.vlm_store.specs.Records.{Records, StoredResource, moving, resource_with}
-use Rattle.vlm_locks.specs.declared.finding.Standing.{Standing}
+use Rattle.vlm_locks.specs.declared.located_locks.LocatedLock.{LocatedLock}
 use Rattle.vlm_locks.specs.Rest.{IsReplaced}
 
 -- the conversion of the lock on its resource, as the plain machine admits it
-abbrev pub admission_on : Standing → Request → StoredResource → ConversionAdmission
+abbrev pub admission_on : LocatedLock → Request → StoredResource → ConversionAdmission
 admission_on f asked r = record {
   resource = plain_resource r;
   row = f.row;
@@ -26,11 +26,11 @@ admission_on f asked r = record {
 }
 
 -- the processes once the request of the lock is accepted: its status block is that of a pending request
-abbrev pub processes_converting : Standing → Request → Records → List Process
+abbrev pub processes_converting : LocatedLock → Request → Records → List Process
 processes_converting f asked s = processes_after_acceptance f.row.pid asked.block f.row.lkid (plain_processes s)
 
 -- the lock is converted on its resource as the plain machine does it, from these processes
-pub record IsConverted (f : Standing) (asked : Request) (accepted : List Process) (r : StoredResource) (old new : Records) : Type 0 where
+pub record IsConverted (f : LocatedLock) (asked : Request) (accepted : List Process) (r : StoredResource) (old new : Records) : Type 0 where
   pub resources : plain_resources new
       ≡ map
       (resource_after_conversion asked (admission_on f asked r).at_once f.row.pid f.row.lkid
@@ -38,14 +38,14 @@ pub record IsConverted (f : Standing) (asked : Request) (accepted : List Process
   pub statuses : plain_processes new ≡ (conversion_blocks (admission_on f asked r) accepted).processes
 
 -- the resource once this lock goes to the end of a queue, with this row
-abbrev pub moved_in : Standing → Row → Queue → StoredResource → StoredResource
+abbrev pub moved_in : LocatedLock → LockRow → Queue → StoredResource → StoredResource
 moved_in f row queue r = resource_with (moving (Queued f.res queue) (record { at = f.lock; row = row })) r
 
 -- what the grant of the row writes on the resource, and to these processes
-abbrev pub blocks_granted : Row → StoredResource → List Process → Blocks
+abbrev pub blocks_granted : LockRow → StoredResource → List Process → Blocks
 blocks_granted row r accepted = blocks_after (grant_endings true row) (blocks_with r.value_block accepted)
 
 -- what a lock wants is granted on its resource, at once, once these processes have its request accepted
-pub record IsConvertedAtOnce (f : Standing) (row : Row) (accepted : List Process) (r : StoredResource) (old new : Records) : Type 0 where
+pub record IsConvertedAtOnce (f : LocatedLock) (row : LockRow) (accepted : List Process) (r : StoredResource) (old new : Records) : Type 0 where
   pub replaced : IsReplaced f.res r (record (moved_in f (granted_row row) Granted r) { value_block = (blocks_granted row r accepted).value_block }) old new
   pub statuses : plain_processes new ≡ (blocks_granted row r accepted).processes

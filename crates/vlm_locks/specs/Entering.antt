@@ -1,7 +1,7 @@
 -- The entry of a new lock into the queues of a resource.
 use Rattle.std.specs.Prelude.{◌≡◌, ◌+◌, ℕ, Bool, true, false, List, [], find, map, unwrap_or, IfSome, None, Some, if◌then◌else◌}
 use Rattle.vlm_store.specs.Index.{hash_key}
-use Rattle.vlm_words.specs.declared.locks.Row.{Row}
+use Rattle.vlm_words.specs.declared.locks.LockRow.{LockRow}
 use Rattle.vlm_words.specs.declared.resources.Queue.{Queue}
 use Rattle.vlm_words.specs.declared.resources.Queue.TheVariants.{Granted, Waiting}
 use Rattle.vlm_words.specs.Dues.{due_to, routines_of}
@@ -14,13 +14,13 @@ use Rattle.vlm_model.specs.StatusBlocks.{processes_after_acceptance}
 use Rattle.vlm_words.specs.declared.resources.ValueBlock.{ValueBlock}
 use Rattle.vlm_store.specs.Plain.{plain_processes, plain_resources}
 use Rattle.vlm_store.specs.Records.{DueChanges, DuesStay, HasResource, HasRoomForLock, HasRoomForResource, IsParentOf, IsProcess, IsSameLock, IsStored, Records, Stores, but_notices, process_with_lock, resource_at}
-use Rattle.vlm_locks.specs.declared.entering.Entry.{Entry}
+use Rattle.vlm_locks.specs.declared.new_locks.NewLock.{NewLock}
 use Rattle.vlm_locks.specs.Owing.{IsPaid, due_for}
 use Rattle.vlm_locks.specs.Rest.{IsAtRest, OtherLocksStay, OthersStay}
 use Rattle.vlm_locks.specs.Rising.{IsAboveEachLock}
 
 -- the row of the new lock: it wants what it asks for, and holds nothing
-abbrev pub new_row : Entry → Row
+abbrev pub new_row : NewLock → LockRow
 new_row e = record {
   lkid = e.lkid;
   pid = e.pid;
@@ -31,7 +31,7 @@ new_row e = record {
 }
 
 -- the resource that the lock finds under its key: a new one where none is there
-abbrev pub resource_for : Entry → List Resource → Resource
+abbrev pub resource_for : NewLock → List Resource → Resource
 resource_for e resources = unwrap_or (find (is_at e.site.key) resources) (new_resource e.serial e.site)
 
 -- the queue that a new lock enters: that of the granted locks at once, or that in which it waits
@@ -40,7 +40,7 @@ entered_queue at_once = if at_once then Granted else Waiting
 
 -- between two steps the lock of the entry may enter: its identification is above all, its process and its parent lock are
 -- there, the handle of its resource fits the domain, and its key is hashed as the index does
-pub record MayEnter (e : Entry) (s : Records) : Type 0 where
+pub record MayEnter (e : NewLock) (s : Records) : Type 0 where
   pub rest : IsAtRest s
   pub rising : IsAboveEachLock e.lkid s
   pub owner : IsProcess e.owner e.pid s
@@ -49,14 +49,14 @@ pub record MayEnter (e : Entry) (s : Records) : Type 0 where
   pub hash : e.hash ≡ hash_key s.keys e.site.key
 
 -- there is room for the lock, and for its resource where none is there, and its request names no routine
-pub record HasRoomToEnter (e : Entry) (s : Records) : Type 0 where
+pub record HasRoomToEnter (e : NewLock) (s : Records) : Type 0 where
   pub lock : HasRoomForLock e.lkid s
   pub resource : e.res ≡ None → HasRoomForResource e.hash s
   pub asts : routines_of (Some e.asked) ≡ 0
 
 -- there is room for the lock, and for its resource where none is there, and its process is owed the ASTs of the routines
 -- that its request names; nothing else is changed
-pub record IsReady (e : Entry) (old new : Records) : Type 0 where
+pub record IsReady (e : NewLock) (old new : Records) : Type 0 where
   pub resources : new.resources ≡ old.resources
   pub processes : map but_notices new.processes ≡ map but_notices old.processes
   pub keys : new.keys ≡ old.keys
@@ -66,26 +66,26 @@ pub record IsReady (e : Entry) (old new : Records) : Type 0 where
   pub owed : DueChanges e.pid (λ due. due + routines_of (Some e.asked)) old new
 
 -- more is due, by what is due for a new lock with this row, and what is owed stays
-pub record IsDueMore (row : Row) (old new : Records) : Type 0 where
+pub record IsDueMore (row : LockRow) (old new : Records) : Type 0 where
   pub due : (pid : ℕ) → due_for pid new ≡ due_for pid old + due_to pid row
   pub dues : DuesStay old new
 
 -- the processes once the request of a new lock is accepted
-abbrev pub processes_accepted : Entry → List Process → List Process
+abbrev pub processes_accepted : NewLock → List Process → List Process
 processes_accepted e processes = processes_after_acceptance e.pid e.asked.block e.lkid processes
 
 -- the processes once a new lock has entered: its request is accepted, and has ended if it is granted at once
-abbrev pub processes_entered : Entry → ValueBlock → List Process → List Process
+abbrev pub processes_entered : NewLock → ValueBlock → List Process → List Process
 processes_entered e block processes =
     (blocks_after (if e.at_once then grant_endings true (new_row e) else [])
     (blocks_with block (processes_accepted e processes))).processes
 
 -- one lock is added, that of the entry, under a handle that no lock had: it is the last of its process, and of those below
 -- its parent; each other lock stands where it stood
-pub record IsAdded (e : Entry) (old new : Records) : Type 0 where
+pub record IsAdded (e : NewLock) (old new : Records) : Type 0 where
   pub lock : ℕ
   pub fresh : ¬ IsStored lock old
-  pub row : Row
+  pub row : LockRow
   pub stands : Stores new lock row
   pub same : IsSameLock (new_row e) row
   pub own_locks : map but_notices new.processes ≡ map but_notices (map (process_with_lock e.owner e.parent lock) old.processes)
@@ -93,7 +93,7 @@ pub record IsAdded (e : Entry) (old new : Records) : Type 0 where
 
 -- the lock stands on the resource of this handle, in the queue where its request puts it, and no other lock and no other
 -- resource changed
-pub record IsTakenIn (e : Entry) (res : ℕ) (old new : Records) : Type 0 where
+pub record IsTakenIn (e : NewLock) (res : ℕ) (old new : Records) : Type 0 where
   pub entered : plain_resources new ≡ resources_after_entry e.serial e.site (new_row e) e.at_once (plain_resources old)
   pub added : IsAdded e old new
   pub others : OthersStay res old new
@@ -101,7 +101,7 @@ pub record IsTakenIn (e : Entry) (res : ℕ) (old new : Records) : Type 0 where
   pub rest : IsAtRest new
 
 -- the lock is taken in on the resource of this handle, and no status block is written
-pub record IsEntered (e : Entry) (res : ℕ) (old new : Records) : Type 0 where
+pub record IsEntered (e : NewLock) (res : ℕ) (old new : Records) : Type 0 where
   pub taken : IsTakenIn e res old new
   pub processes : plain_processes new ≡ plain_processes old
   pub owner : IsProcess e.owner e.pid new
@@ -109,7 +109,7 @@ pub record IsEntered (e : Entry) (res : ℕ) (old new : Records) : Type 0 where
 
 -- the lock is taken in on the resource of this handle, its status block is that of a pending request or tells of its grant,
 -- and each process is owed what is due to it
-pub record HasEntered (e : Entry) (res : ℕ) (old new : Records) : Type 0 where
+pub record HasEntered (e : NewLock) (res : ℕ) (old new : Records) : Type 0 where
   pub taken : IsTakenIn e res old new
   pub statuses : plain_processes new ≡ processes_entered e (resource_for e (plain_resources old)).value_block (plain_processes old)
   pub paid : IsPaid new

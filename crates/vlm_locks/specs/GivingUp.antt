@@ -1,7 +1,7 @@
 -- Locks of a process that are given up together.
 use Rattle.std.specs.Prelude.{◌≡◌, ◌≢◌, ◌≤◌, ◌<◌, ⊤, ℕ, Bool, true, List, [], ◌∷◌, map, if◌then◌else◌}
 use Rattle.std.specs.List.{AllByRecursion}
-use Rattle.vlm_words.specs.declared.locks.Row.{Row}
+use Rattle.vlm_words.specs.declared.locks.LockRow.{LockRow}
 use Rattle.vlm_words.specs.Dues.{due_to}
 use Rattle.vlm_model.specs.Endings.How.{by_abort}
 use Rattle.vlm_model.specs.OwnLocks.{is_below}
@@ -11,8 +11,8 @@ use Rattle.vlm_collections.specs.Lists.{IsIn}
 use Rattle.vlm_store.specs.Plain.{plain_processes, plain_resources}
 use Rattle.vlm_store.specs.Records.{Records, SameButNotices, StoredLock, Stores, due_of}
 use Rattle.vlm_store.specs.Total.{lock_total}
-use Rattle.vlm_locks.specs.declared.giving_up.Choice.{Choice}
-use Rattle.vlm_locks.specs.declared.giving_up.Choice.TheVariants.{All, Below}
+use Rattle.vlm_locks.specs.declared.joint_withdrawals.Scope.{Scope}
+use Rattle.vlm_locks.specs.declared.joint_withdrawals.Scope.TheVariants.{All, Below}
 use Rattle.vlm_locks.specs.declared.touched.Note.{Note}
 use Rattle.vlm_locks.specs.Left.{giving_up, is_among, resource_left}
 use Rattle.vlm_locks.specs.Owing.{total_weight}
@@ -23,7 +23,7 @@ use Rattle.vlm_locks.specs.Touched.{AreStillNoted, OnlyTouched, Touches}
 -- ---- which locks
 
 -- the lock is one of those that are chosen
-abbrev pub is_chosen : Choice → List Resource → ℕ → Bool
+abbrev pub is_chosen : Scope → List Resource → ℕ → Bool
 is_chosen All resources lkid = true
 is_chosen (Below top) resources lkid = is_below 15 top resources lkid
 
@@ -33,22 +33,22 @@ Rise [] = ⊤
 Rise (lkid ∷ lkids) = AllByRecursion (λ later. lkid < later) lkids × Rise lkids
 
 -- these are the identifications of the chosen locks of a process, rising
-pub record AreChosen (choice : Choice) (pid : ℕ) (s : Records) (lkids : List ℕ) : Type 0 where
+pub record AreChosen (scope : Scope) (pid : ℕ) (s : Records) (lkids : List ℕ) : Type 0 where
   pub rise : Rise lkids
   pub each : (lkid : ℕ) → IsIn lkid lkids
-      → (at : ℕ) × (row : Row) × (Stores s at row × (row.lkid ≡ lkid) × (row.pid ≡ pid) × (is_chosen choice (plain_resources s) lkid ≡ true))
-  pub all : (at : ℕ) (row : Row) → Stores s at row → row.pid ≡ pid → is_chosen choice (plain_resources s) row.lkid ≡ true → IsIn row.lkid lkids
+      → (at : ℕ) × (row : LockRow) × (Stores s at row × (row.lkid ≡ lkid) × (row.pid ≡ pid) × (is_chosen scope (plain_resources s) lkid ≡ true))
+  pub all : (at : ℕ) (row : LockRow) → Stores s at row → row.pid ≡ pid → is_chosen scope (plain_resources s) row.lkid ≡ true → IsIn row.lkid lkids
 
 -- where locks below one are chosen, that one is a stored lock of the process; and none has the identification 0, which
 -- the row of a lock without a parent names
-abbrev pub IsOwnChoice : Choice → ℕ → Records → Type 0
-IsOwnChoice All pid s = ⊤
-IsOwnChoice (Below top) pid s = (top ≢ 0) × (at : ℕ) × (row : Row) × (Stores s at row × (row.lkid ≡ top) × (row.pid ≡ pid))
+abbrev pub IsOwnScope : Scope → ℕ → Records → Type 0
+IsOwnScope All pid s = ⊤
+IsOwnScope (Below top) pid s = (top ≢ 0) × (at : ℕ) × (row : LockRow) × (Stores s at row × (row.lkid ≡ top) × (row.pid ≡ pid))
 
 -- with a chosen lock its sublocks are chosen
-abbrev pub SublocksGoToo : Choice → Records → Type 0
-SublocksGoToo choice s = (at other : ℕ) (row up : Row) → Stores s at row → Stores s other up → row.parent ≡ up.lkid
-    → is_chosen choice (plain_resources s) up.lkid ≡ true → is_chosen choice (plain_resources s) row.lkid ≡ true
+abbrev pub SublocksGoToo : Scope → Records → Type 0
+SublocksGoToo scope s = (at other : ℕ) (row up : LockRow) → Stores s at row → Stores s other up → row.parent ≡ up.lkid
+    → is_chosen scope (plain_resources s) up.lkid ≡ true → is_chosen scope (plain_resources s) row.lkid ≡ true
 
 -- ---- how they are noted
 
@@ -58,7 +58,7 @@ noted_lkids notes = map (λ t. t.number) notes
 
 -- each note is of a stored lock: it has its handle and its identification
 abbrev pub AreOfLocks : List Note → Records → Type 0
-AreOfLocks notes s = (t : Note) → IsIn t notes → (row : Row) × (Stores s t.at row × (row.lkid ≡ t.number))
+AreOfLocks notes s = (t : Note) → IsIn t notes → (row : LockRow) × (Stores s t.at row × (row.lkid ≡ t.number))
 
 -- ---- what is owed on the way
 
@@ -89,8 +89,8 @@ pub record HaveEnded (lkids : List ℕ) (invalidates : Bool) (old new : Records)
 pub record CanGo (pid : ℕ) (touched : Touches) (s : Records) : Type 0 where
   pub rise : Rise (noted_lkids touched.noted)
   pub locks : AreOfLocks touched.noted s
-  pub own : (at : ℕ) (row : Row) → Stores s at row → IsIn row.lkid (noted_lkids touched.noted) → row.pid ≡ pid
-  pub closed : (at other : ℕ) (row up : Row) → Stores s at row → Stores s other up → row.parent ≡ up.lkid
+  pub own : (at : ℕ) (row : LockRow) → Stores s at row → IsIn row.lkid (noted_lkids touched.noted) → row.pid ≡ pid
+  pub closed : (at other : ℕ) (row up : LockRow) → Stores s at row → Stores s other up → row.parent ≡ up.lkid
       → IsIn up.lkid (noted_lkids touched.noted) → IsIn row.lkid (noted_lkids touched.noted)
   pub paid : IsPaidBut (noted_lkids touched.noted) s
   pub rest : IsAtRest s
@@ -111,8 +111,8 @@ pub record AreGone (lkids : List ℕ) (invalidates : Bool) (old new : Records) (
   pub statuses : plain_processes new ≡ plain_processes old
 
 -- the chosen locks are given up together: their requests have ended, by rising identification, and they are gone
-pub record AreGivenUp (choice : Choice) (invalidates : Bool) (pid : ℕ) (old new : Records) (before after : Touches) : Type 0 where
+pub record AreGivenUp (scope : Scope) (invalidates : Bool) (pid : ℕ) (old new : Records) (before after : Touches) : Type 0 where
   pub lkids : List ℕ
-  pub chosen : AreChosen choice pid old lkids
+  pub chosen : AreChosen scope pid old lkids
   pub left : HaveLeft lkids invalidates old new before after
   pub statuses : RequestsHaveEnded lkids invalidates old new

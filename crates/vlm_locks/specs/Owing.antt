@@ -1,7 +1,7 @@
 -- What a process is owed, and what is due to it for its locks.
 use Rattle.std.specs.Prelude.{◌≡◌, ◌==◌, ◌+◌, ℕ, Bool, false, List, sum_by, None, Some, is_some, if◌then◌else◌}
 use Rattle.vlm_words.specs.declared.locks.Request.{Request}
-use Rattle.vlm_words.specs.declared.locks.Row.{Row}
+use Rattle.vlm_words.specs.declared.locks.LockRow.{LockRow}
 use Rattle.vlm_model.specs.Asts.{is_synchronous}
 use Rattle.vlm_words.specs.Dues.{due_to, one_where}
 use Rattle.vlm_model.specs.Effects.{Blocks, blocks_after_grant}
@@ -47,23 +47,23 @@ abbrev pub OwesMore : ℕ → ℕ → Records → Type 0
 OwesMore owner more s = (pid : ℕ) → due_of pid s ≡ due_for pid s + (if pid == owner then more else 0)
 
 -- what is due changes as that of one lock, which had this row and has that one
-abbrev pub DueMoves : Row → Row → Records → Records → Type 0
+abbrev pub DueMoves : LockRow → LockRow → Records → Records → Type 0
 DueMoves was now old new = (pid : ℕ) → due_for pid new + due_to pid was ≡ due_for pid old + due_to pid now
 
 -- what is owed changes as what is due for one lock, which had this row and has that one
-abbrev pub OwedMoves : Row → Row → Records → Records → Type 0
+abbrev pub OwedMoves : LockRow → LockRow → Records → Records → Type 0
 OwedMoves was now old new = (pid : ℕ) → due_of pid new + due_to pid was ≡ due_of pid old + due_to pid now
 
 -- the row once what it wants has ended
-abbrev pub row_after_end : Row → Row
+abbrev pub row_after_end : LockRow → LockRow
 row_after_end row = record row { want = None }
 
 -- the row of a lock for which nothing is due any more
-abbrev pub row_at_end : Row → Row
+abbrev pub row_at_end : LockRow → LockRow
 row_at_end row = record row { want = None; armed = false }
 
 -- the row of a withdrawn lock: gone, or with what it wants ended
-abbrev pub left_row : Bool → Row → Row
+abbrev pub left_row : Bool → LockRow → LockRow
 left_row gone row = if gone then row_at_end row else row_after_end row
 
 -- how many completions a request queues as it ends at once or later
@@ -72,7 +72,7 @@ completions_queued at_once request =
     if is_synchronous at_once request then 0 else one_where (is_some request.completion)
 
 -- what the grant of a lock's request writes, its completion apart
-abbrev pub blocks_written : Row → Request → Blocks → Blocks
+abbrev pub blocks_written : LockRow → Request → Blocks → Blocks
 blocks_written row request b =
     blocks_after_grant (grant_act row.held (Some request))
     (record {
@@ -85,10 +85,10 @@ blocks_written row request b =
     b
 
 -- how many completions do not come of a request that ends at once or later: that which SYNCSTS lets the answer tell
-abbrev pub completions_spared : Bool → Request → ℕ
-completions_spared at_once request =
+abbrev pub suppressed_completions : Bool → Request → ℕ
+suppressed_completions at_once request =
     if is_synchronous at_once request then one_where (is_some request.completion) else 0
 
 -- the row of a lock as it has entered: granted at once, or as it waits
-abbrev pub entered_row : Bool → Row → Row
-entered_row at_once row = if at_once then granted_row row else row
+abbrev pub granted_if_at_once : Bool → LockRow → LockRow
+granted_if_at_once at_once row = if at_once then granted_row row else row

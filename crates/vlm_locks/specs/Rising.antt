@@ -1,12 +1,12 @@
 -- The order in which the locks of a process stand, and the locks below a lock.
 use Rattle.std.specs.Prelude.{◌<◌, ⊤, ℕ, List, [], ◌∷◌, map}
-use Rattle.vlm_words.specs.declared.locks.Row.{Row}
+use Rattle.vlm_words.specs.declared.locks.LockRow.{LockRow}
 use Rattle.vlm_collections.specs.Lists.{IsIn}
 use Rattle.vlm_store.specs.Records.{OwnLock, Records, StoredProcess, Stores}
 
 -- the lock of the one handle has a lower identification than that of the other
 abbrev pub IsOlder : Records → ℕ → ℕ → Type 0
-IsOlder s first second = (a b : Row) → Stores s first a → Stores s second b → a.lkid < b.lkid
+IsOlder s first second = (a b : LockRow) → Stores s first a → Stores s second b → a.lkid < b.lkid
 
 -- the locks of these handles stand by rising identification
 abbrev pub StandByIdentification : Records → List ℕ → Type 0
@@ -24,4 +24,4 @@ pub record HasRisingLocks (s : Records) (p : StoredProcess) : Type 0 where
 
 -- each stored lock has a lower identification
 abbrev pub IsAboveEachLock : ℕ → Records → Type 0
-IsAboveEachLock lkid s = (at : ℕ) (row : Row) → Stores s at row → row.lkid < lkid
+IsAboveEachLock lkid s = (at : ℕ) (row : LockRow) → Stores s at row → row.lkid < lkid

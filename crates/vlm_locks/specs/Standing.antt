@@ -1,26 +1,26 @@
 -- A lock in its queue.
 use Rattle.std.specs.Prelude.{◌≡◌, ℕ, Some}
 use Rattle.vlm_collections.specs.Lists.{IsIn}
-use Rattle.vlm_words.specs.declared.locks.Row.{Row}
+use Rattle.vlm_words.specs.declared.locks.LockRow.{LockRow}
 use Rattle.vlm_store.specs.Records.{IsProcess, Records, StoredResource, Stores, queued, resource_at}
-use Rattle.vlm_locks.specs.declared.finding.Standing.{Standing}
+use Rattle.vlm_locks.specs.declared.located_locks.LocatedLock.{LocatedLock}
 
 -- the lock stands so: with this row, in this queue of the resource of this handle, and owned by the process of this handle
-pub record IsStanding (f : Standing) (s : Records) : Type 0 where
+pub record IsLocated (f : LocatedLock) (s : Records) : Type 0 where
   pub resource : StoredResource
   pub found : resource_at f.res s.resources ≡ Some resource
   pub among : IsIn (record { at = f.lock; row = f.row }) (queued f.queue resource)
   pub owner : IsProcess f.owner f.row.pid s
 
 -- it is the lock of this process with this identification
-pub record IsStandingOf (pid lkid : ℕ) (f : Standing) (s : Records) : Type 0 where
-  pub standing : IsStanding f s
+pub record IsLocatedLockOf (pid lkid : ℕ) (f : LocatedLock) (s : Records) : Type 0 where
+  pub located : IsLocated f s
   pub named : f.row.lkid ≡ lkid
   pub owned : f.row.pid ≡ pid
 
 -- the handle is that of the lock of this process with this identification
 pub record IsLockOf (pid lkid at : ℕ) (s : Records) : Type 0 where
-  pub row : Row
+  pub row : LockRow
   pub stored : Stores s at row
   pub named : row.lkid ≡ lkid
   pub owned : row.pid ≡ pid

@@ -1,6 +1,6 @@
 -- Locks that stay where they stand, whatever they hold and want.
 use Rattle.std.specs.Prelude.{◌≡◌, List}
-use Rattle.vlm_words.specs.declared.locks.Row.{Row}
+use Rattle.vlm_words.specs.declared.locks.LockRow.{LockRow}
 use Rattle.vlm_words.specs.declared.resources.Queue.{Queue}
 use Rattle.vlm_collections.specs.Lists.{IsIn}
 use Rattle.vlm_store.specs.Records.{IsSameLock, StoredLock, StoredResource, queued}
@@ -9,7 +9,7 @@ use Rattle.vlm_store.specs.Records.{IsSameLock, StoredLock, StoredResource, queu
 -- parent lock
 pub record StandsStill (lock : StoredLock) (r : StoredResource) : Type 0 where
   pub queue : Queue
-  pub row : Row
+  pub row : LockRow
   pub among : IsIn (record { at = lock.at; row = row }) (queued queue r)
   pub same : IsSameLock lock.row row
 

@@ -1,6 +1,6 @@
 -- The warnings of a resource's granted locks.
 use Rattle.std.specs.Prelude.{◌≡◌, ℕ, Bool, false, Some, if◌then◌else◌}
-use Rattle.vlm_words.specs.declared.locks.Row.{Row}
+use Rattle.vlm_words.specs.declared.locks.LockRow.{LockRow}
 use Rattle.vlm_model.specs.Asts.{is_to_warn, processes_after_asts, resource_after_warning, row_after_warning, row_warnings, warnings}
 use Rattle.vlm_records.specs.declared.handles.Armed.{Armed}
 use Rattle.vlm_records.specs.Armed.{is_listed}
@@ -11,23 +11,23 @@ use Rattle.vlm_locks.specs.Rest.{IsReplaced}
 use Rattle.vlm_locks.specs.Staying.{LocksStay}
 
 -- the row of a lock that is armed no more
-abbrev pub disarmed_row : Row → Row
+abbrev pub disarmed_row : LockRow → LockRow
 disarmed_row row = record row { armed = false }
 
 -- a granted lock with this row is to be warned on the resource
-abbrev pub is_warned_on : StoredResource → Row → Bool
+abbrev pub is_warned_on : StoredResource → LockRow → Bool
 is_warned_on r row = is_to_warn (rows_of_locks r.converting) (rows_of_locks r.waiting) row
 
 -- no lock of the resource is to be warned that is not in this list of armed locks
 abbrev pub SparesOthers : Armed → ℕ → Records → Type 0
-SparesOthers which res s = (r : StoredResource) (row : Row) → resource_at res s.resources ≡ Some r → is_listed which row ≡ false → is_warned_on r row ≡ false
+SparesOthers which res s = (r : StoredResource) (row : LockRow) → resource_at res s.resources ≡ Some r → is_listed which row ≡ false → is_warned_on r row ≡ false
 
 -- the records once a lock is warned, if it is to be: it is armed no more
 abbrev pub disarmed_if : Bool → ℕ → Records → Records
 disarmed_if warned lock s = if warned then with_lists (disarming lock) s else s
 
 -- a granted lock of the resource is warned, if it is to be
-pub record IsLockWarned (r : StoredResource) (lock : ℕ) (row : Row) (old new : Records) : Type 0 where
+pub record IsLockWarned (r : StoredResource) (lock : ℕ) (row : LockRow) (old new : Records) : Type 0 where
   pub queued : plain_processes new
       ≡ processes_after_asts (row_warnings (rows_of_locks r.converting) (rows_of_locks r.waiting) row) (plain_processes old)
   pub only : SameButNotices (disarmed_if (is_warned_on r row) lock old) new

@@ -3,12 +3,12 @@ use Rattle.std.specs.Prelude.{Bool, ◌||◌, is_some}
 use Rattle.vlm_model.specs.Endings.{How}
 use Rattle.vlm_model.specs.Endings.How.{by_abort, by_cancel, by_deadlock, by_rundown}
 use Rattle.vlm_model.specs.Withdrawals.{Withdrawal as PlainWithdrawal}
-use Rattle.vlm_locks.specs.declared.withdrawals.End.TheVariants.{Aborted, Cancelled, Deadlocked, RunDown}
-use Rattle.vlm_locks.specs.declared.withdrawals.End.{End}
+use Rattle.vlm_locks.specs.declared.withdrawals.EndReason.TheVariants.{Aborted, Cancelled, Deadlocked, RunDown}
+use Rattle.vlm_locks.specs.declared.withdrawals.EndReason.{EndReason}
 use Rattle.vlm_locks.specs.declared.withdrawals.Withdrawal.{Withdrawal}
 
 -- how a request ends that is not granted
-abbrev pub how_ended : End → How
+abbrev pub how_ended : EndReason → How
 how_ended Aborted = by_abort
 how_ended Cancelled = by_cancel
 how_ended Deadlocked = by_deadlock

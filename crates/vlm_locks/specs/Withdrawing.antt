@@ -1,17 +1,17 @@
 -- The steps in which a lock is withdrawn.
 use Rattle.std.specs.Prelude.{◌≡◌, ℕ, Bool, true, false, List, map}
-use Rattle.vlm_words.specs.declared.locks.Row.{Row}
+use Rattle.vlm_words.specs.declared.locks.LockRow.{LockRow}
 use Rattle.vlm_words.specs.declared.resources.Queue.{Queue}
 use Rattle.vlm_words.specs.declared.resources.Queue.TheVariants.{Granted, Conversion, Waiting}
 use Rattle.vlm_model.specs.Withdrawals.{is_writer}
 use Rattle.vlm_words.specs.State.{Resource}
 use Rattle.vlm_store.specs.Plain.{plain_processes, plain_resources}
 use Rattle.vlm_store.specs.Records.{HasResource, Records, StoredProcess, process_without_lock}
-use Rattle.vlm_locks.specs.declared.finding.Standing.{Standing}
+use Rattle.vlm_locks.specs.declared.located_locks.LocatedLock.{LocatedLock}
 use Rattle.vlm_locks.specs.Rest.{IsAtRest, OtherLocksStay, OthersStay}
 
 -- a lock of this queue may write the value block as it goes: it holds PW or EX, granted or converting
-abbrev pub may_write : Queue → Row → Bool
+abbrev pub may_write : Queue → LockRow → Bool
 may_write Granted row = is_writer row.held
 may_write Conversion row = is_writer row.held
 may_write Waiting row = false
@@ -40,7 +40,7 @@ owned_after true lock processes = map (process_without_lock lock) processes
 
 -- a part of a withdrawal is done: the lock's resource is changed, each other lock stays, and the lock is gone from those of
 -- its process, or stays too
-pub record IsPartDone (f : Standing) (change : Resource → Resource) (gone : Bool) (old new : Records) : Type 0 where
+pub record IsPartDone (f : LocatedLock) (change : Resource → Resource) (gone : Bool) (old new : Records) : Type 0 where
   pub made : IsChange f.res change old new
   pub locks : OtherLocksStay f.lock old new
   pub own_locks : new.processes ≡ owned_after gone f.lock old.processes

@@ -13,7 +13,7 @@ ghost use Rattle.vlm_model.specs.StatusBlocks.{processes_after_acceptance};
 ghost use Rattle.vlm_words.specs.ValueBlocks.{value_block_written_from};
 ghost use Rattle.vlm_store.specs.Plain.{plain_processes};
 ghost use Rattle.vlm_store.specs.Records.{DueChanges, DuesStay, IsProcess, SameButNotices, due_of};
-ghost use Rattle.vlm_locks.specs.Owing.{OwedMoves, blocks_written, completions_queued, completions_spared};
+ghost use Rattle.vlm_locks.specs.Owing.{OwedMoves, blocks_written, completions_queued, suppressed_completions};
 
 use vlm_procs::{accept_granted, end, end_with_return, forgive, queue_ast, status_block_or_new};
 use vlm_store::laws::law_records_are_sound;
@@ -120,8 +120,8 @@ pub(crate) fn one_where(so: bool) -> usize
 }
 
 // How many completion ASTs of a request never come: one after a grant at once with SYNCSTS.
-fn completions_spared(request: &Request, at_once: bool) -> usize
-    ensures { result ≡ completions_spared at_once request.now }
+fn suppressed_completions(request: &Request, at_once: bool) -> usize
+    ensures { result ≡ suppressed_completions at_once request.now }
 {
     if at_once && request.flags.has(EnqFlags::SYNCSTS) {
         one_where(request.completion.is_some())
@@ -143,7 +143,7 @@ fn tell_grant(store: &mut Store, at: ProcAt, row: &StoredRow, request: &Request,
 {
     law_records_are_sound(store);
     complete(store, at, row, request, at_once);
-    let spared = one_where(row.is_armed()) + completions_spared(request, at_once);
+    let spared = one_where(row.is_armed()) + suppressed_completions(request, at_once);
     if spared > 0 {
         forgive(store, at, spared);
     }

@@ -4,27 +4,27 @@
 //! and they take it before anything is changed.
 #![tactic(auto)]
 
-mod choosing;
-mod converting;
+mod conversions;
 mod endings;
-mod entering;
-mod finding;
-mod giving_up;
+mod joint_withdrawals;
+mod located_locks;
+mod new_locks;
+mod noted_locks;
+mod process_ends;
+mod releases;
 mod routines;
-mod running_down;
-mod serving;
-mod sweeping;
+mod services;
+mod sweeps;
 mod touched;
-mod warning;
+mod warnings;
 mod withdrawals;
-mod withdrawing;
 
-pub use converting::{convert, converts_at_once};
-pub use entering::{Entry, enter, enters_at_once};
-pub use finding::{Standing, find_lock, standing_of};
-pub use giving_up::{Choice, give_up_together};
-pub use running_down::{end_process, end_processes_of};
-pub use sweeping::{sweep, sweep_resource};
+pub use conversions::{convert, converts_at_once};
+pub use joint_withdrawals::{Scope, give_up_together};
+pub use located_locks::{LocatedLock, find_lock, located_lock};
+pub use new_locks::{NewLock, enter, enters_at_once};
+pub use process_ends::{end_process, end_processes_of};
+pub use releases::withdraw;
+pub use sweeps::{sweep, sweep_resource};
 pub use touched::{Note, Touched};
-pub use withdrawals::{End, Withdrawal};
-pub use withdrawing::withdraw;
+pub use withdrawals::{EndReason, Withdrawal};

@@ -2,7 +2,7 @@
 //! together, until they are gone.
 
 ghost use Rattle.std.specs.Prelude.{◌≡◌, ◌<◌, ◌≤◌, List, [], ◌∷◌, ◌++◌, length, vec_capacity, IfSome, OnErr, OnOk};
-ghost use Rattle.vlm_words.specs.declared.locks.Row.{Row};
+ghost use Rattle.vlm_words.specs.declared.locks.LockRow.{LockRow};
 ghost use Rattle.vlm_collections.specs.Lists.{IsIn};
 ghost use Rattle.vlm_store.specs.Records.{HasResource, IsStored, Stores, resource_at};
 ghost use Rattle.vlm_locks.specs.Touched.{IsNoted, RiseByNumber};
@@ -43,7 +43,7 @@ impl Note {
     pub fn of_lock(store: &Store, lock: LockAt) -> Note
         requires { IsStored lock store.now }
         ensures lock { result.at ≡ lock }
-        ensures lkid { (row : Row) → Stores store.now lock row → row.lkid ≡ result.number }
+        ensures lkid { (row : LockRow) → Stores store.now lock row → row.lkid ≡ result.number }
     {
         Note {
             number: store.lock_record(lock).row.lkid(),

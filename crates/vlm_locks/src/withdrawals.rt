@@ -12,7 +12,7 @@ use vlm_words::conditions::Cond;
 
 /// How a request ends without a grant.
 #[derive(Clone, Copy)]
-pub enum End {
+pub enum EndReason {
     /// It ends with its lock.
     Aborted,
     /// It is cancelled.
@@ -23,16 +23,16 @@ pub enum End {
     RunDown,
 }
 
-impl End {
+impl EndReason {
     /// The status of the request: ABORT, CANCEL or DEADLOCK; none if its process ends.
     pub(crate) fn status(self) -> Option<Cond>
         ensures { ending_status (how_ended self) ≡ result }
     {
         match self {
-            End::Aborted => Some(Cond::Abort),
-            End::Cancelled => Some(Cond::Cancel),
-            End::Deadlocked => Some(Cond::Deadlock),
-            End::RunDown => None,
+            EndReason::Aborted => Some(Cond::Abort),
+            EndReason::Cancelled => Some(Cond::Cancel),
+            EndReason::Deadlocked => Some(Cond::Deadlock),
+            EndReason::RunDown => None,
         }
     }
 }
@@ -44,9 +44,9 @@ pub struct Withdrawal {
     /// The identification of the lock.
     pub lkid: u32,
     /// How its request ends if it waits.
-    pub waiting: End,
+    pub waiting: EndReason,
     /// How its request ends if it converts.
-    pub converting: End,
+    pub converting: EndReason,
     /// Whether a lock that converts stays, granted as before.
     pub stays: bool,
     /// Written to the value block if the lock is held at PW or EX.
@@ -71,8 +71,8 @@ impl Withdrawal {
     {
         Withdrawal {
             lkid,
-            waiting: End::RunDown,
-            converting: End::RunDown,
+            waiting: EndReason::RunDown,
+            converting: EndReason::RunDown,
             stays: false,
             value: None,
             tail: None,
@@ -86,8 +86,8 @@ impl Withdrawal {
     {
         Withdrawal {
             lkid,
-            waiting: End::Deadlocked,
-            converting: End::Deadlocked,
+            waiting: EndReason::Deadlocked,
+            converting: EndReason::Deadlocked,
             stays: true,
             value: None,
             tail: None,
@@ -101,8 +101,8 @@ impl Withdrawal {
     {
         Withdrawal {
             lkid,
-            waiting: End::Aborted,
-            converting: End::Aborted,
+            waiting: EndReason::Aborted,
+            converting: EndReason::Aborted,
             stays: false,
             value: None,
             tail: None,

@@ -6,7 +6,7 @@ use Rattle.std.specs.Prelude.{◌==◌, is_some}
 use Rattle.vlm_words.specs.declared.conditions.Cond.{Cond}
 use Rattle.vlm_words.specs.declared.conditions.Cond.TheVariants.{Cancelgrant}
 use Rattle.vlm_words.specs.declared.locks.Request.{Request}
-use Rattle.vlm_words.specs.declared.locks.Row.{Row}
+use Rattle.vlm_words.specs.declared.locks.LockRow.{LockRow}
 use Rattle.vlm_words.specs.declared.resources.Queue.{Queue}
 use Rattle.vlm_words.specs.declared.resources.Queue.TheVariants.{Granted}
 use Rattle.vlm_words.specs.declared.steps.Conversion.{Conversion}
@@ -21,45 +21,45 @@ use Rattle.vlm_collections.specs.Lists.{IsIn}
 use Rattle.vlm_store.specs.Plain.{plain_resource, plain_resources}
 use Rattle.vlm_store.specs.Records.{IsSound, Records, StoredResource, queued, rows_of_locks}
 use Rattle.vlm_locks.proofs.Found.{resource_alone, resource_at-at}
-use Rattle.vlm_locks.specs.declared.finding.Standing.{Standing}
+use Rattle.vlm_locks.specs.declared.located_locks.LocatedLock.{LocatedLock}
 use Rattle.vlm_locks.specs.Converting.{admission_on}
-use Rattle.vlm_locks.specs.Standing.{IsStanding, IsStandingOf}
+use Rattle.vlm_locks.specs.Standing.{IsLocated, IsLocatedLockOf}
 use Rattle.vlm_locks.proofs.Named.{IsAbsent, any-absent, any-among, find-absent, find-only}
 use Rattle.vlm_locks.proofs.Stood.{absent, only, own_among}
 use Rattle.vlm_machine.specs.Admissions.{IsAdmittedDequeue}
 use Rattle.vlm_machine.specs.Machine.{MachineState, plain_state}
 
-module _ (s : Records) (sound : IsSound s) (f : Standing) (standing : IsStanding f s) where
+module _ (s : Records) (sound : IsSound s) (f : LocatedLock) (located : IsLocated f s) where
   -- the resource of the lock
   abbrev own : StoredResource
-  own = standing.resource
+  own = located.resource
 
   -- a lock that is granted stands in the granted queue of its resource
   in_granted : f.queue ≡ Granted → IsIn (record { at = f.lock; row = f.row }) own.granted
-  in_granted granted = subst (λ (queue : Queue). IsIn (record { at = f.lock; row = f.row }) (queued queue own)) granted standing.among
+  in_granted granted = subst (λ (queue : Queue). IsIn (record { at = f.lock; row = f.row }) (queued queue own)) granted located.among
 
   -- a lock that is not granted stands in no granted queue
   in_no_granted : f.queue ≢ Granted → (r : StoredResource) → IsIn r s.resources → IsAbsent f.row.lkid r.granted
-  in_no_granted ungranted r among = absent s sound f standing r among Granted (λ e. ungranted (cc))
+  in_no_granted ungranted r among = absent s sound f located r among Granted (λ e. ungranted (cc))
 
   -- a lock stands in the granted queue of no other resource than its own
   on_no_other : (r : StoredResource) → IsIn r s.resources → r.at ≢ f.res → IsAbsent f.row.lkid r.granted
-  on_no_other r among differs = absent s sound f standing r among Granted (λ e. differs (cc))
+  on_no_other r among differs = absent s sound f located r among Granted (λ e. differs (cc))
 
   -- the conversion that is asked for, among these resources
   abbrev admits : Request → List StoredResource → Option ConversionAdmission
   admits asked rs = admission_among asked f.row.pid f.row.lkid (map plain_resource rs)
 
   -- the lock in the granted queue of this resource
-  abbrev granted_row : StoredResource → Option Row
+  abbrev granted_row : StoredResource → Option LockRow
   granted_row r = find (is_lock_of f.row.pid f.row.lkid) (rows_of_locks r.granted)
 
   -- the conversion of a granted lock is admitted on its resource
-  pub admitted_here : (asked : Request) → f.queue ≡ Granted → admission_among asked f.row.pid f.row.lkid (plain_resources s) ≡ Some (admission_on f asked standing.resource)
-  admitted_here asked granted = of_list s.resources (λ r here. here) (own_among s sound f standing)
+  pub admitted_here : (asked : Request) → f.queue ≡ Granted → admission_among asked f.row.pid f.row.lkid (plain_resources s) ≡ Some (admission_on f asked located.resource)
+  admitted_here asked granted = of_list s.resources (λ r here. here) (own_among s sound f located)
     where
       found : granted_row own ≡ Some f.row
-      found = find-only (record { at = f.lock; row = f.row }) own.granted (only s sound f standing own (own_among s sound f standing) Granted) (in_granted granted)
+      found = find-only (record { at = f.lock; row = f.row }) own.granted (only s sound f located own (own_among s sound f located) Granted) (in_granted granted)
 
       of_list : (rs : List StoredResource) → ((r : StoredResource) → IsIn r rs → IsIn r s.resources) → IsIn own rs
           → admits asked rs ≡ Some (admission_on f asked own)
@@ -68,10 +68,10 @@ module _ (s : Records) (sound : IsSound s) (f : Standing) (standing : IsStanding
           elim (cases_eq r.at f.res) [
             | inl same ↦
                 ap (λ (x : StoredResource). admission_or asked (plain_resource x) (granted_row x) (admits asked rest))
-                (resource_alone f.res s.resources own r sound.resources_apart standing.found (within r (inl refl)) same)
+                (resource_alone f.res s.resources own r sound.resources_apart located.found (within r (inl refl)) same)
                 ∙ ap (λ o. admission_or asked (plain_resource own) o (admits asked rest)) found
             | inr differs ↦ elim among [
-              | inl here ↦ absurd (differs (ap (λ (x : StoredResource). x.at) here ∙ resource_at-at f.res s.resources own standing.found))
+              | inl here ↦ absurd (differs (ap (λ (x : StoredResource). x.at) here ∙ resource_at-at f.res s.resources own located.found))
               | inr there ↦
                   ap (λ o. admission_or asked (plain_resource r) o (admits asked rest)) (find-absent f.row.pid f.row.lkid r.granted (on_no_other r (within r (inl refl)) differs))
                   ∙ of_list rest (λ x later. within x (inr later)) there
@@ -94,7 +94,7 @@ module _ (s : Records) (sound : IsSound s) (f : Standing) (standing : IsStanding
 
   -- a lock in the granted queue is granted
   pub granted_here : f.queue ≡ Granted → is_granted f.row.pid f.row.lkid (plain_resources s) ≡ true
-  granted_here granted = of_list s.resources (own_among s sound f standing)
+  granted_here granted = of_list s.resources (own_among s sound f located)
     where
       of_list : (rs : List StoredResource) → IsIn own rs → is_granted f.row.pid f.row.lkid (map plain_resource rs) ≡ true
       of_list [] among = absurd among
@@ -116,39 +116,39 @@ module _ (s : Records) (sound : IsSound s) (f : Standing) (standing : IsStanding
           ap (λ b. b || is_granted f.row.pid f.row.lkid (map plain_resource rest)) (any-absent f.row.pid f.row.lkid r.granted (in_no_granted ungranted r (within r (inl refl))))
           ∙ of_list rest (λ x later. within x (inr later))
 
-module _ (m : MachineState) (sound : IsSound m.records) (c : Conversion) (f : Standing) (standing : IsStandingOf c.pid (convert_lkid (plain_state m) c) f m.records) where
+module _ (m : MachineState) (sound : IsSound m.records) (c : Conversion) (f : LocatedLock) (located : IsLocatedLockOf c.pid (convert_lkid (plain_state m) c) f m.records) where
   -- the conversion by the lock that stands
   by_lock : (asked : Request) → asked ≡ convert_request (plain_state m) c → convert_admission (plain_state m) c ≡ admission_among asked f.row.pid f.row.lkid (plain_resources m.records)
   unfolding convert_admission
   by_lock asked is =
       ap (λ q. admission_among q c.pid (convert_lkid (plain_state m) c) (plain_resources m.records)) (sym is)
-      ∙ ap (λ pid. admission_among asked pid (convert_lkid (plain_state m) c) (plain_resources m.records)) (sym standing.owned)
-      ∙ ap (λ lkid. admission_among asked f.row.pid lkid (plain_resources m.records)) (sym standing.named)
+      ∙ ap (λ pid. admission_among asked pid (convert_lkid (plain_state m) c) (plain_resources m.records)) (sym located.owned)
+      ∙ ap (λ lkid. admission_among asked f.row.pid lkid (plain_resources m.records)) (sym located.named)
 
   -- a conversion of a granted lock is admitted
-  pub is_admitted : (asked : Request) → asked ≡ convert_request (plain_state m) c → f.queue ≡ Granted → convert_admission (plain_state m) c ≡ Some (admission_on f asked standing.standing.resource)
-  is_admitted asked is granted = by_lock asked is ∙ admitted_here m.records sound f standing.standing asked granted
+  pub is_admitted : (asked : Request) → asked ≡ convert_request (plain_state m) c → f.queue ≡ Granted → convert_admission (plain_state m) c ≡ Some (admission_on f asked located.located.resource)
+  is_admitted asked is granted = by_lock asked is ∙ admitted_here m.records sound f located.located asked granted
 
   -- and one of another lock is not
   pub not_admitted : f.queue ≢ Granted → convert_admission (plain_state m) c ≡ None
-  not_admitted ungranted = by_lock (convert_request (plain_state m) c) refl ∙ admitted_nowhere m.records sound f standing.standing (convert_request (plain_state m) c) ungranted
+  not_admitted ungranted = by_lock (convert_request (plain_state m) c) refl ∙ admitted_nowhere m.records sound f located.located (convert_request (plain_state m) c) ungranted
 
-module _ (m : MachineState) (sound : IsSound m.records) (d : Dequeue) (f : Standing) (admitted : IsAdmittedDequeue m d f) where
+module _ (m : MachineState) (sound : IsSound m.records) (d : Dequeue) (f : LocatedLock) (admitted : IsAdmittedDequeue m d f) where
   -- whether the lock is granted, by the lock that stands
   is_by_lock : is_granted d.pid (dequeue_lkid (plain_state m) d) (plain_resources m.records) ≡ is_granted f.row.pid f.row.lkid (plain_resources m.records)
   is_by_lock =
-      ap (λ pid. is_granted pid (dequeue_lkid (plain_state m) d) (plain_resources m.records)) (sym admitted.standing.owned)
-      ∙ ap (λ lkid. is_granted f.row.pid lkid (plain_resources m.records)) (sym admitted.standing.named)
+      ap (λ pid. is_granted pid (dequeue_lkid (plain_state m) d) (plain_resources m.records)) (sym admitted.located.owned)
+      ∙ ap (λ lkid. is_granted f.row.pid lkid (plain_resources m.records)) (sym admitted.located.named)
 
   -- the cancel of a granted lock is refused
   pub cancel_refused : has_flag d.flags cancel ≡ true → f.queue ≡ Granted → cancel_refusal (plain_state m) d ≡ Some Cancelgrant
   unfolding cancel_refusal
-  cancel_refused cancels granted = rw (cancels, is_by_lock ∙ granted_here m.records sound f admitted.standing.standing granted) refl
+  cancel_refused cancels granted = rw (cancels, is_by_lock ∙ granted_here m.records sound f admitted.located.located granted) refl
 
   -- the cancel of another lock is not
   pub cancel_passes : f.queue ≢ Granted → cancel_refusal (plain_state m) d ≡ None
   unfolding cancel_refusal
-  cancel_passes ungranted = rw (is_by_lock ∙ granted_nowhere m.records sound f admitted.standing.standing ungranted) (of_flag (has_flag d.flags cancel))
+  cancel_passes ungranted = rw (is_by_lock ∙ granted_nowhere m.records sound f admitted.located.located ungranted) (of_flag (has_flag d.flags cancel))
     where
       of_flag : (b : Bool) → cond (b && false) (Some Cancelgrant) None ≡ None
       of_flag true = refl

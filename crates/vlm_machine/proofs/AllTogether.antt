@@ -4,7 +4,7 @@ use Rattle.std.proofs.Common.{◌≡◌, ◌<◌, ◌≤◌, ◌+◌, ◌-◌, �
 use Rattle.std.specs.Prelude.{◌==◌}
 use Rattle.std.specs.List.{list_any, range_with_len}
 use Rattle.std.proofs.lemmas.Bool.{and_parts, cond_both, eqb-true, or_cases, or_right}
-use Rattle.vlm_words.specs.declared.locks.Row.{Row}
+use Rattle.vlm_words.specs.declared.locks.LockRow.{LockRow}
 use Rattle.vlm_words.specs.declared.resources.Queue.{Queue}
 use Rattle.vlm_words.specs.declared.resources.Queue.TheVariants.{Granted, Conversion, Waiting}
 use Rattle.vlm_words.specs.declared.steps.Dequeue.{Dequeue}
@@ -20,18 +20,18 @@ use Rattle.vlm_model.proofs.Together.{OfOneEach, dequeues_apart, from_on}
 use Rattle.vlm_collections.specs.Lists.{IsIn}
 use Rattle.vlm_store.specs.Plain.{plain_processes, plain_resource, plain_resources}
 use Rattle.vlm_store.specs.Records.{IsSound, Records, StoredLock, StoredResource, Stores, queued, rows_of_locks}
-use Rattle.vlm_locks.specs.declared.giving_up.Choice.{Choice}
-use Rattle.vlm_locks.specs.declared.giving_up.Choice.TheVariants.{All, Below}
-use Rattle.vlm_locks.specs.GivingUp.{AreChosen, AreGivenUp, IsOwnChoice, Rise, SublocksGoToo, is_chosen}
+use Rattle.vlm_locks.specs.declared.joint_withdrawals.Scope.{Scope}
+use Rattle.vlm_locks.specs.declared.joint_withdrawals.Scope.TheVariants.{All, Below}
+use Rattle.vlm_locks.specs.GivingUp.{AreChosen, AreGivenUp, IsOwnScope, Rise, SublocksGoToo, is_chosen}
 use Rattle.vlm_locks.specs.Left.{giving_up, is_among, resource_left}
 use Rattle.vlm_locks.specs.Rest.{IsAtRest}
 use Rattle.vlm_locks.specs.RunningDown.{CanEndProcesses}
 use Rattle.vlm_locks.specs.Touched.{Touches}
-use Rattle.vlm_locks.proofs.Chosen.{among_in, one_choice}
+use Rattle.vlm_locks.proofs.Chosen.{among_in, one_scope}
 use Rattle.vlm_locks.proofs.ParentsNamed.{parent_named}
 use Rattle.vlm_locks.proofs.Stood.{in_queue, queued_stored}
 use Rattle.vlm_locks.proofs.TogetherDown.{given_up_by_rows}
-use Rattle.vlm_machine.specs.Admissions.{choice_of}
+use Rattle.vlm_machine.specs.Admissions.{scope_of}
 use Rattle.vlm_machine.specs.Between.{IsBetweenSteps}
 use Rattle.vlm_machine.specs.Machine.{MachineState, plain_state}
 use Rattle.vlm_machine.specs.Notes.{IsToSweep}
@@ -50,7 +50,7 @@ gives_up d = giving_up by_abort by_abort (has_flag d.flags invvalblk)
 -- ---- the choice
 
 -- the choice takes what the dequeue takes
-chosen_is : (top lkid : ℕ) (resources : List Resource) → is_chosen (choice_of top) resources lkid ≡ ((top == 0) || is_below 15 top resources lkid)
+chosen_is : (top lkid : ℕ) (resources : List Resource) → is_chosen (scope_of top) resources lkid ≡ ((top == 0) || is_below 15 top resources lkid)
 chosen_is zero lkid resources = refl
 chosen_is (suc n) lkid resources = rw (ne_eqb (suc n) 0 (λ none. cc)) refl
 
@@ -217,7 +217,7 @@ module _ (m : MachineState) (d : Dequeue) (all : has_flag d.flags deqall ≡ tru
 
 module _ (m : MachineState) (sound : IsSound m.records) (rest : IsAtRest m.records) (between : IsBetweenSteps (plain_state m)) where
   -- with a chosen lock its sublocks are chosen, since no lock is more than 15 levels below another
-  pub sublocks_go_too : (choice : Choice) (pid : ℕ) → IsOwnChoice choice pid m.records → SublocksGoToo choice m.records
+  pub sublocks_go_too : (choice : Scope) (pid : ℕ) → IsOwnScope choice pid m.records → SublocksGoToo choice m.records
   sublocks_go_too All pid own at other row up stored stored_up names chosen = refl
   sublocks_go_too (Below top) pid own at other row up stored stored_up names chosen =
       let resources : List Resource = plain_resources m.records in
@@ -227,11 +227,11 @@ module _ (m : MachineState) (sound : IsSound m.records) (rest : IsAtRest m.recor
       (ap (is_below 15 top resources) parent ∙ chosen))
 
   -- where a lock is stored, some identification was given
-  some_given : (at : ℕ) (row : Row) → Stores m.records at row → 0 < m.next_lkid
+  some_given : (at : ℕ) (row : LockRow) → Stores m.records at row → 0 < m.next_lkid
   some_given at row stored = omega (arith, above_all m.records m.next_lkid between.identifications.none_to_come at row stored)
 
   -- each lock of the process is one of its own locks
-  own_listed : (pid at : ℕ) (row : Row) → Stores m.records at row → row.pid ≡ pid
+  own_listed : (pid at : ℕ) (row : LockRow) → Stores m.records at row → row.pid ≡ pid
       → list_any (λ n. row.lkid == n) (own_lkids (λ p. p == pid) (plain_state m)) ≡ true
   own_listed pid at row stored owned =
       let stands = in_queue m.records at row stored in
@@ -241,7 +241,7 @@ module _ (m : MachineState) (sound : IsSound m.records) (rest : IsAtRest m.recor
 
   -- and each of these is that of a stored lock of the process
   own_stored : (pid lkid : ℕ) → list_any (has_lock_among (λ p. p == pid) lkid) (plain_resources m.records) ≡ true
-      → (at : ℕ) × (row : Row) × (Stores m.records at row × (row.lkid ≡ lkid) × (row.pid ≡ pid))
+      → (at : ℕ) × (row : LockRow) × (Stores m.records at row × (row.lkid ≡ lkid) × (row.pid ≡ pid))
   own_stored pid lkid some =
       let found = one_passes plain_resource (has_lock_among (λ p. p == pid) lkid) m.records.resources some in
       let one : IsOneOn pid lkid found.0 = one_on pid lkid found.0 found.1.1 in
@@ -250,7 +250,7 @@ module _ (m : MachineState) (sound : IsSound m.records) (rest : IsAtRest m.recor
 
   module _ (d : Dequeue) where
     -- the locks that the dequeue takes are the chosen ones of the caller
-    pub dequeued_are_chosen : (choice : Choice) → choice ≡ choice_of (dequeue_lkid (plain_state m) d) → AreChosen choice d.pid m.records (taken_lkids (plain_state m) d)
+    pub dequeued_are_chosen : (choice : Scope) → choice ≡ scope_of (dequeue_lkid (plain_state m) d) → AreChosen choice d.pid m.records (taken_lkids (plain_state m) d)
     dequeued_are_chosen choice is = record {
       rise =
           rise_filter (is_dequeued (plain_state m) d) (own_lkids (λ pid. pid == d.pid) (plain_state m))
@@ -269,23 +269,23 @@ module _ (m : MachineState) (sound : IsSound m.records) (rest : IsAtRest m.recor
       where
         same : (lkid : ℕ) → is_chosen choice (plain_resources m.records) lkid ≡ is_dequeued (plain_state m) d lkid
         same lkid =
-            ap (λ (c : Choice). is_chosen c (plain_resources m.records) lkid) is
+            ap (λ (c : Scope). is_chosen c (plain_resources m.records) lkid) is
             ∙ chosen_is (dequeue_lkid (plain_state m) d) lkid (plain_resources m.records)
 
     -- where they are given up together, the plain machine has made the change of the dequeue
     pub state_given_up : has_flag d.flags deqall ≡ true → has_flag d.flags cancel ≡ false → d.value ≡ None → d.tail ≡ None
-        → (choice : Choice) → choice ≡ choice_of (dequeue_lkid (plain_state m) d) → (new : Records) (before after : Touches)
+        → (choice : Scope) → choice ≡ scope_of (dequeue_lkid (plain_state m) d) → (new : Records) (before after : Touches)
         → AreGivenUp choice (has_flag d.flags invvalblk) d.pid m.records new before after → plain_state (record m { records = new }) ≡ deq_change (plain_state m) d
     state_given_up all goes plain short choice is new before after given =
         let same : given.lkids ≡ taken_lkids (plain_state m) d =
-        one_choice choice d.pid m.records given.lkids (taken_lkids (plain_state m) d) given.chosen (dequeued_are_chosen choice is) in
+        one_scope choice d.pid m.records given.lkids (taken_lkids (plain_state m) d) given.chosen (dequeued_are_chosen choice is) in
         state_left m d all goes plain short new
         (given.left.resources ∙ ap (λ (lkids : List ℕ). map (resource_left (is_among lkids) (has_flag d.flags invvalblk)) (plain_resources m.records)) same)
         (given.statuses
         ∙ ap (λ (lkids : List ℕ). processes_after (withdrawn_endings (map (gives_up d) lkids) (plain_resources m.records)) (plain_processes m.records)) same)
 
 -- what is left to sweep is noted
-pub to_sweep_given_up : (old new : MachineState) (choice : Choice) (invalidates : Bool) (pid : ℕ) (before after : Touches) → IsBetweenSteps (plain_state old)
+pub to_sweep_given_up : (old new : MachineState) (choice : Scope) (invalidates : Bool) (pid : ℕ) (before after : Touches) → IsBetweenSteps (plain_state old)
     → AreGivenUp choice invalidates pid old.records new.records before after → CanEndProcesses after new.records → IsToSweep after new
 to_sweep_given_up old new choice invalidates pid before after between given left =
     to_sweep_left old new (is_among given.lkids) invalidates after between given.left.resources given.left.only_touched left.noted

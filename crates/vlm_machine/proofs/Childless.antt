@@ -5,7 +5,7 @@ use Rattle.std.specs.List.{AllByRecursion, list_any, sum_by}
 use Rattle.std.proofs.lemmas.List.Elements.{recursion_from_All}
 use Rattle.std.proofs.lemmas.Bool.{or_right}
 use Rattle.vlm_words.specs.declared.conditions.Cond.TheVariants.{Sublocks}
-use Rattle.vlm_words.specs.declared.locks.Row.{Row}
+use Rattle.vlm_words.specs.declared.locks.LockRow.{LockRow}
 use Rattle.vlm_words.specs.declared.resources.Queue.{Queue}
 use Rattle.vlm_words.specs.declared.resources.Queue.TheVariants.{Granted, Conversion, Waiting}
 use Rattle.vlm_model.specs.Dequeue.{has_sublock, has_sublock_on, sublocks_refusal}
@@ -16,8 +16,8 @@ use Rattle.vlm_collections.specs.Lists.{IsIn}
 use Rattle.vlm_records.specs.declared.handles.Place.TheVariants.{Queued}
 use Rattle.vlm_store.specs.Plain.{plain_resource, plain_resources}
 use Rattle.vlm_store.specs.Records.{HasNoSublocks, IsSound, OwnLock, Records, StoredLock, StoredProcess, StoredResource, Stores, locks_at, queued, rows_of_locks}
-use Rattle.vlm_locks.specs.declared.finding.Standing.{Standing}
-use Rattle.vlm_locks.specs.Standing.{IsStanding}
+use Rattle.vlm_locks.specs.declared.located_locks.LocatedLock.{LocatedLock}
+use Rattle.vlm_locks.specs.Standing.{IsLocated}
 use Rattle.vlm_locks.specs.Withdrawing.{goes}
 use Rattle.vlm_locks.proofs.Stood.{in_queue, one_lock, queued_stored, stands, stored}
 use Rattle.vlm_machine.specs.Machine.{MachineState, plain_state}
@@ -31,27 +31,27 @@ pub held_stands : (r : StoredResource) (lkid pid : ℕ) → HoldsOn lkid pid (pl
 held_stands r lkid pid holds = of_granted r.granted (λ k here. here) holds
   where
     of_converting : (locks : List StoredLock) → ((k : StoredLock) → IsIn k locks → IsIn k r.converting)
-        → Any (λ (row : Row). (row.lkid ≡ lkid) × (row.pid ≡ pid)) (rows_of_locks locks)
+        → Any (λ (row : LockRow). (row.lkid ≡ lkid) × (row.pid ≡ pid)) (rows_of_locks locks)
         → (k : StoredLock) × (queue : Queue) × (IsIn k (queued queue r) × (queue ≢ Waiting) × (k.row.lkid ≡ lkid) × (k.row.pid ≡ pid))
-    of_converting [] within any = absurd (Any-none (λ (row : Row). (row.lkid ≡ lkid) × (row.pid ≡ pid)) any)
+    of_converting [] within any = absurd (Any-none (λ (row : LockRow). (row.lkid ≡ lkid) × (row.pid ≡ pid)) any)
     of_converting (k ∷ rest) within any =
-        elim (Any-cases (λ (row : Row). (row.lkid ≡ lkid) × (row.pid ≡ pid)) k.row (rows_of_locks rest) any) [
+        elim (Any-cases (λ (row : LockRow). (row.lkid ≡ lkid) × (row.pid ≡ pid)) k.row (rows_of_locks rest) any) [
           | inl here ↦ (k, Conversion, (within k (inl refl), (λ e. cc), here.0, here.1))
           | inr there ↦ of_converting rest (λ x later. within x (inr later)) there
         ]
 
     of_granted : (locks : List StoredLock) → ((k : StoredLock) → IsIn k locks → IsIn k r.granted)
-        → Any (λ (row : Row). (row.lkid ≡ lkid) × (row.pid ≡ pid)) (rows_of_locks locks ++ rows_of_locks r.converting)
+        → Any (λ (row : LockRow). (row.lkid ≡ lkid) × (row.pid ≡ pid)) (rows_of_locks locks ++ rows_of_locks r.converting)
         → (k : StoredLock) × (queue : Queue) × (IsIn k (queued queue r) × (queue ≢ Waiting) × (k.row.lkid ≡ lkid) × (k.row.pid ≡ pid))
     of_granted [] within any = of_converting r.converting (λ k here. here) any
     of_granted (k ∷ rest) within any =
-        elim (Any-cases (λ (row : Row). (row.lkid ≡ lkid) × (row.pid ≡ pid)) k.row (rows_of_locks rest ++ rows_of_locks r.converting) any) [
+        elim (Any-cases (λ (row : LockRow). (row.lkid ≡ lkid) × (row.pid ≡ pid)) k.row (rows_of_locks rest ++ rows_of_locks r.converting) any) [
           | inl here ↦ (k, Granted, (within k (inl refl), (λ e. cc), here.0, here.1))
           | inr there ↦ of_granted rest (λ x later. within x (inr later)) there
         ]
 
 -- what holds of each row of a resource holds of the row of a lock in one of its queues
-pub of_queue : (r : StoredResource) (queue : Queue) (k : StoredLock) (P : Row → Type 0)
+pub of_queue : (r : StoredResource) (queue : Queue) (k : StoredLock) (P : LockRow → Type 0)
     → AllByRecursion P (rows_of_locks r.granted ++ rows_of_locks r.converting ++ rows_of_locks r.waiting) → IsIn k (queued queue r) → P k.row
 of_queue r queue k P each = of_its queue
   where
@@ -63,7 +63,7 @@ of_queue r queue k P each = of_its queue
           | inr later ↦ in_rows rest all.1 later
         ]
 
-    parts : (xs ys : List Row) → AllByRecursion P (xs ++ ys) → AllByRecursion P xs × AllByRecursion P ys
+    parts : (xs ys : List LockRow) → AllByRecursion P (xs ++ ys) → AllByRecursion P xs × AllByRecursion P ys
     parts [] ys all = (tt, all)
     parts (x ∷ xs) ys all = let rest = parts xs ys all.1 in ((all.0, rest.0), rest.1)
 
@@ -111,16 +111,16 @@ among_all_some lkid (x ∷ rest) r among is =
       | inr there ↦ or_right (has_sublock_on lkid (plain_resource x)) (list_any (has_sublock_on lkid) (map plain_resource rest)) (among_all_some lkid rest r there is)
     ]
 
-module _ (s : Records) (sound : IsSound s) (f : Standing) (standing : IsStanding f s) where
+module _ (s : Records) (sound : IsSound s) (f : LocatedLock) (located : IsLocated f s) where
   -- no lock of a process's list has sublocks that are not rows of it
   pub none_in_rows : f.row.lkid ≢ 0 → HasNoSublocks f.lock s → list_any (has_sublock_on f.row.lkid) (plain_resources s) ≡ false
   none_in_rows named childless = of_list s.resources (λ r here. here)
     where
-      none_stored : (at : ℕ) (row : Row) → Stores s at row → row.parent ≢ f.row.lkid
+      none_stored : (at : ℕ) (row : LockRow) → Stores s at row → row.parent ≢ f.row.lkid
       none_stored at row there is =
           let parent = sound.owned.named at row there (λ zero. named (sym is ∙ zero)) in
           let same : parent.1.at ≡ f.lock =
-          sound.lkids_apart parent.1.at f.lock parent.2 f.row parent.3.3 (stored s f standing) (parent.3.4 ∙ is) in
+          sound.lkids_apart parent.1.at f.lock parent.2 f.row parent.3.3 (stored s f located) (parent.3.4 ∙ is) in
           subst (IsIn at) (childless parent.0 parent.1 parent.3.0 parent.3.1 same) parent.3.2
 
       none_on : (r : StoredResource) → IsIn r s.resources → (queue : Queue) → has_sublock f.row.lkid (rows_of_locks (queued queue r)) ≡ false
@@ -137,12 +137,12 @@ module _ (s : Records) (sound : IsSound s) (f : Standing) (standing : IsStanding
 
   -- a sublock in the list of the lock is a stored lock whose row names it
   sublock_stored : (p : StoredProcess) (own : OwnLock) (at : ℕ) → IsIn p s.processes → IsIn own p.own → own.at ≡ f.lock → IsIn at own.sublocks
-      → (row : Row) × (Stores s at row × (row.parent ≡ f.row.lkid))
+      → (row : LockRow) × (Stores s at row × (row.parent ≡ f.row.lkid))
   sublock_stored p own at among here same is_in =
       let below = sound.owned.below p own at among here is_in in
       let up : below.0 ≡ f.row =
-      one_lock s sound f.lock below.0 f.row (subst (λ x. Stores s x below.0) same below.2.0) (stored s f standing) in
-      (below.1, (below.2.1, below.2.2 ∙ ap (λ (x : Row). x.lkid) up))
+      one_lock s sound f.lock below.0 f.row (subst (λ x. Stores s x below.0) same below.2.0) (stored s f located) in
+      (below.1, (below.2.1, below.2.2 ∙ ap (λ (x : LockRow). x.lkid) up))
 
   -- where no row of all names the lock as its parent, it has no sublocks
   no_rows_childless : list_any (has_sublock_on f.row.lkid) (plain_resources s) ≡ false → HasNoSublocks f.lock s
@@ -170,7 +170,7 @@ module _ (s : Records) (sound : IsSound s) (f : Standing) (standing : IsStanding
   -- no lock has the identification 0
   pub not_zero : sum_by (rows_on 0) (plain_resources s) ≡ 0 → f.row.lkid ≢ 0
   not_zero none is =
-      let there = in_queue s f.lock f.row (stored s f standing) in
+      let there = in_queue s f.lock f.row (stored s f located) in
       let one = counted_on 0 there.resource there.queue (record { at = f.lock; row = f.row }) there.among is in
       let all = counted_all 0 s.resources there.resource there.there in
       absurd (omega (arith, one, all, none))
@@ -186,12 +186,12 @@ module _ (s : Records) (sound : IsSound s) (f : Standing) (standing : IsStanding
         | inl here ↦ (let held = held_stands r f.row.lkid pid here.1 in
             let k : StoredLock = held.0 in
             let is_stored : Stores s k.at k.row = queued_stored s sound r (within r (inl refl)) held.1 k held.2.0 in
-            let same : k.at ≡ f.lock = sound.lkids_apart k.at f.lock k.row f.row is_stored (stored s f standing) held.2.2 in
+            let same : k.at ≡ f.lock = sound.lkids_apart k.at f.lock k.row f.row is_stored (stored s f located) held.2.2 in
             let there : IsIn (record { at = f.lock; row = k.row }) (locks_at (Queued r.at held.1) s) =
             subst (λ x. IsIn (record { at = x; row = k.row }) (locks_at (Queued r.at held.1) s)) same
             (subst (IsIn k) (sym (queue_at s sound r (within r (inl refl)) held.1)) held.2.0) in
             let place : Queued r.at held.1 ≡ Queued f.res f.queue =
-            sound.one_place f.lock k.row f.row (Queued r.at held.1) (Queued f.res f.queue) there (stands s f standing) in
+            sound.one_place f.lock k.row f.row (Queued r.at held.1) (Queued f.res f.queue) there (stands s f located) in
             held.2.1 (same_queue r.at f.res held.1 f.queue place ∙ waits))
         | inr there ↦ none_waits waits rest (λ x later. within x (inr later)) serial pid there
       ]
@@ -208,7 +208,7 @@ module _ (s : Records) (sound : IsSound s) (f : Standing) (standing : IsStanding
       of_list [] is = refl
       of_list (at ∷ rest) is =
           let below = sublock_stored p own at among here same (subst (IsIn at) (sym is) (inl refl)) in
-          let row : Row = below.0 in
+          let row : LockRow = below.0 in
           let in_q = in_queue s at row below.1.0 in
           let its : HasItsParent (plain_resources s) (plain_resource in_q.resource) row =
           of_queue in_q.resource in_q.queue (record { at = at; row = row }) (HasItsParent (plain_resources s) (plain_resource in_q.resource))
@@ -230,18 +230,18 @@ by_recursion resources all =
 
 -- ---- the check of a dequeue
 
-module _ (m : MachineState) (sound : IsSound m.records) (f : Standing) (standing : IsStanding f m.records) (cancels : Bool) where
+module _ (m : MachineState) (sound : IsSound m.records) (f : LocatedLock) (located : IsLocated f m.records) (cancels : Bool) where
   -- a lock with sublocks is not given up
   pub sublocks_refused : cancels ≡ false → ¬ HasNoSublocks f.lock m.records → Some Sublocks ≡ sublocks_refusal (plain_state m) cancels f.row.lkid
   unfolding sublocks_refusal
-  sublocks_refused plain has = rw (plain, some_in_rows m.records sound f standing has) refl
+  sublocks_refused plain has = rw (plain, some_in_rows m.records sound f located has) refl
 
   -- one without is
   pub sublocks_pass : sum_by (rows_on 0) (plain_resources m.records) ≡ 0 → HasNoSublocks f.lock m.records
       → None ≡ sublocks_refusal (plain_state m) cancels f.row.lkid
   unfolding sublocks_refusal
   sublocks_pass no_lkid_0 childless =
-      rw (none_in_rows m.records sound f standing (not_zero m.records sound f standing no_lkid_0) childless) (of_flag cancels)
+      rw (none_in_rows m.records sound f located (not_zero m.records sound f located no_lkid_0) childless) (of_flag cancels)
     where
       of_flag : (b : Bool) → None ≡ cond (not b && false) (Some Sublocks) None
       of_flag true = refl

@@ -1,7 +1,7 @@
 -- Processes that go from the records go from the plain machine, with all their locks.
 use Rattle.std.proofs.Common.{◌≡◌, ◌<◌, ℕ, Bool, true, List, [], ◌∷◌, length, map, sym, ap, ◌∙◌, subst, arith}
 use Rattle.std.specs.List.{AllByRecursion}
-use Rattle.vlm_words.specs.declared.locks.Row.{Row}
+use Rattle.vlm_words.specs.declared.locks.LockRow.{LockRow}
 use Rattle.vlm_model.specs.Rundown.{rundowns, state_after_rundown}
 use Rattle.vlm_words.specs.State.{Node, Process, Resource, State}
 use Rattle.vlm_model.specs.Withdrawals.{resource_after_withdrawals}
@@ -64,7 +64,7 @@ rise_plain (r ∷ rs) pairs = (each_above rs pairs.0, rise_plain rs pairs.1)
     each_above (x ∷ later) all = (all.0, each_above later all.1)
 
 -- and where locks go they stay
-rise_still : (goes : Row → Bool) (invalidates : Bool) (rs : List Resource) → EachPair (λ a b. a.serial < b.serial) rs
+rise_still : (goes : LockRow → Bool) (invalidates : Bool) (rs : List Resource) → EachPair (λ a b. a.serial < b.serial) rs
     → EachPair (λ a b. a.serial < b.serial) (map (resource_left goes invalidates) rs)
 unfolding resource_left
 rise_still goes invalidates [] pairs = tt
@@ -76,7 +76,7 @@ rise_still goes invalidates (r ∷ rs) pairs = (each_above rs pairs.0, rise_stil
     each_above (x ∷ later) all = (all.0, each_above later all.1)
 
 -- where locks are gone, what is left to sweep is noted
-pub to_sweep_left : (old new : MachineState) (goes : Row → Bool) (invalidates : Bool) (after : Touches) → IsBetweenSteps (plain_state old)
+pub to_sweep_left : (old new : MachineState) (goes : LockRow → Bool) (invalidates : Bool) (after : Touches) → IsBetweenSteps (plain_state old)
     → plain_resources new.records ≡ map (resource_left goes invalidates) (plain_resources old.records)
     → OnlyTouched after.noted old.records new.records → AreThere after.noted new.records → IsToSweep after new
 to_sweep_left old new goes invalidates after between left only_touched noted = record {

@@ -1,7 +1,7 @@
 -- A new request that is admitted, and its lock that has entered: the plain machine's change.
 use Rattle.std.proofs.Common.{◌≡◌, ◌+◌, ℕ, Bool, true, List, [], cond, find, unwrap_or, Option, None, Some, is_some, sym, ap, ◌∙◌, arith}
 use Rattle.vlm_words.specs.declared.locks.Request.{Request}
-use Rattle.vlm_words.specs.declared.locks.Row.{Row}
+use Rattle.vlm_words.specs.declared.locks.LockRow.{LockRow}
 use Rattle.vlm_words.specs.declared.resources.Site.{Site}
 use Rattle.vlm_words.specs.declared.steps.NewRequest.{NewRequest}
 use Rattle.vlm_model.specs.Effects.{blocks_after, blocks_with}
@@ -16,7 +16,7 @@ use Rattle.vlm_model.specs.StatusBlocks.{processes_after_acceptance}
 use Rattle.vlm_locks.specs.Entering.{new_row, processes_entered, resource_for}
 use Rattle.vlm_model.specs.Trees.{enq_site}
 use Rattle.vlm_locks.specs.Rest.{IsAtRest}
-use Rattle.vlm_locks.specs.declared.entering.Entry.{Entry}
+use Rattle.vlm_locks.specs.declared.new_locks.NewLock.{NewLock}
 use Rattle.vlm_locks.proofs.Keyed.{has_none, has_one}
 use Rattle.vlm_machine.specs.Admissions.{IsEntry}
 use Rattle.vlm_machine.specs.Machine.{MachineState, plain_state}
@@ -26,60 +26,60 @@ pub is_at_once-new : (serial : ℕ) (site : Site) (request : Request) → is_at_
 unfolding is_at_once fits
 is_at_once-new serial site request = grind arith
 
-module _ (m : MachineState) (e : NewRequest) (entry : Entry) (is : IsEntry m e entry) where
+module _ (m : MachineState) (e : NewRequest) (new_lock : NewLock) (is : IsEntry m e new_lock) where
   abbrev s : State
   s = plain_state m
 
   -- the resource that it finds
-  found_is : resource_for entry s.resources ≡ enq_resource s e
+  found_is : resource_for new_lock s.resources ≡ enq_resource s e
   unfolding enq_resource
   found_is =
-      ap (λ serial. unwrap_or (find (is_at entry.site.key) s.resources) (new_resource serial entry.site)) is.serial
+      ap (λ serial. unwrap_or (find (is_at new_lock.site.key) s.resources) (new_resource serial new_lock.site)) is.serial
       ∙ ap (λ (x : Site). unwrap_or (find (is_at x.key) s.resources) (new_resource m.next_serial x)) is.site
 
   -- the resources once it has entered
   pub resources_are : (t : Records)
-      → plain_resources t ≡ resources_after_entry entry.serial entry.site (new_row entry) entry.at_once s.resources
+      → plain_resources t ≡ resources_after_entry new_lock.serial new_lock.site (new_row new_lock) new_lock.at_once s.resources
       → plain_resources t ≡ resources_after_entry m.next_serial (enq_site s e) (enq_row s e) (enq_at_once s e) s.resources
   resources_are t entered =
       entered
-      ∙ ap (λ serial. resources_after_entry serial entry.site (new_row entry) entry.at_once s.resources) is.serial
-      ∙ ap (λ (x : Site). resources_after_entry m.next_serial x (new_row entry) entry.at_once s.resources) is.site
-      ∙ ap (λ x. resources_after_entry m.next_serial (enq_site s e) x entry.at_once s.resources) is.row
+      ∙ ap (λ serial. resources_after_entry serial new_lock.site (new_row new_lock) new_lock.at_once s.resources) is.serial
+      ∙ ap (λ (x : Site). resources_after_entry m.next_serial x (new_row new_lock) new_lock.at_once s.resources) is.site
+      ∙ ap (λ x. resources_after_entry m.next_serial (enq_site s e) x new_lock.at_once s.resources) is.row
       ∙ ap (λ b. resources_after_entry m.next_serial (enq_site s e) (enq_row s e) b s.resources) is.at_once
 
   -- the processes once it is accepted
-  pub processes_are : (u : Records) → plain_processes u ≡ processes_entered entry (resource_for entry s.resources).value_block s.processes → plain_processes u ≡ enq_processes s e
+  pub processes_are : (u : Records) → plain_processes u ≡ processes_entered new_lock (resource_for new_lock s.resources).value_block s.processes → plain_processes u ≡ enq_processes s e
   processes_are u statuses =
       statuses
-      ∙ ap (λ (r : Resource). processes_entered entry r.value_block s.processes) found_is
-      ∙ ap (λ b. written b (new_row entry)) is.at_once
-      ∙ ap (λ (x : Row). written (enq_at_once s e) x) is.row
+      ∙ ap (λ (r : Resource). processes_entered new_lock r.value_block s.processes) found_is
+      ∙ ap (λ b. written b (new_row new_lock)) is.at_once
+      ∙ ap (λ (x : LockRow). written (enq_at_once s e) x) is.row
     where
-      accepted : Option Request → Row → List Process
+      accepted : Option Request → LockRow → List Process
       accepted None row = s.processes
       accepted (Some want) row = processes_after_acceptance row.pid want.block row.lkid s.processes
 
-      written : Bool → Row → List Process
+      written : Bool → LockRow → List Process
       written at_once row =
           (blocks_after (cond at_once (grant_endings true row) []) (blocks_with (enq_resource s e).value_block (accepted row.want row))).processes
 
   -- a serial is given where no resource stands under the handle
-  pub serial_is : IsAtRest m.records → (last last_serial : ℕ) → last_serial + 1 ≡ m.next_serial → last ≡ cond (is_some entry.res) last_serial entry.serial
+  pub serial_is : IsAtRest m.records → (last last_serial : ℕ) → last_serial + 1 ≡ m.next_serial → last ≡ cond (is_some new_lock.res) last_serial new_lock.serial
       → last + 1 ≡ cond (has_resource (enq_key s e) s.resources) m.next_serial (m.next_serial + 1)
-  serial_is rest last last_serial next given = of_found entry.res is.found given
+  serial_is rest last last_serial next given = of_found new_lock.res is.found given
     where
-      under : has_resource entry.site.key s.resources ≡ has_resource (enq_key s e) s.resources
+      under : has_resource new_lock.site.key s.resources ≡ has_resource (enq_key s e) s.resources
       under = ap (λ (x : Site). has_resource x.key s.resources) is.site
 
-      of_found : (res : Option ℕ) → FindsResource m.records entry.site.key res → last ≡ cond (is_some res) last_serial entry.serial
+      of_found : (res : Option ℕ) → FindsResource m.records new_lock.site.key res → last ≡ cond (is_some res) last_serial new_lock.serial
           → last + 1 ≡ cond (has_resource (enq_key s e) s.resources) m.next_serial (m.next_serial + 1)
       of_found None found given =
           ap (λ n. n + 1) (given ∙ is.serial)
-          ∙ sym (ap (λ b. cond b m.next_serial (m.next_serial + 1)) (sym under ∙ has_none entry.site.domain entry.site.key is.keyed m.records rest found))
+          ∙ sym (ap (λ b. cond b m.next_serial (m.next_serial + 1)) (sym under ∙ has_none new_lock.site.domain new_lock.site.key is.keyed m.records rest found))
       of_found (Some res) found given =
           ap (λ n. n + 1) given ∙ next
-          ∙ sym (ap (λ b. cond b m.next_serial (m.next_serial + 1)) (sym under ∙ has_one entry.site.domain entry.site.key is.keyed m.records rest res found))
+          ∙ sym (ap (λ b. cond b m.next_serial (m.next_serial + 1)) (sym under ∙ has_one new_lock.site.domain new_lock.site.key is.keyed m.records rest res found))
 
   -- the whole change
   pub entered_state : (u : Records) (next_lkid next_request next_serial : ℕ)

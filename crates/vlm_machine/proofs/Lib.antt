@@ -2,7 +2,7 @@ pub mod Admitting
 pub mod AllTogether
 pub mod Callers
 pub mod Childless
-pub mod Conversions
+pub mod ConversionsMade
 pub mod EndOfProcess
 pub mod Entries
 pub mod Made
@@ -11,7 +11,7 @@ pub mod Pairing
 pub mod Roomy
 pub mod Quiet
 pub mod RunDown
-pub mod Searches
+pub mod SearchesMade
 pub mod Settling
 pub mod Siting
 pub mod Stayed

@@ -2,7 +2,7 @@
 use Rattle.std.proofs.Common.{◌≡◌, Option, None, sym, ap, ◌∙◌, inl}
 use Rattle.std.specs.List.{AllByRecursion}
 use Rattle.vlm_words.specs.declared.conditions.Cond.{Cond}
-use Rattle.vlm_words.specs.declared.locks.Row.{Row}
+use Rattle.vlm_words.specs.declared.locks.LockRow.{LockRow}
 use Rattle.vlm_words.specs.declared.steps.Answer.{Answer}
 use Rattle.vlm_words.specs.declared.steps.Step.{Step}
 use Rattle.vlm_model.specs.Settled.{IsSettled}
@@ -12,7 +12,7 @@ use Rattle.vlm_model.specs.Sweeps.{state_after_sweep}
 use Rattle.vlm_machine.proofs.Settling.{unswept}
 
 -- the step is made, with what it chooses, where its change is swept, and its answer given
-pub made_choosing : (s new : State) (step : Step) (choice : Option Row) (answer : Answer) → IsChoice s step choice → None ≡ step_refusal s step
+pub made_choosing : (s new : State) (step : Step) (choice : Option LockRow) (answer : Answer) → IsChoice s step choice → None ≡ step_refusal s step
     → new ≡ state_after_sweep (step_change s step choice).state → answer ≡ (step_change s step choice).answer → Outcome s step new answer
 made_choosing s new step choice answer chosen passed state answered =
     let made : stepped s step choice ≡ stepped_after_sweep (step_change s step choice) = ap (λ (refusal : Option Cond). refused_or refusal s (step_change s step choice)) (sym passed) in

@@ -2,7 +2,7 @@
 use Rattle.std.proofs.Common.{◌≡◌, ◌≤◌, ◌+◌, List, [], ◌∷◌, length, refl, ap, inl, inr, arith}
 use Rattle.std.specs.List.{sum_by}
 use Rattle.std.proofs.lemmas.List.Sums.{sum_by-cons}
-use Rattle.vlm_words.specs.declared.locks.Row.{Row}
+use Rattle.vlm_words.specs.declared.locks.LockRow.{LockRow}
 use Rattle.vlm_words.specs.declared.steps.Answer.{Answer}
 use Rattle.vlm_words.specs.declared.steps.Step.{Step}
 use Rattle.vlm_words.specs.State.{Resource, State, start}
@@ -18,7 +18,7 @@ use Rattle.vlm_machine.specs.Machine.{MachineState, plain_state}
 use Rattle.vlm_machine.specs.Notes.{HasRoomToNote, total_locks_on}
 
 -- each row counts as one
-ones : (rows : List Row) → sum_by one_each rows ≡ length rows
+ones : (rows : List LockRow) → sum_by one_each rows ≡ length rows
 ones [] = refl
 ones (row ∷ rows) = omega (arith, ones rows, sum_by-cons one_each row rows)
 

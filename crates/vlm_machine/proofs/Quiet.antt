@@ -3,7 +3,7 @@ use Rattle.std.proofs.Common.{◌≡◌, ◌&&◌, ℕ, Bool, true, false, cond,
 use Rattle.std.specs.List.{AllByRecursion, list_any}
 use Rattle.std.proofs.lemmas.Bool.{and_parts}
 use Rattle.vlm_words.specs.declared.locks.Request.{Request}
-use Rattle.vlm_words.specs.declared.locks.Row.{Row}
+use Rattle.vlm_words.specs.declared.locks.LockRow.{LockRow}
 use Rattle.vlm_words.specs.declared.resources.Site.{Site}
 use Rattle.vlm_model.specs.Asts.{has_to_warn, is_in_the_way, is_to_warn}
 use Rattle.vlm_model.specs.Enqueue.{is_at_once, is_free_for, resource_after_entry, resources_after_entry}
@@ -15,7 +15,7 @@ use Rattle.vlm_model.specs.Settled.{IsSettled}
 use Rattle.vlm_words.specs.State.{Resource}
 
 -- nobody is warned where nobody is queued
-none_in_the_way : (rows : List Row) → list_any (is_to_warn [] []) rows ≡ false
+none_in_the_way : (rows : List LockRow) → list_any (is_to_warn [] []) rows ≡ false
 unfolding is_to_warn
 none_in_the_way [] = refl
 none_in_the_way (row ∷ rows) = rw (of_row row.armed row.held) (none_in_the_way rows)
@@ -26,7 +26,7 @@ none_in_the_way (row ∷ rows) = rw (of_row row.armed row.held) (none_in_the_way
     of_row false held = refl
 
 -- a resource with a lock more among the granted ones, on which nobody is queued, is settled
-settled_with : (base : Resource) (granted : List Row) (row : Row) (converting waiting : List Row) → is_empty converting ≡ true → is_empty waiting ≡ true
+settled_with : (base : Resource) (granted : List LockRow) (row : LockRow) (converting waiting : List LockRow) → is_empty converting ≡ true → is_empty waiting ≡ true
     → IsSettled (record base { granted = granted ++ row ∷ []; converting = converting; waiting = waiting })
 unfolding service has_to_warn
 settled_with base granted row [] [] none_converts none_waits = record {
@@ -35,14 +35,14 @@ settled_with base granted row [] [] none_converts none_waits = record {
   occupied = of_granted granted;
 }
   where
-    of_granted : (rows : List Row) → (is_empty (rows ++ row ∷ []) && true && true) ≡ false
+    of_granted : (rows : List LockRow) → (is_empty (rows ++ row ∷ []) && true && true) ≡ false
     of_granted [] = refl
     of_granted (first ∷ rest) = refl
 settled_with base granted row [] (x ∷ rest) none_converts none_waits = cc
 settled_with base granted row (x ∷ rest) waiting none_converts none_waits = cc
 
 -- so is one that a lock enters at once, unless the lock is expedited
-entered_quiet : (request : Request) (row : Row) (r : Resource) → is_at_once request r ≡ true → has_flag (flag_bits request.flags) expedite ≡ false
+entered_quiet : (request : Request) (row : LockRow) (r : Resource) → is_at_once request r ≡ true → has_flag (flag_bits request.flags) expedite ≡ false
     → IsSettled (resource_after_entry row true r)
 unfolding is_at_once resource_after_entry
 entered_quiet request row r at_once plain =
@@ -52,7 +52,7 @@ entered_quiet request row r at_once plain =
     settled_with r r.granted _ r.converting r.waiting first.1 parts.1
 
 -- then all resources are settled
-pub all_quiet : (request : Request) (serial : ℕ) (site : Site) (row : Row) (rs : List Resource) → AllByRecursion IsSettled rs
+pub all_quiet : (request : Request) (serial : ℕ) (site : Site) (row : LockRow) (rs : List Resource) → AllByRecursion IsSettled rs
     → is_at_once request (unwrap_or (find (is_at site.key) rs) (new_resource serial site)) ≡ true → has_flag (flag_bits request.flags) expedite ≡ false
     → AllByRecursion IsSettled (resources_after_entry serial site row true rs)
 all_quiet request serial site row [] settled at_once plain = (entered_quiet request row (new_resource serial site) at_once plain, tt)

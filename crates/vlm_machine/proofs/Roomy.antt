@@ -4,7 +4,7 @@ use Rattle.std.specs.Prelude.{◌/◌, ⊤, All}
 use Rattle.std.specs.List.{AllByRecursion}
 use Rattle.std.proofs.lemmas.List.Elements.{recursion_from_All}
 use Rattle.vlm_words.specs.declared.conditions.Cond.{Cond}
-use Rattle.vlm_words.specs.declared.locks.Row.{Row}
+use Rattle.vlm_words.specs.declared.locks.LockRow.{LockRow}
 use Rattle.vlm_words.specs.declared.steps.Answer.{Answer}
 use Rattle.vlm_words.specs.declared.steps.Answer.TheVariants.{Process as process_answer}
 use Rattle.vlm_words.specs.declared.steps.Step.{Step}
@@ -87,7 +87,7 @@ module _ (P : ℕ → Type 0) where
   ended_each is_one nodes s each = each_filter (λ p. P p.pid) (λ p. not (is_one p.pid)) s.processes each
 
   -- the change of a step
-  change_each : (s : State) (step : Step) (choice : Option Row) → Each s.processes → HasNew step (step_change s step choice).answer
+  change_each : (s : State) (step : Step) (choice : Option LockRow) → Each s.processes → HasNew step (step_change s step choice).answer
       → Each (step_change s step choice).state.processes
   unfolding declare_change set_change take_change enq_change deq_change search_change convert_change
   change_each s (Declare d) choice each new =
@@ -111,7 +111,7 @@ module _ (P : ℕ → Type 0) where
       same_pids s.processes (take_change s pid).processes (kept_taken (λ p. p.pid) (λ _ _. refl) pid s.processes) each
 
   -- and the step
-  step_each : (s : State) (step : Step) (choice : Option Row) → Each s.processes → HasNew step (stepped s step choice).answer → Each (stepped s step choice).state.processes
+  step_each : (s : State) (step : Step) (choice : Option LockRow) → Each s.processes → HasNew step (stepped s step choice).answer → Each (stepped s step choice).state.processes
   step_each s step choice each = of_refusal (step_refusal s step)
     where
       change : Stepped

@@ -3,7 +3,7 @@ use Rattle.std.proofs.Common.{◌≡◌, ◌≢◌, ◌<◌, ℕ, List, [], ◌�
 use Rattle.std.specs.Prelude.{All, Any}
 use Rattle.std.specs.List.{AllByRecursion, sum_by}
 use Rattle.std.specs.Option.{option_map_or}
-use Rattle.vlm_words.specs.declared.locks.Row.{Row}
+use Rattle.vlm_words.specs.declared.locks.LockRow.{LockRow}
 use Rattle.vlm_words.specs.declared.resources.Queue.TheVariants.{Granted}
 use Rattle.vlm_model.specs.Laws.{HasItsParent, HoldsOn, IdentificationsAreApart, IsHeld, RowsFit, rows_on}
 use Rattle.vlm_words.specs.State.{Resource, State}
@@ -46,7 +46,7 @@ granted_want_nothing s fit res lock there = of_found (resource_at res s.resource
 
 module _ (s : Records) (sound : IsSound s) where
   -- no lock has the identification 0
-  none_is_0 : sum_by (rows_on 0) (plain_resources s) ≡ 0 → (at : ℕ) (row : Row) → Stores s at row → row.lkid ≢ 0
+  none_is_0 : sum_by (rows_on 0) (plain_resources s) ≡ 0 → (at : ℕ) (row : LockRow) → Stores s at row → row.lkid ≢ 0
   none_is_0 none at row stored is =
       let there = in_queue s at row stored in
       let one = counted_on 0 there.resource there.queue (record { at = at; row = row }) there.among is in
@@ -54,7 +54,7 @@ module _ (s : Records) (sound : IsSound s) where
       absurd (omega (arith, one, all, none))
 
   -- the lock that holds a mode there is the one on record
-  holder_is : (lkid pid at : ℕ) (up : Row) → Stores s at up → lkid ≡ up.lkid → (r : StoredResource) → IsIn r s.resources
+  holder_is : (lkid pid at : ℕ) (up : LockRow) → Stores s at up → lkid ≡ up.lkid → (r : StoredResource) → IsIn r s.resources
       → HoldsOn lkid pid (plain_resource r) → up.pid ≡ pid
   holder_is lkid pid at up stored names r among holds =
       let held = held_stands r lkid pid holds in
@@ -62,7 +62,7 @@ module _ (s : Records) (sound : IsSound s) where
       let is_stored : Stores s k.at k.row = queued_stored s sound r among held.1 k held.2.0 in
       let same : k.at ≡ at = sound.lkids_apart k.at at k.row up is_stored stored (held.2.2 ∙ names) in
       let is : k.row ≡ up = one_lock s sound at k.row up (subst (λ h. Stores s h k.row) same is_stored) stored in
-      sym (ap (λ (row : Row). row.pid) is) ∙ held.2.3
+      sym (ap (λ (row : LockRow). row.pid) is) ∙ held.2.3
 
   -- sublocks are of their parents' processes, where each lock of a sub-resource has its parent
   pub sublocks_are_own : sum_by (rows_on 0) (plain_resources s) ≡ 0

@@ -5,7 +5,7 @@ use Rattle.std.specs.List.{sum_by}
 use Rattle.std.specs.Option.{option_map_or}
 use Rattle.std.proofs.lemmas.List.Sums.{sum_by-cons}
 use Rattle.std.proofs.Math.Nat.{lt_of_not-le}
-use Rattle.vlm_words.specs.declared.locks.Row.{Row}
+use Rattle.vlm_words.specs.declared.locks.LockRow.{LockRow}
 use Rattle.vlm_words.specs.declared.resources.Queue.{Queue}
 use Rattle.vlm_words.specs.declared.resources.Queue.TheVariants.{Granted, Conversion, Waiting}
 use Rattle.vlm_words.specs.declared.steps.Declaration.{Declaration}
@@ -27,7 +27,7 @@ use Rattle.vlm_machine.proofs.Wanting.{each_of}
 -- ---- locks
 
 -- 1 for a row of this lock
-abbrev one_for : ℕ → Row → ℕ
+abbrev one_for : ℕ → LockRow → ℕ
 one_for lkid row = cond (row.lkid == lkid) 1 0
 
 -- a lock in a queue is counted there

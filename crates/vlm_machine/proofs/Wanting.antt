@@ -8,8 +8,8 @@ use Rattle.vlm_model.specs.Laws.{IsHeld, RowsFit}
 use Rattle.vlm_collections.specs.Lists.{IsIn}
 use Rattle.vlm_store.specs.Plain.{plain_resource, plain_resources}
 use Rattle.vlm_store.specs.Records.{Records, StoredLock, queued}
-use Rattle.vlm_locks.specs.declared.finding.Standing.{Standing}
-use Rattle.vlm_locks.specs.Standing.{IsStanding}
+use Rattle.vlm_locks.specs.declared.located_locks.LocatedLock.{LocatedLock}
+use Rattle.vlm_locks.specs.Standing.{IsLocated}
 use Rattle.vlm_locks.proofs.Stood.{resource_among}
 
 -- what each one of these images has, that of one of these has
@@ -22,11 +22,11 @@ each_of {A} f P (x ∷ rest) all one among =
     ]
 
 -- a granted lock wants nothing, where each lock stands in the queue that fits it
-pub wants_nothing : (s : Records) → All RowsFit (plain_resources s) → (f : Standing) → IsStanding f s → f.queue ≡ Granted → f.row.want ≡ None
-wants_nothing s fit f standing granted =
-    let own = standing.resource in
-    let fits : RowsFit (plain_resource own) = each_of plain_resource RowsFit s.resources fit own (resource_among f.res s.resources own standing.found) in
+pub wants_nothing : (s : Records) → All RowsFit (plain_resources s) → (f : LocatedLock) → IsLocated f s → f.queue ≡ Granted → f.row.want ≡ None
+wants_nothing s fit f located granted =
+    let own = located.resource in
+    let fits : RowsFit (plain_resource own) = each_of plain_resource RowsFit s.resources fit own (resource_among f.res s.resources own located.found) in
     let held : IsHeld f.row =
     each_of (λ (k : StoredLock). k.row) IsHeld own.granted fits.granted (record { at = f.lock; row = f.row })
-    (subst (λ (queue : Queue). IsIn (record { at = f.lock; row = f.row }) (queued queue own)) granted standing.among) in
+    (subst (λ (queue : Queue). IsIn (record { at = f.lock; row = f.row }) (queued queue own)) granted located.among) in
     held.1

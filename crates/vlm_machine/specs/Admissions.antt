@@ -14,18 +14,18 @@ use Rattle.vlm_words.specs.Resources.{IsKeyed}
 use Rattle.vlm_words.specs.State.{State}
 use Rattle.vlm_model.specs.Trees.{enq_site, parent_lkid}
 use Rattle.vlm_store.specs.Records.{FindsResource, HasNoSublocks, HasProcess, IsParentOf, IsProcess, Records}
-use Rattle.vlm_locks.specs.declared.entering.Entry.{Entry}
-use Rattle.vlm_locks.specs.declared.finding.Standing.{Standing}
-use Rattle.vlm_locks.specs.declared.giving_up.Choice.{Choice}
-use Rattle.vlm_locks.specs.declared.giving_up.Choice.TheVariants.{All, Below}
+use Rattle.vlm_locks.specs.declared.new_locks.NewLock.{NewLock}
+use Rattle.vlm_locks.specs.declared.located_locks.LocatedLock.{LocatedLock}
+use Rattle.vlm_locks.specs.declared.joint_withdrawals.Scope.{Scope}
+use Rattle.vlm_locks.specs.declared.joint_withdrawals.Scope.TheVariants.{All, Below}
 use Rattle.vlm_locks.specs.Converting.{admission_on}
 use Rattle.vlm_locks.specs.Entering.{new_row}
-use Rattle.vlm_locks.specs.GivingUp.{IsOwnChoice}
-use Rattle.vlm_locks.specs.Standing.{IsStanding, IsStandingOf}
+use Rattle.vlm_locks.specs.GivingUp.{IsOwnScope}
+use Rattle.vlm_locks.specs.Standing.{IsLocated, IsLocatedLockOf}
 use Rattle.vlm_locks.specs.Withdrawing.{goes}
-use Rattle.vlm_machine.specs.declared.dequeuing.AdmittedDequeueOfAll.{AdmittedDequeueOfAll}
-use Rattle.vlm_machine.specs.declared.enqueuing.CheckedRequest.{CheckedRequest}
-use Rattle.vlm_machine.specs.declared.enqueuing.Form.{Form}
+use Rattle.vlm_machine.specs.declared.dequeues.AdmittedDequeueOfAll.{AdmittedDequeueOfAll}
+use Rattle.vlm_machine.specs.declared.new_requests.CheckedRequest.{CheckedRequest}
+use Rattle.vlm_machine.specs.declared.new_requests.RequestForm.{RequestForm}
 use Rattle.vlm_machine.specs.declared.parents.Parent.{Parent}
 use Rattle.vlm_machine.specs.declared.processes.Caller.{Caller}
 use Rattle.vlm_machine.specs.Machine.{MachineState, plain_state}
@@ -37,16 +37,16 @@ pub record IsCaller (caller : Caller) (s : Records) : Type 0 where
   pub there : HasProcess caller.at s
 
 -- the flags of a new request and the identification of its parent lock; its name is valid
-pub record IsForm (s : State) (e : NewRequest) (form : Form) : Type 0 where
+pub record IsRequestForm (s : State) (e : NewRequest) (form : RequestForm) : Type 0 where
   pub flags : flag_bits form.flags ≡ e.flags
   pub parent : form.parent ≡ parent_lkid s e
   pub name : is_name e.name ≡ true
 
 -- a new request is asked by this caller, says this of itself, and its parent lock stands so, if it names one
-pub record IsAskedBy (m : MachineState) (e : NewRequest) (caller : Caller) (form : Form) (parent : Option Parent) : Type 0 where
+pub record IsAskedBy (m : MachineState) (e : NewRequest) (caller : Caller) (form : RequestForm) (parent : Option Parent) : Type 0 where
   pub living : IsCaller caller m.records
   pub pid : caller.pid ≡ e.pid
-  pub says : IsForm (plain_state m) e form
+  pub says : IsRequestForm (plain_state m) e form
   pub stands : IsParent caller.pid form.parent parent m.records
 
 -- the result of a new request's checks: its process, flags and parent lock, where its resource stands, the hash of the
@@ -67,49 +67,49 @@ pub record IsChecked (m : MachineState) (e : NewRequest) (c : CheckedRequest) : 
 
 -- the entry of a new request's lock: its row and who owns it, its parent lock, where its resource stands, how its key is
 -- hashed, under which serial that is made if it is not there, and whether the request is granted at once
-pub record IsEntry (m : MachineState) (e : NewRequest) (entry : Entry) : Type 0 where
-  pub row : new_row entry ≡ enq_row (plain_state m) e
-  pub owner : IsProcess entry.owner entry.pid m.records
-  pub parent : IsParentOf entry.parent (new_row entry) m.records
-  pub site : entry.site ≡ enq_site (plain_state m) e
-  pub keyed : IsKeyed entry.site.domain entry.site.key
-  pub hash : entry.hash ≡ hash_key m.records.keys entry.site.key
-  pub serial : entry.serial ≡ m.next_serial
-  pub found : FindsResource m.records entry.site.key entry.res
-  pub at_once : entry.at_once ≡ enq_at_once (plain_state m) e
+pub record IsEntry (m : MachineState) (e : NewRequest) (new_lock : NewLock) : Type 0 where
+  pub row : new_row new_lock ≡ enq_row (plain_state m) e
+  pub owner : IsProcess new_lock.owner new_lock.pid m.records
+  pub parent : IsParentOf new_lock.parent (new_row new_lock) m.records
+  pub site : new_lock.site ≡ enq_site (plain_state m) e
+  pub keyed : IsKeyed new_lock.site.domain new_lock.site.key
+  pub hash : new_lock.hash ≡ hash_key m.records.keys new_lock.site.key
+  pub serial : new_lock.serial ≡ m.next_serial
+  pub found : FindsResource m.records new_lock.site.key new_lock.res
+  pub at_once : new_lock.at_once ≡ enq_at_once (plain_state m) e
 
 -- the new request is admitted so: this is the entry of its lock, and there are numbers for it
-pub record IsAdmitted (m : MachineState) (e : NewRequest) (entry : Entry) : Type 0 where
-  pub entered : IsEntry m e entry
+pub record IsAdmitted (m : MachineState) (e : NewRequest) (new_lock : NewLock) : Type 0 where
+  pub entered : IsEntry m e new_lock
   pub lkid : m.next_lkid < 2 ^ 32
   pub number : m.next_request < 2 ^ 64
 
 -- an admitted conversion: its lock as it is granted, and whether the request is granted at once; the request numbers
 -- are not used up
-pub record IsAdmittedConversion (m : MachineState) (c : Conversion) (f : Standing) (now : Bool) : Type 0 where
-  pub standing : IsStandingOf c.pid (convert_lkid (plain_state m) c) f m.records
+pub record IsAdmittedConversion (m : MachineState) (c : Conversion) (f : LocatedLock) (now : Bool) : Type 0 where
+  pub located : IsLocatedLockOf c.pid (convert_lkid (plain_state m) c) f m.records
   pub granted : f.queue ≡ Granted
-  pub at_once : now ≡ (admission_on f (convert_request (plain_state m) c) standing.standing.resource).at_once
-  pub found : convert_admission (plain_state m) c ≡ Some (admission_on f (convert_request (plain_state m) c) standing.standing.resource)
+  pub at_once : now ≡ (admission_on f (convert_request (plain_state m) c) located.located.resource).at_once
+  pub found : convert_admission (plain_state m) c ≡ Some (admission_on f (convert_request (plain_state m) c) located.located.resource)
   pub number : m.next_request < 2 ^ 64
 
 -- the dequeue is admitted so: it is of one lock, and this is its lock as it stands
-pub record IsAdmittedDequeue (m : MachineState) (d : Dequeue) (f : Standing) : Type 0 where
-  pub standing : IsStandingOf d.pid (dequeue_lkid (plain_state m) d) f m.records
+pub record IsAdmittedDequeue (m : MachineState) (d : Dequeue) (f : LocatedLock) : Type 0 where
+  pub located : IsLocatedLockOf d.pid (dequeue_lkid (plain_state m) d) f m.records
   pub alone : has_flag d.flags deqall ≡ false
 
 -- the locks that a dequeue with DEQALL gives up where this one is named: those below it, and with 0 all of the caller
-abbrev pub choice_of : ℕ → Choice
-choice_of zero = All
-choice_of (suc n) = Below (suc n)
+abbrev pub scope_of : ℕ → Scope
+scope_of zero = All
+scope_of (suc n) = Below (suc n)
 
 -- the dequeue with DEQALL is admitted so: it is this caller's, and which of the caller's locks go, and whether they
 -- invalidate; the lock that it names is one of the caller's; it cancels nothing and gives no value and no tail
 pub record IsAdmittedDequeueOfAll (m : MachineState) (d : Dequeue) (a : AdmittedDequeueOfAll) : Type 0 where
   pub caller : IsCaller a.caller m.records
   pub pid : a.caller.pid ≡ d.pid
-  pub choice : a.choice ≡ choice_of (dequeue_lkid (plain_state m) d)
-  pub own : IsOwnChoice a.choice a.caller.pid m.records
+  pub choice : a.choice ≡ scope_of (dequeue_lkid (plain_state m) d)
+  pub own : IsOwnScope a.choice a.caller.pid m.records
   pub invalidates : a.invalidates ≡ has_flag d.flags invvalblk
   pub goes : has_flag d.flags cancel ≡ false
   pub plain : d.value ≡ None
@@ -117,4 +117,4 @@ pub record IsAdmittedDequeueOfAll (m : MachineState) (d : Dequeue) (a : Admitted
 
 -- the lock has no sublocks where the dequeue gives it up as it stands
 abbrev pub IsChildless : MachineState → Dequeue → ℕ → Type 0
-IsChildless m d lock = (f : Standing) → IsStanding f m.records → f.lock ≡ lock → goes (has_flag d.flags cancel) f.queue ≡ true → HasNoSublocks f.lock m.records
+IsChildless m d lock = (f : LocatedLock) → IsLocated f m.records → f.lock ≡ lock → goes (has_flag d.flags cancel) f.queue ≡ true → HasNoSublocks f.lock m.records

@@ -1,18 +1,18 @@
 -- The parent of a new request, as it stands in the records.
 use Rattle.std.specs.Prelude.{◌≡◌, ◌≢◌, ◌<◌, ℕ, Option, None, Some}
 use Rattle.vlm_store.specs.Records.{Records}
-use Rattle.vlm_locks.specs.declared.finding.Standing.{Standing}
-use Rattle.vlm_locks.specs.Standing.{IsStandingOf}
+use Rattle.vlm_locks.specs.declared.located_locks.LocatedLock.{LocatedLock}
+use Rattle.vlm_locks.specs.Standing.{IsLocatedLockOf}
 use Rattle.vlm_machine.specs.declared.parents.Parent.{Parent}
 
 -- the lock is that of the process with this identification, and its resource is this one, not on the lowest level
 pub record IsParentLock (pid lkid : ℕ) (parent : Parent) (s : Records) : Type 0 where
-  pub lock : Standing
-  pub standing : IsStandingOf pid lkid lock s
+  pub lock : LocatedLock
+  pub located : IsLocatedLockOf pid lkid lock s
   pub handle : lock.lock ≡ parent.lock
   pub resource : lock.res ≡ parent.res
   pub named : lkid ≢ 0
-  pub above : standing.standing.resource.level < 15
+  pub above : located.located.resource.level < 15
 
 -- the parent lock of this identification, if one is named, is this
 abbrev pub IsParent : ℕ → ℕ → Option Parent → Records → Type 0

@@ -9,13 +9,13 @@ ghost use Rattle.vlm_model.specs.StatusBlocks.{status_block_of};
 ghost use Rattle.vlm_model.specs.Quotas.{quota_refusal};
 ghost use Rattle.vlm_machine.specs.Admissions.{IsCaller};
 ghost use Rattle.vlm_machine.specs.Machine.{plain_state};
-ghost use Rattle.vlm_locks.specs.Standing.{IsLockOf, IsStandingOf};
+ghost use Rattle.vlm_locks.specs.Standing.{IsLockOf, IsLocatedLockOf};
 ghost use Rattle.vlm_store.specs.Records.{IsStored};
 
 use crate::nodes::has_departed;
 use crate::processes::{Caller, living};
 use crate::records::Machine;
-use vlm_locks::{Standing, find_lock, standing_of};
+use vlm_locks::{LocatedLock, find_lock, located_lock};
 use vlm_procs::{has_room, status_block};
 use vlm_store::LockAt;
 use vlm_words::blocks::Block;
@@ -145,13 +145,13 @@ impl Machine {
     }
 
     /// The standing of a lock that a check has found.
-    pub(crate) fn standing(&self, lock: LockAt) -> Standing
+    pub(crate) fn located(&self, lock: LockAt) -> LocatedLock
         requires { IsStored lock self.now.records }
         ensures lock { result.lock ≡ lock }
-        ensures standing { (pid lkid : ℕ) → IsLockOf pid lkid lock self.now.records
-            → IsStandingOf pid lkid result self.now.records }
+        ensures located { (pid lkid : ℕ) → IsLockOf pid lkid lock self.now.records
+            → IsLocatedLockOf pid lkid result self.now.records }
     {
-        standing_of(&self.store, lock)
+        located_lock(&self.store, lock)
     }
 }
 

@@ -21,20 +21,20 @@
 //! the laws: `vlm_core` gets them from there, and makes whole steps.
 #![tactic(auto)]
 
+mod ast_takes;
 mod checks;
-mod converting;
-mod declaring;
-mod dequeuing;
-mod ending;
-mod enqueuing;
+mod conversions;
+mod declarations;
+mod dequeues;
 mod flags;
+mod new_requests;
 mod nodes;
 mod parents;
 mod processes;
 mod records;
-mod searching;
-mod setting;
-mod taking;
+mod rundowns;
+mod searches;
+mod value_settings;
 
 pub use processes::{Caller, living};
 pub use records::Machine;

@@ -11,16 +11,16 @@ ghost use Rattle.vlm_words.specs.Resources.{IsKeyed};
 ghost use Rattle.vlm_model.specs.Trees.{depth_refusal, parent_refusal, parent_resource, privilege_refusal, root_domain, site_below, site_refusal, waiting_refusal};
 ghost use Rattle.vlm_store.specs.Plain.{plain_resource};
 ghost use Rattle.vlm_store.specs.Records.{HasResource, StoredResource, resource_at};
-ghost use Rattle.vlm_locks.specs.Standing.{IsStanding};
+ghost use Rattle.vlm_locks.specs.Standing.{IsLocated};
 ghost use Rattle.vlm_machine.specs.Admissions.{IsCaller};
 ghost use Rattle.vlm_machine.specs.Between.{IsBetweenSteps};
 ghost use Rattle.vlm_machine.specs.Machine.{plain_state};
 ghost use Rattle.vlm_machine.specs.Parents.{IsParent};
 
-use crate::enqueuing::Form;
+use crate::new_requests::RequestForm;
 use crate::processes::Caller;
 use crate::records::Machine;
-use vlm_locks::Standing;
+use vlm_locks::LocatedLock;
 use vlm_procs::{group_of, has_syslck};
 use vlm_store::laws::law_records_are_sound;
 use vlm_store::{LockAt, ResAt};
@@ -83,17 +83,17 @@ impl Machine {
             return Ok(None);
         }
         let lock = self.checked_lock(caller, lkid)?;
-        let standing = self.standing(lock);
-        self.check_parent(&standing)?;
+        let located = self.located(lock);
+        self.check_parent(&located)?;
         Ok(Some(Parent {
             lock,
-            res: standing.res,
+            res: located.res,
         }))
     }
 
     // PARNOTGRANT if a parent waits, EXDEPTH if its resource is on the lowest level.
-    fn check_parent(&self, parent: &Standing) -> Result<(), Cond>
-        requires { IsStanding parent.now self.now.records }
+    fn check_parent(&self, parent: &LocatedLock) -> Result<(), Cond>
+        requires { IsLocated parent.now self.now.records }
         ensures refusal { (r : StoredResource)
             → resource_at parent.now.res self.now.records.resources ≡ Some r
             → result_err result ≡ or_else
@@ -142,7 +142,7 @@ impl Machine {
     pub(crate) fn site_of(
         &self,
         caller: &Caller,
-        form: &Form,
+        form: &RequestForm,
         parent: &Option<Parent>,
         name: &NameArg,
     ) -> Site

@@ -8,7 +8,7 @@ use Rattle.std.proofs.lemmas.List.Elements.{All-from_recursion}
 use Rattle.std.proofs.lemmas.List.Sums.{sum_by-cons}
 use Rattle.vlm_words.specs.declared.conditions.Cond.TheVariants.{Normal}
 use Rattle.vlm_words.specs.declared.locks.Request.{Request}
-use Rattle.vlm_words.specs.declared.locks.Row.{Row}
+use Rattle.vlm_words.specs.declared.locks.LockRow.{LockRow}
 use Rattle.vlm_words.specs.declared.steps.Answer.TheVariants.{Plain}
 use Rattle.vlm_words.specs.declared.steps.Dequeue.{Dequeue}
 use Rattle.vlm_words.specs.declared.steps.Step.TheVariants.{Deq}
@@ -38,7 +38,7 @@ use Rattle.vlm_model.proofs.TakenBelow.{is_caller, normal_passes, taken_lkids}
 abbrev IsAbortOf : ℕ → Ending → Type 0
 IsAbortOf lkid ending = (ending.how ≡ by_abort) × (ending.lkid ≡ lkid)
 
-queue_aborts : (lkid : ℕ) (rows : List Row) → AllByRecursion (IsAbortOf lkid) (queue_endings by_abort lkid rows)
+queue_aborts : (lkid : ℕ) (rows : List LockRow) → AllByRecursion (IsAbortOf lkid) (queue_endings by_abort lkid rows)
 queue_aborts lkid [] = tt
 queue_aborts lkid (row ∷ rows) = of_test (row.lkid == lkid) refl (queue_aborts lkid rows)
   where
@@ -63,7 +63,7 @@ all_aborts d plain lkid (r ∷ rest) =
     (all_aborts d plain lkid rest)
 
 -- a lock has no more of them than rows
-queue_ends_once : (how : How) (lkid : ℕ) (rows : List Row) → length (queue_endings how lkid rows) ≤ sum_by (stands lkid) rows
+queue_ends_once : (how : How) (lkid : ℕ) (rows : List LockRow) → length (queue_endings how lkid rows) ≤ sum_by (stands lkid) rows
 queue_ends_once how lkid [] = omega arith
 queue_ends_once how lkid (row ∷ rows) = of_test (row.lkid == lkid) refl (queue_ends_once how lkid rows)
   where
@@ -159,7 +159,7 @@ module _ (s : State) (d : Dequeue) (apart : Apart s) (plain : has_flag d.flags c
       (flat_map (withdrawal_endings (withdrawal_of d lkid)) s.resources) (all_aborts d plain lkid s.resources))
 
 -- after every run such a dequeue aborts by rising identification
-pub aborts_always : (history : History) (old : State) → Run history old → (d : Dequeue) (choice : Option Row) → has_flag d.flags deqall ≡ true
+pub aborts_always : (history : History) (old : State) → Run history old → (d : Dequeue) (choice : Option LockRow) → has_flag d.flags deqall ≡ true
     → (stepped old (Deq d) choice).answer ≡ Plain Normal → AbortsByRisingIdentification old d choice
 aborts_always history old run d choice all answered =
     let apart : Apart old = apart_always history old run in

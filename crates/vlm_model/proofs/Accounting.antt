@@ -8,7 +8,7 @@ use Rattle.std.proofs.lemmas.List.Elements.{recursion_from_All}
 use Rattle.vlm_words.specs.declared.asts.Ast.{Ast}
 use Rattle.vlm_words.specs.declared.conditions.Cond.{Cond}
 use Rattle.vlm_words.specs.declared.conditions.Cond.TheVariants.{Insfmem, Normal}
-use Rattle.vlm_words.specs.declared.locks.Row.{Row}
+use Rattle.vlm_words.specs.declared.locks.LockRow.{LockRow}
 use Rattle.vlm_words.specs.declared.steps.Answer.TheVariants.{Process as process_answer, Lock, Plain, Taken, Victim}
 use Rattle.vlm_words.specs.declared.steps.Answer.{Answer}
 use Rattle.vlm_words.specs.declared.steps.Declaration.{Declaration}
@@ -133,7 +133,7 @@ swept_for_others s step change same none untaken = record {
 }
 
 -- a declaration
-declared_for_others : (s : State) (d : Declaration) (choice : Option Row)
+declared_for_others : (s : State) (d : Declaration) (choice : Option LockRow)
     → ((pid : ℕ) → lives s.processes pid ≡ false → owning pid s.resources ≡ 0)
     → IsAccountedForOthers s (stepped_after_sweep (step_change s (Declare d) choice)).state (Declare d) (step_change s (Declare d) choice).answer
     (stepped_after_sweep (step_change s (Declare d) choice)).queued
@@ -176,7 +176,7 @@ ended_for_others s step is_one nodes none untaken = record {
     of_lives pid out false is = is
 
 -- a step that no check refuses
-made_for_others : (s : State) (step : Step) (choice : Option Row) → ((pid : ℕ) → lives s.processes pid ≡ false → owning pid s.resources ≡ 0)
+made_for_others : (s : State) (step : Step) (choice : Option LockRow) → ((pid : ℕ) → lives s.processes pid ≡ false → owning pid s.resources ≡ 0)
     → step_refusal s step ≡ None
     → IsAccountedForOthers s (stepped_after_sweep (step_change s step choice)).state step (step_change s step choice).answer
     (stepped_after_sweep (step_change s step choice)).queued
@@ -220,7 +220,7 @@ refused_for_others s step refusal = record {
 }
 
 -- a step, with its refusal
-step_for_others : (s : State) (step : Step) (choice : Option Row) → ((pid : ℕ) → lives s.processes pid ≡ false → owning pid s.resources ≡ 0)
+step_for_others : (s : State) (step : Step) (choice : Option LockRow) → ((pid : ℕ) → lives s.processes pid ≡ false → owning pid s.resources ≡ 0)
     → (refusal : Option Cond) → step_refusal s step ≡ refusal
     → IsAccountedForOthers s (refused_or refusal s (step_change s step choice)).state step (refused_or refusal s (step_change s step choice)).answer
     (refused_or refusal s (step_change s step choice)).queued
@@ -258,11 +258,11 @@ unchanged_accounted s step refusal = record {
 -- that takes answer in the order of queueing, after every run
 abbrev pub TakesInOrder : Type 0
 TakesInOrder =
-    (history : History) (old : State) → Run history old → (step : Step) (choice : Option Row)
+    (history : History) (old : State) → Run history old → (step : Step) (choice : Option LockRow)
     → IsChoice old step choice → AstsAreTakenInOrder old step choice
 
 -- after every run a step is accounted for, but for the ASTs of those who lived
-others_accounted : (history : History) (old : State) → Run history old → (step : Step) (choice : Option Row)
+others_accounted : (history : History) (old : State) → Run history old → (step : Step) (choice : Option LockRow)
     → IsAccountedForOthers old (stepped old step choice).state step (stepped old step choice).answer (stepped old step choice).queued
 others_accounted history old run step choice =
     step_for_others old step choice (λ pid out. none_owned history old run pid (no_quota old.processes pid out)) (step_refusal old step) refl

@@ -3,7 +3,7 @@ use Rattle.std.proofs.Common.{◌≡◌, ◌≤◌, ◌<◌, ◌+◌, ℕ, List,
 use Rattle.std.specs.Prelude.{◌==◌}
 use Rattle.std.specs.List.{sum_by}
 use Rattle.std.proofs.lemmas.Bool.Decides.{nat_tests}
-use Rattle.vlm_words.specs.declared.locks.Row.{Row}
+use Rattle.vlm_words.specs.declared.locks.LockRow.{LockRow}
 use Rattle.vlm_words.specs.State.{Resource, State}
 use Rattle.vlm_model.specs.Declare.{declare_change}
 use Rattle.vlm_model.specs.SetValue.{set_change}
@@ -19,7 +19,7 @@ use Rattle.vlm_model.proofs.Weights.{weigh}
 use Rattle.vlm_model.proofs.Moves.{IsByName, changed_named, converted_named, withdrawn_named, entered_named, swept_named}
 
 -- 1 for a row of this lock
-abbrev pub stands : ℕ → Row → ℕ
+abbrev pub stands : ℕ → LockRow → ℕ
 stands lkid row = cond (row.lkid == lkid) 1 0
 
 -- how many rows this lock has

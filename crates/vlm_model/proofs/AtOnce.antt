@@ -7,7 +7,7 @@ use Rattle.std.proofs.lemmas.List.Elements.{recursion_from_All}
 use Rattle.std.proofs.lemmas.List.Sums.{sum_by-cons}
 use Rattle.vlm_words.specs.declared.conditions.Cond.{Cond}
 use Rattle.vlm_words.specs.declared.locks.Request.{Request}
-use Rattle.vlm_words.specs.declared.locks.Row.{Row}
+use Rattle.vlm_words.specs.declared.locks.LockRow.{LockRow}
 use Rattle.vlm_words.specs.declared.modes.Mode.{Mode}
 use Rattle.vlm_words.specs.declared.steps.Answer.TheVariants.{Lock}
 use Rattle.vlm_words.specs.declared.steps.Conversion.{Conversion}
@@ -51,7 +51,7 @@ beside_passes mode None so = refl
 beside_passes mode (Some held) so = so
 
 -- beside each row it passes
-all_pass : (mode : Mode) (rows : List Row) → AllByRecursion (λ row. IsBeside mode row.held) rows → list_all (λ row. is_beside mode row.held) rows ≡ true
+all_pass : (mode : Mode) (rows : List LockRow) → AllByRecursion (λ row. IsBeside mode row.held) rows → list_all (λ row. is_beside mode row.held) rows ≡ true
 all_pass mode [] each = refl
 all_pass mode (row ∷ rows) each =
     both (is_beside mode row.held) (list_all (λ x. is_beside mode x.held) rows) (beside_passes mode row.held each.0) (all_pass mode rows each.1)
@@ -104,7 +104,7 @@ enters_at_once s e apart placed passed (inr expedited) = rw expedited.0 refl
 -- ---- conversions
 
 -- beside the other rows the mode passes
-others_pass : (mode : Mode) (lkid : ℕ) (rows : List Row) → AllByRecursion (λ row. row.lkid ≢ lkid → IsBeside mode row.held) rows
+others_pass : (mode : Mode) (lkid : ℕ) (rows : List LockRow) → AllByRecursion (λ row. row.lkid ≢ lkid → IsBeside mode row.held) rows
     → list_all (λ row. is_beside mode row.held) (rows_without lkid rows) ≡ true
 others_pass mode lkid [] each = refl
 others_pass mode lkid (row ∷ rows) each = of_test (row.lkid == lkid) refl (others_pass mode lkid rows each.1)
@@ -117,7 +117,7 @@ others_pass mode lkid (row ∷ rows) each = of_test (row.lkid == lkid) refl (oth
         (beside_passes mode row.held (each.0 (λ same. true≢false (sym (eq-eqb row.lkid lkid same) ∙ is)))) behind
 
 -- where the lock has no row, all rows are others
-none_of_it : (P : Row → Type 0) (lkid : ℕ) (rows : List Row) → sum_by (stands lkid) rows ≡ 0 → AllByRecursion (λ row. row.lkid ≢ lkid → P row) rows
+none_of_it : (P : LockRow → Type 0) (lkid : ℕ) (rows : List LockRow) → sum_by (stands lkid) rows ≡ 0 → AllByRecursion (λ row. row.lkid ≢ lkid → P row) rows
     → AllByRecursion P rows
 none_of_it P lkid [] none each = tt
 none_of_it P lkid (row ∷ rows) none each =
@@ -127,7 +127,7 @@ none_of_it P lkid (row ∷ rows) none each =
     )
 
 -- a queue that is empty
-nothing_queued : (rows : List Row) → rows ≡ [] → is_empty rows ≡ true
+nothing_queued : (rows : List LockRow) → rows ≡ [] → is_empty rows ≡ true
 nothing_queued rows none = rw none refl
 
 -- a conversion of a granted lock that has one row is granted at once where it may be
@@ -144,7 +144,7 @@ turn_passes c request lkid r mode flags there one turn =
     (each_right r.granted r.converting each))))
     (overtakes (has_flag (flag_bits request.flags) quecvt) refl)
   where
-    Beside : Row → Type 0
+    Beside : LockRow → Type 0
     Beside x = x.lkid ≢ lkid → IsBeside request.mode x.held
 
     each : AllByRecursion Beside (r.granted ++ r.converting)
@@ -152,11 +152,11 @@ turn_passes c request lkid r mode flags there one turn =
         subst (λ (m : Mode). AllByRecursion (λ x. x.lkid ≢ lkid → IsBeside m x.held) (r.granted ++ r.converting)) (sym mode)
         (recursion_from_All (λ x. x.lkid ≢ lkid → IsBeside c.mode x.held) (r.granted ++ r.converting) turn.beside)
 
-    each_left : (xs ys : List Row) → AllByRecursion Beside (xs ++ ys) → AllByRecursion Beside xs
+    each_left : (xs ys : List LockRow) → AllByRecursion Beside (xs ++ ys) → AllByRecursion Beside xs
     each_left [] ys all = tt
     each_left (x ∷ xs) ys all = (all.0, each_left xs ys all.1)
 
-    each_right : (xs ys : List Row) → AllByRecursion Beside (xs ++ ys) → AllByRecursion Beside ys
+    each_right : (xs ys : List LockRow) → AllByRecursion Beside (xs ++ ys) → AllByRecursion Beside ys
     each_right [] ys all = all
     each_right (x ∷ xs) ys all = each_right xs ys all.1
 
@@ -200,7 +200,7 @@ refused_answers_no_lock (Some refusal) s change cond lkid answer = cc
 lock_same : (first second : Cond) (m n : ℕ) → Lock first m ≡ Lock second n → m ≡ n
 lock_same first second m n same = cc
 
-request_granted : (s : State) → Apart s → Placed s → (e : NewRequest) (choice : Option Row) (lkid : ℕ) → IsAcceptedFor lkid s (Enq e) choice
+request_granted : (s : State) → Apart s → Placed s → (e : NewRequest) (choice : Option LockRow) (lkid : ℕ) → IsAcceptedFor lkid s (Enq e) choice
     → EntersInTurn s e → GrantsAtOnce s (Enq e) choice
 request_granted s apart placed e choice lkid accepted enters =
     let passed : enq_refusal s e ≡ None = refused_answers_no_lock (enq_refusal s e) s (step_change s (Enq e) choice) accepted.0 lkid accepted.1 in
@@ -211,7 +211,7 @@ request_granted s apart placed e choice lkid accepted enters =
     first_granted : enq_at_once s e ≡ true → IsGrantedAtOnce s.next_request (enq_endings s e ++ sweep_endings (enq_change s e).resources)
     first_granted at_once = rw at_once (Any-here _ _ (sweep_endings (enq_change s e).resources) (tt, refl, refl))
 
-conversion_granted : (s : State) → Apart s → (c : Conversion) (choice : Option Row) (lkid : ℕ) → IsAcceptedFor lkid s (Convert c) choice
+conversion_granted : (s : State) → Apart s → (c : Conversion) (choice : Option LockRow) (lkid : ℕ) → IsAcceptedFor lkid s (Convert c) choice
     → Any (λ r. Stands lkid r.granted × ConvertsInTurn c lkid r) s.resources → GrantsAtOnce s (Convert c) choice
 unfolding convert_admission
 conversion_granted s apart c choice lkid accepted some =

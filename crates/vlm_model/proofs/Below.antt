@@ -7,7 +7,7 @@ use Rattle.std.proofs.lemmas.Bool.{and_parts, eq-eqb, eqb-true, or_cases, or_rig
 use Rattle.std.proofs.lemmas.Bool.Decides.{nat_tests}
 use Rattle.std.proofs.lemmas.List.{length-append}
 use Rattle.std.proofs.lemmas.List.Sums.{sum_by-cons, sum_by-append}
-use Rattle.vlm_words.specs.declared.locks.Row.{Row}
+use Rattle.vlm_words.specs.declared.locks.LockRow.{LockRow}
 use Rattle.vlm_words.specs.State.{Resource, State}
 use Rattle.vlm_words.specs.Rows.{rows_of, is_lock_of}
 use Rattle.vlm_model.specs.OwnLocks.{all_rows_of, is_below, parent_of}
@@ -23,7 +23,7 @@ use Rattle.vlm_words.specs.Resources.{is_domain}
 
 -- ---- the parent of a lock
 
-rows_count : (lkid : ℕ) (rows : List Row) → length (rows_of lkid rows) ≡ sum_by (stands lkid) rows
+rows_count : (lkid : ℕ) (rows : List LockRow) → length (rows_of lkid rows) ≡ sum_by (stands lkid) rows
 rows_count lkid [] = refl
 rows_count lkid (row ∷ rows) = of_test (row.lkid == lkid) refl (rows_count lkid rows)
   where
@@ -50,17 +50,17 @@ all_rows_count lkid (r ∷ rest) =
     )
 
 -- the row is one of these
-abbrev pub IsRowIn : List Row → Row → Type 0
+abbrev pub IsRowIn : List LockRow → LockRow → Type 0
 IsRowIn rows row = Any (λ y. row ≡ y) rows
 
 -- all rows of the resource
-abbrev pub rows_on : Resource → List Row
+abbrev pub rows_on : Resource → List LockRow
 rows_on r = r.granted ++ r.converting ++ r.waiting
 
-among_its_rows : (row : Row) (rows : List Row) → IsRowIn rows row → IsRowIn (rows_of row.lkid rows) row
+among_its_rows : (row : LockRow) (rows : List LockRow) → IsRowIn rows row → IsRowIn (rows_of row.lkid rows) row
 among_its_rows row [] there = there
 among_its_rows row (x ∷ rows) there = elim (Any-cases (λ y. row ≡ y) x rows there) [
-  | inl same ↦ (let named : (x.lkid == row.lkid) ≡ true = eq-eqb x.lkid row.lkid (ap (λ (y : Row). y.lkid) (sym same)) in
+  | inl same ↦ (let named : (x.lkid == row.lkid) ≡ true = eq-eqb x.lkid row.lkid (ap (λ (y : LockRow). y.lkid) (sym same)) in
       rw named (Any-here (λ y. row ≡ y) x (rows_of row.lkid rows) same))
   | inr later ↦ (let behind = among_its_rows row rows later in of_test (x.lkid == row.lkid) behind)
 ]
@@ -80,7 +80,7 @@ either P (x ∷ xs) ys some = elim (Any-cases P x (xs ++ ys) some) [
   ]
 ]
 
-on_its_resource : (row : Row) (r : Resource) → IsRowIn (rows_on r) row
+on_its_resource : (row : LockRow) (r : Resource) → IsRowIn (rows_on r) row
     → IsRowIn (rows_of row.lkid r.granted ++ rows_of row.lkid r.converting ++ rows_of row.lkid r.waiting) row
 on_its_resource row r there = elim (either (λ y. row ≡ y) (r.granted ++ r.converting) r.waiting there) [
   | inl first ↦ any_left (λ y. row ≡ y) (rows_of row.lkid r.granted ++ rows_of row.lkid r.converting) (rows_of row.lkid r.waiting)
@@ -92,7 +92,7 @@ on_its_resource row r there = elim (either (λ y. row ≡ y) (r.granted ++ r.con
       Any-behind (λ y. row ≡ y) (rows_of row.lkid r.granted ++ rows_of row.lkid r.converting) (rows_of row.lkid r.waiting) (among_its_rows row r.waiting waiting)
 ]
 
-among_all_rows : (row : Row) (r : Resource) → IsRowIn (rows_on r) row → (resources : List Resource) → Any (λ x. r ≡ x) resources
+among_all_rows : (row : LockRow) (r : Resource) → IsRowIn (rows_on r) row → (resources : List Resource) → Any (λ x. r ≡ x) resources
     → IsRowIn (all_rows_of row.lkid resources) row
 among_all_rows row r there [] among = absurd (Any-none (λ x. r ≡ x) among)
 among_all_rows row r there (x ∷ rest) among = elim (Any-cases (λ y. r ≡ y) x rest among) [
@@ -104,20 +104,20 @@ among_all_rows row r there (x ∷ rest) among = elim (Any-cases (λ y. r ≡ y) 
       (among_all_rows row r there rest later)
 ]
 
-only_one : (row : Row) (rows : List Row) → length rows ≤ 1 → IsRowIn rows row → slice_get rows 0 ≡ Some row
+only_one : (row : LockRow) (rows : List LockRow) → length rows ≤ 1 → IsRowIn rows row → slice_get rows 0 ≡ Some row
 only_one row [] few there = absurd (Any-none (λ y. row ≡ y) there)
 only_one row (x ∷ []) few there = elim (Any-cases (λ y. row ≡ y) x [] there) [
-  | inl same ↦ ap (λ (y : Row). Some y) (sym same)
+  | inl same ↦ ap (λ (y : LockRow). Some y) (sym same)
   | inr later ↦ absurd (Any-none (λ y. row ≡ y) later)
 ]
 only_one row (x ∷ y ∷ rows) few there = absurd (omega (arith, few))
 
 -- the parent of a lock is that of its row, since it has one
-pub parent_is : (s : State) → Apart s → (row : Row) (r : Resource) → IsRowIn (rows_on r) row → Any (λ x. r ≡ x) s.resources
+pub parent_is : (s : State) → Apart s → (row : LockRow) (r : Resource) → IsRowIn (rows_on r) row → Any (λ x. r ≡ x) s.resources
     → parent_of row.lkid s.resources ≡ row.parent
 unfolding parent_of
 parent_is s apart row r there among =
-    ap (λ (found : Option Row). option_map_or (λ x. x.parent) found 0)
+    ap (λ (found : Option LockRow). option_map_or (λ x. x.parent) found 0)
     (only_one row (all_rows_of row.lkid s.resources) (omega (arith, all_rows_count row.lkid s.resources, apart.one_row row.lkid))
     (among_all_rows row r there s.resources among))
 
@@ -126,7 +126,7 @@ pub parent_of_none : (lkid : ℕ) (resources : List Resource) → standing lkid 
 unfolding parent_of
 parent_of_none lkid resources none = of_rows (all_rows_of lkid resources) (all_rows_count lkid resources ∙ none)
   where
-    of_rows : (rows : List Row) → length rows ≡ 0 → option_map_or (λ (row : Row). row.parent) (slice_get rows 0) 0 ≡ 0
+    of_rows : (rows : List LockRow) → length rows ≡ 0 → option_map_or (λ (row : LockRow). row.parent) (slice_get rows 0) 0 ≡ 0
     of_rows [] none = refl
     of_rows (row ∷ rows) none = absurd (omega (arith, none))
 
@@ -143,22 +143,22 @@ nothing_is_above_0 s apart top (suc levels) some =
 -- ---- rows that have their parents
 
 -- what is held, where it is counted
-pub held_there : (pid lkid : ℕ) (rows : List Row) → 1 ≤ sum_by (locks pid lkid) rows → Any (λ row. (row.lkid ≡ lkid) × (row.pid ≡ pid)) rows
+pub held_there : (pid lkid : ℕ) (rows : List LockRow) → 1 ≤ sum_by (locks pid lkid) rows → Any (λ row. (row.lkid ≡ lkid) × (row.pid ≡ pid)) rows
 held_there pid lkid [] some = absurd (omega (arith, some))
 held_there pid lkid (row ∷ rows) some = of_test (is_lock_of pid lkid row) refl (held_there pid lkid rows)
   where
     of_test : (b : Bool) → is_lock_of pid lkid row ≡ b
-        → (1 ≤ sum_by (locks pid lkid) rows → Any (λ (x : Row). (x.lkid ≡ lkid) × (x.pid ≡ pid)) rows) → Any (λ (x : Row). (x.lkid ≡ lkid) × (x.pid ≡ pid)) (row ∷ rows)
+        → (1 ≤ sum_by (locks pid lkid) rows → Any (λ (x : LockRow). (x.lkid ≡ lkid) × (x.pid ≡ pid)) rows) → Any (λ (x : LockRow). (x.lkid ≡ lkid) × (x.pid ≡ pid)) (row ∷ rows)
     of_test true is later =
         let parts = and_parts (row.lkid == lkid) (row.pid == pid) is in
-        Any-here (λ (x : Row). (x.lkid ≡ lkid) × (x.pid ≡ pid)) row rows (eqb-true row.lkid lkid parts.0, eqb-true row.pid pid parts.1)
+        Any-here (λ (x : LockRow). (x.lkid ≡ lkid) × (x.pid ≡ pid)) row rows (eqb-true row.lkid lkid parts.0, eqb-true row.pid pid parts.1)
     of_test false is later =
         let none : locks pid lkid row ≡ 0 = ap (λ (b : Bool). cond b 1 0) is in
-        Any-there (λ (x : Row). (x.lkid ≡ lkid) × (x.pid ≡ pid)) row rows
+        Any-there (λ (x : LockRow). (x.lkid ≡ lkid) × (x.pid ≡ pid)) row rows
         (later (omega (arith, some, none, sum_by-cons (locks pid lkid) row rows)))
 
 -- the rows of a resource whose weight is 0
-pub each_weightless : (f : Row → ℕ) (rows : List Row) → sum_by f rows ≡ 0 → AllByRecursion (λ row. f row ≡ 0) rows
+pub each_weightless : (f : LockRow → ℕ) (rows : List LockRow) → sum_by f rows ≡ 0 → AllByRecursion (λ row. f row ≡ 0) rows
 each_weightless f [] none = tt
 each_weightless f (row ∷ rows) none =
     (omega (arith, none, sum_by-cons f row rows), each_weightless f rows (omega (arith, none, sum_by-cons f row rows)))
@@ -176,11 +176,11 @@ rows_rooted all r rooted =
     )))
 
 -- a row that has its parent stands on a root, or the parent's resource is one level above
-pub data HasRoot (all : List Resource) (r : Resource) (row : Row) : Type 0 where
+pub data HasRoot (all : List Resource) (r : Resource) (row : LockRow) : Type 0 where
   at_root : row.parent ≡ 0 → HasRoot all r row
   below_up : list_any (is_up (position r) row.pid row.parent) all ≡ true → HasRoot all r row
 
-pub root_of : (all : List Resource) (r : Resource) (row : Row) → is_rooted all (position r) row ≡ true → HasRoot all r row
+pub root_of : (all : List Resource) (r : Resource) (row : LockRow) → is_rooted all (position r) row ≡ true → HasRoot all r row
 root_of all r row rooted =
     elim (or_cases ((r.parent == 0) && (row.parent == 0) && (r.level == 0))
     (not (r.parent == 0) && not (row.parent == 0) && list_any (is_up (position r) row.pid row.parent) all) rooted) [
@@ -196,35 +196,35 @@ abbrev pub StandsAtMost : List Resource → ℕ → ℕ → Type 0
 StandsAtMost resources level lkid = Any (λ r. (r.level ≤ level) × Any (λ row. row.lkid ≡ lkid) (rows_on r)) resources
 
 -- the parent of a row stands one level above
-pub up_at_most : (all : List Resource) (r : Resource) (row : Row) (level : ℕ) → r.level ≤ suc level → list_any (is_up (position r) row.pid row.parent) all ≡ true
+pub up_at_most : (all : List Resource) (r : Resource) (row : LockRow) (level : ℕ) → r.level ≤ suc level → list_any (is_up (position r) row.pid row.parent) all ≡ true
     → StandsAtMost all level row.parent
 up_at_most all r row level low up =
     Any-weaker (λ x. is_up (position r) row.pid row.parent x ≡ true) (λ x. (x.level ≤ level) × Any (λ y. y.lkid ≡ row.parent) (rows_on x)) so all
     (Any-from_list_any (is_up (position r) row.pid row.parent) all up)
   where
-    so : (x : Resource) → is_up (position r) row.pid row.parent x ≡ true → (x.level ≤ level) × Any (λ (y : Row). y.lkid ≡ row.parent) (rows_on x)
+    so : (x : Resource) → is_up (position r) row.pid row.parent x ≡ true → (x.level ≤ level) × Any (λ (y : LockRow). y.lkid ≡ row.parent) (rows_on x)
     so x is =
         let parts = and_parts (is_parent (position r) x) (nat_lt 0 (held_by row.pid row.parent x)) is in
         let place = and_parts ((x.serial == r.parent) && is_domain x.domain r.domain) (r.level == x.level + 1) parts.0 in
         let some : 0 < held_by row.pid row.parent x = grind (arith, nat_tests, parts.1) in (
           omega (arith, low, eqb-true r.level (x.level + 1) place.1),
-          any_left (λ (y : Row). y.lkid ≡ row.parent) (x.granted ++ x.converting) x.waiting
-              (Any-weaker (λ (y : Row). (y.lkid ≡ row.parent) × (y.pid ≡ row.pid)) (λ y. y.lkid ≡ row.parent) (λ y of. of.0) (x.granted ++ x.converting)
+          any_left (λ (y : LockRow). y.lkid ≡ row.parent) (x.granted ++ x.converting) x.waiting
+              (Any-weaker (λ (y : LockRow). (y.lkid ≡ row.parent) × (y.pid ≡ row.pid)) (λ y. y.lkid ≡ row.parent) (λ y of. of.0) (x.granted ++ x.converting)
               (held_there row.pid row.parent (x.granted ++ x.converting)
               (omega (arith, some, sum_by-append (locks row.pid row.parent) x.granted x.converting)))),
         )
 
 -- a lock that is counted among rows has one of them
-counted_there : (lkid : ℕ) (rows : List Row) → 1 ≤ sum_by (stands lkid) rows → Any (λ row. row.lkid ≡ lkid) rows
+counted_there : (lkid : ℕ) (rows : List LockRow) → 1 ≤ sum_by (stands lkid) rows → Any (λ row. row.lkid ≡ lkid) rows
 counted_there lkid [] some = absurd (omega (arith, some))
 counted_there lkid (row ∷ rows) some = of_test (row.lkid == lkid) refl (counted_there lkid rows)
   where
     of_test : (b : Bool) → (row.lkid == lkid) ≡ b
-        → (1 ≤ sum_by (stands lkid) rows → Any (λ (x : Row). x.lkid ≡ lkid) rows) → Any (λ (x : Row). x.lkid ≡ lkid) (row ∷ rows)
-    of_test true is later = Any-here (λ (x : Row). x.lkid ≡ lkid) row rows (eqb-true row.lkid lkid is)
+        → (1 ≤ sum_by (stands lkid) rows → Any (λ (x : LockRow). x.lkid ≡ lkid) rows) → Any (λ (x : LockRow). x.lkid ≡ lkid) (row ∷ rows)
+    of_test true is later = Any-here (λ (x : LockRow). x.lkid ≡ lkid) row rows (eqb-true row.lkid lkid is)
     of_test false is later =
         let none : stands lkid row ≡ 0 = ap (λ (b : Bool). cond b 1 0) is in
-        Any-there (λ (x : Row). x.lkid ≡ lkid) row rows
+        Any-there (λ (x : LockRow). x.lkid ≡ lkid) row rows
         (later (omega (arith, some, none, sum_by-cons (stands lkid) row rows)))
 
 -- and among resources of which none is below a level it stands on that at most
@@ -235,10 +235,10 @@ counted_at_most level lkid (r ∷ rest) low some = of_weight (weigh (stands lkid
   where
     of_weight : (n : ℕ) → weigh (stands lkid) r ≡ n → (1 ≤ standing lkid rest → StandsAtMost rest level lkid) → StandsAtMost (r ∷ rest) level lkid
     of_weight zero none later =
-        Any-there (λ (x : Resource). (x.level ≤ level) × Any (λ (row : Row). row.lkid ≡ lkid) (rows_on x)) r rest
+        Any-there (λ (x : Resource). (x.level ≤ level) × Any (λ (row : LockRow). row.lkid ≡ lkid) (rows_on x)) r rest
         (later (omega (arith, some, none, sum_by-cons (weigh (stands lkid)) r rest)))
     of_weight (suc n) has later =
-        Any-here (λ (x : Resource). (x.level ≤ level) × Any (λ (row : Row). row.lkid ≡ lkid) (rows_on x)) r rest (
+        Any-here (λ (x : Resource). (x.level ≤ level) × Any (λ (row : LockRow). row.lkid ≡ lkid) (rows_on x)) r rest (
           low.0,
           counted_there lkid (rows_on r)
               (omega (
@@ -252,7 +252,7 @@ counted_at_most level lkid (r ∷ rest) low some = of_weight (weigh (stands lkid
 module _ (s : State) (apart : Apart s) (rooted : AllByRecursion (AllRooted s.resources) s.resources) where
   -- what is so of the row of a lock that stands somewhere, whichever it is, is so
   pub stands_so : (C : Type 0) (level lkid : ℕ)
-      → ((row : Row) (r : Resource) → r.level ≤ level → IsRowIn (rows_on r) row → Any (λ x. r ≡ x) s.resources → row.lkid ≡ lkid → HasRoot s.resources r row → C)
+      → ((row : LockRow) (r : Resource) → r.level ≤ level → IsRowIn (rows_on r) row → Any (λ x. r ≡ x) s.resources → row.lkid ≡ lkid → HasRoot s.resources r row → C)
       → StandsAtMost s.resources level lkid → C
   stands_so C level lkid so stands =
       any_so C s.resources
@@ -282,7 +282,7 @@ module _ (s : State) (apart : Apart s) (rooted : AllByRecursion (AllRooted s.res
       (λ row r low there among named root. of_root row r low (sym (ap (λ (n : ℕ). parent_of n s.resources) named) ∙ parent_is s apart row r there among) root)
       standing_at
     where
-      of_root : (row : Row) (r : Resource) → r.level ≤ 0 → parent_of lkid s.resources ≡ row.parent → HasRoot s.resources r row → false ≡ true
+      of_root : (row : LockRow) (r : Resource) → r.level ≤ 0 → parent_of lkid s.resources ≡ row.parent → HasRoot s.resources r row → false ≡ true
       of_root row r low is (at_root none) = absurd (none_above top 0 lkid some (is ∙ none) below)
       of_root row r low is (below_up up) =
           any_so (false ≡ true) s.resources
@@ -298,7 +298,7 @@ module _ (s : State) (apart : Apart s) (rooted : AllByRecursion (AllRooted s.res
       (as_many_levels top some level row.parent))
       standing_at
     where
-      of_root : (row : Row) (r : Resource) → r.level ≤ suc level → parent_of lkid s.resources ≡ row.parent → HasRoot s.resources r row
+      of_root : (row : LockRow) (r : Resource) → r.level ≤ suc level → parent_of lkid s.resources ≡ row.parent → HasRoot s.resources r row
           → (StandsAtMost s.resources level row.parent → is_below (suc level) top s.resources row.parent ≡ true → is_below level top s.resources row.parent ≡ true)
           → is_below (suc level) top s.resources lkid ≡ true
       of_root row r low is (at_root none) higher = absurd (none_above top (suc level) lkid some (is ∙ none) below)

@@ -6,7 +6,7 @@ use Rattle.std.specs.List.{flat_map, AllByRecursion}
 use Rattle.std.proofs.lemmas.List.{map-id}
 use Rattle.vlm_words.specs.declared.conditions.Cond.{Cond}
 use Rattle.vlm_words.specs.declared.locks.Request.{Request}
-use Rattle.vlm_words.specs.declared.locks.Row.{Row}
+use Rattle.vlm_words.specs.declared.locks.LockRow.{LockRow}
 use Rattle.vlm_words.specs.declared.modes.Mode.{Mode}
 use Rattle.vlm_words.specs.declared.steps.Answer.TheVariants.{Victim}
 use Rattle.vlm_words.specs.declared.steps.Step.TheVariants.{Search}
@@ -32,30 +32,30 @@ use Rattle.vlm_model.specs.Circles.{ComesBackTo, ComesBefore, FindsWhoIsCaught, 
 -- ---- queues
 
 -- where a row stands in a queue
-record Place (queue : List Row) (row : Row) : Type 0 where
-  before : List Row
-  behind : List Row
+record Place (queue : List LockRow) (row : LockRow) : Type 0 where
+  before : List LockRow
+  behind : List LockRow
   is : queue ≡ before ++ row ∷ behind
 
-place_of : (queue : List Row) (row : Row) → IsOneOf queue row → Place queue row
+place_of : (queue : List LockRow) (row : LockRow) → IsOneOf queue row → Place queue row
 place_of [] row one = absurd (Any-none (λ other. other ≡ row) one)
 place_of (first ∷ rows) row one =
     elim (Any-cases (λ other. other ≡ row) first rows one) [
-      | inl here ↦ record { before = []; behind = rows; is = ap (λ (x : Row). x ∷ rows) here }
+      | inl here ↦ record { before = []; behind = rows; is = ap (λ (x : LockRow). x ∷ rows) here }
       | inr there ↦
           (let later : Place rows row = place_of rows row there in
-          record { before = first ∷ later.before; behind = later.behind; is = ap (λ (xs : List Row). first ∷ xs) later.is })
+          record { before = first ∷ later.before; behind = later.behind; is = ap (λ (xs : List LockRow). first ∷ xs) later.is })
     ]
 
 -- behind it
-stands_before : (queue : List Row) (first second : Row) → ComesBefore first second queue → StandsBefore queue first second
+stands_before : (queue : List LockRow) (first second : LockRow) → ComesBefore first second queue → StandsBefore queue first second
 stands_before [] first second comes = absurd comes
 stands_before (row ∷ rows) first second (inl now) =
     let place : Place rows second = place_of rows second now.1 in
     record {
       before = row ∷ place.before;
       behind = place.behind;
-      queued = ap (λ (xs : List Row). row ∷ xs) place.is;
+      queued = ap (λ (xs : List LockRow). row ∷ xs) place.is;
       first_among = Any-here (λ other. other ≡ first) row place.before now.0;
     }
 stands_before (row ∷ rows) first second (inr later) =
@@ -63,50 +63,50 @@ stands_before (row ∷ rows) first second (inr later) =
     record {
       before = row ∷ further.before;
       behind = further.behind;
-      queued = ap (λ (xs : List Row). row ∷ xs) further.queued;
+      queued = ap (λ (xs : List LockRow). row ∷ xs) further.queued;
       first_among = Any-there (λ other. other ≡ first) row further.before further.first_among;
     }
 
-append_assoc : (xs ys zs : List Row) → (xs ++ ys) ++ zs ≡ xs ++ (ys ++ zs)
+append_assoc : (xs ys zs : List LockRow) → (xs ++ ys) ++ zs ≡ xs ++ (ys ++ zs)
 append_assoc [] ys zs = refl
-append_assoc (x ∷ xs) ys zs = ap (λ (rest : List Row). x ∷ rest) (append_assoc xs ys zs)
+append_assoc (x ∷ xs) ys zs = ap (λ (rest : List LockRow). x ∷ rest) (append_assoc xs ys zs)
 
 -- the same in a longer queue
-with_more_behind : (rows more : List Row) (first second : Row) → StandsBefore rows first second → StandsBefore (rows ++ more) first second
+with_more_behind : (rows more : List LockRow) (first second : LockRow) → StandsBefore rows first second → StandsBefore (rows ++ more) first second
 with_more_behind rows more first second stands = record {
   before = stands.before;
   behind = stands.behind ++ more;
-  queued = ap (λ (xs : List Row). xs ++ more) stands.queued ∙ append_assoc stands.before (second ∷ stands.behind) more;
+  queued = ap (λ (xs : List LockRow). xs ++ more) stands.queued ∙ append_assoc stands.before (second ∷ stands.behind) more;
   first_among = stands.first_among;
 }
 
-with_more_before : (more rows : List Row) (first second : Row) → StandsBefore rows first second → StandsBefore (more ++ rows) first second
+with_more_before : (more rows : List LockRow) (first second : LockRow) → StandsBefore rows first second → StandsBefore (more ++ rows) first second
 with_more_before more rows first second stands = record {
   before = more ++ stands.before;
   behind = stands.behind;
-  queued = ap (λ (xs : List Row). more ++ xs) stands.queued ∙ sym (append_assoc more stands.before (second ∷ stands.behind));
+  queued = ap (λ (xs : List LockRow). more ++ xs) stands.queued ∙ sym (append_assoc more stands.before (second ∷ stands.behind));
   first_among = Any-behind (λ other. other ≡ first) more stands.before stands.first_among;
 }
 
-one_in_each : (rows more : List Row) (first second : Row) → IsOneOf rows first → IsOneOf more second → StandsBefore (rows ++ more) first second
+one_in_each : (rows more : List LockRow) (first second : LockRow) → IsOneOf rows first → IsOneOf more second → StandsBefore (rows ++ more) first second
 one_in_each rows more first second ahead waits =
     let place : Place more second = place_of more second waits in
     record {
       before = rows ++ place.before;
       behind = place.behind;
-      queued = ap (λ (xs : List Row). rows ++ xs) place.is ∙ sym (append_assoc rows place.before (second ∷ place.behind));
+      queued = ap (λ (xs : List LockRow). rows ++ xs) place.is ∙ sym (append_assoc rows place.before (second ∷ place.behind));
       first_among = any_left (λ other. other ≡ first) rows place.before ahead;
     }
 
 -- who is ahead stands before in the queue of both
-ahead_stands : (r : Resource) (lock row : Row) → IsAheadOf r lock row → StandsBefore (queue_of r) lock row
+ahead_stands : (r : Resource) (lock row : LockRow) → IsAheadOf r lock row → StandsBefore (queue_of r) lock row
 ahead_stands r lock row (inl conversions) =
     with_more_behind r.converting r.waiting lock row (stands_before r.converting lock row conversions)
 ahead_stands r lock row (inr (inl both)) = one_in_each r.converting r.waiting lock row both.0 both.1
 ahead_stands r lock row (inr (inr waiting)) = with_more_before r.converting r.waiting lock row (stands_before r.waiting lock row waiting)
 
 -- and the other way
-comes_before : (before behind : List Row) (first second : Row) → IsOneOf before first → ComesBefore first second (before ++ second ∷ behind)
+comes_before : (before behind : List LockRow) (first second : LockRow) → IsOneOf before first → ComesBefore first second (before ++ second ∷ behind)
 comes_before [] behind first second one = absurd (Any-none (λ other. other ≡ first) one)
 comes_before (row ∷ before) behind first second one =
     elim (Any-cases (λ other. other ≡ first) row before one) [
@@ -115,7 +115,7 @@ comes_before (row ∷ before) behind first second one =
       | inr there ↦ inr (comes_before before behind first second there)
     ]
 
-ahead_by_cases : (rows more : List Row) (first second : Row) → ComesBefore first second (rows ++ more)
+ahead_by_cases : (rows more : List LockRow) (first second : LockRow) → ComesBefore first second (rows ++ more)
     → ComesBefore first second rows ⊎ (IsOneOf rows first × IsOneOf more second) ⊎ ComesBefore first second more
 ahead_by_cases [] more first second comes = inr (inr comes)
 ahead_by_cases (row ∷ rows) more first second (inl now) =
@@ -131,7 +131,7 @@ ahead_by_cases (row ∷ rows) more first second (inr later) = of_rest (ahead_by_
     of_rest (inr (inl both)) = inr (inl (Any-there (λ other. other ≡ first) row rows both.0, both.1))
     of_rest (inr (inr more_alone)) = inr (inr more_alone)
 
-stands_ahead : (r : Resource) (lock row : Row) → StandsBefore (queue_of r) lock row → IsAheadOf r lock row
+stands_ahead : (r : Resource) (lock row : LockRow) → StandsBefore (queue_of r) lock row → IsAheadOf r lock row
 stands_ahead r lock row stands =
     ahead_by_cases r.converting r.waiting lock row
     (subst (ComesBefore lock row) (sym stands.queued) (comes_before stands.before stands.behind lock row stands.first_among))
@@ -160,7 +160,7 @@ out_of : (mode : Mode) (held : Option Request) → HoldsAgainst mode held → (I
 out_of mode None against = absurd against
 out_of mode (Some held) against = (λ beside. let first : is_compatible mode held.mode ≡ false = against.0 in cc, against.1)
 
-waits_on : (r : Resource) (row lock : Row) → IsBlockedBy r row lock → WaitsOn r row lock
+waits_on : (r : Resource) (row lock : LockRow) → IsBlockedBy r row lock → WaitsOn r row lock
 waits_on r row lock blocked = record {
   queued = of_queue blocked.queued;
   request = blocked.request;
@@ -182,7 +182,7 @@ waits_on r row lock blocked = record {
     of_why (inl out) = inl (of_place out.0, holds_against blocked.request.mode lock.held out.1 out.2)
     of_why (inr ahead) = inr (ahead_stands r lock row ahead.0, counts lock.want ahead.1)
 
-blocked_by : (r : Resource) (row lock : Row) → WaitsOn r row lock → IsBlockedBy r row lock
+blocked_by : (r : Resource) (row lock : LockRow) → WaitsOn r row lock → IsBlockedBy r row lock
 blocked_by r row lock waits = record {
   queued = either (λ other. other ≡ row) r.converting r.waiting waits.queued;
   request = waits.request;
@@ -199,10 +199,10 @@ blocked_by r row lock waits = record {
     of_why (inr ahead) = inr (stands_ahead r lock row ahead.0, counted lock.want ahead.1)
 
 -- on some resource
-waits_for : (s : State) (row lock : Row) → IsBlocked s row lock → WaitsFor s row lock
+waits_for : (s : State) (row lock : LockRow) → IsBlocked s row lock → WaitsFor s row lock
 waits_for s row lock = Any-weaker (λ r. IsBlockedBy r row lock) (λ r. WaitsOn r row lock) (λ r. waits_on r row lock) s.resources
 
-is_blocked : (s : State) (row lock : Row) → WaitsFor s row lock → IsBlocked s row lock
+is_blocked : (s : State) (row lock : LockRow) → WaitsFor s row lock → IsBlocked s row lock
 is_blocked s row lock = Any-weaker (λ r. WaitsOn r row lock) (λ r. IsBlockedBy r row lock) (λ r. blocked_by r row lock) s.resources
 
 -- ---- lists of processes
@@ -240,7 +240,7 @@ comes_back s end pid (next ∷ others) leads = inr (further pid next others lead
         (to ∷ more.0, (held_up s from to waits, more.1))
 
 -- a request that is caught is deadlocked
-is_deadlocked : (s : State) (row : Row) → IsCaught s row → IsDeadlocked s row
+is_deadlocked : (s : State) (row : LockRow) → IsCaught s row → IsDeadlocked s row
 is_deadlocked s row caught = of_back caught.back
   where
     of_back : ComesBackTo s row.pid caught.lock.pid → IsDeadlocked s row
@@ -252,7 +252,7 @@ is_deadlocked s row caught = of_back caught.back
       leads = leads_to s row.pid caught.lock.pid chain.0 chain.1;
     }
 
-is_caught : (s : State) (row : Row) → IsDeadlocked s row → IsCaught s row
+is_caught : (s : State) (row : LockRow) → IsDeadlocked s row → IsCaught s row
 is_caught s row deadlocked = record {
   lock = deadlocked.lock;
   blocked = is_blocked s row deadlocked.lock deadlocked.waits;
@@ -262,7 +262,7 @@ is_caught s row deadlocked = record {
 -- ---- what a search finds
 
 -- in a circle somebody is deadlocked
-nobody_in_circle : (s : State) → ((row : Row) → IsDeadlocked s row → ⊥) → NobodyWaitsInACircle s
+nobody_in_circle : (s : State) → ((row : LockRow) → IsDeadlocked s row → ⊥) → NobodyWaitsInACircle s
 nobody_in_circle s nobody pid [] waits =
     nobody waits.row (record {
       lock = waits.lock;
@@ -292,7 +292,7 @@ leaves_all s node settled =
       none_queued = idle.none_queued;
     })
 
-no_later : (row other : Row) → wanted_number row ≤ wanted_number other → IsNoLater row other
+no_later : (row other : LockRow) → wanted_number row ≤ wanted_number other → IsNoLater row other
 no_later row other less first later wants wanted =
     let one : wanted_number row ≡ first.number = ap number wants in
     let two : wanted_number other ≡ later.number = ap number wanted in
@@ -311,12 +311,12 @@ in_all P f (x ∷ xs) any =
     ]
 
 -- the row is among those of its lock
-in_its_rows : (row : Row) (rows : List Row) → IsOneOf rows row → IsOneOf (rows_of row.lkid rows) row
+in_its_rows : (row : LockRow) (rows : List LockRow) → IsOneOf rows row → IsOneOf (rows_of row.lkid rows) row
 in_its_rows row [] one = one
 in_its_rows row (first ∷ rows) one =
     elim (Any-cases (λ other. other ≡ row) first rows one) [
       | inl here ↦
-          (let named : (first.lkid == row.lkid) ≡ true = eq-eqb first.lkid row.lkid (ap (λ (x : Row). x.lkid) here) in
+          (let named : (first.lkid == row.lkid) ≡ true = eq-eqb first.lkid row.lkid (ap (λ (x : LockRow). x.lkid) here) in
           rw named (Any-here (λ other. other ≡ row) first (rows_of row.lkid rows) here))
       | inr there ↦ of_test (first.lkid == row.lkid) (in_its_rows row rows there)
     ]
@@ -326,26 +326,26 @@ in_its_rows row (first ∷ rows) one =
     of_test false behind = behind
 
 -- the end is that of the row, by deadlock
-abbrev IsItsDeadlock : Row → Ending → Type 0
+abbrev IsItsDeadlock : LockRow → Ending → Type 0
 IsItsDeadlock row ending = (ending.how ≡ by_deadlock) × (ending.lkid ≡ row.lkid) × (Some ending.request ≡ row.want)
 
-row_ends : (row : Row) (request : Request) → row.want ≡ Some request → Any (IsItsDeadlock row) (row_endings by_deadlock false row)
+row_ends : (row : LockRow) (request : Request) → row.want ≡ Some request → Any (IsItsDeadlock row) (row_endings by_deadlock false row)
 row_ends row request wants = of_want row.want wants refl
   where
     of_want : (want : Option Request) → want ≡ Some request → row.want ≡ want → Any (IsItsDeadlock row) (wanted_endings by_deadlock false row.lkid row.pid want)
     of_want None is same = cc
     of_want (Some wanted) is same = Any-here (IsItsDeadlock row) _ [] (refl, refl, sym same)
 
-queue_ends : (row : Row) (request : Request) → row.want ≡ Some request → (rows : List Row) → IsOneOf rows row
+queue_ends : (row : LockRow) (request : Request) → row.want ≡ Some request → (rows : List LockRow) → IsOneOf rows row
     → Any (IsItsDeadlock row) (queue_endings by_deadlock row.lkid rows)
 queue_ends row request wants rows one =
     in_all (IsItsDeadlock row) (row_endings by_deadlock false) (rows_of row.lkid rows)
     (Any-weaker (λ other. other ≡ row) (λ other. Any (IsItsDeadlock row) (row_endings by_deadlock false other))
-    (λ other same. subst (λ (x : Row). Any (IsItsDeadlock row) (row_endings by_deadlock false x)) (sym same) (row_ends row request wants))
+    (λ other same. subst (λ (x : LockRow). Any (IsItsDeadlock row) (row_endings by_deadlock false x)) (sym same) (row_ends row request wants))
     (rows_of row.lkid rows) (in_its_rows row rows one))
 
 -- on the resource where it is queued
-victim_ends_on : (row lock : Row) (r : Resource) → WaitsOn r row lock → Any (IsItsDeadlock row) (withdrawal_endings (deadlock_of row.lkid) r)
+victim_ends_on : (row lock : LockRow) (r : Resource) → WaitsOn r row lock → Any (IsItsDeadlock row) (withdrawal_endings (deadlock_of row.lkid) r)
 victim_ends_on row lock r waits =
     elim (either (λ other. other ≡ row) r.converting r.waiting waits.queued) [
       | inl converts ↦
@@ -357,14 +357,14 @@ victim_ends_on row lock r waits =
     ]
 
 -- a victim's request ends by deadlock
-victim_ends : (s : State) (victim : Row) → IsDeadlocked s victim → Any (IsItsDeadlock victim) (search_endings s (Some victim))
+victim_ends : (s : State) (victim : LockRow) → IsDeadlocked s victim → Any (IsItsDeadlock victim) (search_endings s (Some victim))
 victim_ends s victim deadlocked =
     any_left (IsItsDeadlock victim) (flat_map (withdrawal_endings (deadlock_of victim.lkid)) s.resources) []
     (in_all (IsItsDeadlock victim) (withdrawal_endings (deadlock_of victim.lkid)) s.resources
     (Any-weaker (λ r. WaitsOn r victim deadlocked.lock) (λ r. Any (IsItsDeadlock victim) (withdrawal_endings (deadlock_of victim.lkid) r))
     (λ r. victim_ends_on victim deadlocked.lock r) s.resources deadlocked.waits))
 
-finds : (s : State) (node : ℕ) (choice : Option Row) → AllByRecursion IsSettled s.resources → IsVictim s choice → (lkid : Option ℕ)
+finds : (s : State) (node : ℕ) (choice : Option LockRow) → AllByRecursion IsSettled s.resources → IsVictim s choice → (lkid : Option ℕ)
     → (step_change s (Search node) choice).answer ≡ Victim lkid
     → FindsWhoIsCaught s (stepped_after_sweep (step_change s (Search node) choice)) lkid
 finds s node None settled nobody None answered = (nobody_in_circle s nobody, leaves_all s node settled)
@@ -384,7 +384,7 @@ finds s node (Some victim) settled deadlocked (Some lkid) answered = record {
     same_lkid is = cc
 
 -- after every run
-pub finds_always : (history : History) (old : State) → Run history old → (node : ℕ) (choice : Option Row) → IsChoice old (Search node) choice
+pub finds_always : (history : History) (old : State) → Run history old → (node : ℕ) (choice : Option LockRow) → IsChoice old (Search node) choice
     → (lkid : Option ℕ) → (stepped old (Search node) choice).answer ≡ Victim lkid → FindsWhoIsCaught old (stepped old (Search node) choice) lkid
 finds_always history old run node choice chosen lkid answered = of_refusal (search_refusal old node) chosen answered
   where

@@ -5,7 +5,7 @@ use Rattle.std.specs.List.{AllByRecursion, list_any, sum_by, range_with_len}
 use Rattle.std.proofs.lemmas.Bool.{and_parts, eqb-true, or_cases, or_right}
 use Rattle.std.proofs.lemmas.Bool.Decides.{nat_tests}
 use Rattle.std.proofs.lemmas.List.Sums.{sum_by-cons}
-use Rattle.vlm_words.specs.declared.locks.Row.{Row}
+use Rattle.vlm_words.specs.declared.locks.LockRow.{LockRow}
 use Rattle.vlm_words.specs.declared.steps.Dequeue.{Dequeue}
 use Rattle.vlm_words.specs.State.{Resource, State}
 use Rattle.vlm_model.specs.Dequeue.{dequeue_lkid, is_dequeued}
@@ -78,7 +78,7 @@ no_up_of_strangers is_one pid lkid other p (r ∷ rest) none up = elim (or_cases
 
 module _ (s : State) (apart : Apart s) (rooted : AllByRecursion (AllRooted s.resources) s.resources) (is_one : ℕ → Bool) where
   -- a row whose parent is one of theirs is of one of them
-  own_row : (row : Row) (p : Position) → is_in row.parent (own_lkids is_one s) ≡ true → list_any (is_up p row.pid row.parent) s.resources ≡ true
+  own_row : (row : LockRow) (p : Position) → is_in row.parent (own_lkids is_one s) ≡ true → list_any (is_up p row.pid row.parent) s.resources ≡ true
       → is_one row.pid ≡ true
   own_row row p listed up = of_test (is_one row.pid) refl
     where
@@ -90,7 +90,7 @@ module _ (s : State) (apart : Apart s) (rooted : AllByRecursion (AllRooted s.res
       of_test false other = absurd (no_up_of_strangers is_one row.pid row.parent other p s.resources none up)
 
   -- where a row stands
-  pub found_on : (row : Row) (r : Resource) → IsRowIn (rows_on r) row → is_one row.pid ≡ true → has_lock_among is_one row.lkid r ≡ true
+  pub found_on : (row : LockRow) (r : Resource) → IsRowIn (rows_on r) row → is_one row.pid ≡ true → has_lock_among is_one row.lkid r ≡ true
   found_on row r there theirs = elim (either (λ y. row ≡ y) (r.granted ++ r.converting) r.waiting there) [
     | inl first ↦ elim (either (λ y. row ≡ y) r.granted r.converting first) [
       | inl granted ↦ (let found = row_found is_one s apart row r.granted granted theirs in rw found refl)
@@ -104,7 +104,7 @@ module _ (s : State) (apart : Apart s) (rooted : AllByRecursion (AllRooted s.res
   ]
 
   -- with the parent of a row its own lock is listed
-  own_closed : (row : Row) (r : Resource) → IsRowIn (rows_on r) row → Any (λ x. r ≡ x) s.resources → HasRoot s.resources r row
+  own_closed : (row : LockRow) (r : Resource) → IsRowIn (rows_on r) row → Any (λ x. r ≡ x) s.resources → HasRoot s.resources r row
       → is_in row.parent (own_lkids is_one s) ≡ true → is_in row.lkid (own_lkids is_one s) ≡ true
   own_closed row r there among (at_root none) listed =
       absurd (omega (arith, of_listed (λ n. 1 ≤ n) row.parent (own_lkids is_one s) (own_from_1 is_one s) listed, none))
@@ -115,7 +115,7 @@ module _ (s : State) (apart : Apart s) (rooted : AllByRecursion (AllRooted s.res
 
 -- with the parent of a row its own lock is listed, on each resource
 abbrev pub Closed : State → List ℕ → Type 0
-Closed s lkids = (row : Row) (r : Resource) → IsRowIn (rows_on r) row → Any (λ x. r ≡ x) s.resources → HasRoot s.resources r row → r.level ≤ 15
+Closed s lkids = (row : LockRow) (r : Resource) → IsRowIn (rows_on r) row → Any (λ x. r ≡ x) s.resources → HasRoot s.resources r row → r.level ≤ 15
     → is_in row.parent lkids ≡ true → is_in row.lkid lkids ≡ true
 
 -- the locks of processes
@@ -159,7 +159,7 @@ taken_are_closed s apart rooted d row r there among root low listed =
 -- ---- what is left
 
 -- the row's parent is given up
-abbrev pub orphaned_by : List Withdrawal → Row → Bool
+abbrev pub orphaned_by : List Withdrawal → LockRow → Bool
 orphaned_by withdrawals row = list_any (λ w. row.parent == w.lkid) withdrawals
 
 pub as_listed : (f : ℕ → Withdrawal) → ((lkid : ℕ) → (f lkid).lkid ≡ lkid) → (m : ℕ) (lkids : List ℕ)
@@ -182,7 +182,7 @@ waiting_on r = each_weaker (IsRowIn r.waiting) (IsRowIn (rows_on r))
 
 module _ (s : State) (rooted : AllByRecursion (AllRooted s.resources) s.resources) (low : AllByRecursion (λ r. r.level ≤ 15) s.resources)
     (f : ℕ → Withdrawal) (named : (lkid : ℕ) → (f lkid).lkid ≡ lkid) (lkids : List ℕ) (closed : Closed s lkids) where
-  queue_closed : (r : Resource) → Any (λ x. r ≡ x) s.resources → r.level ≤ 15 → AllRooted s.resources r → (rows : List Row)
+  queue_closed : (r : Resource) → Any (λ x. r ≡ x) s.resources → r.level ≤ 15 → AllRooted s.resources r → (rows : List LockRow)
       → AllByRecursion (IsRowIn (rows_on r)) rows → AllByRecursion (IsListed (orphaned_by (map f lkids)) (map f lkids)) rows
   queue_closed r among level its [] each = tt
   queue_closed r among level its (row ∷ rows) each = (
@@ -191,7 +191,7 @@ module _ (s : State) (rooted : AllByRecursion (AllRooted s.resources) s.resource
         ∙ any_so (is_in row.lkid lkids ≡ true) (rows_on r)
         (Any-weaker (λ y. (row ≡ y) × (is_rooted s.resources (position r) y ≡ true)) (λ y. is_in row.lkid lkids ≡ true)
         (λ y so. closed row r each.0 among
-        (root_of s.resources r row (subst (λ (x : Row). is_rooted s.resources (position r) x ≡ true) (sym so.0) so.1)) level
+        (root_of s.resources r row (subst (λ (x : LockRow). is_rooted s.resources (position r) x ≡ true) (sym so.0) so.1)) level
         (sym (as_listed f named row.parent lkids) ∙ parent)) (rows_on r)
         (any_and_each (λ y. row ≡ y) (λ y. is_rooted s.resources (position r) y ≡ true) (rows_on r) (rows_rooted s.resources r its) each.0)),
     queue_closed r among level its rows each.1,
@@ -219,7 +219,7 @@ or_fails true b none = cc
 or_fails false b none = (refl, none)
 
 -- what is held of a lock that is not given up is held
-rows_stay : (pid lkid : ℕ) (withdrawals : List Withdrawal) → list_any (λ w. lkid == w.lkid) withdrawals ≡ false → (rows : List Row)
+rows_stay : (pid lkid : ℕ) (withdrawals : List Withdrawal) → list_any (λ w. lkid == w.lkid) withdrawals ≡ false → (rows : List LockRow)
     → sum_by (locks pid lkid) (rows_left withdrawals rows) ≡ sum_by (locks pid lkid) rows
 rows_stay pid lkid [] none rows = refl
 rows_stay pid lkid (w ∷ withdrawals) none rows =

@@ -8,7 +8,7 @@ use Rattle.std.proofs.lemmas.Grind.{flat_map-append}
 use Rattle.vlm_words.specs.declared.asts.AstKind.TheVariants.{Completion, Blocking}
 use Rattle.vlm_words.specs.declared.conditions.Cond.{Cond}
 use Rattle.vlm_words.specs.declared.locks.Request.{Request}
-use Rattle.vlm_words.specs.declared.locks.Row.{Row}
+use Rattle.vlm_words.specs.declared.locks.LockRow.{LockRow}
 use Rattle.vlm_words.specs.declared.steps.Answer.{Answer}
 use Rattle.vlm_words.specs.declared.steps.Step.TheVariants.{Declare, SetValue, Enq, Convert, Deq, Rundown, Leave, Search, Take}
 use Rattle.vlm_words.specs.declared.steps.Step.{Step}
@@ -100,13 +100,13 @@ held_warns (Some request) lkid pid = of_routine request.blocking
     of_routine (Some routine) = refl
 
 -- no warning is a completion
-row_warns : (converting waiting : List Row) (row : Row) → filter is_completion (row_warnings converting waiting row) ≡ []
+row_warns : (converting waiting : List LockRow) (row : LockRow) → filter is_completion (row_warnings converting waiting row) ≡ []
 unfolding row_warnings
 row_warns converting waiting row =
     cond_both (is_to_warn converting waiting row) (blocking_asts row.held row.lkid row.pid) [] (λ asts. filter is_completion asts ≡ [])
     (λ _. held_warns row.held row.lkid row.pid) (λ _. refl)
 
-rows_warn : (converting waiting rows : List Row) → filter is_completion (flat_map (row_warnings converting waiting) rows) ≡ []
+rows_warn : (converting waiting rows : List LockRow) → filter is_completion (flat_map (row_warnings converting waiting) rows) ≡ []
 rows_warn converting waiting [] = refl
 rows_warn converting waiting (row ∷ rows) =
     filter-append is_completion (row_warnings converting waiting row) (flat_map (row_warnings converting waiting) rows)
@@ -138,7 +138,7 @@ sweep_matches (r ∷ rest) =
 -- ---- the steps
 
 -- what a change queues are the completions of its endings
-pub change_queues : (s : State) (step : Step) (choice : Option Row)
+pub change_queues : (s : State) (step : Step) (choice : Option LockRow)
     → (step_change s step choice).queued ≡ completions_of (step_change s step choice).endings
 change_queues s (Declare d) choice = refl
 change_queues s (SetValue v) choice = refl

@@ -3,7 +3,7 @@ use Rattle.std.proofs.Common.{◌≡◌, ◌≤◌, ◌+◌, ℕ, Bool, true, Li
 use Rattle.std.specs.List.{find, sum_by}
 use Rattle.std.proofs.lemmas.List.Sums.{sum_by-cons}
 use Rattle.vlm_words.specs.declared.locks.Request.{Request}
-use Rattle.vlm_words.specs.declared.locks.Row.{Row}
+use Rattle.vlm_words.specs.declared.locks.LockRow.{LockRow}
 use Rattle.vlm_words.specs.declared.resources.ValueBlock.{ValueBlock}
 use Rattle.vlm_words.specs.State.{Resource}
 use Rattle.vlm_model.specs.Endings.{Ending}
@@ -18,7 +18,7 @@ use Rattle.vlm_model.proofs.EndsOnce.{absent_unchanged}
 use Rattle.vlm_model.proofs.Weights.{weigh}
 
 -- what rows weigh; what an ending brings beside the weight, and what it may add to it
-module _ (weight : Row → ℕ) (brings adds : List Ending → ℕ) (request : Request) (caller lkid : ℕ) (block : ValueBlock) where
+module _ (weight : LockRow → ℕ) (brings adds : List Ending → ℕ) (request : Request) (caller lkid : ℕ) (block : ValueBlock) where
   -- what resources weigh once the lock converts, with what its grant at once brings, is at most what they weighed, with
   -- what that may add
   abbrev pub ConvertsWithin : ConversionAdmission → List Resource → Type 0
@@ -27,14 +27,14 @@ module _ (weight : Row → ℕ) (brings adds : List Ending → ℕ) (request : R
       ≤ sum_by (weigh weight) resources + adds (conversion_endings a)
 
   -- the endings of a grant, if it comes at once
-  abbrev pub endings_at_once : Bool → Row → List Ending
+  abbrev pub endings_at_once : Bool → LockRow → List Ending
   endings_at_once at_once row = cond at_once (grant_endings true (wanting_row row request)) []
 
   -- it is so on the resource of the lock
-  module _ (within : (at_once : Bool) (r : Resource) (row : Row) → Found (is_lock_of caller lkid) r.granted row
+  module _ (within : (at_once : Bool) (r : Resource) (row : LockRow) → Found (is_lock_of caller lkid) r.granted row
       → weigh weight (resource_after_conversion_of request at_once lkid block r (Some row)) + brings (endings_at_once at_once row) ≤ weigh weight r + adds (endings_at_once at_once row)) where
     -- where a lock has one row, its conversion is asked for once: on this resource, or on those behind it
-    here_or_behind : (r : Resource) (rest : List Resource) (a : ConversionAdmission) (found : Option Row)
+    here_or_behind : (r : Resource) (rest : List Resource) (a : ConversionAdmission) (found : Option LockRow)
         → find (is_lock_of caller lkid) r.granted ≡ found → standing lkid (r ∷ rest) ≤ 1
         → (admission_among request caller lkid rest ≡ Some a → ConvertsWithin a rest)
         → admission_or request r found (admission_among request caller lkid rest) ≡ Some a

@@ -7,7 +7,7 @@ use Rattle.std.proofs.lemmas.List.{map-id}
 use Rattle.std.proofs.lemmas.List.Filters.{sum_by-filter_both}
 use Rattle.std.proofs.lemmas.List.Sums.{sum_by-append, sum_by-cons, sum_by_push}
 use Rattle.vlm_words.specs.declared.locks.Request.{Request}
-use Rattle.vlm_words.specs.declared.locks.Row.{Row}
+use Rattle.vlm_words.specs.declared.locks.LockRow.{LockRow}
 use Rattle.vlm_words.specs.declared.resources.ValueBlock.{ValueBlock}
 use Rattle.vlm_words.specs.State.{Process, Resource}
 use Rattle.vlm_model.specs.Endings.{Ending, How, row_endings, wanted_endings}
@@ -31,7 +31,7 @@ abbrev pub hits : ℕ → Option Request → ℕ
 hits number want = cond (wants_number number want) 1 0
 
 -- 1 for a row that wants the request of this number
-abbrev pub wants : ℕ → Row → ℕ
+abbrev pub wants : ℕ → LockRow → ℕ
 wants number row = hits number row.want
 
 -- 1 for an ending of the request of this number
@@ -46,7 +46,7 @@ ended_counts number how at_once lkid pid (Some request) =
     sum_of_one (ends number) (record { lkid = lkid; pid = pid; request = request; how = how; at_once = at_once })
 
 -- the same for what a row wants
-row_ends : (number : ℕ) (how : How) (at_once : Bool) (row : Row) → times_ended number (row_endings how at_once row) ≡ wants number row
+row_ends : (number : ℕ) (how : How) (at_once : Bool) (row : LockRow) → times_ended number (row_endings how at_once row) ≡ wants number row
 row_ends number how at_once row = ended_counts number how at_once row.lkid row.pid row.want
 
 -- a grant keeps what is wanted and what has ended together
@@ -54,7 +54,7 @@ pub wants_kept : (number : ℕ) → GrantKeeps (wants number) (ends number)
 wants_kept number at_once row = omega (arith, row_ends number (by_grant (grant_act row.held row.want)) at_once row)
 
 -- the requests of some rows end, each once
-rows_end : (number : ℕ) (how : How) (rows : List Row)
+rows_end : (number : ℕ) (how : How) (rows : List LockRow)
     → times_ended number (flat_map (row_endings how false) rows) ≡ sum_by (wants number) rows
 rows_end number how [] = refl
 rows_end number how (row ∷ rows) =
@@ -67,7 +67,7 @@ rows_end number how (row ∷ rows) =
     )
 
 -- the rows that go from a queue end their requests
-queue_ends : (number : ℕ) (how : How) (lkid : ℕ) (rows : List Row)
+queue_ends : (number : ℕ) (how : How) (lkid : ℕ) (rows : List LockRow)
     → sum_by (wants number) (rows_without lkid rows) + times_ended number (queue_endings how lkid rows) ≡ sum_by (wants number) rows
 queue_ends number how lkid rows =
     omega (
@@ -77,13 +77,13 @@ queue_ends number how lkid rows =
     )
 
 -- settled rows want nothing
-settled_want_nothing : (number : ℕ) (rows : List Row) → AllByRecursion IsHeld rows → sum_by (wants number) rows ≡ 0
+settled_want_nothing : (number : ℕ) (rows : List LockRow) → AllByRecursion IsHeld rows → sum_by (wants number) rows ≡ 0
 settled_want_nothing number rows settled =
     sum_of_zeros (wants number) rows
     (each_weaker IsHeld (λ row. wants number row ≡ 0) (λ row is. ap (hits number) is.1) rows settled)
 
 -- rows that are settled want nothing
-settling_wants_nothing : (number : ℕ) (rows : List Row) → sum_by (wants number) (map row_after_cancel rows) ≡ 0
+settling_wants_nothing : (number : ℕ) (rows : List LockRow) → sum_by (wants number) (map row_after_cancel rows) ≡ 0
 settling_wants_nothing number [] = refl
 settling_wants_nothing number (row ∷ rows) =
     omega (arith, settling_wants_nothing number rows, sum_by-cons (wants number) (row_after_cancel row) (map row_after_cancel rows))
@@ -174,13 +174,13 @@ all_withdrawn_count number withdrawals apart processes resources fit =
     )
 
 -- a lock that is found has a row
-pub found_stands : (pid lkid : ℕ) (rows : List Row) (row : Row) → Found (is_lock_of pid lkid) rows row → 1 ≤ sum_by (stands lkid) rows
+pub found_stands : (pid lkid : ℕ) (rows : List LockRow) (row : LockRow) → Found (is_lock_of pid lkid) rows row → 1 ≤ sum_by (stands lkid) rows
 found_stands pid lkid rows row at =
     let named : stands lkid row ≡ 1 = ap (λ (b : Bool). cond b 1 0) (and_parts (row.lkid == lkid) (row.pid == pid) at.passes).0 in
     omega (arith, found-le-sum (stands lkid) (is_lock_of pid lkid) rows row at)
 
 -- a conversion is wanted or ends, and nothing else does
-pub converted_row_counts : (number : ℕ) (request : Request) (at_once : Bool) (lkid : ℕ) (block : ValueBlock) (r : Resource) (row : Row) → Fit r
+pub converted_row_counts : (number : ℕ) (request : Request) (at_once : Bool) (lkid : ℕ) (block : ValueBlock) (r : Resource) (row : LockRow) → Fit r
     → wanting_on number (resource_after_conversion_of request at_once lkid block r (Some row))
     + times_ended number (cond at_once (grant_endings true (wanting_row row request)) [])
     ≡ wanting_on number r + hits number (Some request)

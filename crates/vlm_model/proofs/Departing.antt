@@ -8,7 +8,7 @@ use Rattle.std.proofs.lemmas.List.{get_or-set_other, get_or-set_same}
 use Rattle.std.proofs.lemmas.List.Elements.{All-from_recursion}
 use Rattle.vlm_words.specs.declared.conditions.Cond.TheVariants.{Badparam, Departed, Insfmem, Nonexpr, Normal}
 use Rattle.vlm_words.specs.declared.conditions.Cond.{Cond}
-use Rattle.vlm_words.specs.declared.locks.Row.{Row}
+use Rattle.vlm_words.specs.declared.locks.LockRow.{LockRow}
 use Rattle.vlm_words.specs.declared.steps.Answer.TheVariants.{Plain}
 use Rattle.vlm_words.specs.declared.steps.Answer.{Answer}
 use Rattle.vlm_words.specs.declared.steps.Declaration.{Declaration}
@@ -131,7 +131,7 @@ departure_departs s node eight of_node =
     of_test other false same is = inl (departed_before s.nodes node other of_node (eqb-false other node same) is)
 
 -- a step that no check refuses
-made_departs : (s : State) (step : Step) (choice : Option Row) → length s.nodes ≡ 8 → step_refusal s step ≡ None
+made_departs : (s : State) (step : Step) (choice : Option LockRow) → length s.nodes ≡ 8 → step_refusal s step ≡ None
     → Departs s.nodes (stepped_after_sweep (step_change s step choice)).state.nodes step (step_change s step choice).answer
 unfolding declare_change set_change take_change enq_change convert_change deq_change search_change state_after_rundown
 made_departs s (Declare d) choice eight passed =
@@ -167,7 +167,7 @@ refused_departs s step refusal is =
     same_refusal a b same = cc
 
 -- a step, with its refusal
-step_departs : (s : State) (step : Step) (choice : Option Row) → length s.nodes ≡ 8 → (refusal : Option Cond) → step_refusal s step ≡ refusal
+step_departs : (s : State) (step : Step) (choice : Option LockRow) → length s.nodes ≡ 8 → (refusal : Option Cond) → step_refusal s step ≡ refusal
     → Departs s.nodes (refused_or refusal s (step_change s step choice)).state.nodes step (refused_or refusal s (step_change s step choice)).answer
 step_departs s step choice eight None passed = made_departs s step choice eight passed
 step_departs s step choice eight (Some refusal) is = refused_departs s step refusal is

@@ -6,7 +6,7 @@ use Rattle.std.specs.Option.{option_map_or}
 use Rattle.std.proofs.lemmas.Bool.{eqb-true}
 use Rattle.vlm_words.specs.declared.blocks.Block.{Block}
 use Rattle.vlm_words.specs.declared.locks.Request.{Request}
-use Rattle.vlm_words.specs.declared.locks.Row.{Row}
+use Rattle.vlm_words.specs.declared.locks.LockRow.{LockRow}
 use Rattle.vlm_words.specs.State.{Process, Resource, State, process_of}
 use Rattle.vlm_model.specs.Endings.{Ending, row_endings, wanted_endings}
 use Rattle.vlm_model.specs.Endings.How.{by_rundown}
@@ -31,7 +31,7 @@ use Rattle.vlm_model.proofs.Writing.{AreLeftByEnds}
 abbrev pub IsByRundown : Ending → Type 0
 IsByRundown ending = ending.how ≡ by_rundown
 
-rows_end : (rows : List Row) → AllByRecursion IsByRundown (flat_map (row_endings by_rundown false) rows)
+rows_end : (rows : List LockRow) → AllByRecursion IsByRundown (flat_map (row_endings by_rundown false) rows)
 rows_end [] = tt
 rows_end (row ∷ rows) =
     each_append IsByRundown (row_endings by_rundown false row) (flat_map (row_endings by_rundown false) rows) (of_want row.want) (rows_end rows)

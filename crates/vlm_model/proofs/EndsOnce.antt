@@ -5,7 +5,7 @@ use Rattle.std.specs.List.{AllByRecursion, find, sum_by}
 use Rattle.std.proofs.lemmas.Bool.Decides.{nat_tests}
 use Rattle.std.proofs.lemmas.List.Sums.{sum_by-append, sum_by-cons}
 use Rattle.vlm_words.specs.declared.locks.Request.{Request}
-use Rattle.vlm_words.specs.declared.locks.Row.{Row}
+use Rattle.vlm_words.specs.declared.locks.LockRow.{LockRow}
 use Rattle.vlm_words.specs.declared.resources.ValueBlock.{ValueBlock}
 use Rattle.vlm_words.specs.declared.steps.Conversion.{Conversion}
 use Rattle.vlm_words.specs.declared.steps.NewRequest.{NewRequest}
@@ -35,7 +35,7 @@ use Rattle.vlm_model.proofs.Counts.{hits, wants, ends, wants_kept, found_stands,
 use Rattle.vlm_model.specs.Withdrawals.{state_after_withdrawals, Withdrawal, withdrawn_endings}
 
 -- a lock that has no row is not found
-absent_same : (request : Request) (at_once : Bool) (pid lkid : ℕ) (block : ValueBlock) (r : Resource) (found : Option Row) → find (is_lock_of pid lkid) r.granted ≡ found
+absent_same : (request : Request) (at_once : Bool) (pid lkid : ℕ) (block : ValueBlock) (r : Resource) (found : Option LockRow) → find (is_lock_of pid lkid) r.granted ≡ found
     → weigh (stands lkid) r ≡ 0 → resource_after_conversion_of request at_once lkid block r found ≡ r
 absent_same request at_once pid lkid block r None is absent = refl
 absent_same request at_once pid lkid block r (Some row) is absent =
@@ -55,7 +55,7 @@ absent_unchanged request at_once pid lkid block (r ∷ rest) absent =
 
 -- where a lock has one row, its conversion is counted once: on its resource, or on those behind it
 here_or_behind : (number : ℕ) (request : Request) (pid lkid : ℕ) (block : ValueBlock) (r : Resource) (rest : List Resource)
-    (a : ConversionAdmission) (found : Option Row)
+    (a : ConversionAdmission) (found : Option LockRow)
     → find (is_lock_of pid lkid) r.granted ≡ found → Fit r → standing lkid (r ∷ rest) ≤ 1
     → (admission_among request pid lkid rest ≡ Some a
     → sum_by (wanting_on number) (map (resource_after_conversion request a.at_once pid lkid block) rest) + times_ended number (conversion_endings a)

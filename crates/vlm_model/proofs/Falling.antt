@@ -9,7 +9,7 @@ use Rattle.vlm_words.specs.declared.asts.Ast.{Ast}
 use Rattle.vlm_words.specs.declared.asts.AstKind.{AstKind}
 use Rattle.vlm_words.specs.declared.asts.AstKind.TheVariants.{Completion, Blocking}
 use Rattle.vlm_words.specs.declared.locks.Request.{Request}
-use Rattle.vlm_words.specs.declared.locks.Row.{Row}
+use Rattle.vlm_words.specs.declared.locks.LockRow.{LockRow}
 use Rattle.vlm_words.specs.declared.resources.Site.{Site}
 use Rattle.vlm_words.specs.declared.resources.ValueBlock.{ValueBlock}
 use Rattle.vlm_words.specs.State.{Process, Resource}
@@ -92,12 +92,12 @@ wanted_calls pid how at_once lkid owner (Some request) =
     let ending : Ending = record { lkid = lkid; pid = owner; request = request; how = how; at_once = at_once } in
     omega (arith, sum_of_one (calls pid) ending, ending_calls pid ending)
 
-row_calls : (pid : ℕ) (how : How) (at_once : Bool) (row : Row)
+row_calls : (pid : ℕ) (how : How) (at_once : Bool) (row : LockRow)
     → sum_by (calls pid) (row_endings how at_once row) ≤ own pid row.pid (completion_wanted row.want)
 row_calls pid how at_once row = wanted_calls pid how at_once row.lkid row.pid row.want
 
 -- what a granted row is due, with the call that its grant brings, was due to it
-pub grant_falls : (pid : ℕ) (at_once : Bool) (row : Row) → due_to pid (granted_row row) + sum_by (calls pid) (grant_endings at_once row) ≤ due_to pid row
+pub grant_falls : (pid : ℕ) (at_once : Bool) (row : LockRow) → due_to pid (granted_row row) + sum_by (calls pid) (grant_endings at_once row) ≤ due_to pid row
 grant_falls pid at_once row =
     omega (arith, row_calls pid (by_grant (grant_act row.held row.want)) at_once row, of_want (row.pid == pid) row.want)
   where
@@ -111,7 +111,7 @@ grant_falls pid at_once row =
 abbrev ServiceFalls : ℕ → Service → Resource → Type 0
 ServiceFalls pid more r = weigh (due_to pid) more.resource + sum_by (calls pid) more.endings ≤ weigh (due_to pid) r
 
-serve_converting_falls : (pid : ℕ) (r : Resource) (rows : List Row) → r.converting ≡ rows → ServiceFalls pid (service_of_conversions r rows) r
+serve_converting_falls : (pid : ℕ) (r : Resource) (rows : List LockRow) → r.converting ≡ rows → ServiceFalls pid (service_of_conversions r rows) r
 serve_converting_falls pid r [] is = omega arith
 serve_converting_falls pid r (row ∷ rows) is =
     let granted : Resource = record (resource_after_grant r row) { converting = rows } in
@@ -129,7 +129,7 @@ serve_converting_falls pid r (row ∷ rows) is =
     ))
     (λ _. omega arith)
 
-serve_waiting_falls : (pid : ℕ) (r : Resource) (rows : List Row) → r.waiting ≡ rows → ServiceFalls pid (service_of_waiting r rows) r
+serve_waiting_falls : (pid : ℕ) (r : Resource) (rows : List LockRow) → r.waiting ≡ rows → ServiceFalls pid (service_of_waiting r rows) r
 serve_waiting_falls pid r [] is = omega arith
 serve_waiting_falls pid r (row ∷ rows) is =
     let granted : Resource = record (resource_after_grant r row) { waiting = rows } in
@@ -164,7 +164,7 @@ served_falls pid r =
 -- ---- warnings
 
 -- who is to be warned is armed
-pub is_armed : (converting waiting : List Row) (row : Row) → is_to_warn converting waiting row ≡ true → row.armed ≡ true
+pub is_armed : (converting waiting : List LockRow) (row : LockRow) → is_to_warn converting waiting row ≡ true → row.armed ≡ true
 unfolding is_to_warn
 is_armed converting waiting row warned = (and_parts row.armed (is_in_the_way row.held converting waiting) warned).0
 
@@ -178,7 +178,7 @@ held_warns pid (Some held) lkid owner =
     of_tests true false = omega arith
     of_tests false b = omega arith
 
-row_falls : (pid : ℕ) (converting waiting : List Row) (row : Row)
+row_falls : (pid : ℕ) (converting waiting : List LockRow) (row : LockRow)
     → due_to pid (row_after_warning converting waiting row) + many pid (row_warnings converting waiting row) ≤ due_to pid row
 unfolding row_after_warning row_warnings
 row_falls pid converting waiting row = of_test (is_to_warn converting waiting row) refl
@@ -198,7 +198,7 @@ row_falls pid converting waiting row = of_test (is_to_warn converting waiting ro
           ap (λ (armed : Bool). cond (row.pid == pid) (routines_of row.want + one_where armed) 0) (is_armed converting waiting row warned),
         )
 
-rows_fall : (pid : ℕ) (converting waiting rows : List Row)
+rows_fall : (pid : ℕ) (converting waiting rows : List LockRow)
     → sum_by (due_to pid) (map (row_after_warning converting waiting) rows) + many pid (flat_map (row_warnings converting waiting) rows) ≤ sum_by (due_to pid) rows
 rows_fall pid converting waiting [] = omega arith
 rows_fall pid converting waiting (row ∷ rows) =
@@ -240,7 +240,7 @@ swept_falls pid processes (r ∷ rest) =
 
 -- ---- new requests
 
-entered_falls : (pid : ℕ) (row : Row) (at_once : Bool) (r : Resource)
+entered_falls : (pid : ℕ) (row : LockRow) (at_once : Bool) (r : Resource)
     → weigh (due_to pid) (resource_after_entry row at_once r) + sum_by (calls pid) (cond at_once (grant_endings true row) []) ≤ weigh (due_to pid) r + due_to pid row
 unfolding resource_after_entry
 entered_falls pid row at_once r =
@@ -251,7 +251,7 @@ entered_falls pid row at_once r =
       | false ↦ omega (arith, sum_by_push (due_to pid) r.waiting row)
     ]
 
-pub entered_among_falls : (pid serial : ℕ) (site : Site) (row : Row) (at_once : Bool) (resources : List Resource)
+pub entered_among_falls : (pid serial : ℕ) (site : Site) (row : LockRow) (at_once : Bool) (resources : List Resource)
     → sum_by (weigh (due_to pid)) (resources_after_entry serial site row at_once resources)
     + sum_by (calls pid) (cond at_once (grant_endings true row) [])
     ≤ sum_by (weigh (due_to pid)) resources + due_to pid row
@@ -276,7 +276,7 @@ entered_among_falls pid serial site row at_once (r ∷ rest) =
 -- ---- withdrawals
 
 -- the requests of some rows end, and what the rows are due then
-rows_end : (pid : ℕ) (how : How) (rows : List Row)
+rows_end : (pid : ℕ) (how : How) (rows : List LockRow)
     → sum_by (due_to pid) (map row_after_cancel rows) + sum_by (calls pid) (flat_map (row_endings how false) rows) ≤ sum_by (due_to pid) rows
 rows_end pid how [] = omega arith
 rows_end pid how (row ∷ rows) =
@@ -296,7 +296,7 @@ rows_end pid how (row ∷ rows) =
     of_want true (Some request) = omega arith
     of_want false want = omega arith
 
-queue_ends : (pid : ℕ) (how : How) (lkid : ℕ) (rows : List Row)
+queue_ends : (pid : ℕ) (how : How) (lkid : ℕ) (rows : List LockRow)
     → sum_by (due_to pid) (rows_without lkid rows) + sum_by (due_to pid) (map row_after_cancel (rows_of lkid rows)) + sum_by (calls pid) (queue_endings how lkid rows)
     ≤ sum_by (due_to pid) rows
 queue_ends pid how lkid rows =

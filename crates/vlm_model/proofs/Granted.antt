@@ -5,7 +5,7 @@ use Rattle.std.specs.List.{AllByRecursion, AllZip, find}
 use Rattle.std.proofs.lemmas.Bool.{and_parts, cond_both, eqb-true}
 use Rattle.std.proofs.lemmas.List.Elements.{All-from_recursion}
 use Rattle.vlm_words.specs.declared.locks.Request.{Request}
-use Rattle.vlm_words.specs.declared.locks.Row.{Row}
+use Rattle.vlm_words.specs.declared.locks.LockRow.{LockRow}
 use Rattle.vlm_words.specs.declared.resources.ValueBlock.{ValueBlock}
 use Rattle.vlm_words.specs.declared.steps.Conversion.{Conversion}
 use Rattle.vlm_words.specs.declared.steps.NewRequest.{NewRequest}
@@ -46,11 +46,11 @@ any_within P (x ∷ xs) ys zs any =
     ]
 
 -- what the row holds was granted to its lock
-abbrev Has : List Ending → Row → Type 0
+abbrev Has : List Ending → LockRow → Type 0
 Has endings row = WasGranted endings row.lkid row.pid row.held
 
 has_more : (endings more : List Ending) → ((held : Request) (lkid pid : ℕ) → Any (IsGrantTo lkid pid held) endings → Any (IsGrantTo lkid pid held) more)
-    → (row : Row) → Has endings row → Has more row
+    → (row : LockRow) → Has endings row → Has more row
 has_more endings more kept row has = of_held row.held has
   where
     of_held : (held : Option Request) → WasGranted endings row.lkid row.pid held → WasGranted more row.lkid row.pid held
@@ -58,12 +58,12 @@ has_more endings more kept row has = of_held row.held has
     of_held (Some held) has = kept held row.lkid row.pid has
 
 -- each row of a resource has it
-record EachRow (P : Row → Type 0) (r : Resource) : Type 0 where
+record EachRow (P : LockRow → Type 0) (r : Resource) : Type 0 where
   granted : AllByRecursion P r.granted
   converting : AllByRecursion P r.converting
   waiting : AllByRecursion P r.waiting
 
-each_row_weaker : (P Q : Row → Type 0) → ((row : Row) → P row → Q row) → (r : Resource) → EachRow P r → EachRow Q r
+each_row_weaker : (P Q : LockRow → Type 0) → ((row : LockRow) → P row → Q row) → (r : Resource) → EachRow P r → EachRow Q r
 each_row_weaker P Q weaker r each = record {
   granted = each_weaker P Q weaker r.granted each.granted;
   converting = each_weaker P Q weaker r.converting each.converting;
@@ -80,7 +80,7 @@ all_left endings more resources each =
 -- ---- the sweep
 
 -- rows that are the same but for what arms them hold what they held
-same_has : (endings : List Ending) (before after : List Row) → AllZip IsSameButArmed before after → AllByRecursion (Has endings) before → AllByRecursion (Has endings) after
+same_has : (endings : List Ending) (before after : List LockRow) → AllZip IsSameButArmed before after → AllByRecursion (Has endings) before → AllByRecursion (Has endings) after
 same_has endings [] [] same each = tt
 same_has endings [] (row ∷ rows) same each = absurd same
 same_has endings (row ∷ rows) [] same each = absurd same
@@ -91,7 +91,7 @@ same_has endings (row ∷ rows) (left ∷ others) same each = (
 )
 
 -- rows that are granted hold what is granted to them
-given_has : (rows given : List Row) (endings : List Ending) → AllZip IsGranted rows given → AllZip IsGrantOf rows endings → AllByRecursion (Has endings) given
+given_has : (rows given : List LockRow) (endings : List Ending) → AllZip IsGranted rows given → AllZip IsGrantOf rows endings → AllByRecursion (Has endings) given
 given_has [] [] endings granted ends = tt
 given_has [] (row ∷ given) endings granted ends = absurd granted
 given_has (row ∷ rows) [] endings granted ends = absurd granted
@@ -166,7 +166,7 @@ entered_has : (s : State) (e : NewRequest) (endings : List Ending) → EachRow (
 unfolding resource_after_entry
 entered_has s e endings each = of_at_once (enq_at_once s e) each
   where
-    row : Row
+    row : LockRow
     row = enq_row s e
 
     of_at_once : (b : Bool) → EachRow (Has (endings ++ cond b (grant_endings true (enq_row s e)) [])) (enq_resource s e)
@@ -215,7 +215,7 @@ admitted_owned request pid lkid a [] admitted = cc
 admitted_owned request pid lkid a (r ∷ rest) admitted =
     of_found (find (is_lock_of pid lkid) r.granted) refl (admission_among request pid lkid rest) (admitted_owned request pid lkid a rest) admitted
   where
-    of_found : (found : Option Row) → find (is_lock_of pid lkid) r.granted ≡ found → (later : Option ConversionAdmission)
+    of_found : (found : Option LockRow) → find (is_lock_of pid lkid) r.granted ≡ found → (later : Option ConversionAdmission)
         → (later ≡ Some a → a.row.pid ≡ pid) → admission_or request r found later ≡ Some a → a.row.pid ≡ pid
     of_found None is later behind at = behind at
     of_found (Some row) is later behind at =
@@ -236,7 +236,7 @@ module _ (pid lkid : ℕ) (a : ConversionAdmission) (named : a.row.lkid ≡ lkid
       (subst (λ b. Any (IsGrantTo lkid pid a.request) (cond b (grant_endings true (wanting_row a.row a.request)) [])) (sym now)
       (Any-here (IsGrantTo lkid pid a.request) _ [] (record { lock = named; process = owned; whole = refl; grants = tt })))
 
-  converted_row_has : (block : ValueBlock) (r : Resource) (found : Option Row) → find (is_lock_of pid lkid) r.granted ≡ found
+  converted_row_has : (block : ValueBlock) (r : Resource) (found : Option LockRow) → find (is_lock_of pid lkid) r.granted ≡ found
       → EachRow (Has all) r → EachRow (Has all) (resource_after_conversion_of a.request a.at_once lkid block r found)
   converted_row_has block r None is each = each
   converted_row_has block r (Some row) is each =
@@ -317,7 +317,7 @@ has_always =
 -- after every run no grant is hidden
 pub granted_always : (history : History) (last : State) → Run history last → NoGrantIsHidden history.endings last
 granted_always history last run =
-    let Held : Row → Type 0 = λ row. WasGranted history.endings row.lkid row.pid row.held in
+    let Held : LockRow → Type 0 = λ row. WasGranted history.endings row.lkid row.pid row.held in
     All-from_recursion (λ r. All Held (r.granted ++ r.converting ++ r.waiting)) last.resources
     (each_weaker (EachRow (Has history.endings)) (λ r. All Held (r.granted ++ r.converting ++ r.waiting))
     (λ r each. All-from_recursion Held (r.granted ++ r.converting ++ r.waiting)

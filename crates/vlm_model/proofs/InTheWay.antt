@@ -7,7 +7,7 @@ use Rattle.std.proofs.lemmas.List.Elements.{All-from_recursion}
 use Rattle.vlm_words.specs.declared.asts.AstKind.TheVariants.{Completion, Blocking}
 use Rattle.vlm_words.specs.declared.conditions.Cond.{Cond}
 use Rattle.vlm_words.specs.declared.locks.Request.{Request}
-use Rattle.vlm_words.specs.declared.locks.Row.{Row}
+use Rattle.vlm_words.specs.declared.locks.LockRow.{LockRow}
 use Rattle.vlm_words.specs.declared.resources.ValueBlock.{ValueBlock}
 use Rattle.vlm_words.specs.declared.steps.Step.{Step}
 use Rattle.vlm_words.specs.State.{Process, Resource, State}
@@ -24,7 +24,7 @@ use Rattle.vlm_model.specs.InTheWay.{IsInTheWayOf, IsOfLockInTheWay, WarnedLocks
 use Rattle.vlm_model.proofs.Completing.{change_queues, each_completion}
 
 -- what is wanted may not be held beside this
-abbrev IsKeptOut : Option Request → Row → Type 0
+abbrev IsKeptOut : Option Request → LockRow → Type 0
 IsKeptOut held other = AreCompatible other.want held → ⊥
 
 -- the lock stands granted on some resource, in the way of what is queued there
@@ -44,7 +44,7 @@ no_warning resources q is warns = cc
 no : false ≡ true → ⊥
 no e = cc
 
-some_kept_out : (held : Request) (rows : List Row) → list_any (λ row. keeps_out held.mode row.want) rows ≡ true → Any (IsKeptOut (Some held)) rows
+some_kept_out : (held : Request) (rows : List LockRow) → list_any (λ row. keeps_out held.mode row.want) rows ≡ true → Any (IsKeptOut (Some held)) rows
 some_kept_out held [] any = absurd (no any)
 some_kept_out held (row ∷ rows) any =
     elim (or_cases (keeps_out held.mode row.want) (list_any (λ x. keeps_out held.mode x.want) rows) any) [
@@ -56,7 +56,7 @@ some_kept_out held (row ∷ rows) any =
     of_want None out compatible = no out
     of_want (Some want) out compatible = no (sym (ap not compatible) ∙ out)
 
-some_in_its_way : (held : Option Request) (converting waiting : List Row) → is_in_the_way held converting waiting ≡ true
+some_in_its_way : (held : Option Request) (converting waiting : List LockRow) → is_in_the_way held converting waiting ≡ true
     → Any (IsKeptOut held) (converting ++ waiting)
 some_in_its_way None converting waiting blocks = absurd (no blocks)
 some_in_its_way (Some held) converting waiting blocks =
@@ -66,7 +66,7 @@ some_in_its_way (Some held) converting waiting blocks =
     ]
 
 -- who is to be warned is in the way
-blocks_some : (converting waiting : List Row) (row : Row) → is_to_warn converting waiting row ≡ true → Any (IsKeptOut row.held) (converting ++ waiting)
+blocks_some : (converting waiting : List LockRow) (row : LockRow) → is_to_warn converting waiting row ≡ true → Any (IsKeptOut row.held) (converting ++ waiting)
 unfolding is_to_warn
 blocks_some converting waiting row to_warn =
     some_in_its_way row.held converting waiting (and_parts row.armed (is_in_the_way row.held converting waiting) to_warn).1
@@ -74,7 +74,7 @@ blocks_some converting waiting row to_warn =
 -- ---- warnings
 
 -- a row's warning tells of the row, as it is once it is warned
-row_in_the_way : (converting waiting : List Row) (row : Row)
+row_in_the_way : (converting waiting : List LockRow) (row : LockRow)
     → AllByRecursion (λ q. IsInTheWayOf (converting ++ waiting) q (row_after_warning converting waiting row)) (row_warnings converting waiting row)
 unfolding row_after_warning row_warnings
 row_in_the_way converting waiting row = of_test (is_to_warn converting waiting row) refl
@@ -94,13 +94,13 @@ row_in_the_way converting waiting row = of_test (is_to_warn converting waiting r
     of_test false _ = tt
     of_test true to_warn = of_held row.held (blocks_some converting waiting row to_warn)
 
-rows_in_the_way : (converting waiting rows : List Row)
+rows_in_the_way : (converting waiting rows : List LockRow)
     → AllByRecursion (λ q. Any (IsInTheWayOf (converting ++ waiting) q) (map (row_after_warning converting waiting) rows))
     (flat_map (row_warnings converting waiting) rows)
 rows_in_the_way converting waiting [] = tt
 rows_in_the_way converting waiting (row ∷ rows) =
-    let after : Row = row_after_warning converting waiting row in
-    let others : List Row = map (row_after_warning converting waiting) rows in
+    let after : LockRow = row_after_warning converting waiting row in
+    let others : List LockRow = map (row_after_warning converting waiting) rows in
     each_append (λ q. Any (IsInTheWayOf (converting ++ waiting) q) (after ∷ others)) (row_warnings converting waiting row) (flat_map (row_warnings converting waiting) rows)
     (each_weaker (λ q. IsInTheWayOf (converting ++ waiting) q after) (λ q. Any (IsInTheWayOf (converting ++ waiting) q) (after ∷ others))
     (λ q here. Any-here (IsInTheWayOf (converting ++ waiting) q) after others here) (row_warnings converting waiting row) (row_in_the_way converting waiting row))
@@ -160,7 +160,7 @@ made_in_the_way None s change queues =
     (sweep_in_the_way change.state.processes change.state.resources)
 made_in_the_way (Some refusal) s change queues = tt
 
-pub in_the_way_always : (s : State) (step : Step) (choice : Option Row) → WarnedLocksAreInTheWay (stepped s step choice)
+pub in_the_way_always : (s : State) (step : Step) (choice : Option LockRow) → WarnedLocksAreInTheWay (stepped s step choice)
 in_the_way_always s step choice =
     All-from_recursion (IsOfLockInTheWay (stepped s step choice).state) (stepped s step choice).queued
     (made_in_the_way (step_refusal s step) s (step_change s step choice) (change_queues s step choice))

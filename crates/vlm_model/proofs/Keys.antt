@@ -7,7 +7,7 @@ use Rattle.std.specs.List.{AllByRecursion, find}
 use Rattle.std.proofs.lemmas.Bool.{and_parts, cond_both, eqb-true, eq-eqb}
 use Rattle.std.proofs.lemmas.List.Elements.{All-from_recursion}
 use Rattle.vlm_words.specs.declared.locks.Request.{Request}
-use Rattle.vlm_words.specs.declared.locks.Row.{Row}
+use Rattle.vlm_words.specs.declared.locks.LockRow.{LockRow}
 use Rattle.vlm_words.specs.declared.resources.Domain.TheVariants.{Group, System}
 use Rattle.vlm_words.specs.declared.resources.Domain.{Domain}
 use Rattle.vlm_words.specs.declared.resources.Key.TheVariants.{Root, Below}
@@ -49,7 +49,7 @@ abbrev pub KeepsPlace : (Resource → Resource) → Type 0
 KeepsPlace f = (r : Resource) → IsSameResource r (f r)
 
 -- a lock's entry
-pub entry_keeps_place : (row : Row) (at_once : Bool) → KeepsPlace (resource_after_entry row at_once)
+pub entry_keeps_place : (row : LockRow) (at_once : Bool) → KeepsPlace (resource_after_entry row at_once)
 unfolding resource_after_entry
 entry_keeps_place row at_once r =
     cond_both at_once (resource_after_grant r row) (record r { waiting = r.waiting ++ row ∷ [] }) (IsSameResource r)
@@ -61,7 +61,7 @@ pub conversion_keeps_place : (request : Request) (at_once : Bool) (pid lkid : �
 unfolding resource_after_conversion
 conversion_keeps_place request at_once pid lkid block r = of_found (find (is_lock_of pid lkid) r.granted)
   where
-    of_found : (found : Option Row) → IsSameResource r (resource_after_conversion_of request at_once lkid block r found)
+    of_found : (found : Option LockRow) → IsSameResource r (resource_after_conversion_of request at_once lkid block r found)
     of_found None = same_resource r
     of_found (Some row) =
         cond_both at_once
@@ -128,7 +128,7 @@ pairs_after_sweep R stands processes resources pairs =
     each_pair_filter R (λ r. not (is_vacant r)) (resources_after_service processes resources) (pairs_after_service R stands processes resources pairs)
 
 -- a lock's entry keeps the pairs, where those before a new resource have the relation to it
-pairs_after_entry : (R : Resource → Resource → Type 0) → StandsOnPlaces R → (serial : ℕ) (site : Site) (row : Row)
+pairs_after_entry : (R : Resource → Resource → Type 0) → StandsOnPlaces R → (serial : ℕ) (site : Site) (row : LockRow)
     (at_once : Bool) (resources : List Resource)
     → AllByRecursion (λ r. is_at site.key r ≡ false → R r (new_resource serial site)) resources
     → EachPair R resources → EachPair R (resources_after_entry serial site row at_once resources)
@@ -231,7 +231,7 @@ still_given : (next later : ℕ) (before after : Resource) → next ≤ later �
 still_given next later before after more same given = (omega (arith, same.serial, given.0), omega (arith, same.serial, given.1))
 
 -- the serials after a lock's entry are below the one that comes then
-given_after_entry : (n : ℕ) (site : Site) (row : Row) (at_once : Bool) (resources : List Resource) → 0 < n
+given_after_entry : (n : ℕ) (site : Site) (row : LockRow) (at_once : Bool) (resources : List Resource) → 0 < n
     → AllByRecursion (WasGiven n) resources
     → AllByRecursion (WasGiven (cond (has_resource site.key resources) n (n + 1))) (resources_after_entry n site row at_once resources)
 given_after_entry n site row at_once [] first given =

@@ -6,7 +6,7 @@ use Rattle.std.proofs.lemmas.Bool.{cond_both, eq-eqb, eqb-true}
 use Rattle.std.proofs.lemmas.Bool.Decides.{eqb_tells}
 use Rattle.std.proofs.lemmas.List.Folds.{list_any-from_Any}
 use Rattle.std.proofs.lemmas.List.Sums.{sum_by-cons}
-use Rattle.vlm_words.specs.declared.locks.Row.{Row}
+use Rattle.vlm_words.specs.declared.locks.LockRow.{LockRow}
 use Rattle.vlm_words.specs.State.{Resource, State}
 use Rattle.vlm_words.specs.Rows.{rows_without}
 use Rattle.vlm_model.specs.OwnLocks.{has_lock_among, is_lock_among, own_lkids}
@@ -57,7 +57,7 @@ is_listed is_one s apart lkid held =
 -- ---- rows that are gone
 
 -- 1 for a row of which it is so
-abbrev pub so_many : (Row → Bool) → Row → ℕ
+abbrev pub so_many : (LockRow → Bool) → LockRow → ℕ
 so_many is_so row = cond (is_so row) 1 0
 
 -- the second of three tests holds
@@ -67,15 +67,15 @@ or_second false true c is = refl
 or_second a false c is = cc
 
 -- a row of which it is so has a listed lock
-abbrev pub IsListed : (Row → Bool) → List Withdrawal → Row → Type 0
+abbrev pub IsListed : (LockRow → Bool) → List Withdrawal → LockRow → Type 0
 IsListed is_so withdrawals row = is_so row ≡ true → list_any (λ w. row.lkid == w.lkid) withdrawals ≡ true
 
 -- all rows but those of these locks
-abbrev pub rows_left : List Withdrawal → List Row → List Row
+abbrev pub rows_left : List Withdrawal → List LockRow → List LockRow
 rows_left [] rows = rows
 rows_left (w ∷ withdrawals) rows = rows_left withdrawals (rows_without w.lkid rows)
 
-others_listed : (is_so : Row → Bool) (w : Withdrawal) (withdrawals : List Withdrawal) (rows : List Row)
+others_listed : (is_so : LockRow → Bool) (w : Withdrawal) (withdrawals : List Withdrawal) (rows : List LockRow)
     → AllByRecursion (IsListed is_so (w ∷ withdrawals)) rows → AllByRecursion (IsListed is_so withdrawals) (rows_without w.lkid rows)
 others_listed is_so w withdrawals [] each = tt
 others_listed is_so w withdrawals (row ∷ rows) each =
@@ -87,7 +87,7 @@ others_listed is_so w withdrawals (row ∷ rows) each =
     of_test false other behind =
         (λ so. subst (λ (b : Bool). (b || list_any (λ v. row.lkid == v.lkid) withdrawals) ≡ true) other (each.0 so), behind)
 
-none_left : (is_so : Row → Bool) (withdrawals : List Withdrawal) (rows : List Row)
+none_left : (is_so : LockRow → Bool) (withdrawals : List Withdrawal) (rows : List LockRow)
     → AllByRecursion (IsListed is_so withdrawals) rows → sum_by (so_many is_so) (rows_left withdrawals rows) ≡ 0
 none_left is_so [] rows listed =
     sum_of_zeros (so_many is_so) rows (each_weaker (IsListed is_so []) (λ row. so_many is_so row ≡ 0) (λ row none. of_test (is_so row) none) rows listed)
@@ -152,13 +152,13 @@ rows_left_behind withdrawals go r =
     }
 
 -- all rows of the resource of which it is so have listed locks
-pub record AllListed (is_so : Row → Bool) (withdrawals : List Withdrawal) (r : Resource) : Type 0 where
+pub record AllListed (is_so : LockRow → Bool) (withdrawals : List Withdrawal) (r : Resource) : Type 0 where
   pub granted : AllByRecursion (IsListed is_so withdrawals) r.granted
   pub converting : AllByRecursion (IsListed is_so withdrawals) r.converting
   pub waiting : AllByRecursion (IsListed is_so withdrawals) r.waiting
 
 -- no such row is left on the resource
-pub none_left_here : (is_so : Row → Bool) (withdrawals : List Withdrawal) → AllGo withdrawals
+pub none_left_here : (is_so : LockRow → Bool) (withdrawals : List Withdrawal) → AllGo withdrawals
     → (r : Resource) → AllListed is_so withdrawals r → weigh (so_many is_so) (resource_after_withdrawals withdrawals r) ≡ 0
 none_left_here is_so withdrawals go r listed =
     let left = rows_left_behind withdrawals go r in
@@ -172,7 +172,7 @@ none_left_here is_so withdrawals go r listed =
       none_left is_so withdrawals r.waiting listed.waiting,
     )
 
-none_left_at_all : (is_so : Row → Bool) (withdrawals : List Withdrawal) → AllGo withdrawals
+none_left_at_all : (is_so : LockRow → Bool) (withdrawals : List Withdrawal) → AllGo withdrawals
     → (resources : List Resource) → AllByRecursion (AllListed is_so withdrawals) resources
     → sum_by (weigh (so_many is_so)) (map (resource_after_withdrawals withdrawals) resources) ≡ 0
 none_left_at_all is_so withdrawals go [] listed = refl
@@ -195,7 +195,7 @@ all_go [] = tt
 all_go (lkid ∷ lkids) = (refl, all_go lkids)
 
 -- a row of a process that ends is one of theirs
-owned_less : (is_one : ℕ → Bool) (pid : ℕ) → is_one pid ≡ true → (rows : List Row)
+owned_less : (is_one : ℕ → Bool) (pid : ℕ) → is_one pid ≡ true → (rows : List LockRow)
     → sum_by (owned pid) rows ≤ sum_by (so_many (λ row. is_one row.pid)) rows
 owned_less is_one pid ends [] = omega arith
 owned_less is_one pid ends (row ∷ rows) =
@@ -226,7 +226,7 @@ all_owned_less is_one pid ends (r ∷ rest) =
     )
 
 -- the row is of one of the processes
-abbrev pub is_theirs : (ℕ → Bool) → Row → Bool
+abbrev pub is_theirs : (ℕ → Bool) → LockRow → Bool
 is_theirs is_one row = is_one row.pid
 
 module _ (is_one : ℕ → Bool) (s : State) (apart : Apart s) where
@@ -239,13 +239,13 @@ module _ (is_one : ℕ → Bool) (s : State) (apart : Apart s) where
       (Any-weaker (λ x. r ≡ x) (λ x. has_lock_among is_one lkid x ≡ true) (λ x same. subst (λ (q : Resource). has_lock_among is_one lkid q ≡ true) same held) s.resources among))
 
   -- the row is found in its queue
-  pub row_found : (row : Row) (rows : List Row) → Any (λ y. row ≡ y) rows → is_one row.pid ≡ true → list_any (is_lock_among is_one row.lkid) rows ≡ true
+  pub row_found : (row : LockRow) (rows : List LockRow) → Any (λ y. row ≡ y) rows → is_one row.pid ≡ true → list_any (is_lock_among is_one row.lkid) rows ≡ true
   row_found row rows among theirs =
       list_any-from_Any (is_lock_among is_one row.lkid) rows
       (Any-weaker (λ y. row ≡ y) (λ y. is_lock_among is_one row.lkid y ≡ true)
-      (λ y same. subst (λ (q : Row). is_lock_among is_one row.lkid q ≡ true) same (rw (eq-eqb row.lkid row.lkid refl, theirs) refl)) rows among)
+      (λ y same. subst (λ (q : LockRow). is_lock_among is_one row.lkid q ≡ true) same (rw (eq-eqb row.lkid row.lkid refl, theirs) refl)) rows among)
 
-  queue_listed : (r : Resource) → Any (λ x. r ≡ x) s.resources → (rows all : List Row)
+  queue_listed : (r : Resource) → Any (λ x. r ≡ x) s.resources → (rows all : List LockRow)
       → ((lkid : ℕ) → list_any (is_lock_among is_one lkid) all ≡ true → has_lock_among is_one lkid r ≡ true)
       → AllByRecursion (λ row. Any (λ y. row ≡ y) all) rows → AllByRecursion (IsListed (is_theirs is_one) (rundowns is_one s)) rows
   queue_listed r among rows all holds each =

@@ -5,7 +5,7 @@ use Rattle.std.specs.List.{AllByRecursion, list_any, sum_by}
 use Rattle.std.proofs.lemmas.Bool.{cond_both, eq-eqb, eqb-true, or_cases, or_right}
 use Rattle.std.proofs.lemmas.List.Folds.{list_any-append}
 use Rattle.std.proofs.lemmas.List.Sums.{sum_by-cons}
-use Rattle.vlm_words.specs.declared.locks.Row.{Row}
+use Rattle.vlm_words.specs.declared.locks.LockRow.{LockRow}
 use Rattle.vlm_words.specs.declared.resources.ValueBlock.{ValueBlock}
 use Rattle.vlm_words.specs.State.{Resource, State}
 use Rattle.vlm_model.specs.OwnLocks.{has_lock_among, is_lock_among, own_lkids}
@@ -140,7 +140,7 @@ lkids_of_writers f named (lkid ∷ lkids) r = rw (named lkid, lkids_of_writers f
 -- ---- the locks of processes that end
 
 -- a row of the lock that is no stranger's is theirs
-pub no_stranger : (is_one : ℕ → Bool) (lkid : ℕ) (row : Row) → strangers is_one lkid row ≡ 0 → row.lkid ≡ lkid → is_one row.pid ≡ true
+pub no_stranger : (is_one : ℕ → Bool) (lkid : ℕ) (row : LockRow) → strangers is_one lkid row ≡ 0 → row.lkid ≡ lkid → is_one row.pid ≡ true
 no_stranger is_one lkid row none same = of_tests (row.lkid == lkid) (is_one row.pid) (eq-eqb row.lkid lkid same) none
   where
     of_tests : (a b : Bool) → a ≡ true → cond {A = ℕ} (a && not b) 1 0 ≡ 0 → b ≡ true
@@ -152,7 +152,7 @@ module _ (is_one : ℕ → Bool) (s : State) (apart : Apart s) (r : Resource) (a
     (holds : (lkid : ℕ) → IsHeldByWriter r lkid → is_held_by_writer lkid r ≡ true)
     (held : (lkid : ℕ) → is_held_by_writer lkid r ≡ true → IsHeldByWriter r lkid) where
   -- the lock of a row that is granted or converts
-  row_is_among : (row : Row) → Any (λ y. row ≡ y) (r.granted ++ r.converting) → is_one row.pid ≡ true → has_lock_among is_one row.lkid r ≡ true
+  row_is_among : (row : LockRow) → Any (λ y. row ≡ y) (r.granted ++ r.converting) → is_one row.pid ≡ true → has_lock_among is_one row.lkid r ≡ true
   row_is_among row there theirs =
       first_of (list_any (is_lock_among is_one row.lkid) r.granted || list_any (is_lock_among is_one row.lkid) r.converting)
       (list_any (is_lock_among is_one row.lkid) r.waiting)
@@ -173,7 +173,7 @@ module _ (is_one : ℕ → Bool) (s : State) (apart : Apart s) (r : Resource) (a
       any_by (λ lkid. is_held_by_writer lkid r) row.lkid
       (holds row.lkid
       (Any-weaker (λ y. row ≡ y) (λ y. (y.lkid ≡ row.lkid) × IsWriter y.held)
-      (λ y same. (ap (λ (x : Row). x.lkid) (sym same), subst (λ (x : Row). IsWriter x.held) same so.0.1)) (r.granted ++ r.converting) so.1))
+      (λ y same. (ap (λ (x : LockRow). x.lkid) (sym same), subst (λ (x : LockRow). IsWriter x.held) same so.0.1)) (r.granted ++ r.converting) so.1))
       (own_lkids is_one s) (row_listed is_one s apart r among row.lkid (row_is_among row so.1 so.0.0)))
       (r.granted ++ r.converting) (any_with_member (λ row. (is_one row.pid ≡ true) × IsWriter row.held) (r.granted ++ r.converting) some))
 
@@ -187,7 +187,7 @@ module _ (is_one : ℕ → Bool) (s : State) (apart : Apart s) (r : Resource) (a
     | inr later ↦ none_here lkid rest later (omega (arith, none, sum_by-cons (weigh (strangers is_one lkid)) x rest))
   ]
 
-  rows_theirs : (lkid : ℕ) (rows : List Row) → sum_by (strangers is_one lkid) rows ≡ 0
+  rows_theirs : (lkid : ℕ) (rows : List LockRow) → sum_by (strangers is_one lkid) rows ≡ 0
       → AllByRecursion (λ row. row.lkid ≡ lkid → is_one row.pid ≡ true) rows
   rows_theirs lkid [] none = tt
   rows_theirs lkid (row ∷ rows) none = (

@@ -7,7 +7,7 @@ use Rattle.std.proofs.lemmas.Bool.{eqb-true}
 use Rattle.std.proofs.lemmas.List.Elements.{All-from_recursion}
 use Rattle.vlm_words.specs.declared.conditions.Cond.{Cond}
 use Rattle.vlm_words.specs.declared.conditions.Cond.TheVariants.{Insfmem, Normal}
-use Rattle.vlm_words.specs.declared.locks.Row.{Row}
+use Rattle.vlm_words.specs.declared.locks.LockRow.{LockRow}
 use Rattle.vlm_words.specs.declared.steps.Answer.TheVariants.{Process as process_answer, Plain}
 use Rattle.vlm_words.specs.declared.steps.Answer.{Answer}
 use Rattle.vlm_words.specs.declared.steps.Declaration.{Declaration}
@@ -147,7 +147,7 @@ last_given nodes [] p given = given.0
 last_given nodes (q ∷ rest) p given = last_given nodes rest p given.1
 
 -- a declaration
-declaration_gives : (s : State) (d : Declaration) (choice : Option Row) → AllGiven s → HasOrdinal s d
+declaration_gives : (s : State) (d : Declaration) (choice : Option LockRow) → AllGiven s → HasOrdinal s d
     → GivesAnew s (stepped_after_sweep (step_change s (Declare d) choice)).state (step_change s (Declare d) choice).answer
 unfolding declare_change
 declaration_gives s d choice given has = record {
@@ -182,7 +182,7 @@ end_gives s is_one nodes kept = record {
 }
 
 -- a step that no check refuses
-made_gives : (s : State) (step : Step) (choice : Option Row) → AllGiven s → step_refusal s step ≡ None
+made_gives : (s : State) (step : Step) (choice : Option LockRow) → AllGiven s → step_refusal s step ≡ None
     → GivesAnew s (stepped_after_sweep (step_change s step choice)).state (step_change s step choice).answer
 unfolding set_change take_change enq_change convert_change deq_change search_change
 made_gives s (Declare d) choice given passed = declaration_gives s d choice given (ordinal_left s d passed)
@@ -208,7 +208,7 @@ made_gives s (Take process) choice given passed =
     none_given s (step_change s (Take process) choice) refl (kept_taken named (λ _ _. refl) process s.processes) (λ pid is. cc)
 
 -- a step, with its refusal
-pub step_gives : (s : State) (step : Step) (choice : Option Row) → AllGiven s → (refusal : Option Cond) → step_refusal s step ≡ refusal
+pub step_gives : (s : State) (step : Step) (choice : Option LockRow) → AllGiven s → (refusal : Option Cond) → step_refusal s step ≡ refusal
     → GivesAnew s (refused_or refusal s (step_change s step choice)).state (refused_or refusal s (step_change s step choice)).answer
 step_gives s step choice given None passed = made_gives s step choice given passed
 step_gives s step choice given (Some refusal) is = none_given_refused s refusal

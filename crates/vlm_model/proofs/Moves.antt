@@ -6,7 +6,7 @@ use Rattle.std.proofs.lemmas.Bool.{and_parts, cond_both}
 use Rattle.std.proofs.lemmas.List.Filters.{sum_by-filter_both}
 use Rattle.std.proofs.lemmas.List.Sums.{sum_by-append, sum_by_push}
 use Rattle.vlm_words.specs.declared.locks.Request.{Request}
-use Rattle.vlm_words.specs.declared.locks.Row.{Row}
+use Rattle.vlm_words.specs.declared.locks.LockRow.{LockRow}
 use Rattle.vlm_words.specs.declared.resources.ValueBlock.{ValueBlock}
 use Rattle.vlm_words.specs.declared.steps.NewRequest.{NewRequest}
 use Rattle.vlm_words.specs.State.{Process, Resource, State}
@@ -26,25 +26,25 @@ use Rattle.vlm_model.proofs.Withdrawing.{kept_withdrawn}
 use Rattle.vlm_model.proofs.Warned.{IsArmedBlind}
 
 -- what a row weighs does not depend on what it holds and wants
-abbrev pub IsByName : (Row → ℕ) → Type 0
-IsByName f = (row : Row) (held want : Option Request) (armed : Bool) → f (record row { held = held; want = want; armed = armed }) ≡ f row
+abbrev pub IsByName : (LockRow → ℕ) → Type 0
+IsByName f = (row : LockRow) (held want : Option Request) (armed : Bool) → f (record row { held = held; want = want; armed = armed }) ≡ f row
 
 -- a grant keeps what the row weighs, and its ending does not count here
-pub grant_keeps : (f : Row → ℕ) → IsByName f → GrantKeeps f (λ ending. 0)
+pub grant_keeps : (f : LockRow → ℕ) → IsByName f → GrantKeeps f (λ ending. 0)
 grant_keeps f named at_once row = omega (arith, named row row.want None (is_arming row.want), sum_of_zero (grant_endings at_once row))
 
 -- nor on whether it is armed
-pub armed_blind : (f : Row → ℕ) → IsByName f → IsArmedBlind f
+pub armed_blind : (f : LockRow → ℕ) → IsByName f → IsArmedBlind f
 armed_blind f named row armed = named row row.held row.want armed
 
 -- a sweep keeps what all weigh
-pub swept_named : (f : Row → ℕ) → IsByName f → (processes : List Process) (resources : List Resource)
+pub swept_named : (f : LockRow → ℕ) → IsByName f → (processes : List Process) (resources : List Resource)
     → sum_by (weigh f) (resources_after_sweep processes resources) ≡ sum_by (weigh f) resources
 swept_named f named processes resources =
     omega (arith, swept_weighs f (λ ending. 0) (grant_keeps f named) (armed_blind f named) processes resources, sum_of_zero (sweep_endings resources))
 
 -- a new request adds what its row weighs
-pub entered_named : (f : Row → ℕ) → IsByName f → (s : State) (e : NewRequest)
+pub entered_named : (f : LockRow → ℕ) → IsByName f → (s : State) (e : NewRequest)
     → sum_by (weigh f) (resources_after_sweep (enq_change s e).processes (enq_change s e).resources) ≡ sum_by (weigh f) s.resources + f (enq_row s e)
 unfolding enq_change enq_resource
 entered_named f named s e =
@@ -56,7 +56,7 @@ entered_named f named s e =
     )
 
 -- a conversion adds no weight, whichever row is found
-converted_row_named : (f : Row → ℕ) → IsByName f → (request : Request) (at_once : Bool) (pid lkid : ℕ) (block : ValueBlock) (r : Resource) (found : Option Row)
+converted_row_named : (f : LockRow → ℕ) → IsByName f → (request : Request) (at_once : Bool) (pid lkid : ℕ) (block : ValueBlock) (r : Resource) (found : Option LockRow)
     → find (is_lock_of pid lkid) r.granted ≡ found → weigh f (resource_after_conversion_of request at_once lkid block r found) ≤ weigh f r
 converted_row_named f named request at_once pid lkid block r None is = omega arith
 converted_row_named f named request at_once pid lkid block r (Some row) is =
@@ -74,13 +74,13 @@ converted_row_named f named request at_once pid lkid block r (Some row) is =
     ]
 
 -- the same, for the row that is found
-pub converted_named : (f : Row → ℕ) → IsByName f → (request : Request) (at_once : Bool) (pid lkid : ℕ) (block : ValueBlock) (r : Resource)
+pub converted_named : (f : LockRow → ℕ) → IsByName f → (request : Request) (at_once : Bool) (pid lkid : ℕ) (block : ValueBlock) (r : Resource)
     → weigh f (resource_after_conversion request at_once pid lkid block r) ≤ weigh f r
 unfolding resource_after_conversion
 converted_named f named request at_once pid lkid block r = converted_row_named f named request at_once pid lkid block r (find (is_lock_of pid lkid) r.granted) refl
 
 -- a lock that goes adds no weight
-without_named : (f : Row → ℕ) (lkid : ℕ) (r : Resource) → weigh f (resource_without lkid r) ≤ weigh f r
+without_named : (f : LockRow → ℕ) (lkid : ℕ) (r : Resource) → weigh f (resource_without lkid r) ≤ weigh f r
 unfolding resource_without
 without_named f lkid r =
     omega (
@@ -91,7 +91,7 @@ without_named f lkid r =
     )
 
 -- a cancel adds no weight
-cancelled_named : (f : Row → ℕ) → IsByName f → (lkid : ℕ) (r : Resource) → weigh f (resource_after_cancel lkid r) ≤ weigh f r
+cancelled_named : (f : LockRow → ℕ) → IsByName f → (lkid : ℕ) (r : Resource) → weigh f (resource_after_cancel lkid r) ≤ weigh f r
 unfolding resource_after_cancel
 cancelled_named f named lkid r =
     omega (
@@ -103,19 +103,19 @@ cancelled_named f named lkid r =
     )
 
 -- what a lock leaves in the value block moves no row
-left_named : (f : Row → ℕ) (w : Withdrawal) (r : Resource) → weigh f (resource_after_writer w r) ≡ weigh f r
+left_named : (f : LockRow → ℕ) (w : Withdrawal) (r : Resource) → weigh f (resource_after_writer w r) ≡ weigh f r
 left_named f w r =
     cond_both (is_held_by_writer w.lkid r) (record r { value_block = value_block_after_writer w r.value_block }) r
     (λ left. weigh f left ≡ weigh f r) (λ _. refl) (λ _. refl)
 
 -- a lock that goes or stays adds no weight
-gone_named : (f : Row → ℕ) → IsByName f → (w : Withdrawal) (r : Resource) → weigh f (resource_after_going w r) ≤ weigh f r
+gone_named : (f : LockRow → ℕ) → IsByName f → (w : Withdrawal) (r : Resource) → weigh f (resource_after_going w r) ≤ weigh f r
 gone_named f named w r =
     cond_both w.stays (resource_after_cancel w.lkid r) (resource_without w.lkid r) (λ left. weigh f left ≤ weigh f r)
     (λ _. cancelled_named f named w.lkid r) (λ _. without_named f w.lkid r)
 
 -- withdrawals add no weight
-pub withdrawn_named : (f : Row → ℕ) → IsByName f → (withdrawals : List Withdrawal) (r : Resource)
+pub withdrawn_named : (f : LockRow → ℕ) → IsByName f → (withdrawals : List Withdrawal) (r : Resource)
     → weigh f (resource_after_withdrawals withdrawals r) ≤ weigh f r
 withdrawn_named f named withdrawals r =
     kept_withdrawn (λ left. weigh f left ≤ weigh f r)
@@ -123,7 +123,7 @@ withdrawn_named f named withdrawals r =
     (λ w left fewer. omega (arith, gone_named f named w left, fewer)) withdrawals r (omega arith)
 
 -- a change that adds no weight on any resource adds none to all, once they are swept
-pub changed_named : (f : Row → ℕ) → IsByName f → (change : Resource → Resource) → ((r : Resource) → weigh f (change r) ≤ weigh f r)
+pub changed_named : (f : LockRow → ℕ) → IsByName f → (change : Resource → Resource) → ((r : Resource) → weigh f (change r) ≤ weigh f r)
     → (processes : List Process) (resources : List Resource)
     → sum_by (weigh f) (resources_after_sweep processes (map change resources)) ≤ sum_by (weigh f) resources
 changed_named f named change fewer processes resources =

@@ -5,7 +5,7 @@ use Rattle.std.specs.List.{AllByRecursion, find, list_any, sum_by}
 use Rattle.std.proofs.lemmas.Bool.{and_parts, cond_both, eq-eqb, eqb-true, or_cases, or_right}
 use Rattle.std.proofs.lemmas.Bool.Decides.{nat_tests}
 use Rattle.std.proofs.lemmas.List.Sums.{sum_by-cons}
-use Rattle.vlm_words.specs.declared.locks.Row.{Row}
+use Rattle.vlm_words.specs.declared.locks.LockRow.{LockRow}
 use Rattle.vlm_words.specs.declared.conditions.Cond.TheVariants.{Exdepth, Ivlockid, Parnotgrant}
 use Rattle.vlm_words.specs.declared.resources.Site.{Site}
 use Rattle.vlm_words.specs.declared.steps.NewRequest.{NewRequest}
@@ -122,7 +122,7 @@ parent_of s e passed = of_test (parent_lkid s e == 0) refl
         )
 
 -- the parent stays as a lock enters
-pub up_entered : (p : Position) (pid lkid serial : ℕ) (site : Site) (row : Row) (at_once : Bool) (resources : List Resource)
+pub up_entered : (p : Position) (pid lkid serial : ℕ) (site : Site) (row : LockRow) (at_once : Bool) (resources : List Resource)
     → list_any (is_up p pid lkid) resources ≡ true → list_any (is_up p pid lkid) (resources_after_entry serial site row at_once resources) ≡ true
 up_entered p pid lkid serial site row at_once [] up = cc
 up_entered p pid lkid serial site row at_once (r ∷ rest) up =
@@ -139,16 +139,16 @@ up_entered p pid lkid serial site row at_once (r ∷ rest) up =
     ])
 
 -- among rows that all have their parents, where there is one, is one that has
-some_rooted : (f : Row → ℕ) (granted converting waiting : List Row)
+some_rooted : (f : LockRow → ℕ) (granted converting waiting : List LockRow)
     → (is_empty granted && is_empty converting && is_empty waiting) ≡ false → sum_by f granted + sum_by f converting + sum_by f waiting ≡ 0
-    → (row : Row) × (f row ≡ 0)
+    → (row : LockRow) × (f row ≡ 0)
 some_rooted f (row ∷ rows) converting waiting some none = (row, omega (arith, none, sum_by-cons f row rows))
 some_rooted f [] (row ∷ rows) waiting some none = (row, omega (arith, none, sum_by-cons f row rows))
 some_rooted f [] [] (row ∷ rows) some none = (row, omega (arith, none, sum_by-cons f row rows))
 some_rooted f [] [] [] some none = cc
 
 -- a row that is not loose has its parent
-pub rooted_row : (all : List Resource) (p : Position) (row : Row) → loose all p row ≡ 0 → is_rooted all p row ≡ true
+pub rooted_row : (all : List Resource) (p : Position) (row : LockRow) → loose all p row ≡ 0 → is_rooted all p row ≡ true
 rooted_row all p row none = of_test (is_rooted all p row) none
   where
     of_test : (b : Bool) → cond {A = ℕ} b 0 1 ≡ 0 → b ≡ true
@@ -164,7 +164,7 @@ stands_well all r occupied rooted =
     (not (r.parent == 0) && not (some.0.parent == 0) && list_any (is_up (position r) some.0.pid some.0.parent) all)
     (rooted_row all (position r) some.0 some.1))
   where
-    of_row : (row : Row) → (((r.parent == 0) && (row.parent == 0) && (r.level == 0)) ≡ true)
+    of_row : (row : LockRow) → (((r.parent == 0) && (row.parent == 0) && (r.level == 0)) ≡ true)
         ⊎ ((not (r.parent == 0) && not (row.parent == 0) && list_any (is_up (position r) row.pid row.parent) all) ≡ true)
         → ((r.parent ≡ 0) × (r.level ≡ 0)) ⊎ (((r.parent == 0) ≡ false) × (list_any (is_parent (position r)) all ≡ true))
     of_row row (inl root) =

@@ -5,7 +5,7 @@ use Rattle.std.specs.List.{AllZip}
 use Rattle.std.proofs.lemmas.Bool.{cond_both}
 use Rattle.vlm_words.specs.declared.conditions.Cond.{Cond}
 use Rattle.vlm_words.specs.declared.locks.Request.{Request}
-use Rattle.vlm_words.specs.declared.locks.Row.{Row}
+use Rattle.vlm_words.specs.declared.locks.LockRow.{LockRow}
 use Rattle.vlm_words.specs.declared.steps.Step.TheVariants.{Search}
 use Rattle.vlm_words.specs.State.{Resource, State}
 use Rattle.vlm_model.specs.Endings.{Ending}
@@ -24,20 +24,20 @@ use Rattle.vlm_model.specs.NoNewCircles.{NoneIsCaughtAnew}
 -- ---- rows of a queue
 
 -- the first of a queue, and what is behind it
-one_here : (row : Row) (rows : List Row) → IsOneOf (row ∷ rows) row
+one_here : (row : LockRow) (rows : List LockRow) → IsOneOf (row ∷ rows) row
 one_here row rows = Any-here (λ other. other ≡ row) row rows refl
 
-one_later : (first row : Row) (rows : List Row) → IsOneOf rows row → IsOneOf (first ∷ rows) row
+one_later : (first row : LockRow) (rows : List LockRow) → IsOneOf rows row → IsOneOf (first ∷ rows) row
 one_later first row rows = Any-there (λ other. other ≡ row) first rows
 
-one_by_cases : (first row : Row) (rows : List Row) → IsOneOf (first ∷ rows) row → (first ≡ row) ⊎ IsOneOf rows row
+one_by_cases : (first row : LockRow) (rows : List LockRow) → IsOneOf (first ∷ rows) row → (first ≡ row) ⊎ IsOneOf rows row
 one_by_cases first row rows = Any-cases (λ other. other ≡ row) first rows
 
-no_one : (row : Row) → IsOneOf [] row → ⊥
+no_one : (row : LockRow) → IsOneOf [] row → ⊥
 no_one row = Any-none (λ other. other ≡ row)
 
 -- a row that a filter keeps was there
-one_kept : (keep : Row → Bool) (rows : List Row) (row : Row) → IsOneOf (filter keep rows) row → IsOneOf rows row
+one_kept : (keep : LockRow → Bool) (rows : List LockRow) (row : LockRow) → IsOneOf (filter keep rows) row → IsOneOf rows row
 one_kept keep [] row one = one
 one_kept keep (first ∷ rows) row one =
     cond_both (keep first) (first ∷ filter keep rows) (filter keep rows) (λ kept. IsOneOf kept row → IsOneOf (first ∷ rows) row)
@@ -47,7 +47,7 @@ one_kept keep (first ∷ rows) row one =
     ]) (λ _ kept. one_later first row rows (one_kept keep rows row kept)) one
 
 -- and stood behind whom it stands behind
-before_kept : (keep : Row → Bool) (rows : List Row) (lock row : Row) → ComesBefore lock row (filter keep rows) → ComesBefore lock row rows
+before_kept : (keep : LockRow → Bool) (rows : List LockRow) (lock row : LockRow) → ComesBefore lock row (filter keep rows) → ComesBefore lock row rows
 before_kept keep [] lock row comes = comes
 before_kept keep (first ∷ rows) lock row comes =
     cond_both (keep first) (first ∷ filter keep rows) (filter keep rows) (λ kept. ComesBefore lock row kept → ComesBefore lock row (first ∷ rows))
@@ -60,19 +60,19 @@ before_kept keep (first ∷ rows) lock row comes =
     of_kept (inr behind) later = inr (later behind)
 
 -- a row that is left once the first have gone was there
-one_left : (many : ℕ) (rows : List Row) (row : Row) → IsOneOf (drop many rows) row → IsOneOf rows row
+one_left : (many : ℕ) (rows : List LockRow) (row : LockRow) → IsOneOf (drop many rows) row → IsOneOf rows row
 one_left zero rows row one = one
 one_left (suc many) [] row one = one
 one_left (suc many) (first ∷ rows) row one = one_later first row rows (one_left many rows row one)
 
 -- and stood behind whom it stands behind
-before_left : (many : ℕ) (rows : List Row) (lock row : Row) → ComesBefore lock row (drop many rows) → ComesBefore lock row rows
+before_left : (many : ℕ) (rows : List LockRow) (lock row : LockRow) → ComesBefore lock row (drop many rows) → ComesBefore lock row rows
 before_left zero rows lock row comes = comes
 before_left (suc many) [] lock row comes = comes
 before_left (suc many) (first ∷ rows) lock row comes = inr (before_left many rows lock row comes)
 
 -- a row that has gone from the head was there
-one_gone : (many : ℕ) (rows : List Row) (row : Row) → IsOneOf (take many rows) row → IsOneOf rows row
+one_gone : (many : ℕ) (rows : List LockRow) (row : LockRow) → IsOneOf (take many rows) row → IsOneOf rows row
 one_gone zero rows row one = absurd (no_one row one)
 one_gone (suc many) [] row one = one
 one_gone (suc many) (first ∷ rows) row one =
@@ -82,7 +82,7 @@ one_gone (suc many) (first ∷ rows) row one =
     ]
 
 -- and stood before all that are left
-gone_before_left : (many : ℕ) (rows : List Row) (lock row : Row) → IsOneOf (take many rows) lock → IsOneOf (drop many rows) row
+gone_before_left : (many : ℕ) (rows : List LockRow) (lock row : LockRow) → IsOneOf (take many rows) lock → IsOneOf (drop many rows) row
     → ComesBefore lock row rows
 gone_before_left zero rows lock row gone left = absurd (no_one lock gone)
 gone_before_left (suc many) [] lock row gone left = absurd (no_one lock gone)
@@ -93,12 +93,12 @@ gone_before_left (suc many) (first ∷ rows) lock row gone left =
     ]
 
 -- a row to which another one belongs, place by place
-record Pairs (R : Row → Row → Type 0) (rows : List Row) (after : Row) : Type 0 where
-  before : Row
+record Pairs (R : LockRow → LockRow → Type 0) (rows : List LockRow) (after : LockRow) : Type 0 where
+  before : LockRow
   one : IsOneOf rows before
   pair : R before after
 
-pair_of : (R : Row → Row → Type 0) (rows others : List Row) (row : Row) → AllZip R rows others → IsOneOf others row → Pairs R rows row
+pair_of : (R : LockRow → LockRow → Type 0) (rows others : List LockRow) (row : LockRow) → AllZip R rows others → IsOneOf others row → Pairs R rows row
 pair_of R [] [] row zip one = absurd (no_one row one)
 pair_of R [] (other ∷ others) row zip one = absurd zip
 pair_of R (first ∷ rows) [] row zip one = absurd zip
@@ -113,15 +113,15 @@ pair_of R (first ∷ rows) (other ∷ others) row zip one =
 -- ---- one wait on a resource
 
 -- the row waited on the resource for this lock, whatever it held and wanted
-record WasBlockedBy (r : Resource) (row lock : Row) : Type 0 where
-  was : Row
+record WasBlockedBy (r : Resource) (row lock : LockRow) : Type 0 where
+  was : LockRow
   lkid : was.lkid ≡ lock.lkid
   owner : was.pid ≡ lock.pid
   blocked : IsBlockedBy r row was
 
 -- each wait on the second resource was one on the first
 abbrev HasNoNewWait : Resource → Resource → Type 0
-HasNoNewWait before after = (row lock : Row) → IsBlockedBy after row lock → WasBlockedBy before row lock
+HasNoNewWait before after = (row lock : LockRow) → IsBlockedBy after row lock → WasBlockedBy before row lock
 
 -- one change after another
 waits_through : (a b c : Resource) → HasNoNewWait a b → HasNoNewWait b c → HasNoNewWait a c
@@ -135,18 +135,18 @@ same_wait : (r : Resource) → HasNoNewWait r r
 same_wait r row lock blocked = record { was = lock; lkid = refl; owner = refl; blocked = blocked }
 
 -- why a row waits: for what is held, or by order
-abbrev WaitsWhy : Resource → Request → Row → Row → Type 0
+abbrev WaitsWhy : Resource → Request → LockRow → LockRow → Type 0
 WaitsWhy r request row lock = KeepsOut r request.mode lock ⊎ (IsAheadOf r lock row × IsWaitedFor lock.want)
 
 -- the reason stood before, for the same lock
-record StoodWhy (r : Resource) (request : Request) (row lock : Row) : Type 0 where
-  was : Row
+record StoodWhy (r : Resource) (request : Request) (row lock : LockRow) : Type 0 where
+  was : LockRow
   lkid : was.lkid ≡ lock.lkid
   owner : was.pid ≡ lock.pid
   why : WaitsWhy r request row was
 
 -- where a row was queued, and had a reason, it waited
-was_blocked : (before after : Resource) (row lock : Row)
+was_blocked : (before after : Resource) (row lock : LockRow)
     → (IsOneOf after.converting row ⊎ IsOneOf after.waiting row → IsOneOf before.converting row ⊎ IsOneOf before.waiting row)
     → ((request : Request) → IsOneOf after.converting row ⊎ IsOneOf after.waiting row → WaitsWhy after request row lock → StoodWhy before request row lock)
     → IsBlockedBy after row lock → WasBlockedBy before row lock
@@ -171,7 +171,7 @@ abbrev HoldsOut : Request → Option Request → Type 0
 HoldsOut request held = (IsBeside request.mode held → ⊥) × IsWaitedFor held
 
 -- a lock that held the same kept the request out before
-kept_out : (r : Resource) (request : Request) (row lock was : Row) → IsOneOf r.granted was ⊎ IsOneOf r.converting was → was.lkid ≡ lock.lkid → was.pid ≡ lock.pid
+kept_out : (r : Resource) (request : Request) (row lock was : LockRow) → IsOneOf r.granted was ⊎ IsOneOf r.converting was → was.lkid ≡ lock.lkid → was.pid ≡ lock.pid
     → lock.held ≡ was.held → HoldsOut request lock.held → StoodWhy r request row lock
 kept_out r request row lock was place lkid owner same out = record {
   was = was;
@@ -183,7 +183,7 @@ kept_out r request row lock was place lkid owner same out = record {
 }
 
 -- a lock that was ahead, and wanted what it holds now, was waited for by order
-was_ahead : (r : Resource) (request : Request) (row lock was : Row) → IsAheadOf r was row → was.lkid ≡ lock.lkid → was.pid ≡ lock.pid
+was_ahead : (r : Resource) (request : Request) (row lock was : LockRow) → IsAheadOf r was row → was.lkid ≡ lock.lkid → was.pid ≡ lock.pid
     → lock.held ≡ was.want → IsWaitedFor lock.held → StoodWhy r request row lock
 was_ahead r request row lock was ahead lkid owner same counts = record {
   was = was;
@@ -214,11 +214,11 @@ writer_waits w r =
     (λ _. same_wait r)
 
 -- the row after its conversion is given up
-abbrev IsCancelled : Row → Row → Type 0
+abbrev IsCancelled : LockRow → LockRow → Type 0
 IsCancelled was now = row_after_cancel was ≡ now
 
 -- a row whose conversion is given up was one that converts
-cancelled : (rows : List Row) (row : Row) → IsOneOf (map row_after_cancel rows) row → Pairs IsCancelled rows row
+cancelled : (rows : List LockRow) (row : LockRow) → IsOneOf (map row_after_cancel rows) row → Pairs IsCancelled rows row
 cancelled [] row one = absurd (no_one row one)
 cancelled (first ∷ rows) row one =
     elim (one_by_cases (row_after_cancel first) row (map row_after_cancel rows) one) [
@@ -233,7 +233,7 @@ cancel_waits : (lkid : ℕ) (r : Resource) → HasNoNewWait r (resource_after_ca
 unfolding resource_after_cancel
 cancel_waits lkid r row lock = was_blocked r (resource_after_cancel lkid r) row lock of_queue (λ request _ why. of_why request why)
   where
-    others : Row → Bool
+    others : LockRow → Bool
     others other = not (other.lkid == lkid)
 
     of_queue : IsOneOf (rows_without lkid r.converting) row ⊎ IsOneOf (rows_without lkid r.waiting) row → IsOneOf r.converting row ⊎ IsOneOf r.waiting row
@@ -251,7 +251,7 @@ cancel_waits lkid r row lock = was_blocked r (resource_after_cancel lkid r) row 
     of_granted request (inr gave_up) out =
         let was : Pairs IsCancelled (rows_of lkid r.converting) lock = cancelled (rows_of lkid r.converting) lock gave_up in
         kept_out r request row lock was.before (inr (one_kept (λ other. other.lkid == lkid) r.converting was.before was.one))
-        (ap (λ (x : Row). x.lkid) was.pair) (ap (λ (x : Row). x.pid) was.pair) (sym (ap (λ (x : Row). x.held) was.pair)) out
+        (ap (λ (x : LockRow). x.lkid) was.pair) (ap (λ (x : LockRow). x.pid) was.pair) (sym (ap (λ (x : LockRow). x.held) was.pair)) out
 
     of_place : (request : Request) → IsOneOf (r.granted ++ map row_after_cancel (rows_of lkid r.converting)) lock ⊎ IsOneOf (rows_without lkid r.converting) lock
         → HoldsOut request lock.held → StoodWhy r request row lock
@@ -264,7 +264,7 @@ cancel_waits lkid r row lock = was_blocked r (resource_after_cancel lkid r) row 
     of_why request (inr ahead) = record { was = lock; lkid = refl; owner = refl; why = inr (of_ahead ahead.0, ahead.1) }
 
 -- so nobody waits for the victim, or for another, who did not
-withdrawn_waits : (choice : Option Row) (r : Resource) → HasNoNewWait r (resource_after_withdrawals (victim_withdrawals choice) r)
+withdrawn_waits : (choice : Option LockRow) (r : Resource) → HasNoNewWait r (resource_after_withdrawals (victim_withdrawals choice) r)
 withdrawn_waits None r = same_wait r
 withdrawn_waits (Some victim) r =
     waits_through r (resource_after_writer (deadlock_of victim.lkid) r)
@@ -277,16 +277,16 @@ withdrawn_waits (Some victim) r =
 swept_waits : (before after : Resource) (endings : List Ending) → GrantsFirst before after endings → HasNoNewWait before after
 swept_waits before after endings first row lock = was_blocked before after row lock of_queue of_why
   where
-    left_converting : (x : Row) → IsOneOf after.converting x → IsOneOf (drop first.conversions before.converting) x
-    left_converting x = subst (λ (rows : List Row). IsOneOf rows x) first.converting
+    left_converting : (x : LockRow) → IsOneOf after.converting x → IsOneOf (drop first.conversions before.converting) x
+    left_converting x = subst (λ (rows : List LockRow). IsOneOf rows x) first.converting
 
-    left_waiting : (x : Row) → IsOneOf after.waiting x → IsOneOf (drop first.new_requests before.waiting) x
-    left_waiting x = subst (λ (rows : List Row). IsOneOf rows x) first.waiting
+    left_waiting : (x : LockRow) → IsOneOf after.waiting x → IsOneOf (drop first.new_requests before.waiting) x
+    left_waiting x = subst (λ (rows : List LockRow). IsOneOf rows x) first.waiting
 
-    converted : (x : Row) → IsOneOf after.converting x → IsOneOf before.converting x
+    converted : (x : LockRow) → IsOneOf after.converting x → IsOneOf before.converting x
     converted x converts = one_left first.conversions before.converting x (left_converting x converts)
 
-    waited : (x : Row) → IsOneOf after.waiting x → IsOneOf before.waiting x
+    waited : (x : LockRow) → IsOneOf after.waiting x → IsOneOf before.waiting x
     waited x waits = one_left first.new_requests before.waiting x (left_waiting x waits)
 
     of_queue : IsOneOf after.converting row ⊎ IsOneOf after.waiting row → IsOneOf before.converting row ⊎ IsOneOf before.waiting row
@@ -300,18 +300,18 @@ swept_waits before after endings first row lock = was_blocked before after row l
     of_ahead (inr (inr waiting)) =
         inr (inr (before_left first.new_requests before.waiting lock row (subst (ComesBefore lock row) first.waiting waiting)))
 
-    some_granted : (many : ℕ) (rows : List Row) (x : Row) → IsOneOf (take many rows) x → 0 < many
+    some_granted : (many : ℕ) (rows : List LockRow) (x : LockRow) → IsOneOf (take many rows) x → 0 < many
     some_granted zero rows x one = absurd (no_one x one)
     some_granted (suc many) rows x one = omega arith
 
-    was_before : (was : Row) → IsOneOf (take first.conversions before.converting) was ⊎ IsOneOf (take first.new_requests before.waiting) was
+    was_before : (was : LockRow) → IsOneOf (take first.conversions before.converting) was ⊎ IsOneOf (take first.new_requests before.waiting) was
         → IsOneOf after.converting row ⊎ IsOneOf after.waiting row → IsAheadOf before was row
     was_before was (inl converted_it) (inl converts) =
         inl (gone_before_left first.conversions before.converting was row converted_it (left_converting row converts))
     was_before was (inl converted_it) (inr waits) =
         inr (inl (one_gone first.conversions before.converting was converted_it, waited row waits))
     was_before was (inr was_new) (inl converts) =
-        absurd (no_one row (subst (λ (rows : List Row). IsOneOf rows row)
+        absurd (no_one row (subst (λ (rows : List LockRow). IsOneOf rows row)
         (first.conversions_before (some_granted first.new_requests before.waiting was was_new)) converts))
     was_before was (inr was_new) (inr waits) =
         inr (inr (gone_before_left first.new_requests before.waiting was row was_new (left_waiting row waits)))
@@ -336,7 +336,7 @@ swept_waits before after endings first row lock = was_blocked before after row l
         → HoldsOut request lock.held → StoodWhy before request row lock
     of_place request queued (inl granted) out =
         of_granted request queued
-        (either (λ other. other ≡ lock) first.kept first.given (subst (λ (rows : List Row). IsOneOf rows lock) first.granted granted)) out
+        (either (λ other. other ≡ lock) first.kept first.given (subst (λ (rows : List LockRow). IsOneOf rows lock) first.granted granted)) out
     of_place request queued (inr converts) out = kept_out before request row lock lock (inr (converted lock converts)) refl refl refl out
 
     of_why : (request : Request) → IsOneOf after.converting row ⊎ IsOneOf after.waiting row → WaitsWhy after request row lock
@@ -347,19 +347,19 @@ swept_waits before after endings first row lock = was_blocked before after row l
 -- ---- all resources
 
 -- on some of these resources the row waits for a lock of the same owner
-record IsBlockedAmong (resources : List Resource) (row lock : Row) : Type 0 where
-  was : Row
+record IsBlockedAmong (resources : List Resource) (row lock : LockRow) : Type 0 where
+  was : LockRow
   owner : was.pid ≡ lock.pid
   blocked : Any (λ r. IsBlockedBy r row was) resources
 
-blocked_here : (r : Resource) (rest : List Resource) (row lock : Row) → WasBlockedBy r row lock → IsBlockedAmong (r ∷ rest) row lock
+blocked_here : (r : Resource) (rest : List Resource) (row lock : LockRow) → WasBlockedBy r row lock → IsBlockedAmong (r ∷ rest) row lock
 blocked_here r rest row lock waited = record {
   was = waited.was;
   owner = waited.owner;
   blocked = Any-here (λ x. IsBlockedBy x row waited.was) r rest waited.blocked;
 }
 
-blocked_there : (r : Resource) (rest : List Resource) (row lock : Row) → IsBlockedAmong rest row lock → IsBlockedAmong (r ∷ rest) row lock
+blocked_there : (r : Resource) (rest : List Resource) (row lock : LockRow) → IsBlockedAmong rest row lock → IsBlockedAmong (r ∷ rest) row lock
 blocked_there r rest row lock waited = record {
   was = waited.was;
   owner = waited.owner;
@@ -367,7 +367,7 @@ blocked_there r rest row lock waited = record {
 }
 
 -- each wait after a sweep was one before
-swept_blocked : (resources left : List Resource) (endings : List Ending) → SweptInOrder resources left endings → (row lock : Row)
+swept_blocked : (resources left : List Resource) (endings : List Ending) → SweptInOrder resources left endings → (row lock : LockRow)
     → Any (λ r. IsBlockedBy r row lock) left → IsBlockedAmong resources row lock
 swept_blocked _ _ _ none row lock blocked = absurd (Any-none (λ r. IsBlockedBy r row lock) blocked)
 swept_blocked _ _ _ (stays {before} {after} {rest} {left} {endings} {more} first behind) row lock blocked =
@@ -382,7 +382,7 @@ swept_blocked _ _ _ (goes {before} {after} {rest} {left} {endings} {more} first 
     blocked_there before rest row lock (swept_blocked rest left more behind row lock blocked)
 
 -- and each one after the withdrawal
-withdrawn_blocked : (choice : Option Row) (resources : List Resource) (row lock : Row)
+withdrawn_blocked : (choice : Option LockRow) (resources : List Resource) (row lock : LockRow)
     → Any (λ r. IsBlockedBy r row lock) (map (resource_after_withdrawals (victim_withdrawals choice)) resources)
     → IsBlockedAmong resources row lock
 withdrawn_blocked choice [] row lock blocked = absurd (Any-none (λ r. IsBlockedBy r row lock) blocked)
@@ -399,7 +399,7 @@ withdrawn_blocked choice (r ∷ rest) row lock blocked =
 
 -- each wait in the second state was one in the first, for a lock of the same owner
 abbrev HasNoNewWaits : State → State → Type 0
-HasNoNewWaits old new = (row lock : Row) → IsBlocked new row lock → IsBlockedAmong old.resources row lock
+HasNoNewWaits old new = (row lock : LockRow) → IsBlocked new row lock → IsBlockedAmong old.resources row lock
 
 module _ (old new : State) (waited : HasNoNewWaits old new) where
   was_held_up : (pid other : ℕ) → IsHeldUpBy new pid other → IsHeldUpBy old pid other
@@ -427,7 +427,7 @@ module _ (old new : State) (waited : HasNoNewWaits old new) where
 -- ---- the search
 
 -- the victim is withdrawn, and all is swept
-searched_waits : (s : State) (node : ℕ) (choice : Option Row) → HasNoNewWaits s (refused_or None s (step_change s (Search node) choice)).state
+searched_waits : (s : State) (node : ℕ) (choice : Option LockRow) → HasNoNewWaits s (refused_or None s (step_change s (Search node) choice)).state
 unfolding search_change
 searched_waits s node choice row lock blocked =
     let change : State = state_after_withdrawals (victim_withdrawals choice) s in
@@ -438,7 +438,7 @@ searched_waits s node choice row lock blocked =
     record { was = sooner.was; owner = sooner.owner ∙ swept.owner; blocked = sooner.blocked }
 
 -- a search catches nobody anew
-pub none_caught_anew : (s : State) (node : ℕ) (choice : Option Row) (refusal : Option Cond)
+pub none_caught_anew : (s : State) (node : ℕ) (choice : Option LockRow) (refusal : Option Cond)
     → NoneIsCaughtAnew s (refused_or refusal s (step_change s (Search node) choice)).state
 none_caught_anew s node choice None = was_caught s (refused_or None s (step_change s (Search node) choice)).state (searched_waits s node choice)
 none_caught_anew s node choice (Some refusal) = λ row caught. caught

@@ -5,7 +5,7 @@ use Rattle.std.specs.List.{AllByRecursion, list_any}
 use Rattle.std.proofs.lemmas.Bool.{or_parts}
 use Rattle.std.proofs.lemmas.List.Elements.{All-from_recursion}
 use Rattle.vlm_words.specs.declared.locks.Request.{Request}
-use Rattle.vlm_words.specs.declared.locks.Row.{Row}
+use Rattle.vlm_words.specs.declared.locks.LockRow.{LockRow}
 use Rattle.vlm_words.specs.Modes.{is_compatible}
 use Rattle.vlm_words.specs.State.{Resource, State}
 use Rattle.vlm_model.specs.Asts.{has_to_warn, is_in_the_way, is_to_warn}
@@ -20,7 +20,7 @@ not_not true is = refl
 not_not false is = cc
 
 -- what keeps no request out is compatible with each
-none_kept_out : (held : Request) (rows : List Row) → list_any (λ row. keeps_out held.mode row.want) rows ≡ false
+none_kept_out : (held : Request) (rows : List LockRow) → list_any (λ row. keeps_out held.mode row.want) rows ≡ false
     → AllByRecursion (λ row. AreCompatible row.want (Some held)) rows
 none_kept_out held [] none = tt
 none_kept_out held (row ∷ rows) none =
@@ -32,7 +32,7 @@ none_kept_out held (row ∷ rows) none =
     of_want (Some want) out = not_not (is_compatible want.mode held.mode) out
 
 -- a row that holds nothing is in nobody's way
-nothing_held : (rows : List Row) → AllByRecursion (λ row. AreCompatible row.want None) rows
+nothing_held : (rows : List LockRow) → AllByRecursion (λ row. AreCompatible row.want None) rows
 nothing_held [] = tt
 nothing_held (row ∷ rows) = (of_want row.want, nothing_held rows)
   where
@@ -41,7 +41,7 @@ nothing_held (row ∷ rows) = (of_want row.want, nothing_held rows)
     of_want (Some want) = tt
 
 -- an armed row that is not to be warned is in nobody's way
-in_nobodys_way : (converting waiting : List Row) (row : Row) → is_to_warn converting waiting row ≡ false → IsInNobodysWay (converting ++ waiting) row
+in_nobodys_way : (converting waiting : List LockRow) (row : LockRow) → is_to_warn converting waiting row ≡ false → IsInNobodysWay (converting ++ waiting) row
 unfolding is_to_warn
 in_nobodys_way converting waiting row none armed =
     All-from_recursion (λ other. AreCompatible other.want row.held) (converting ++ waiting)
@@ -59,7 +59,7 @@ all_in_nobodys_way : (r : Resource) → has_to_warn r ≡ false → All (IsInNob
 unfolding has_to_warn
 all_in_nobodys_way r none = All-from_recursion (IsInNobodysWay (r.converting ++ r.waiting)) r.granted (each r.granted none)
   where
-    each : (rows : List Row) → list_any (is_to_warn r.converting r.waiting) rows ≡ false → AllByRecursion (IsInNobodysWay (r.converting ++ r.waiting)) rows
+    each : (rows : List LockRow) → list_any (is_to_warn r.converting r.waiting) rows ≡ false → AllByRecursion (IsInNobodysWay (r.converting ++ r.waiting)) rows
     each [] out = tt
     each (row ∷ rows) out =
         let parts = or_parts (is_to_warn r.converting r.waiting row) (list_any (is_to_warn r.converting r.waiting) rows) out in

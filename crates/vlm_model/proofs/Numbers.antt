@@ -6,7 +6,7 @@ use Rattle.std.proofs.lemmas.Bool.{and_parts, cond_both, eq-eqb, eqb-true, or_ca
 use Rattle.std.proofs.lemmas.Bool.Decides.{nat_tests}
 use Rattle.std.proofs.lemmas.List.Folds.{Any-from_list_any}
 use Rattle.vlm_words.specs.declared.conditions.Cond.{Cond}
-use Rattle.vlm_words.specs.declared.locks.Row.{Row}
+use Rattle.vlm_words.specs.declared.locks.LockRow.{LockRow}
 use Rattle.vlm_words.specs.declared.resources.Site.{Site}
 use Rattle.vlm_words.specs.declared.resources.ValueBlock.{ValueBlock}
 use Rattle.vlm_words.specs.declared.steps.Answer.TheVariants.{Plain}
@@ -40,7 +40,7 @@ use Rattle.vlm_words.specs.Steps.{is_of_node}
 use Rattle.vlm_model.specs.Search.{search_change}
 
 -- a row counts one
-abbrev one : Row → ℕ
+abbrev one : LockRow → ℕ
 one row = 1
 
 -- whatever it holds and wants
@@ -96,7 +96,7 @@ kept_swept serial processes (r ∷ rest) kept =
         (λ _. or_right (is_kept serial after) (list_any (is_kept serial) others) there) (λ _. there)
 
 -- where no resource stands under the key, the entry makes one, which has the serial
-made_kept : (serial : ℕ) (site : Site) (row : Row) (at_once : Bool) (resources : List Resource) → has_resource site.key resources ≡ false
+made_kept : (serial : ℕ) (site : Site) (row : LockRow) (at_once : Bool) (resources : List Resource) → has_resource site.key resources ≡ false
     → list_any (is_kept serial) (resources_after_entry serial site row at_once resources) ≡ true
 made_kept serial site row at_once [] none =
     let fresh : Resource = new_resource serial site in
@@ -165,7 +165,7 @@ record Taken (s : State) (step : Step) (made : Stepped) : Type 0 where
   serials : TakesSerial s made.state
 
 -- an accepted step takes the numbers of what it makes
-accepted_takes : (s : State) → Apart s → (step : Step) (choice : Option Row) → step_refusal s step ≡ None
+accepted_takes : (s : State) → Apart s → (step : Step) (choice : Option LockRow) → step_refusal s step ≡ None
     → Placed (stepped_after_sweep (step_change s step choice)).state → Taken s step (stepped_after_sweep (step_change s step choice))
 unfolding declare_change set_change take_change enq_change convert_change deq_change search_change state_after_rundown
 accepted_takes s apart (Declare d) choice passed placed = record {
@@ -216,14 +216,14 @@ accepted_takes s apart (Take pid) choice passed placed = record {
 }
 
 -- and so does each step
-step_takes : (s : State) → Apart s → (step : Step) (choice : Option Row) (refusal : Option Cond) → step_refusal s step ≡ refusal
+step_takes : (s : State) → Apart s → (step : Step) (choice : Option LockRow) (refusal : Option Cond) → step_refusal s step ≡ refusal
     → Placed (refused_or refusal s (step_change s step choice)).state → Taken s step (refused_or refusal s (step_change s step choice))
 step_takes s apart step choice None passed placed = accepted_takes s apart step choice passed placed
 step_takes s apart step choice (Some refusal) is placed = record { requests = refusal_takes_none s step refusal; serials = none_made s s placed refl }
 
 -- after every run a step takes the numbers of what it makes
 pub numbers_always : (history : History) (old : State) → Run history old
-    → (step : Step) (choice : Option Row) → IsChoice old step choice → NumbersAreGivenOnce old step choice
+    → (step : Step) (choice : Option LockRow) → IsChoice old step choice → NumbersAreGivenOnce old step choice
 numbers_always history old run step choice chosen =
     let placed : Placed (stepped old step choice).state =
     placed_always _ (stepped old step choice).state

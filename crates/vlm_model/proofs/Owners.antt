@@ -11,7 +11,7 @@ use Rattle.vlm_words.specs.declared.conditions.Cond.TheVariants.{Ivlockid}
 use Rattle.vlm_words.specs.declared.conditions.Cond.{Cond}
 use Rattle.vlm_words.specs.Flags.{deqall, has_flag}
 use Rattle.vlm_words.specs.declared.locks.Request.{Request}
-use Rattle.vlm_words.specs.declared.locks.Row.{Row}
+use Rattle.vlm_words.specs.declared.locks.LockRow.{LockRow}
 use Rattle.vlm_words.specs.declared.steps.Dequeue.{Dequeue}
 use Rattle.vlm_words.specs.declared.steps.Step.TheVariants.{Declare, SetValue, Enq, Convert, Deq, Rundown, Leave, Search, Take}
 use Rattle.vlm_words.specs.declared.steps.Step.{Step}
@@ -116,7 +116,7 @@ unfolding resource_after_conversion
 converted_keeps pid lkid owner other request at_once block r one =
     omega (arith, converted_held pid lkid owner other request at_once block r one, ap (sum_by (locks pid lkid)) (same_waiting (find (is_lock_of owner other) r.granted)))
   where
-    same_waiting : (found : Option Row) → (resource_after_conversion_of request at_once other block r found).waiting ≡ r.waiting
+    same_waiting : (found : Option LockRow) → (resource_after_conversion_of request at_once other block r found).waiting ≡ r.waiting
     same_waiting None = refl
     same_waiting (Some row) =
         cond_both at_once (with_value_block block (resource_after_grant (resource_without_granted other r) (wanting_row row request)))
@@ -215,14 +215,14 @@ withdrawals_keep is_one pid lkid differs (w ∷ withdrawals) apart resources not
 -- ---- the steps
 
 -- of endings that are all grants there is nothing to say
-grants_alone : (step : Step) (choice : Option Row) (endings : List Ending) → AllByRecursion (λ ending. IsGrant ending.how) endings
+grants_alone : (step : Step) (choice : Option LockRow) (endings : List Ending) → AllByRecursion (λ ending. IsGrant ending.how) endings
     → AllByRecursion (λ ending. (IsGrant ending.how → ⊥) → IsConcerned step choice ending.pid) endings
 grants_alone step choice endings each =
     each_weaker (λ ending. IsGrant ending.how) (λ ending. (IsGrant ending.how → ⊥) → IsConcerned step choice ending.pid)
     (λ ending grants no. absurd (no grants)) endings each
 
 -- the grant at once of a row, if it is granted at once
-at_once_alone : (step : Step) (b : Bool) (row : Row) → AllByRecursion (λ ending. IsGrant ending.how) (cond b (grant_endings true row) [])
+at_once_alone : (step : Step) (b : Bool) (row : LockRow) → AllByRecursion (λ ending. IsGrant ending.how) (cond b (grant_endings true row) [])
 at_once_alone step true row = of_want row.want
   where
     of_want : (want : Option Request) → AllByRecursion (λ ending. IsGrant ending.how) (wanted_endings (by_grant (grant_act row.held row.want)) true row.lkid row.pid want)
@@ -231,13 +231,13 @@ at_once_alone step true row = of_want row.want
 at_once_alone step false row = tt
 
 -- what is so of a step that is made is so of the step
-abbrev IsLeftAlone : State → Step → Option Row → Stepped → Type 0
+abbrev IsLeftAlone : State → Step → Option LockRow → Stepped → Type 0
 IsLeftAlone s step choice made =
     AllByRecursion (λ ending. (IsGrant ending.how → ⊥) → IsConcerned step choice ending.pid) made.endings
     × ((pid lkid : ℕ) → (IsConcerned step choice pid → ⊥) → sum_by (weigh (locks pid lkid)) s.resources ≤ sum_by (weigh (locks pid lkid)) made.state.resources)
 
 -- a change whose endings and locks are left alone, once it is swept
-swept_alone : (s : State) (step : Step) (choice : Option Row) (change : Stepped)
+swept_alone : (s : State) (step : Step) (choice : Option LockRow) (change : Stepped)
     → AllByRecursion (λ ending. (IsGrant ending.how → ⊥) → IsConcerned step choice ending.pid) change.endings
     → ((pid lkid : ℕ) → (IsConcerned step choice pid → ⊥) → sum_by (weigh (locks pid lkid)) s.resources ≤ sum_by (weigh (locks pid lkid)) change.state.resources)
     → IsLeftAlone s step choice (stepped_after_sweep change)
@@ -258,7 +258,7 @@ no_caller a b differs = elim (eqb_tells a b) [
 ]
 
 -- a search ends the request of its victim alone, and takes at most its lock away
-searched_alone : (s : State) → Apart s → (node : ℕ) (choice : Option Row) → IsVictim s choice
+searched_alone : (s : State) → Apart s → (node : ℕ) (choice : Option LockRow) → IsVictim s choice
     → IsLeftAlone s (Search node) choice (stepped_after_sweep (step_change s (Search node) choice))
 unfolding search_change
 searched_alone s apart node None nobody =
@@ -273,7 +273,7 @@ searched_alone s apart node (Some victim) deadlocked =
     (search_endings s (Some victim)) (withdrawn_are_theirs is_its withdrawals s.resources (its, tt)))
     (λ pid lkid stranger. withdrawals_keep is_its pid lkid (no_caller pid victim.pid stranger) withdrawals (victims_apart (Some victim)) s.resources (its, tt))
 
-left_alone : (s : State) → Apart s → (step : Step) (choice : Option Row) → IsChoice s step choice → step_refusal s step ≡ None
+left_alone : (s : State) → Apart s → (step : Step) (choice : Option LockRow) → IsChoice s step choice → step_refusal s step ≡ None
     → IsLeftAlone s step choice (stepped_after_sweep (step_change s step choice))
 unfolding declare_change set_change take_change enq_change enq_resource convert_change deq_change state_after_rundown
 left_alone s apart (Declare d) choice chosen passed = swept_alone s (Declare d) choice (step_change s (Declare d) choice) tt (λ pid lkid stranger. omega arith)
@@ -316,7 +316,7 @@ left_alone s apart (Search node) choice chosen passed =
 left_alone s apart (Take pid) choice chosen passed = swept_alone s (Take pid) choice (step_change s (Take pid) choice) tt (λ process lkid stranger. omega arith)
 
 -- after every run
-pub left_alone_always : (history : History) (old : State) → Run history old → (step : Step) (choice : Option Row) → IsChoice old step choice → OthersAreLeftAlone old step choice
+pub left_alone_always : (history : History) (old : State) → Run history old → (step : Step) (choice : Option LockRow) → IsChoice old step choice → OthersAreLeftAlone old step choice
 left_alone_always history old run step choice chosen =
     let so = of_refusal (step_refusal old step) (λ passed. left_alone old (apart_always history old run) step choice chosen passed) in
     record { endings = so.0; locks = so.1 }

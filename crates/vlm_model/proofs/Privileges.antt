@@ -6,7 +6,7 @@ use Rattle.std.proofs.lemmas.Bool.{and_from, eq-eqb, not-false}
 use Rattle.std.proofs.lemmas.List.Elements.{All-from_recursion}
 use Rattle.vlm_words.specs.declared.conditions.Cond.TheVariants.{Nosyslck}
 use Rattle.vlm_words.specs.declared.conditions.Cond.{Cond}
-use Rattle.vlm_words.specs.declared.locks.Row.{Row}
+use Rattle.vlm_words.specs.declared.locks.LockRow.{LockRow}
 use Rattle.vlm_words.specs.declared.resources.Domain.TheVariants.{Group, System}
 use Rattle.vlm_words.specs.declared.steps.NewRequest.{NewRequest}
 use Rattle.vlm_words.specs.declared.steps.Step.TheVariants.{Declare, SetValue, Enq, Convert, Deq, Rundown, Leave, Search, Take}
@@ -135,7 +135,7 @@ rightly_ended s is_one nodes =
     (rightly_changed s ⊥ (resource_after_withdrawals (rundowns is_one s)) (withdrawals_keep_place (rundowns is_one s)))
 
 -- after an accepted step each root in the system's domain is there rightly
-accepted_rightly : (s : State) → Placed s → (step : Step) (choice : Option Row) → step_refusal s step ≡ None
+accepted_rightly : (s : State) → Placed s → (step : Step) (choice : Option LockRow) → step_refusal s step ≡ None
     → AllByRecursion (IsRightly s (IsPrivilegedStep s step)) (stepped_after_sweep (step_change s step choice)).state.resources
 unfolding declare_change set_change take_change convert_change deq_change search_change
 accepted_rightly s placed (Declare d) choice passed = rightly_swept s (declare_change s d) ⊥ (each_was s ⊥)
@@ -161,7 +161,7 @@ accepted_rightly s placed (Take pid) choice passed = rightly_swept s (take_chang
 
 -- after every run a step makes a root in the system's domain only for a caller with the privilege
 pub privileges_always : (history : History) (old : State) → Run history old
-    → (step : Step) (choice : Option Row) → IsChoice old step choice → SystemRootsArePrivileged old step choice
+    → (step : Step) (choice : Option LockRow) → IsChoice old step choice → SystemRootsArePrivileged old step choice
 privileges_always history old run step choice chosen =
     All-from_recursion (IsRightly old (IsPrivilegedStep old step)) (stepped old step choice).state.resources
     (of_refusal (step_refusal old step) refl)

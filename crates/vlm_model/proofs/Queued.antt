@@ -5,7 +5,7 @@ use Rattle.std.specs.List.{AllByRecursion}
 use Rattle.std.proofs.lemmas.List.Elements.{All-from_recursion}
 use Rattle.vlm_words.specs.declared.conditions.Cond.TheVariants.{Notqueued}
 use Rattle.vlm_words.specs.declared.locks.Request.{Request}
-use Rattle.vlm_words.specs.declared.locks.Row.{Row}
+use Rattle.vlm_words.specs.declared.locks.LockRow.{LockRow}
 use Rattle.vlm_words.specs.declared.steps.Conversion.{Conversion}
 use Rattle.vlm_words.specs.declared.steps.NewRequest.{NewRequest}
 use Rattle.vlm_words.specs.Flags.{has_flag, noqueue}
@@ -22,7 +22,7 @@ use Rattle.vlm_model.proofs.Admissions.{admitted_request}
 use Rattle.vlm_model.proofs.Waiting.{EachConverting, Queued, queued_always}
 
 -- the row wants nothing that may not be waited for
-abbrev Waits : Row → Type 0
+abbrev Waits : LockRow → Type 0
 Waits row = MayWait row.want
 
 -- an accepted request that is not granted at once may wait

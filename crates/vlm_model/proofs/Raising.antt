@@ -7,7 +7,7 @@ use Rattle.std.proofs.lemmas.List.Sums.{sum_by-append, sum_by-cons, sum_by_push}
 use Rattle.vlm_words.specs.declared.asts.Ast.{Ast}
 use Rattle.vlm_words.specs.declared.conditions.Cond.{Cond}
 use Rattle.vlm_words.specs.declared.locks.Request.{Request}
-use Rattle.vlm_words.specs.declared.locks.Row.{Row}
+use Rattle.vlm_words.specs.declared.locks.LockRow.{LockRow}
 use Rattle.vlm_words.specs.declared.resources.ValueBlock.{ValueBlock}
 use Rattle.vlm_words.specs.declared.steps.Answer.{Answer}
 use Rattle.vlm_words.specs.declared.steps.Conversion.{Conversion}
@@ -56,7 +56,7 @@ abbrev asked : ℕ → ℕ → Request → ℕ
 asked pid owner request = own pid owner (routines_of (Some request))
 
 -- a row that wants a conversion is due what it was, and what the request names
-wanting_due : (pid : ℕ) (request : Request) (row : Row) → due_to pid (wanting_row row request) ≤ due_to pid row + asked pid row.pid request
+wanting_due : (pid : ℕ) (request : Request) (row : LockRow) → due_to pid (wanting_row row request) ≤ due_to pid row + asked pid row.pid request
 wanting_due pid request row = of_owner (row.pid == pid)
   where
     of_owner : (b : Bool) → cond b (routines_of (Some request) + one_where row.armed) 0
@@ -65,7 +65,7 @@ wanting_due pid request row = of_owner (row.pid == pid)
     of_owner false = omega arith
 
 -- on the resource of the lock
-converted_row_falls : (pid : ℕ) (request : Request) (at_once : Bool) (caller lkid : ℕ) (block : ValueBlock) (r : Resource) (row : Row)
+converted_row_falls : (pid : ℕ) (request : Request) (at_once : Bool) (caller lkid : ℕ) (block : ValueBlock) (r : Resource) (row : LockRow)
     → Found (is_lock_of caller lkid) r.granted row
     → weigh (due_to pid) (resource_after_conversion_of request at_once lkid block r (Some row))
     + sum_by (calls pid) (cond at_once (grant_endings true (wanting_row row request)) [])
@@ -111,7 +111,7 @@ swept_as_asked s step change rises pid =
     )
 
 -- a new request
-request_as_asked : (s : State) (e : NewRequest) (choice : Option Row) → RisesAsAsked s (Enq e) (step_change s (Enq e) choice)
+request_as_asked : (s : State) (e : NewRequest) (choice : Option LockRow) → RisesAsAsked s (Enq e) (step_change s (Enq e) choice)
 unfolding enq_change
 request_as_asked s e choice pid =
     omega (
@@ -141,7 +141,7 @@ conversion_as_asked s c a apart admitted pid =
     omega (arith, falls, calls_many pid (conversion_endings a))
 
 -- a dequeue
-dequeue_as_asked : (s : State) (d : Dequeue) (choice : Option Row) → RisesAsAsked s (Deq d) (step_change s (Deq d) choice)
+dequeue_as_asked : (s : State) (d : Dequeue) (choice : Option LockRow) → RisesAsAsked s (Deq d) (step_change s (Deq d) choice)
 unfolding deq_change
 dequeue_as_asked s d choice pid =
     omega (
@@ -151,7 +151,7 @@ dequeue_as_asked s d choice pid =
     )
 
 -- a search
-search_as_asked : (s : State) (node : ℕ) (choice : Option Row) → RisesAsAsked s (Search node) (step_change s (Search node) choice)
+search_as_asked : (s : State) (node : ℕ) (choice : Option LockRow) → RisesAsAsked s (Search node) (step_change s (Search node) choice)
 unfolding search_change
 search_as_asked s node choice pid =
     omega (
@@ -171,7 +171,7 @@ end_as_asked s step is_one nodes pid =
     )
 
 -- a step that no check refuses
-made_as_asked : (s : State) (step : Step) (choice : Option Row) → Apart s → step_refusal s step ≡ None → RisesAsAsked s step (stepped_after_sweep (step_change s step choice))
+made_as_asked : (s : State) (step : Step) (choice : Option LockRow) → Apart s → step_refusal s step ≡ None → RisesAsAsked s step (stepped_after_sweep (step_change s step choice))
 unfolding declare_change set_change take_change
 made_as_asked s (Declare d) choice apart passed = swept_as_asked s (Declare d) (step_change s (Declare d) choice) (λ pid. omega arith)
 made_as_asked s (SetValue v) choice apart passed = swept_as_asked s (SetValue v) (step_change s (SetValue v) choice) (λ pid. omega arith)
@@ -189,7 +189,7 @@ made_as_asked s (Leave node) choice apart passed =
 made_as_asked s (Search node) choice apart passed = swept_as_asked s (Search node) (step_change s (Search node) choice) (search_as_asked s node choice)
 made_as_asked s (Take process) choice apart passed = swept_as_asked s (Take process) (step_change s (Take process) choice) (λ pid. omega arith)
 
-step_as_asked : (s : State) (step : Step) (choice : Option Row) → Apart s → (refusal : Option Cond) → step_refusal s step ≡ refusal
+step_as_asked : (s : State) (step : Step) (choice : Option LockRow) → Apart s → (refusal : Option Cond) → step_refusal s step ≡ refusal
     → RisesAsAsked s step (refused_or refusal s (step_change s step choice))
 step_as_asked s step choice apart None passed = made_as_asked s step choice apart passed
 step_as_asked s step choice apart (Some refusal) is = λ pid. omega arith
@@ -209,7 +209,7 @@ all_due pid (r ∷ rest) =
       sum_by-cons (weigh (due_to pid)) r rest,
     )
 
-pub raising_always : TakesInOrder → (history : History) (old : State) → Run history old → (step : Step) (choice : Option Row)
+pub raising_always : TakesInOrder → (history : History) (old : State) → Run history old → (step : Step) (choice : Option LockRow)
     → IsChoice old step choice → OnlyOwnRequestsRaiseDues old step choice
 raising_always in_order history old run step choice chosen = record {
   room = λ pid before after was is.

@@ -7,7 +7,7 @@ use Rattle.std.proofs.lemmas.Bool.Decides.{nat_tests}
 use Rattle.std.proofs.lemmas.List.Folds.{Any-from_list_any, list_any-from_Any}
 use Rattle.vlm_words.specs.declared.conditions.Cond.TheVariants.{Cancelgrant, Sublocks, Ivlockid, Badparam, Accvio, Nonexpr, Departed}
 use Rattle.vlm_words.specs.declared.conditions.Cond.{Cond}
-use Rattle.vlm_words.specs.declared.locks.Row.{Row}
+use Rattle.vlm_words.specs.declared.locks.LockRow.{LockRow}
 use Rattle.vlm_words.specs.declared.steps.Declaration.{Declaration}
 use Rattle.vlm_words.specs.declared.steps.Dequeue.{Dequeue}
 use Rattle.vlm_words.specs.declared.steps.Step.TheVariants.{Declare, SetValue, Enq, Convert, Deq, Rundown, Leave, Search, Take}
@@ -127,18 +127,18 @@ setting_keeps s v passed =
 -- the test of a sublock on a resource, and what it says
 sublock_on : (lkid : ℕ) (r : Resource) → has_sublock_on lkid r ≡ true → Any (λ row. row.parent ≡ lkid) (r.granted ++ r.converting ++ r.waiting)
 sublock_on lkid r is =
-    let test : Row → Bool = λ row. row.parent == lkid in
-    Any-weaker (λ (row : Row). (row.parent == lkid) ≡ true) (λ row. row.parent ≡ lkid) (λ row here. eqb-true row.parent lkid here)
+    let test : LockRow → Bool = λ row. row.parent == lkid in
+    Any-weaker (λ (row : LockRow). (row.parent == lkid) ≡ true) (λ row. row.parent ≡ lkid) (λ row here. eqb-true row.parent lkid here)
     (r.granted ++ r.converting ++ r.waiting)
     (Any-from_list_any test (r.granted ++ r.converting ++ r.waiting) (over_queues test r ∙ is))
 
 -- and it passes where there is one
 on_sublock : (lkid : ℕ) (r : Resource) → Any (λ row. row.parent ≡ lkid) (r.granted ++ r.converting ++ r.waiting) → has_sublock_on lkid r ≡ true
 on_sublock lkid r there =
-    let test : Row → Bool = λ row. row.parent == lkid in
+    let test : LockRow → Bool = λ row. row.parent == lkid in
     sym (over_queues test r)
     ∙ list_any-from_Any test (r.granted ++ r.converting ++ r.waiting)
-    (Any-weaker (λ (row : Row). row.parent ≡ lkid) (λ row. (row.parent == lkid) ≡ true) (λ row here. eq-eqb row.parent lkid here)
+    (Any-weaker (λ (row : LockRow). row.parent ≡ lkid) (λ row. (row.parent == lkid) ≡ true) (λ row here. eq-eqb row.parent lkid here)
     (r.granted ++ r.converting ++ r.waiting) there)
 
 -- what of a dequeue's flags is refused: an unknown bit, or what does not go together
@@ -338,7 +338,7 @@ step_keeps s apart placed (Search node) passed = departure_keeps s node passed
 step_keeps s apart placed (Take pid) passed = caller_keeps s pid (caller_passes s pid passed)
 
 -- an accepted step answers so
-step_answers : (s : State) (step : Step) (choice : Option Row) → step_refusal s step ≡ None → IsAnswered s step (stepped_after_sweep (step_change s step choice))
+step_answers : (s : State) (step : Step) (choice : Option LockRow) → step_refusal s step ≡ None → IsAnswered s step (stepped_after_sweep (step_change s step choice))
 step_answers s (Declare d) choice passed = tt
 step_answers s (SetValue v) choice passed = tt
 step_answers s (Enq e) choice passed = request_answers s e
@@ -354,7 +354,7 @@ step_answers s (Take pid) choice passed = tt
 
 -- after every run a step breaks no rule and is accepted, or is refused for one that it breaks
 pub reasons_always : (history : History) (old : State) → Run history old
-    → (step : Step) (choice : Option Row) → IsChoice old step choice → RefusalHasItsReason old step choice
+    → (step : Step) (choice : Option LockRow) → IsChoice old step choice → RefusalHasItsReason old step choice
 reasons_always history old run step choice chosen = of_refusal (step_refusal old step) refl
   where
     apart : Apart old

@@ -9,7 +9,7 @@ use Rattle.std.proofs.lemmas.List.Sums.{sum_by-cons}
 use Rattle.vlm_words.specs.declared.conditions.Cond.TheVariants.{Accvio, Badparam, Cvtungrant, Departed, Ivlockid, Nolockid, Nonexpr, Notqueued}
 use Rattle.vlm_words.specs.declared.conditions.Cond.{Cond}
 use Rattle.vlm_words.specs.declared.locks.Request.{Request}
-use Rattle.vlm_words.specs.declared.locks.Row.{Row}
+use Rattle.vlm_words.specs.declared.locks.LockRow.{LockRow}
 use Rattle.vlm_words.specs.declared.modes.Mode.{Mode}
 use Rattle.vlm_words.specs.declared.steps.Conversion.{Conversion}
 use Rattle.vlm_words.specs.Flags.{enq_bits, flag_bits, has_flag, is_known, noqueue, quecvt}
@@ -45,7 +45,7 @@ is_admitted request pid lkid a [] is = cc
 is_admitted request pid lkid a (r ∷ rest) is =
     of_found (find (is_lock_of pid lkid) r.granted) refl (admission_among request pid lkid rest) (is_admitted request pid lkid a rest) is
   where
-    of_found : (found : Option Row) → find (is_lock_of pid lkid) r.granted ≡ found → (later : Option ConversionAdmission)
+    of_found : (found : Option LockRow) → find (is_lock_of pid lkid) r.granted ≡ found → (later : Option ConversionAdmission)
         → (later ≡ Some a → IsAdmitted pid lkid a rest) → admission_or request r found later ≡ Some a → IsAdmitted pid lkid a (r ∷ rest)
     of_found None at later behind is =
         let admitted : IsAdmitted pid lkid a rest = behind is in
@@ -69,11 +69,11 @@ none_admitted request pid lkid [] is any = Any-none (λ r. IsAmong lkid pid r.gr
 none_admitted request pid lkid (r ∷ rest) is any =
     of_found (find (is_lock_of pid lkid) r.granted) refl is (none_admitted request pid lkid rest)
   where
-    none_passes : (rows : List Row) → AllByRecursion (λ row. is_lock_of pid lkid row ≡ false) rows → list_any (is_lock_of pid lkid) rows ≡ false
+    none_passes : (rows : List LockRow) → AllByRecursion (λ row. is_lock_of pid lkid row ≡ false) rows → list_any (is_lock_of pid lkid) rows ≡ false
     none_passes [] each = refl
     none_passes (row ∷ rows) each = rw each.0 (none_passes rows each.1)
 
-    of_found : (found : Option Row) → find (is_lock_of pid lkid) r.granted ≡ found → admission_or request r found (admission_among request pid lkid rest) ≡ None
+    of_found : (found : Option LockRow) → find (is_lock_of pid lkid) r.granted ≡ found → admission_or request r found (admission_among request pid lkid rest) ≡ None
         → (admission_among request pid lkid rest ≡ None → Any (λ x. IsAmong lkid pid x.granted) rest → ⊥) → ⊥
     of_found None at is behind =
         elim (Any-cases (λ x. IsAmong lkid pid x.granted) r rest any) [
@@ -83,7 +83,7 @@ none_admitted request pid lkid (r ∷ rest) is any =
     of_found (Some row) at is behind = cc
 
 -- where a lock has one row, that is the one that is found
-one_row : (pid lkid : ℕ) (P : Row → Type 0) (rows : List Row) (row : Row) → sum_by (stands lkid) rows ≤ 1
+one_row : (pid lkid : ℕ) (P : LockRow → Type 0) (rows : List LockRow) (row : LockRow) → sum_by (stands lkid) rows ≤ 1
     → find (is_lock_of pid lkid) rows ≡ Some row → Any (λ x. ((x.lkid ≡ lkid) × (x.pid ≡ pid)) × P x) rows → P row
 one_row pid lkid P [] row one is any = cc
 one_row pid lkid P (x ∷ xs) row one is any =
@@ -113,7 +113,7 @@ beside_passes mode None so = refl
 beside_passes mode (Some held) so = so
 
 -- beside the other rows it passes
-others_pass : (mode : Mode) (lkid : ℕ) (rows : List Row) → AllByRecursion (λ row. row.lkid ≢ lkid → IsBeside mode row.held) rows
+others_pass : (mode : Mode) (lkid : ℕ) (rows : List LockRow) → AllByRecursion (λ row. row.lkid ≢ lkid → IsBeside mode row.held) rows
     → list_all (λ row. is_beside mode row.held) (rows_without lkid rows) ≡ true
 others_pass mode lkid [] each = refl
 others_pass mode lkid (row ∷ rows) each = of_test (row.lkid == lkid) refl (others_pass mode lkid rows each.1)
@@ -126,7 +126,7 @@ others_pass mode lkid (row ∷ rows) each = of_test (row.lkid == lkid) refl (oth
         (beside_passes mode row.held (each.0 (λ same. true≢false (sym (eq-eqb row.lkid lkid same) ∙ is)))) behind
 
 -- where the lock has no row, all rows are others
-absent_pass : (mode : Mode) (lkid : ℕ) (rows : List Row) → sum_by (stands lkid) rows ≡ 0
+absent_pass : (mode : Mode) (lkid : ℕ) (rows : List LockRow) → sum_by (stands lkid) rows ≡ 0
     → AllByRecursion (λ row. row.lkid ≢ lkid → IsBeside mode row.held) rows → list_all (λ row. is_beside mode row.held) rows ≡ true
 absent_pass mode lkid [] none each = refl
 absent_pass mode lkid (row ∷ rows) none each =
@@ -137,11 +137,11 @@ absent_pass mode lkid (row ∷ rows) none each =
     (absent_pass mode lkid rows (omega (arith, all, none)) each.1)
 
 -- an empty queue
-nothing_queued : (rows : List Row) → rows ≡ [] → is_empty rows ≡ true
+nothing_queued : (rows : List LockRow) → rows ≡ [] → is_empty rows ≡ true
 nothing_queued rows none = rw none refl
 
 -- a conversion in its turn is granted at once
-turn_passes : (c : Conversion) (request : Request) (pid lkid : ℕ) (r : Resource) (row : Row) → request.mode ≡ c.mode → flag_bits request.flags ≡ c.flags
+turn_passes : (c : Conversion) (request : Request) (pid lkid : ℕ) (r : Resource) (row : LockRow) → request.mode ≡ c.mode → flag_bits request.flags ≡ c.flags
     → find (is_lock_of pid lkid) r.granted ≡ Some row → weigh (stands lkid) r ≤ 1 → ConvertsInTurn c lkid r → converts_at_once request lkid r ≡ true
 unfolding converts_at_once fits
 turn_passes c request pid lkid r row mode flags found one turn =
@@ -153,7 +153,7 @@ turn_passes c request pid lkid r row mode flags found one turn =
     (omega (arith, one, found_stands pid lkid r.granted row (found_at (is_lock_of pid lkid) r.granted row found))) (each_right r.granted r.converting each)))
     (overtakes (has_flag (flag_bits request.flags) quecvt) refl)
   where
-    Beside : Row → Type 0
+    Beside : LockRow → Type 0
     Beside x = x.lkid ≢ lkid → IsBeside request.mode x.held
 
     each : AllByRecursion Beside (r.granted ++ r.converting)
@@ -161,11 +161,11 @@ turn_passes c request pid lkid r row mode flags found one turn =
         subst (λ (m : Mode). AllByRecursion (λ x. x.lkid ≢ lkid → IsBeside m x.held) (r.granted ++ r.converting)) (sym mode)
         (recursion_from_All (λ x. x.lkid ≢ lkid → IsBeside c.mode x.held) (r.granted ++ r.converting) turn.beside)
 
-    each_left : (xs ys : List Row) → AllByRecursion Beside (xs ++ ys) → AllByRecursion Beside xs
+    each_left : (xs ys : List LockRow) → AllByRecursion Beside (xs ++ ys) → AllByRecursion Beside xs
     each_left [] ys all = tt
     each_left (x ∷ xs) ys all = (all.0, each_left xs ys all.1)
 
-    each_right : (xs ys : List Row) → AllByRecursion Beside (xs ++ ys) → AllByRecursion Beside ys
+    each_right : (xs ys : List LockRow) → AllByRecursion Beside (xs ++ ys) → AllByRecursion Beside ys
     each_right [] ys all = all
     each_right (x ∷ xs) ys all = each_right xs ys all.1
 

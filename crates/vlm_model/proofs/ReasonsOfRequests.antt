@@ -9,7 +9,7 @@ use Rattle.std.proofs.lemmas.List.Elements.{recursion_from_All}
 use Rattle.vlm_words.specs.declared.conditions.Cond.TheVariants.{Accvio, Badparam, Departed, Exdepth, Exenqlm, Ivbuflen, Ivlockid, Nolockid, Nonexpr, Nosyslck, Notqueued, Parnotgrant, Unsupported}
 use Rattle.vlm_words.specs.declared.conditions.Cond.{Cond}
 use Rattle.vlm_words.specs.declared.locks.Request.{Request}
-use Rattle.vlm_words.specs.declared.locks.Row.{Row}
+use Rattle.vlm_words.specs.declared.locks.LockRow.{LockRow}
 use Rattle.vlm_words.specs.declared.modes.Mode.{Mode}
 use Rattle.vlm_words.specs.declared.resources.Domain.{Domain}
 use Rattle.vlm_words.specs.declared.resources.Domain.TheVariants.{Group, System}
@@ -174,7 +174,7 @@ asked_for s e r caller apart placed passed at =
         )
 
 -- a mode that may be held beside each row passes
-all_beside : (mode : Mode) (rows : List Row) → AllByRecursion (λ row. IsBeside mode row.held) rows → list_all (λ row. is_beside mode row.held) rows ≡ true
+all_beside : (mode : Mode) (rows : List LockRow) → AllByRecursion (λ row. IsBeside mode row.held) rows → list_all (λ row. is_beside mode row.held) rows ≡ true
 all_beside mode [] each = refl
 all_beside mode (row ∷ rows) each =
     and_from (is_beside mode row.held) (list_all (λ x. is_beside mode x.held) rows) (here row.held each.0) (all_beside mode rows each.1)

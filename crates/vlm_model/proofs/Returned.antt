@@ -7,7 +7,7 @@ use Rattle.std.proofs.lemmas.List.Elements.{All-from_recursion}
 use Rattle.vlm_words.specs.declared.blocks.Block.{Block}
 use Rattle.vlm_words.specs.declared.conditions.Cond.{Cond}
 use Rattle.vlm_words.specs.declared.locks.Request.{Request}
-use Rattle.vlm_words.specs.declared.locks.Row.{Row}
+use Rattle.vlm_words.specs.declared.locks.LockRow.{LockRow}
 use Rattle.vlm_words.specs.declared.modes.Act.TheVariants.{Nothing, Return, Write}
 use Rattle.vlm_words.specs.declared.modes.Act.{Act}
 use Rattle.vlm_words.specs.declared.modes.Mode.TheVariants.{Nl, Cr, Cw, Pr, Pw, Ex}
@@ -91,11 +91,11 @@ abbrev Acts : State → Ending → Type 0
 Acts s ending = IsGrant ending.how → ActsAsAskedFor s ending
 
 -- what a lock of this row holds, it held before the step
-abbrev HeldSo : State → Row → Type 0
+abbrev HeldSo : State → LockRow → Type 0
 HeldSo s row = HeldBefore s row.lkid row.held
 
 -- the grant of such a row
-row_acts : (s : State) (at_once : Bool) (row : Row) → HeldSo s row → AllByRecursion (Acts s) (grant_endings at_once row)
+row_acts : (s : State) (at_once : Bool) (row : LockRow) → HeldSo s row → AllByRecursion (Acts s) (grant_endings at_once row)
 row_acts s at_once row before = of_want row.want refl
   where
     of_want : (want : Option Request) → row.want ≡ want
@@ -111,14 +111,14 @@ row_acts s at_once row before = of_want row.want refl
     )
 
 -- what a row of a resource that is there holds, its lock held before the step
-held_there : (s : State) (r : Resource) (row : Row) → Any (λ x. r ≡ x) s.resources
+held_there : (s : State) (r : Resource) (row : LockRow) → Any (λ x. r ≡ x) s.resources
     → Any (λ y. row ≡ y) (r.granted ++ r.converting ++ r.waiting) → HeldSo s row
 held_there s r row there among =
     inr (Any-weaker (λ x. r ≡ x) (λ x. Any (λ y. (y.lkid ≡ row.lkid) × (y.held ≡ row.held)) (x.granted ++ x.converting ++ x.waiting))
     (λ x same.
     subst (λ (t : Resource). Any (λ y. (y.lkid ≡ row.lkid) × (y.held ≡ row.held)) (t.granted ++ t.converting ++ t.waiting)) same
     (Any-weaker (λ y. row ≡ y) (λ y. (y.lkid ≡ row.lkid) × (y.held ≡ row.held))
-    (λ y is. (ap (λ (z : Row). z.lkid) (sym is), ap (λ (z : Row). z.held) (sym is))) (r.granted ++ r.converting ++ r.waiting) among)) s.resources there)
+    (λ y is. (ap (λ (z : LockRow). z.lkid) (sym is), ap (λ (z : LockRow). z.held) (sym is))) (r.granted ++ r.converting ++ r.waiting) among)) s.resources there)
 
 -- so it is with each queued row before the step
 queued_held : (s : State) → AllByRecursion (Queued (HeldSo s)) s.resources
@@ -135,7 +135,7 @@ queued_held s =
     }) s.resources (each_member s.resources)
 
 -- and with a granted one
-granted_held : (s : State) (pid lkid : ℕ) (r : Resource) (row : Row) → Any (λ x. r ≡ x) s.resources → find (is_lock_of pid lkid) r.granted ≡ Some row → HeldSo s row
+granted_held : (s : State) (pid lkid : ℕ) (r : Resource) (row : LockRow) → Any (λ x. r ≡ x) s.resources → find (is_lock_of pid lkid) r.granted ≡ Some row → HeldSo s row
 granted_held s pid lkid r row there is =
     held_there s r row there
     (any_left (λ y. row ≡ y) (r.granted ++ r.converting) r.waiting
@@ -144,7 +144,7 @@ granted_held s pid lkid r row there is =
 -- ---- where a granted lock stands after the sweep
 
 -- the row is that of the granted lock
-abbrev IsOf : Ending → Row → Type 0
+abbrev IsOf : Ending → LockRow → Type 0
 IsOf ending row = (row.lkid ≡ ending.lkid) × (row.pid ≡ ending.pid) × (row.held ≡ Some ending.request)
 
 -- the lock is granted on the resource, whose value block is this one
@@ -152,7 +152,7 @@ abbrev IsHeldOn : Ending → ValueBlock → Resource → Type 0
 IsHeldOn ending block r = HoldsGranted ending r × (block ≡ r.value_block)
 
 -- the locks of rows that are granted
-given_hold : (rows given : List Row) (endings : List Ending) → AllZip IsGranted rows given → AllZip IsGrantOf rows endings
+given_hold : (rows given : List LockRow) (endings : List Ending) → AllZip IsGranted rows given → AllZip IsGrantOf rows endings
     → AllByRecursion (λ ending. Any (IsOf ending) given) endings
 given_hold [] [] [] granted ends = tt
 given_hold [] [] (ending ∷ endings) granted ends = absurd ends
@@ -193,7 +193,7 @@ any_filter P test keeps (x ∷ xs) some =
 occupied : (ending : Ending) (block : ValueBlock) (r : Resource) → IsHeldOn ending block r → not (is_vacant r) ≡ true
 occupied ending block r held = rw (some r.granted held.0) refl
   where
-    some : (rows : List Row) → Any (IsOf ending) rows → is_empty rows ≡ false
+    some : (rows : List LockRow) → Any (IsOf ending) rows → is_empty rows ≡ false
     some [] any = absurd (Any-none (IsOf ending) any)
     some (row ∷ rows) any = refl
 
@@ -282,7 +282,7 @@ at_once_returned : (P : Ending → ValueBlock → Type 0) (b : Bool) (ending : E
 at_once_returned P true ending block processes its = one_returned P ending (blocks_with block processes) (its refl)
 at_once_returned P false ending block processes its = none_returned P processes
 
-at_once_acts : (s : State) (b : Bool) (row : Row) → HeldSo s row → AllByRecursion (Acts s) (cond b (grant_endings true row) [])
+at_once_acts : (s : State) (b : Bool) (row : LockRow) → HeldSo s row → AllByRecursion (Acts s) (cond b (grant_endings true row) [])
 at_once_acts s true row before = row_acts s true row before
 at_once_acts s false row before = tt
 
@@ -303,7 +303,7 @@ request_held s e now =
       refl,
     ))
 
-request_returning : (s : State) (e : NewRequest) (choice : Option Row) → enq_refusal s e ≡ None
+request_returning : (s : State) (e : NewRequest) (choice : Option LockRow) → enq_refusal s e ≡ None
     → AllByRecursion (Queued IsHarmless) s.resources → IsReturning s (stepped_after_sweep (step_change s (Enq e) choice))
 unfolding enq_change
 request_returning s e choice passed harmless =
@@ -331,7 +331,7 @@ conversion_held s c a admitted now harmless =
     any_map (λ r. a.resource ≡ r) (IsHeldOn (conversion_grant a) a.resource.value_block) (resource_after_conversion a.request a.at_once c.pid lkid block)
     (λ r same.
     subst (λ (x : Resource). IsHeldOn (conversion_grant a) a.resource.value_block (resource_after_conversion a.request a.at_once c.pid lkid block x)) same
-    (subst (λ (found : Option Row). IsHeldOn (conversion_grant a) a.resource.value_block (resource_after_conversion_of a.request a.at_once lkid block a.resource found)) (sym there.0)
+    (subst (λ (found : Option LockRow). IsHeldOn (conversion_grant a) a.resource.value_block (resource_after_conversion_of a.request a.at_once lkid block a.resource found)) (sym there.0)
     (subst (λ (b : Bool). IsHeldOn (conversion_grant a) a.resource.value_block
     (cond b (with_value_block block (resource_after_grant (resource_without_granted lkid a.resource) (wanting_row a.row a.request)))
     (record (resource_without_granted lkid a.resource) { converting = a.resource.converting ++ wanting_row a.row a.request ∷ [] }))) (sym now) (
@@ -372,7 +372,7 @@ conversion_returning s c a agree apart passed admitted harmless =
 abbrev IsNoGrant : Ending → Type 0
 IsNoGrant ending = IsGrant ending.how → ⊥
 
-rows_grant_nothing : (how : How) → (IsGrant how → ⊥) → (rows : List Row) → AllByRecursion IsNoGrant (flat_map (row_endings how false) rows)
+rows_grant_nothing : (how : How) → (IsGrant how → ⊥) → (rows : List LockRow) → AllByRecursion IsNoGrant (flat_map (row_endings how false) rows)
 rows_grant_nothing how none [] = tt
 rows_grant_nothing how none (row ∷ rows) =
     each_append IsNoGrant (row_endings how false row) (flat_map (row_endings how false) rows) (of_want row.want) (rows_grant_nothing how none rows)
@@ -431,7 +431,7 @@ rundown_returning s is_one nodes harmless =
     (each_weaker IsNoGrant WritesNothing (λ ending no. by_act ending Write no) endings none)
     (each_weaker IsNoGrant (Its P new_value_block) (λ ending no returns. absurd (by_act ending Return no returns)) endings none)))
 
-returning : (history : History) (s : State) → Run history s → (step : Step) (choice : Option Row) → step_refusal s step ≡ None
+returning : (history : History) (s : State) → Run history s → (step : Step) (choice : Option LockRow) → step_refusal s step ≡ None
     → IsReturning s (stepped_after_sweep (step_change s step choice))
 unfolding declare_change set_change take_change deq_change search_change
 returning history s run (Declare d) choice passed =
@@ -486,7 +486,7 @@ told s made returning pid k p is within =
     )
 
 -- after every run
-pub returned_always : (history : History) (old : State) → Run history old → (step : Step) (choice : Option Row) → IsChoice old step choice → GrantsReturnValues old step choice
+pub returned_always : (history : History) (old : State) → Run history old → (step : Step) (choice : Option LockRow) → IsChoice old step choice → GrantsReturnValues old step choice
 returned_always history old run step choice chosen =
     let all = of_refusal (step_refusal old step) refl in
     record {

@@ -5,7 +5,7 @@ use Rattle.std.specs.List.{AllByRecursion, find}
 use Rattle.std.proofs.lemmas.Bool.{cond_both}
 use Rattle.std.proofs.lemmas.List.Elements.{All-from_recursion}
 use Rattle.vlm_words.specs.declared.locks.Request.{Request}
-use Rattle.vlm_words.specs.declared.locks.Row.{Row}
+use Rattle.vlm_words.specs.declared.locks.LockRow.{LockRow}
 use Rattle.vlm_words.specs.declared.resources.ValueBlock.{ValueBlock}
 use Rattle.vlm_words.specs.declared.steps.NewRequest.{NewRequest}
 use Rattle.vlm_words.specs.State.{Resource, State}
@@ -30,12 +30,12 @@ pub record Fit (r : Resource) : Type 0 where
   pub waiting : AllByRecursion IsWaiting r.waiting
 
 -- a row that wants something is settled once it is granted, and so are those before it
-settled_after_grant : (rows : List Row) (row : Row) → AllByRecursion IsHeld rows → IsSome row.want
+settled_after_grant : (rows : List LockRow) (row : LockRow) → AllByRecursion IsHeld rows → IsSome row.want
     → AllByRecursion IsHeld (rows ++ granted_row row ∷ [])
 settled_after_grant rows row settled some = each_append IsHeld rows (granted_row row ∷ []) settled ((some, refl), tt)
 
 -- serving the conversions keeps the rows fit
-serve_converting_fit : (r : Resource) (rows : List Row) → r.converting ≡ rows → Fit r → Fit (service_of_conversions r rows).resource
+serve_converting_fit : (r : Resource) (rows : List LockRow) → r.converting ≡ rows → Fit r → Fit (service_of_conversions r rows).resource
 serve_converting_fit r [] is fit = fit
 serve_converting_fit r (row ∷ rows) is fit =
     let queue : AllByRecursion IsConverting (row ∷ rows) = subst (AllByRecursion IsConverting) is fit.converting in
@@ -48,7 +48,7 @@ serve_converting_fit r (row ∷ rows) is fit =
     (λ _. fit)
 
 -- serving the waiting queue keeps the rows fit
-serve_waiting_fit : (r : Resource) (rows : List Row) → r.waiting ≡ rows → Fit r → Fit (service_of_waiting r rows).resource
+serve_waiting_fit : (r : Resource) (rows : List LockRow) → r.waiting ≡ rows → Fit r → Fit (service_of_waiting r rows).resource
 serve_waiting_fit r [] is fit = fit
 serve_waiting_fit r (row ∷ rows) is fit =
     let queue : AllByRecursion IsWaiting (row ∷ rows) = subst (AllByRecursion IsWaiting) is fit.waiting in
@@ -101,7 +101,7 @@ entered_fit s e _ fit =
     })
 
 -- a conversion keeps the rows fit, whichever row is found
-converted_row_fit : (request : Request) (at_once : Bool) (pid lkid : ℕ) (block : ValueBlock) (r : Resource) (found : Option Row) → find (is_lock_of pid lkid) r.granted ≡ found
+converted_row_fit : (request : Request) (at_once : Bool) (pid lkid : ℕ) (block : ValueBlock) (r : Resource) (found : Option LockRow) → find (is_lock_of pid lkid) r.granted ≡ found
     → Fit r → Fit (resource_after_conversion_of request at_once lkid block r found)
 converted_row_fit request at_once pid lkid block r None is fit = fit
 converted_row_fit request at_once pid lkid block r (Some row) is fit =

@@ -3,7 +3,7 @@ use Rattle.std.proofs.Common.{◌≡◌, Bool, true, false, not, cond, List, [],
 use Rattle.std.specs.List.{AllByRecursion, list_any}
 use Rattle.std.proofs.lemmas.List.{append-nil}
 use Rattle.std.proofs.lemmas.List.Elements.{All-from_recursion}
-use Rattle.vlm_words.specs.declared.locks.Row.{Row}
+use Rattle.vlm_words.specs.declared.locks.LockRow.{LockRow}
 use Rattle.vlm_words.specs.State.{Process, Resource, State}
 use Rattle.vlm_words.specs.Rows.{is_empty}
 use Rattle.vlm_model.specs.Grants.{no_service, service}
@@ -75,26 +75,26 @@ occupied_law history last run =
 -- ---- nobody is warned
 
 -- where no row is to be warned, none is
-none_warned : (converting waiting rows : List Row) → list_any (is_to_warn converting waiting) rows ≡ false
+none_warned : (converting waiting rows : List LockRow) → list_any (is_to_warn converting waiting) rows ≡ false
     → (map (row_after_warning converting waiting) rows ≡ rows) × (flat_map (row_warnings converting waiting) rows ≡ [])
 unfolding row_after_warning row_warnings
 none_warned converting waiting [] none = (refl, refl)
 none_warned converting waiting (row ∷ rows) none =
     let parts = or_parts (is_to_warn converting waiting row) (list_any (is_to_warn converting waiting) rows) none in
     let behind = none_warned converting waiting rows parts.1 in
-    (rw parts.0 (ap (λ (all : List Row). row ∷ all) behind.0), rw parts.0 behind.1)
+    (rw parts.0 (ap (λ (all : List LockRow). row ∷ all) behind.0), rw parts.0 behind.1)
 
 -- so the resource stays, and nothing is queued
 pub unwarned_stays : (r : Resource) → has_to_warn r ≡ false → resource_after_warning r ≡ r
 unfolding has_to_warn resource_after_warning
-unwarned_stays r none = ap (λ (rows : List Row). record r { granted = rows }) (none_warned r.converting r.waiting r.granted none).0
+unwarned_stays r none = ap (λ (rows : List LockRow). record r { granted = rows }) (none_warned r.converting r.waiting r.granted none).0
 
 pub unwarned_says_nothing : (r : Resource) → has_to_warn r ≡ false → warnings r ≡ []
 unfolding has_to_warn warnings
 unwarned_says_nothing r none = (none_warned r.converting r.waiting r.granted none).1
 
 -- who is warned is not to be warned again
-warned_once : (converting waiting rows : List Row) → list_any (is_to_warn converting waiting) (map (row_after_warning converting waiting) rows) ≡ false
+warned_once : (converting waiting rows : List LockRow) → list_any (is_to_warn converting waiting) (map (row_after_warning converting waiting) rows) ≡ false
 unfolding row_after_warning is_to_warn
 warned_once converting waiting [] = refl
 warned_once converting waiting (row ∷ rows) =
@@ -122,7 +122,7 @@ unwarned_always history last run =
 -- ---- nothing is granted
 
 -- where the heads wait, nothing is granted
-served_again : (base : Resource) (converting waiting : List Row) → HeadsWait base.granted converting waiting
+served_again : (base : Resource) (converting waiting : List LockRow) → HeadsWait base.granted converting waiting
     → service (record base { converting = converting; waiting = waiting }) ≡ no_service (record base { converting = converting; waiting = waiting })
 unfolding service
 served_again base [] [] waits = refl

@@ -5,7 +5,7 @@ use Rattle.std.specs.List.{AllZip, find}
 use Rattle.std.proofs.lemmas.Bool.{and_parts, cond_both, eqb-true}
 use Rattle.vlm_words.specs.declared.conditions.Cond.{Cond}
 use Rattle.vlm_words.specs.declared.locks.Request.{Request}
-use Rattle.vlm_words.specs.declared.locks.Row.{Row}
+use Rattle.vlm_words.specs.declared.locks.LockRow.{LockRow}
 use Rattle.vlm_words.specs.declared.resources.Site.{Site}
 use Rattle.vlm_words.specs.declared.resources.ValueBlock.{ValueBlock}
 use Rattle.vlm_words.specs.declared.steps.Answer.TheVariants.{Lock}
@@ -78,13 +78,13 @@ swept_any Q pass occupied _ _ _ (goes {before} {after} {rest} {left} {endings} {
     ]
 
 -- a granted lock stays so
-pub granted_stays : (P : Row → Type 0) → ((x y : Row) → IsSameButArmed x y → P x → P y) → (before after : Resource) (endings : List Ending)
+pub granted_stays : (P : LockRow → Type 0) → ((x y : LockRow) → IsSameButArmed x y → P x → P y) → (before after : Resource) (endings : List Ending)
     → GrantsFirst before after endings → Any P before.granted → Any P after.granted
 granted_stays P pass before after endings first some =
     subst (Any P) (sym first.granted) (any_left P first.kept first.given (any_zip IsSameButArmed P P pass before.granted first.kept first.stay some))
 
 -- a row is the same but for what arms it
-same_row : (lkid pid parent : ℕ) (held want : Option Request) (x y : Row) → IsSameButArmed x y → IsRow lkid pid parent held want x → IsRow lkid pid parent held want y
+same_row : (lkid pid parent : ℕ) (held want : Option Request) (x y : LockRow) → IsSameButArmed x y → IsRow lkid pid parent held want x → IsRow lkid pid parent held want y
 same_row lkid pid parent held want x y same is = record {
   lock = same.lkid ∙ is.lock;
   process = same.pid ∙ is.process;
@@ -94,7 +94,7 @@ same_row lkid pid parent held want x y same is = record {
 }
 
 -- a row that is granted holds what it wanted
-row_granted : (lkid pid parent : ℕ) (held : Option Request) (request : Request) (x y : Row) → IsGranted x y → IsRow lkid pid parent held (Some request) x
+row_granted : (lkid pid parent : ℕ) (held : Option Request) (request : Request) (x y : LockRow) → IsGranted x y → IsRow lkid pid parent held (Some request) x
     → IsRow lkid pid parent (Some request) None y
 row_granted lkid pid parent held request x y granted is = record {
   lock = granted.lkid ∙ is.lock;
@@ -133,7 +133,7 @@ module _ (lkid pid parent : ℕ) (held : Option Request) (request : Request) (be
       ]
 
 -- among no rows is none
-none_among : (P : Row → Type 0) (rows : List Row) → rows ≡ [] → Any P rows → ⊥
+none_among : (P : LockRow → Type 0) (rows : List LockRow) → rows ≡ [] → Any P rows → ⊥
 none_among P rows empty some = Any-none P (subst (Any P) empty some)
 
 -- ---- a new request
@@ -175,7 +175,7 @@ module _ (s : State) (e : NewRequest) (lkid pid parent : ℕ) (request : Request
       of_queue (inr waiting) = none_among (IsRow lkid pid parent None (Some request)) r.waiting vacant.waiting waiting
 
 -- the resource that a lock enters is among the resources
-pub any_entered : (P : Resource → Type 0) (serial : ℕ) (site : Site) (row : Row) (at_once : Bool) (resources : List Resource)
+pub any_entered : (P : Resource → Type 0) (serial : ℕ) (site : Site) (row : LockRow) (at_once : Bool) (resources : List Resource)
     → P (resource_after_entry row at_once (unwrap_or (find (is_at site.key) resources) (new_resource serial site)))
     → Any P (resources_after_entry serial site row at_once resources)
 any_entered P serial site row at_once [] here = Any-here P (resource_after_entry row at_once (new_resource serial site)) [] here
@@ -249,7 +249,7 @@ new_locks_always history old run e choice told lkid chosen answered = of_refusal
 
 -- ---- a conversion
 
-module _ (first : Resource) (was : Row) (request : Request) where
+module _ (first : Resource) (was : LockRow) (request : Request) where
   abbrev IsConverted : Resource → Type 0
   IsConverted r = IsSameResource first r × StandsConverted was request r
 
@@ -277,7 +277,7 @@ admitted_there request pid lkid a [] admitted = cc
 admitted_there request pid lkid a (r ∷ rest) admitted =
     of_found (find (is_lock_of pid lkid) r.granted) refl (admission_among request pid lkid rest) (admitted_there request pid lkid a rest) admitted
   where
-    of_found : (found : Option Row) → find (is_lock_of pid lkid) r.granted ≡ found → (later : Option ConversionAdmission)
+    of_found : (found : Option LockRow) → find (is_lock_of pid lkid) r.granted ≡ found → (later : Option ConversionAdmission)
         → (later ≡ Some a → (find (is_lock_of pid lkid) a.resource.granted ≡ Some a.row) × Any (λ x. a.resource ≡ x) rest)
         → admission_or request r found later ≡ Some a
         → (find (is_lock_of pid lkid) a.resource.granted ≡ Some a.row) × Any (λ x. a.resource ≡ x) (r ∷ rest)
@@ -296,12 +296,12 @@ any_map P Q f pass (x ∷ xs) some =
     ]
 
 -- it stands there as it converts
-converts_there : (request : Request) (at_once : Bool) (pid lkid : ℕ) (block : ValueBlock) (r : Resource) (row : Row) → find (is_lock_of pid lkid) r.granted ≡ Some row
+converts_there : (request : Request) (at_once : Bool) (pid lkid : ℕ) (block : ValueBlock) (r : Resource) (row : LockRow) → find (is_lock_of pid lkid) r.granted ≡ Some row
     → IsConverted r row request (resource_after_conversion request at_once pid lkid block r)
 unfolding resource_after_conversion
 converts_there request at_once pid lkid block r row is = (
   conversion_keeps_place request at_once pid lkid block r,
-  subst (λ (found : Option Row). StandsConverted row request (resource_after_conversion_of request at_once lkid block r found)) (sym is)
+  subst (λ (found : Option LockRow). StandsConverted row request (resource_after_conversion_of request at_once lkid block r found)) (sym is)
       (cond_both at_once (with_value_block block (resource_after_grant (resource_without_granted lkid r) (wanting_row row request)))
       (record (resource_without_granted lkid r) { converting = r.converting ++ wanting_row row request ∷ [] })
       (StandsConverted row request)

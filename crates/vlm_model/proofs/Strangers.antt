@@ -7,7 +7,7 @@ use Rattle.std.proofs.lemmas.List.Sums.{sum_by-append, sum_by-cons}
 use Rattle.vlm_words.specs.declared.asts.AstKind.{AstKind}
 use Rattle.vlm_words.specs.declared.asts.AstKind.TheVariants.{Completion, Blocking}
 use Rattle.vlm_words.specs.declared.locks.Request.{Request}
-use Rattle.vlm_words.specs.declared.locks.Row.{Row}
+use Rattle.vlm_words.specs.declared.locks.LockRow.{LockRow}
 use Rattle.vlm_words.specs.declared.steps.Conversion.{Conversion}
 use Rattle.vlm_words.specs.declared.steps.NewRequest.{NewRequest}
 use Rattle.vlm_words.specs.State.{Node, Resource, State}
@@ -47,7 +47,7 @@ abbrev wants_of : ℕ → ℕ → Option Request → ℕ
 wants_of pid owner want = cond (owner == pid) (cond (is_some want) 1 0) 0
 
 -- 1 for a row of a lock of the process that wants something
-abbrev wanted_own : ℕ → Row → ℕ
+abbrev wanted_own : ℕ → LockRow → ℕ
 wanted_own pid row = wants_of pid row.pid row.want
 
 nothing_wanted : (pid owner : ℕ) → wants_of pid owner None ≡ 0
@@ -64,7 +64,7 @@ wanted_ends pid how at_once lkid owner None = sym (nothing_wanted pid owner)
 wanted_ends pid how at_once lkid owner (Some request) =
     sum_of_one (mine pid) (record { lkid = lkid; pid = owner; request = request; how = how; at_once = at_once })
 
-row_ends : (pid : ℕ) (how : How) (at_once : Bool) (row : Row) → sum_by (mine pid) (row_endings how at_once row) ≡ wanted_own pid row
+row_ends : (pid : ℕ) (how : How) (at_once : Bool) (row : LockRow) → sum_by (mine pid) (row_endings how at_once row) ≡ wanted_own pid row
 row_ends pid how at_once row = wanted_ends pid how at_once row.lkid row.pid row.want
 
 -- a grant ends what its row wanted
@@ -81,7 +81,7 @@ wanted_owned pid owner want = of_tests (owner == pid) (is_some want)
     of_tests false b = omega arith
 
 -- of a process that has no rows none wants
-wanted_rows : (pid : ℕ) (rows : List Row) → sum_by (wanted_own pid) rows ≤ sum_by (owned pid) rows
+wanted_rows : (pid : ℕ) (rows : List LockRow) → sum_by (wanted_own pid) rows ≤ sum_by (owned pid) rows
 wanted_rows pid [] = omega arith
 wanted_rows pid (row ∷ rows) =
     omega (
@@ -138,7 +138,7 @@ none_completes pid (ending ∷ endings) none =
         (λ _. for_another pid ending.pid ending.lkid Completion ending.request.completion ending.request other)) (λ _. refl)
 
 -- warnings of rows of which none is of the process
-none_warned : (pid : ℕ) (converting waiting rows : List Row) → sum_by (owned pid) rows ≡ 0
+none_warned : (pid : ℕ) (converting waiting rows : List LockRow) → sum_by (owned pid) rows ≡ 0
     → queued_to pid (flat_map (row_warnings converting waiting) rows) ≡ []
 unfolding row_warnings
 none_warned pid converting waiting [] none = refl
@@ -224,7 +224,7 @@ admitted_owned : (pid : ℕ) (request : Request) (caller lkid : ℕ) (a : Conver
 admitted_owned pid request caller lkid a [] at = cc
 admitted_owned pid request caller lkid a (r ∷ rest) at = of_found (find (is_lock_of caller lkid) r.granted) refl (admitted_owned pid request caller lkid a rest) at
   where
-    of_found : (found : Option Row) → find (is_lock_of caller lkid) r.granted ≡ found
+    of_found : (found : Option LockRow) → find (is_lock_of caller lkid) r.granted ≡ found
         → (admission_among request caller lkid rest ≡ Some a → owned pid a.row ≤ owning pid rest)
         → admission_or request r found (admission_among request caller lkid rest) ≡ Some a → owned pid a.row ≤ owning pid (r ∷ rest)
     of_found None is behind later = omega (arith, behind later, sum_by-cons (weigh (owned pid)) r rest)
@@ -260,7 +260,7 @@ none_converted s c a pid admitted none = record {
     of_test false = refl
 
 -- the requests of some rows end
-rows_end : (pid : ℕ) (how : How) (rows : List Row) → sum_by (mine pid) (flat_map (row_endings how false) rows) ≤ sum_by (owned pid) rows
+rows_end : (pid : ℕ) (how : How) (rows : List LockRow) → sum_by (mine pid) (flat_map (row_endings how false) rows) ≤ sum_by (owned pid) rows
 rows_end pid how [] = omega arith
 rows_end pid how (row ∷ rows) =
     omega (
@@ -272,7 +272,7 @@ rows_end pid how (row ∷ rows) =
       sum_by-append (mine pid) (row_endings how false row) (flat_map (row_endings how false) rows),
     )
 
-queue_ends : (pid : ℕ) (how : How) (lkid : ℕ) (rows : List Row) → sum_by (mine pid) (queue_endings how lkid rows) ≤ sum_by (owned pid) rows
+queue_ends : (pid : ℕ) (how : How) (lkid : ℕ) (rows : List LockRow) → sum_by (mine pid) (queue_endings how lkid rows) ≤ sum_by (owned pid) rows
 queue_ends pid how lkid rows = omega (arith, rows_end pid how (rows_of lkid rows), sum_filter-le (owned pid) (λ row. row.lkid == lkid) rows)
 
 withdrawals_end : (pid : ℕ) (w : Withdrawal) (resources : List Resource) → sum_by (mine pid) (flat_map (withdrawal_endings w) resources) ≤ owning pid resources

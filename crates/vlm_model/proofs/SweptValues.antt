@@ -4,7 +4,7 @@ use Rattle.std.specs.Prelude.{Any}
 use Rattle.std.specs.List.{AllByRecursion, find}
 use Rattle.std.proofs.lemmas.Bool.{cond_both, true≢false}
 use Rattle.vlm_words.specs.declared.locks.Request.{Request}
-use Rattle.vlm_words.specs.declared.locks.Row.{Row}
+use Rattle.vlm_words.specs.declared.locks.LockRow.{LockRow}
 use Rattle.vlm_words.specs.declared.modes.Act.TheVariants.{Nothing, Return, Write}
 use Rattle.vlm_words.specs.declared.resources.ValueBlock.{ValueBlock}
 use Rattle.vlm_words.specs.declared.steps.Conversion.{Conversion}
@@ -35,7 +35,7 @@ use Rattle.vlm_model.proofs.Warned.{warned_same}
 -- ---- no queued request writes
 
 -- the grant of what the row wants does not write the value block
-abbrev pub IsHarmless : Row → Type 0
+abbrev pub IsHarmless : LockRow → Type 0
 IsHarmless row = grant_act row.held row.want ≡ Write → ⊥
 
 -- nor does that of a new request
@@ -79,7 +79,7 @@ conversion_is_harmless s c a agree apart passed is waits =
     asks : a.request ≡ convert_request s c
     asks = admitted_request (convert_request s c) c.pid (convert_lkid s c) a s.resources is
 
-    writes : (r : Resource) (row : Row) → find (is_lock_of c.pid (convert_lkid s c)) r.granted ≡ Some row → Any (λ x. r ≡ x) s.resources
+    writes : (r : Resource) (row : LockRow) → find (is_lock_of c.pid (convert_lkid s c)) r.granted ≡ Some row → Any (λ x. r ≡ x) s.resources
         → action_from row.held c.mode ≡ Write → a.at_once ≡ true
     writes r row found there table =
         write_at_once s c a agree passed is
@@ -107,7 +107,7 @@ harmless_always =
 abbrev pub WritesNothing : Ending → Type 0
 WritesNothing ending = ending.how ≡ by_grant Write → ⊥
 
-pub grant_harmless : (at_once : Bool) (row : Row) → IsHarmless row → AllByRecursion WritesNothing (grant_endings at_once row)
+pub grant_harmless : (at_once : Bool) (row : LockRow) → IsHarmless row → AllByRecursion WritesNothing (grant_endings at_once row)
 grant_harmless at_once row harmless = of_want row.want
   where
     of_want : (want : Option Request) → AllByRecursion WritesNothing (wanted_endings (by_grant (grant_act row.held row.want)) at_once row.lkid row.pid want)
@@ -115,8 +115,8 @@ grant_harmless at_once row harmless = of_want row.want
     of_want (Some request) = ((λ is. harmless (cc)), tt)
 
 -- what the grant of each row has, each ending of a service has
-module _ (P : Row → Type 0) (Q : Ending → Type 0) (grants : (row : Row) → P row → AllByRecursion Q (grant_endings false row)) where
-  conversions_each : (r : Resource) (rows : List Row) → AllByRecursion P rows → AllByRecursion Q (service_of_conversions r rows).endings
+module _ (P : LockRow → Type 0) (Q : Ending → Type 0) (grants : (row : LockRow) → P row → AllByRecursion Q (grant_endings false row)) where
+  conversions_each : (r : Resource) (rows : List LockRow) → AllByRecursion P rows → AllByRecursion Q (service_of_conversions r rows).endings
   conversions_each r [] each = tt
   conversions_each r (row ∷ rows) each =
       let granted : Resource = record (resource_after_grant r row) { converting = rows } in
@@ -125,7 +125,7 @@ module _ (P : Row → Type 0) (Q : Ending → Type 0) (grants : (row : Row) → 
       (λ _. each_append Q (grant_endings false row) (service_of_conversions granted rows).endings (grants row each.0) (conversions_each granted rows each.1))
       (λ _. tt)
 
-  waiting_each : (r : Resource) (rows : List Row) → AllByRecursion P rows → AllByRecursion Q (service_of_waiting r rows).endings
+  waiting_each : (r : Resource) (rows : List LockRow) → AllByRecursion P rows → AllByRecursion Q (service_of_waiting r rows).endings
   waiting_each r [] each = tt
   waiting_each r (row ∷ rows) each =
       let granted : Resource = record (resource_after_grant r row) { waiting = rows } in
@@ -166,14 +166,14 @@ ends_leave (ending ∷ endings) b nothing =
     ends_leave endings (blocks_after_ending ending b) nothing.1 ∙ end_leaves ending.how ending b nothing.0
 
 -- a service moves rows alone
-conversions_leave : (r : Resource) (rows : List Row) → (service_of_conversions r rows).resource.value_block ≡ r.value_block
+conversions_leave : (r : Resource) (rows : List LockRow) → (service_of_conversions r rows).resource.value_block ≡ r.value_block
 conversions_leave r [] = refl
 conversions_leave r (row ∷ rows) =
     let granted : Resource = record (resource_after_grant r row) { converting = rows } in
     cond_both (wanted_fits row.want r.granted rows) (service_after_grant row (service_of_conversions granted rows)) (no_service r)
     (λ s. s.resource.value_block ≡ r.value_block) (λ _. conversions_leave granted rows) (λ _. refl)
 
-waiting_leaves : (r : Resource) (rows : List Row) → (service_of_waiting r rows).resource.value_block ≡ r.value_block
+waiting_leaves : (r : Resource) (rows : List LockRow) → (service_of_waiting r rows).resource.value_block ≡ r.value_block
 waiting_leaves r [] = refl
 waiting_leaves r (row ∷ rows) =
     let granted : Resource = record (resource_after_grant r row) { waiting = rows } in

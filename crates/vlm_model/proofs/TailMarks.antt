@@ -4,7 +4,7 @@ use Rattle.std.specs.Prelude.{not}
 use Rattle.std.specs.List.{AllByRecursion, find}
 use Rattle.std.proofs.lemmas.Bool.{cond_both}
 use Rattle.std.proofs.lemmas.List.Elements.{All-from_recursion}
-use Rattle.vlm_words.specs.declared.locks.Row.{Row}
+use Rattle.vlm_words.specs.declared.locks.LockRow.{LockRow}
 use Rattle.vlm_words.specs.declared.modes.Act.TheVariants.{Nothing, Return, Write}
 use Rattle.vlm_words.specs.declared.resources.ValueBlock.{ValueBlock}
 use Rattle.vlm_words.specs.declared.steps.Conversion.{Conversion}
@@ -98,7 +98,7 @@ conversion_right s c a admitted right =
     at_each : (r : Resource) → HasRight r → HasRight (resource_after_conversion a.request a.at_once c.pid (convert_lkid s c) (convert_blocks s c a).value_block r)
     at_each r has = of_found (find (is_lock_of c.pid (convert_lkid s c)) r.granted) a.at_once
       where
-        of_found : (found : Option Row) (now : Bool)
+        of_found : (found : Option LockRow) (now : Bool)
             → HasRight (resource_after_conversion_of a.request now (convert_lkid s c) (convert_blocks s c a).value_block r found)
         of_found None now = has
         of_found (Some row) true = written

@@ -8,7 +8,7 @@ use Rattle.std.proofs.lemmas.List.Folds.{Any-from_list_any}
 use Rattle.std.proofs.lemmas.List.Sums.{sum_by-append, sum_by-cons}
 use Rattle.vlm_words.specs.declared.conditions.Cond.TheVariants.{Ivlockid, Normal}
 use Rattle.vlm_words.specs.declared.conditions.Cond.{Cond}
-use Rattle.vlm_words.specs.declared.locks.Row.{Row}
+use Rattle.vlm_words.specs.declared.locks.LockRow.{LockRow}
 use Rattle.vlm_words.specs.declared.steps.Answer.TheVariants.{Plain}
 use Rattle.vlm_words.specs.declared.steps.Dequeue.{Dequeue}
 use Rattle.vlm_words.specs.declared.steps.Step.TheVariants.{Deq}
@@ -42,7 +42,7 @@ use Rattle.vlm_model.specs.TakenBelow.{HasParent, IsDescendant, IsDequeued, Lose
 
 -- the row of a lock, where the lock stands
 row_at : (s : State) (lkid parent : ℕ) (C : Type 0)
-    → ((row : Row) (r : Resource) → IsRowIn (rows_on r) row → Any (λ x. r ≡ x) s.resources → row.lkid ≡ lkid → row.parent ≡ parent → C)
+    → ((row : LockRow) (r : Resource) → IsRowIn (rows_on r) row → Any (λ x. r ≡ x) s.resources → row.lkid ≡ lkid → row.parent ≡ parent → C)
     → HasParent s lkid parent → C
 row_at s lkid parent C so has =
     any_so C s.resources
@@ -55,13 +55,13 @@ row_at s lkid parent C so has =
     (any_with_member (λ r. Any (λ row. (row.lkid ≡ lkid) × (row.parent ≡ parent)) (rows_on r)) s.resources has))
 
 -- a row tells of its lock and its parent
-row_tells : (s : State) (row : Row) (r : Resource) → IsRowIn (rows_on r) row → Any (λ x. r ≡ x) s.resources → (lkid parent : ℕ)
+row_tells : (s : State) (row : LockRow) (r : Resource) → IsRowIn (rows_on r) row → Any (λ x. r ≡ x) s.resources → (lkid parent : ℕ)
     → row.lkid ≡ lkid → row.parent ≡ parent → HasParent s lkid parent
 row_tells s row r there among lkid parent named above =
     Any-weaker (λ x. r ≡ x) (λ x. Any (λ y. (y.lkid ≡ lkid) × (y.parent ≡ parent)) (rows_on x))
     (λ x same. subst (λ (q : Resource). Any (λ y. (y.lkid ≡ lkid) × (y.parent ≡ parent)) (rows_on q)) same
     (Any-weaker (λ y. row ≡ y) (λ y. (y.lkid ≡ lkid) × (y.parent ≡ parent))
-    (λ y is. (ap (λ (z : Row). z.lkid) (sym is) ∙ named, ap (λ (z : Row). z.parent) (sym is) ∙ above)) (rows_on r) there))
+    (λ y is. (ap (λ (z : LockRow). z.lkid) (sym is) ∙ named, ap (λ (z : LockRow). z.parent) (sym is) ∙ above)) (rows_on r) there))
     s.resources among
 
 -- the parent that a lock has is the one that is found
@@ -90,7 +90,7 @@ module _ (s : State) (apart : Apart s) (tree : Tree s) where
       (chain_of_walk top some levels level row.parent))
       standing
     where
-      of_row : (row : Row) (r : Resource) → r.level ≤ level → IsRowIn (rows_on r) row → Any (λ x. r ≡ x) s.resources → row.lkid ≡ lkid
+      of_row : (row : LockRow) (r : Resource) → r.level ≤ level → IsRowIn (rows_on r) row → Any (λ x. r ≡ x) s.resources → row.lkid ≡ lkid
           → parent_of lkid s.resources ≡ row.parent → HasRoot s.resources r row
           → (StandsAtMost s.resources level row.parent → is_below levels top s.resources row.parent ≡ true → IsDescendant s top row.parent) → IsDescendant s top lkid
       of_row row r low there among named is root higher =
@@ -117,7 +117,7 @@ module _ (s : State) (apart : Apart s) (tree : Tree s) where
       of_root row r low (sym (parent_is s apart row r there among) ∙ ap (λ (n : ℕ). parent_of n s.resources) named ∙ parent_told s apart lkid parent has) root)
       standing
     where
-      of_root : (row : Row) (r : Resource) → r.level ≤ suc level → row.parent ≡ parent → HasRoot s.resources r row → StandsAtMost s.resources level parent
+      of_root : (row : LockRow) (r : Resource) → r.level ≤ suc level → row.parent ≡ parent → HasRoot s.resources r row → StandsAtMost s.resources level parent
       of_root row r low is (at_root none) = absurd (some (sym is ∙ none))
       of_root row r low is (below_up up) = subst (λ (n : ℕ). StandsAtMost s.resources level n) is (up_at_most s.resources r row level low up)
 
@@ -129,7 +129,7 @@ module _ (s : State) (apart : Apart s) (tree : Tree s) where
       of_root row r low (sym (parent_is s apart row r there among) ∙ ap (λ (n : ℕ). parent_of n s.resources) named ∙ parent_told s apart lkid parent has) root)
       standing
     where
-      of_root : (row : Row) (r : Resource) → r.level ≤ 0 → row.parent ≡ parent → HasRoot s.resources r row → ⊥
+      of_root : (row : LockRow) (r : Resource) → r.level ≤ 0 → row.parent ≡ parent → HasRoot s.resources r row → ⊥
       of_root row r low is (at_root none) = some (sym is ∙ none)
       of_root row r low is (below_up up) =
           any_so ⊥ s.resources
@@ -166,11 +166,11 @@ one_weighs f x (y ∷ xs) there = elim (Any-cases (λ z. x ≡ z) y xs there) [
 ]
 
 -- a row of a lock of which no row is a stranger's is of one of the processes
-is_theirs : (is_one : ℕ → Bool) (s : State) (row : Row) (r : Resource) → IsRowIn (rows_on r) row → Any (λ x. r ≡ x) s.resources
+is_theirs : (is_one : ℕ → Bool) (s : State) (row : LockRow) (r : Resource) → IsRowIn (rows_on r) row → Any (λ x. r ≡ x) s.resources
     → NoStrangers is_one s.resources row.lkid → is_one row.pid ≡ true
 is_theirs is_one s row r there among none = of_test (is_one row.pid) refl
   where
-    f : Row → ℕ
+    f : LockRow → ℕ
     f = strangers is_one row.lkid
 
     of_test : (b : Bool) → is_one row.pid ≡ b → b ≡ true
@@ -218,25 +218,25 @@ named_is_own s d apart passed some =
 
 module _ (s : State) (d : Dequeue) (apart : Apart s) (tree : Tree s) (passed : deq_refusal s d ≡ None) where
   -- where the lock of a row stands
-  low_at : (row : Row) (r : Resource) → IsRowIn (rows_on r) row → Any (λ x. r ≡ x) s.resources → StandsAtMost s.resources 15 row.lkid
+  low_at : (row : LockRow) (r : Resource) → IsRowIn (rows_on r) row → Any (λ x. r ≡ x) s.resources → StandsAtMost s.resources 15 row.lkid
   low_at row r there among =
       Any-weaker (λ x. (r ≡ x) × (x.level ≤ 15)) (λ x. (x.level ≤ 15) × Any (λ y. y.lkid ≡ row.lkid) (rows_on x))
       (λ x on. (
         on.1,
         subst (λ (q : Resource). Any (λ y. y.lkid ≡ row.lkid) (rows_on q)) on.0
-            (Any-weaker (λ y. row ≡ y) (λ y. y.lkid ≡ row.lkid) (λ y same. ap (λ (z : Row). z.lkid) (sym same)) (rows_on r) there),
+            (Any-weaker (λ y. row ≡ y) (λ y. y.lkid ≡ row.lkid) (λ y same. ap (λ (z : LockRow). z.lkid) (sym same)) (rows_on r) there),
       ))
       s.resources (any_and_each (λ x. r ≡ x) (λ x. x.level ≤ 15) s.resources tree.low among)
 
   -- the resource has its level and its rows their parents
-  root_at : (row : Row) (r : Resource) → IsRowIn (rows_on r) row → Any (λ x. r ≡ x) s.resources → HasRoot s.resources r row × (r.level ≤ 15)
+  root_at : (row : LockRow) (r : Resource) → IsRowIn (rows_on r) row → Any (λ x. r ≡ x) s.resources → HasRoot s.resources r row × (r.level ≤ 15)
   root_at row r there among =
       any_so (HasRoot s.resources r row × (r.level ≤ 15)) s.resources
       (Any-weaker (λ x. ((r ≡ x) × (x.level ≤ 15)) × AllRooted s.resources x) (λ x. HasRoot s.resources r row × (r.level ≤ 15))
       (λ x on. (
         any_so (HasRoot s.resources r row) (rows_on r)
             (Any-weaker (λ y. (row ≡ y) × (is_rooted s.resources (position r) y ≡ true)) (λ y. HasRoot s.resources r row)
-            (λ y so. root_of s.resources r row (subst (λ (z : Row). is_rooted s.resources (position r) z ≡ true) (sym so.0) so.1)) (rows_on r)
+            (λ y so. root_of s.resources r row (subst (λ (z : LockRow). is_rooted s.resources (position r) z ≡ true) (sym so.0) so.1)) (rows_on r)
             (any_and_each (λ y. row ≡ y) (λ y. is_rooted s.resources (position r) y ≡ true) (rows_on r)
             (rows_rooted s.resources r (subst (AllRooted s.resources) (sym on.0.0) on.1)) there)),
         subst (λ (q : Resource). q.level ≤ 15) (sym on.0.0) on.0.1,
@@ -264,7 +264,7 @@ module _ (s : State) (d : Dequeue) (apart : Apart s) (tree : Tree s) (passed : d
   below_is_own top own lkid (has_parent_below {parent} has above) = with_parent lkid parent has (below_is_own top own parent above)
 
   -- a row of an own lock is the caller's
-  own_is_callers : (row : Row) (r : Resource) → IsRowIn (rows_on r) row → Any (λ x. r ≡ x) s.resources
+  own_is_callers : (row : LockRow) (r : Resource) → IsRowIn (rows_on r) row → Any (λ x. r ≡ x) s.resources
       → is_in row.lkid (own_lkids (is_caller d) s) ≡ true → row.pid ≡ d.pid
   own_is_callers row r there among own =
       eqb-true row.pid d.pid
@@ -272,7 +272,7 @@ module _ (s : State) (d : Dequeue) (apart : Apart s) (tree : Tree s) (passed : d
       (of_listed (NoStrangers (is_caller d) s.resources) row.lkid (own_lkids (is_caller d) s) (own_are_theirs (is_caller d) s apart) own))
 
   -- a lock that is listed is taken, and the caller's
-  listed_is_taken : (row : Row) (r : Resource) → IsRowIn (rows_on r) row → Any (λ x. r ≡ x) s.resources
+  listed_is_taken : (row : LockRow) (r : Resource) → IsRowIn (rows_on r) row → Any (λ x. r ≡ x) s.resources
       → is_in row.lkid (taken_lkids s d) ≡ true → IsDequeued s d row × (row.pid ≡ d.pid)
   listed_is_taken row r there among listed = (of_top (dequeue_lkid s d) refl takes, callers)
     where
@@ -294,7 +294,7 @@ module _ (s : State) (d : Dequeue) (apart : Apart s) (tree : Tree s) (passed : d
           )
 
   -- and one that is taken is listed
-  taken_is_listed : (row : Row) (r : Resource) → IsRowIn (rows_on r) row → Any (λ x. r ≡ x) s.resources
+  taken_is_listed : (row : LockRow) (r : Resource) → IsRowIn (rows_on r) row → Any (λ x. r ≡ x) s.resources
       → IsDequeued s d row → is_in row.lkid (taken_lkids s d) ≡ true
   taken_is_listed row r there among (inl all) =
       in_filter (is_dequeued s d) row.lkid takes (own_lkids (is_caller d) s)
@@ -315,7 +315,7 @@ module _ (s : State) (d : Dequeue) (apart : Apart s) (tree : Tree s) (passed : d
 -- ---- the rows that are left
 
 -- the lock is among those that are withdrawn
-abbrev is_withdrawn : List Withdrawal → Row → Bool
+abbrev is_withdrawn : List Withdrawal → LockRow → Bool
 is_withdrawn withdrawals row = list_any (λ w. row.lkid == w.lkid) withdrawals
 
 none_of_none : (withdrawals : List Withdrawal) → rows_left withdrawals [] ≡ []
@@ -323,7 +323,7 @@ none_of_none [] = refl
 none_of_none (w ∷ withdrawals) = none_of_none withdrawals
 
 -- a row whose lock is withdrawn is not left
-one_goes : (withdrawals : List Withdrawal) (row : Row) (rows : List Row) → is_withdrawn withdrawals row ≡ true
+one_goes : (withdrawals : List Withdrawal) (row : LockRow) (rows : List LockRow) → is_withdrawn withdrawals row ≡ true
     → rows_left withdrawals (row ∷ rows) ≡ rows_left withdrawals rows
 one_goes [] row rows is = let no : false ≡ true = is in cc
 one_goes (w ∷ withdrawals) row rows is =
@@ -336,7 +336,7 @@ one_goes (w ∷ withdrawals) row rows is =
     of_test false here later = later here
 
 -- and any other is, where it stood
-one_stays : (withdrawals : List Withdrawal) (row : Row) (rows : List Row) → is_withdrawn withdrawals row ≡ false
+one_stays : (withdrawals : List Withdrawal) (row : LockRow) (rows : List LockRow) → is_withdrawn withdrawals row ≡ false
     → rows_left withdrawals (row ∷ rows) ≡ row ∷ rows_left withdrawals rows
 one_stays [] row rows is = refl
 one_stays (w ∷ withdrawals) row rows is =
@@ -349,27 +349,27 @@ one_stays (w ∷ withdrawals) row rows is =
     of_test false none later = later none
 
 -- a withdrawn lock is taken, and the caller's, and one that is taken is withdrawn
-abbrev IsTakenRightly : State → Dequeue → List Withdrawal → Row → Type 0
+abbrev IsTakenRightly : State → Dequeue → List Withdrawal → LockRow → Type 0
 IsTakenRightly s d withdrawals row =
     (is_withdrawn withdrawals row ≡ true → IsDequeued s d row × (row.pid ≡ d.pid)) × (IsDequeued s d row → is_withdrawn withdrawals row ≡ true)
 
-queue_loses : (s : State) (d : Dequeue) (withdrawals : List Withdrawal) (rows : List Row) → AllByRecursion (IsTakenRightly s d withdrawals) rows
+queue_loses : (s : State) (d : Dequeue) (withdrawals : List Withdrawal) (rows : List LockRow) → AllByRecursion (IsTakenRightly s d withdrawals) rows
     → LosesRows d.pid (IsDequeued s d) rows (rows_left withdrawals rows)
-queue_loses s d withdrawals [] each = subst (λ (left : List Row). LosesRows d.pid (IsDequeued s d) [] left) (sym (none_of_none withdrawals)) none_left
+queue_loses s d withdrawals [] each = subst (λ (left : List LockRow). LosesRows d.pid (IsDequeued s d) [] left) (sym (none_of_none withdrawals)) none_left
 queue_loses s d withdrawals (row ∷ rows) each = of_test (is_withdrawn withdrawals row) refl (queue_loses s d withdrawals rows each.1)
   where
     of_test : (b : Bool) → is_withdrawn withdrawals row ≡ b → LosesRows d.pid (IsDequeued s d) rows (rows_left withdrawals rows)
         → LosesRows d.pid (IsDequeued s d) (row ∷ rows) (rows_left withdrawals (row ∷ rows))
     of_test true is behind =
         let taken = each.0.0 is in
-        subst (λ (left : List Row). LosesRows d.pid (IsDequeued s d) (row ∷ rows) left) (sym (one_goes withdrawals row rows is)) (row_goes taken.0 taken.1 behind)
+        subst (λ (left : List LockRow). LosesRows d.pid (IsDequeued s d) (row ∷ rows) left) (sym (one_goes withdrawals row rows is)) (row_goes taken.0 taken.1 behind)
     of_test false is behind =
-        subst (λ (left : List Row). LosesRows d.pid (IsDequeued s d) (row ∷ rows) left) (sym (one_stays withdrawals row rows is))
+        subst (λ (left : List LockRow). LosesRows d.pid (IsDequeued s d) (row ∷ rows) left) (sym (one_stays withdrawals row rows is))
         (row_stays (λ taken. let no : false ≡ true = sym is ∙ each.0.1 taken in cc) behind)
 
 module _ (s : State) (d : Dequeue) (apart : Apart s) (tree : Tree s) (passed : deq_refusal s d ≡ None) where
   -- of each row of the resource it is so
-  rows_rightly : (r : Resource) → Any (λ x. r ≡ x) s.resources → (rows : List Row) → AllByRecursion (IsRowIn (rows_on r)) rows
+  rows_rightly : (r : Resource) → Any (λ x. r ≡ x) s.resources → (rows : List LockRow) → AllByRecursion (IsRowIn (rows_on r)) rows
       → AllByRecursion (IsTakenRightly s d (map (withdrawal_of d) (taken_lkids s d))) rows
   rows_rightly r among rows each =
       each_weaker (IsRowIn (rows_on r)) (IsTakenRightly s d (map (withdrawal_of d) (taken_lkids s d)))
@@ -388,11 +388,11 @@ module _ (s : State) (d : Dequeue) (apart : Apart s) (tree : Tree s) (passed : d
       let left : RowsLeft withdrawals r (resource_after_withdrawals withdrawals r) = rows_left_behind withdrawals go r in
       record {
         same = withdrawals_keep_place withdrawals r;
-        granted = subst (λ (rows : List Row). LosesRows d.pid (IsDequeued s d) r.granted rows) (sym left.granted)
+        granted = subst (λ (rows : List LockRow). LosesRows d.pid (IsDequeued s d) r.granted rows) (sym left.granted)
             (queue_loses s d withdrawals r.granted (rows_rightly r among r.granted (granted_on r)));
-        converting = subst (λ (rows : List Row). LosesRows d.pid (IsDequeued s d) r.converting rows) (sym left.converting)
+        converting = subst (λ (rows : List LockRow). LosesRows d.pid (IsDequeued s d) r.converting rows) (sym left.converting)
             (queue_loses s d withdrawals r.converting (rows_rightly r among r.converting (converting_on r)));
-        waiting = subst (λ (rows : List Row). LosesRows d.pid (IsDequeued s d) r.waiting rows) (sym left.waiting)
+        waiting = subst (λ (rows : List LockRow). LosesRows d.pid (IsDequeued s d) r.waiting rows) (sym left.waiting)
             (queue_loses s d withdrawals r.waiting (rows_rightly r among r.waiting (waiting_on r)));
       }
 
@@ -401,7 +401,7 @@ module _ (s : State) (d : Dequeue) (apart : Apart s) (tree : Tree s) (passed : d
   each_loses go [] among = tt
   each_loses go (r ∷ rest) among = (resource_loses go r among.0, each_loses go rest among.1)
 
-  takes_those : has_flag d.flags deqall ≡ true → (choice : Option Row) → TakesThoseBelowAlone s d choice
+  takes_those : has_flag d.flags deqall ≡ true → (choice : Option LockRow) → TakesThoseBelowAlone s d choice
   unfolding deq_change
   takes_those all choice =
       subst (λ (b : Bool). AllZip (LosesLocks d.pid (IsDequeued s d)) s.resources
@@ -414,7 +414,7 @@ module _ (s : State) (d : Dequeue) (apart : Apart s) (tree : Tree s) (passed : d
 none_is_normal : (s : State) (d : Dequeue) → deq_refusal s d ≡ Some Normal → ⊥
 none_is_normal s d is = dequeue_breaks s d Normal is
 
-pub normal_passes : (s : State) (d : Dequeue) (choice : Option Row) → (stepped s (Deq d) choice).answer ≡ Plain Normal → deq_refusal s d ≡ None
+pub normal_passes : (s : State) (d : Dequeue) (choice : Option LockRow) → (stepped s (Deq d) choice).answer ≡ Plain Normal → deq_refusal s d ≡ None
 normal_passes s d choice answered = of_refusal (deq_refusal s d) refl answered
   where
     of_refusal : (refusal : Option Cond) → deq_refusal s d ≡ refusal
@@ -425,7 +425,7 @@ normal_passes s d choice answered = of_refusal (deq_refusal s d) refl answered
         absurd (none_is_normal s d (is ∙ ap (λ (c : Cond). Some c) normal))
 
 -- after every run a dequeue with DEQALL takes the locks that it is to take, and no other
-pub takes_always : (history : History) (old : State) → Run history old → (d : Dequeue) (choice : Option Row) → has_flag d.flags deqall ≡ true
+pub takes_always : (history : History) (old : State) → Run history old → (d : Dequeue) (choice : Option LockRow) → has_flag d.flags deqall ≡ true
     → (stepped old (Deq d) choice).answer ≡ Plain Normal → TakesThoseBelowAlone old d choice
 takes_always history old run d choice all answered =
     takes_those old d (apart_always history old run) (tree_always history old run) (normal_passes old d choice answered) all choice

@@ -6,7 +6,7 @@ use Rattle.std.specs.Option.{option_map_or}
 use Rattle.std.proofs.lemmas.Bool.{cond_both, eqb-true, eqb-false, eq-eqb, ne_eqb}
 use Rattle.vlm_words.specs.declared.asts.Ast.{Ast}
 use Rattle.vlm_words.specs.declared.conditions.Cond.{Cond}
-use Rattle.vlm_words.specs.declared.locks.Row.{Row}
+use Rattle.vlm_words.specs.declared.locks.LockRow.{LockRow}
 use Rattle.vlm_words.specs.declared.steps.Answer.TheVariants.{Plain}
 use Rattle.vlm_words.specs.declared.steps.Declaration.{Declaration}
 use Rattle.vlm_words.specs.declared.steps.Step.TheVariants.{Declare, SetValue, Enq, Convert, Deq, Rundown, Leave, Search, Take}
@@ -132,7 +132,7 @@ declaring_leaves s d = record {
         is_there (s.processes ++ declared_process s d ∷ []) pid p (found_first s.processes (declared_process s d) pid p found)
 
 -- a take
-taking : (s : State) (taker : ℕ) (choice : Option Row) → Takes s (Take taker) (stepped_after_sweep (step_change s (Take taker) choice))
+taking : (s : State) (taker : ℕ) (choice : Option LockRow) → Takes s (Take taker) (stepped_after_sweep (step_change s (Take taker) choice))
 unfolding take_change
 taking s taker choice pid before is living = record {
   left = cond (taker == pid) (later before.asts) before.asts;
@@ -174,7 +174,7 @@ ending_takes s step is_one nodes left pid before is living =
           ∙ ap (λ (queued : List Queued). before.asts ++ queued_to pid (queued ++ sweep_asts resources)) (sym (rundowns_tell_nobody is_one s));
     }
 
-takes : (s : State) (step : Step) (choice : Option Row) → step_refusal s step ≡ None → Takes s step (stepped_after_sweep (step_change s step choice))
+takes : (s : State) (step : Step) (choice : Option LockRow) → step_refusal s step ≡ None → Takes s step (stepped_after_sweep (step_change s step choice))
 unfolding set_change deq_change search_change
 takes s (Declare d) choice passed =
     leaves s (Declare d) (step_change s (Declare d) choice) (λ pid asts. refl) (declaring_leaves s d)
@@ -214,7 +214,7 @@ refused_takes s step refusal pid before is living = record {
     stays (Take process) = refl
 
 -- after every run
-pub taking_always : (history : History) (old : State) → Run history old → (step : Step) (choice : Option Row) → IsChoice old step choice → AstsAreTakenInOrder old step choice
+pub taking_always : (history : History) (old : State) → Run history old → (step : Step) (choice : Option LockRow) → IsChoice old step choice → AstsAreTakenInOrder old step choice
 taking_always history old run step choice chosen = record {
   asts = λ pid before after was is.
       subst (AstsAfter step (stepped old step choice).answer (stepped old step choice).queued pid before.asts) (asts_are (stepped old step choice).state.processes pid after is)

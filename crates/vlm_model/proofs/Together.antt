@@ -4,7 +4,7 @@ use Rattle.std.specs.Prelude.{◌&&◌, ◌||◌, ◌==◌}
 use Rattle.std.specs.List.{AllByRecursion, filter, flat_map, list_any, range_with_len}
 use Rattle.std.proofs.lemmas.Bool.{cond_both}
 use Rattle.std.proofs.lemmas.Bool.Decides.{nat_tests}
-use Rattle.vlm_words.specs.declared.locks.Row.{Row}
+use Rattle.vlm_words.specs.declared.locks.LockRow.{LockRow}
 use Rattle.vlm_words.specs.declared.steps.Dequeue.{Dequeue}
 use Rattle.vlm_model.specs.Endings.{How, row_endings}
 use Rattle.vlm_words.specs.Flags.{deqall, has_flag}
@@ -24,7 +24,7 @@ OfOneEach withdrawals = EachPair (λ w v. w.lkid ≢ v.lkid) withdrawals
 -- ---- one lock goes, and the others stay
 
 -- what holds of rows of another lock alone finds the same where the rows of this lock are gone
-other_is_there : (lkid : ℕ) (test : Row → Bool) → ((row : Row) → row.lkid ≡ lkid → test row ≡ false) → (rows : List Row)
+other_is_there : (lkid : ℕ) (test : LockRow → Bool) → ((row : LockRow) → row.lkid ≡ lkid → test row ≡ false) → (rows : List LockRow)
     → list_any test (rows_without lkid rows) ≡ list_any test rows
 other_is_there lkid test none [] = refl
 other_is_there lkid test none (row ∷ rows) = of_test (row.lkid == lkid) refl (other_is_there lkid test none rows)
@@ -37,7 +37,7 @@ other_is_there lkid test none (row ∷ rows) = of_test (row.lkid == lkid) refl (
     of_test false is rest = ap (λ (b : Bool). test row || b) rest
 
 -- the rows of another lock
-pub other_rows : (lkid other : ℕ) → lkid ≢ other → (rows : List Row) → rows_of other (rows_without lkid rows) ≡ rows_of other rows
+pub other_rows : (lkid other : ℕ) → lkid ≢ other → (rows : List LockRow) → rows_of other (rows_without lkid rows) ≡ rows_of other rows
 other_rows lkid other apart [] = refl
 other_rows lkid other apart (row ∷ rows) = of_test (row.lkid == lkid) refl (other_rows lkid other apart rows)
   where
@@ -47,16 +47,16 @@ other_rows lkid other apart (row ∷ rows) = of_test (row.lkid == lkid) refl (ot
     of_test true is rest =
         let no : (row.lkid == other) ≡ false = grind (arith, nat_tests, is, apart) in
         rw no rest
-    of_test false is rest = ap (λ (kept : List Row). cond (row.lkid == other) (row ∷ kept) kept) rest
+    of_test false is rest = ap (λ (kept : List LockRow). cond (row.lkid == other) (row ∷ kept) kept) rest
 
 -- another lock that may write is there still
-other_writer : (lkid other : ℕ) → lkid ≢ other → (rows : List Row) → has_writer other (rows_without lkid rows) ≡ has_writer other rows
+other_writer : (lkid other : ℕ) → lkid ≢ other → (rows : List LockRow) → has_writer other (rows_without lkid rows) ≡ has_writer other rows
 other_writer lkid other apart rows =
     other_is_there lkid (λ row. (row.lkid == other) && is_writer row.held)
     (λ row is. let no : (row.lkid == other) ≡ false = grind (arith, nat_tests, is, apart) in rw no refl) rows
 
 -- and is none of those that are granted again
-none_among_cancelled : (lkid other : ℕ) → lkid ≢ other → (granted rows : List Row)
+none_among_cancelled : (lkid other : ℕ) → lkid ≢ other → (granted rows : List LockRow)
     → has_writer other (granted ++ map row_after_cancel (rows_of lkid rows)) ≡ has_writer other granted
 none_among_cancelled lkid other apart [] [] = refl
 none_among_cancelled lkid other apart [] (row ∷ rows) =
@@ -131,7 +131,7 @@ all_one_after_another w withdrawals apart (r ∷ rest) =
     cc
 
 -- the request of another lock ends as it would
-queue_ends_same : (how : How) (lkid other : ℕ) → lkid ≢ other → (rows : List Row)
+queue_ends_same : (how : How) (lkid other : ℕ) → lkid ≢ other → (rows : List LockRow)
     → queue_endings how other (rows_without lkid rows) ≡ queue_endings how other rows
 queue_ends_same how lkid other apart rows = ap (flat_map (row_endings how false)) (other_rows lkid other apart rows)
 

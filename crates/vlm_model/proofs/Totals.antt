@@ -7,7 +7,7 @@ use Rattle.std.proofs.lemmas.List.Filters.{sum_by-filter_both}
 use Rattle.std.proofs.lemmas.List.Sums.{sum_by-append, sum_by-cons, sum_by_push}
 use Rattle.vlm_words.specs.declared.conditions.Cond.{Cond}
 use Rattle.vlm_words.specs.declared.locks.Request.{Request}
-use Rattle.vlm_words.specs.declared.locks.Row.{Row}
+use Rattle.vlm_words.specs.declared.locks.LockRow.{LockRow}
 use Rattle.vlm_words.specs.declared.resources.ValueBlock.{ValueBlock}
 use Rattle.vlm_words.specs.declared.steps.Conversion.{Conversion}
 use Rattle.vlm_words.specs.declared.steps.NewRequest.{NewRequest}
@@ -39,7 +39,7 @@ use Rattle.vlm_model.proofs.Counts.{found_stands}
 use Rattle.vlm_model.specs.Search.{victim_withdrawals, search_change}
 
 -- 1 for each row
-abbrev pub one_each : Row → ℕ
+abbrev pub one_each : LockRow → ℕ
 one_each row = 1
 
 -- how many locks stand on the resources
@@ -67,7 +67,7 @@ entered_total s e =
 -- ---- the rows of one lock
 
 -- the rows of a lock, counted as such
-ones_of : (lkid : ℕ) (rows : List Row) → sum_by one_each (rows_of lkid rows) ≡ sum_by (stands lkid) rows
+ones_of : (lkid : ℕ) (rows : List LockRow) → sum_by one_each (rows_of lkid rows) ≡ sum_by (stands lkid) rows
 ones_of lkid [] = refl
 ones_of lkid (row ∷ rows) =
     elim (row.lkid == lkid) as (λ b. (row.lkid == lkid) ≡ b → sum_by one_each (cond b (row ∷ rows_of lkid rows) (rows_of lkid rows)) ≡ sum_by (stands lkid) (row ∷ rows)) [
@@ -80,7 +80,7 @@ ones_of lkid (row ∷ rows) =
     ] refl
 
 -- with those of all other locks they are all rows
-ones_without : (lkid : ℕ) (rows : List Row) → sum_by one_each (rows_without lkid rows) + sum_by (stands lkid) rows ≡ sum_by one_each rows
+ones_without : (lkid : ℕ) (rows : List LockRow) → sum_by one_each (rows_without lkid rows) + sum_by (stands lkid) rows ≡ sum_by one_each rows
 ones_without lkid rows =
     omega (
       arith,
@@ -91,7 +91,7 @@ ones_without lkid rows =
 -- ---- a conversion
 
 -- a conversion keeps how many rows a resource has, where its lock has no second one, whichever row is found
-converted_row_total : (request : Request) (at_once : Bool) (pid lkid : ℕ) (block : ValueBlock) (r : Resource) (found : Option Row)
+converted_row_total : (request : Request) (at_once : Bool) (pid lkid : ℕ) (block : ValueBlock) (r : Resource) (found : Option LockRow)
     → find (is_lock_of pid lkid) r.granted ≡ found → weigh (stands lkid) r ≤ 1
     → weigh one_each (resource_after_conversion_of request at_once lkid block r found) ≡ weigh one_each r
 converted_row_total request at_once pid lkid block r None is single = refl
@@ -238,7 +238,7 @@ conversion_total s c (Some a) =
     (converted_named one_each one_named a.request a.at_once c.pid (convert_lkid s c) (convert_blocks s c a).value_block) s.resources
 
 -- the change of a step adds no more
-change_total : (s : State) (step : Step) (choice : Option Row) → total (step_change s step choice).state.resources ≤ total s.resources + most_added step
+change_total : (s : State) (step : Step) (choice : Option LockRow) → total (step_change s step choice).state.resources ≤ total s.resources + most_added step
 unfolding declare_change set_change take_change deq_change search_change
 change_total s (Declare d) choice = omega arith
 change_total s (SetValue v) choice = omega arith
@@ -251,7 +251,7 @@ change_total s (Search node) choice = omega (arith, withdrawn_total (victim_with
 change_total s (Take pid) choice = omega arith
 
 -- a step adds no more locks than its kind may, whether it is refused or made, and whatever it chooses
-pub step_total : (s : State) (step : Step) (choice : Option Row) → total (stepped s step choice).state.resources ≤ total s.resources + most_added step
+pub step_total : (s : State) (step : Step) (choice : Option LockRow) → total (stepped s step choice).state.resources ≤ total s.resources + most_added step
 step_total s step choice = of_refusal (step_refusal s step)
   where
     change : Stepped

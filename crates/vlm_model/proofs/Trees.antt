@@ -7,7 +7,7 @@ use Rattle.std.proofs.lemmas.Bool.Decides.{nat_tests}
 use Rattle.std.proofs.lemmas.List.Elements.{All-from_recursion}
 use Rattle.std.proofs.lemmas.List.Folds.{Any-from_list_any}
 use Rattle.std.proofs.lemmas.List.Sums.{sum_by-append, sum_by-cons}
-use Rattle.vlm_words.specs.declared.locks.Row.{Row}
+use Rattle.vlm_words.specs.declared.locks.LockRow.{LockRow}
 use Rattle.vlm_words.specs.declared.conditions.Cond.TheVariants.{Sublocks}
 use Rattle.vlm_words.specs.declared.steps.Conversion.{Conversion}
 use Rattle.vlm_words.specs.declared.steps.Dequeue.{Dequeue}
@@ -164,17 +164,17 @@ tree_converted s c a apart tree = record {
 }
 
 -- the row's parent goes with a dequeue of one lock
-abbrev orphaned_by_one : Withdrawal → Row → Bool
+abbrev orphaned_by_one : Withdrawal → LockRow → Bool
 orphaned_by_one w row = not w.stays && (row.parent == w.lkid)
 
 -- rows of which none passes a test are counted 0
-none_counted : (b : Bool) (lkid : ℕ) (rows : List Row) → (b && has_sublock lkid rows) ≡ false → sum_by (λ row. cond (b && (row.parent == lkid)) 1 0) rows ≡ 0
+none_counted : (b : Bool) (lkid : ℕ) (rows : List LockRow) → (b && has_sublock lkid rows) ≡ false → sum_by (λ row. cond (b && (row.parent == lkid)) 1 0) rows ≡ 0
 none_counted false lkid rows none = sum_of_zero rows
 none_counted true lkid [] none = refl
 none_counted true lkid (row ∷ rows) none = of_test (row.parent == lkid) refl (none_counted true lkid rows)
   where
     of_test : (b : Bool) → (row.parent == lkid) ≡ b
-        → (has_sublock lkid rows ≡ false → sum_by (λ (x : Row). cond (x.parent == lkid) 1 0) rows ≡ 0) → sum_by (λ (x : Row). cond (x.parent == lkid) 1 0) (row ∷ rows) ≡ 0
+        → (has_sublock lkid rows ≡ false → sum_by (λ (x : LockRow). cond (x.parent == lkid) 1 0) rows ≡ 0) → sum_by (λ (x : LockRow). cond (x.parent == lkid) 1 0) (row ∷ rows) ≡ 0
     of_test true is later = let no : true ≡ false = sym (ap (λ (b : Bool). b || has_sublock lkid rows) is) ∙ none in cc
     of_test false is later =
         let behind : has_sublock lkid rows ≡ false = sym (ap (λ (b : Bool). b || has_sublock lkid rows) is) ∙ none in
@@ -182,7 +182,7 @@ none_counted true lkid (row ∷ rows) none = of_test (row.parent == lkid) refl (
           arith,
           later behind,
           ap {B = ℕ} (λ (b : Bool). cond b 1 0) is,
-          sum_by-cons (λ (x : Row). cond (x.parent == lkid) 1 0) row rows,
+          sum_by-cons (λ (x : LockRow). cond (x.parent == lkid) 1 0) row rows,
         )
 
 -- where the checks of a dequeue of one lock pass, no row is orphaned by it
@@ -232,8 +232,8 @@ none_left_behind s d passed alone =
 
 -- withdrawals keep the tree, where none of what they leave has its parent among them
 module _ (s t : State) (withdrawals : List Withdrawal) (is : t.resources ≡ map (resource_after_withdrawals withdrawals) s.resources) (tree : Tree s)
-    (orphaned : Row → Bool)
-    (stays : (row : Row) → orphaned row ≡ false → (r : Resource) → held_by row.pid row.parent r ≤ held_by row.pid row.parent (resource_after_withdrawals withdrawals r))
+    (orphaned : LockRow → Bool)
+    (stays : (row : LockRow) → orphaned row ≡ false → (r : Resource) → held_by row.pid row.parent r ≤ held_by row.pid row.parent (resource_after_withdrawals withdrawals r))
     (none : AllByRecursion (λ r. NoneOrphaned orphaned (resource_after_withdrawals withdrawals r)) s.resources) where
   tree_withdrawn : Tree t
   tree_withdrawn =
@@ -302,12 +302,12 @@ tree_dequeued s d apart passed tree = of_flag (has_flag d.flags deqall) refl
         (ap (λ (all : Bool). map (resource_after_withdrawals (map (withdrawal_of d) (cond all lkids (dequeue_lkid s d ∷ [])))) s.resources) is)
 
 -- a search keeps the tree: a victim that waits has no sublocks, and one that converts stays
-tree_searched : (s : State) (choice : Option Row) → Tree s → Tree (state_after_withdrawals (victim_withdrawals choice) s)
+tree_searched : (s : State) (choice : Option LockRow) → Tree s → Tree (state_after_withdrawals (victim_withdrawals choice) s)
 tree_searched s choice tree =
     tree_withdrawn s (state_after_withdrawals (victim_withdrawals choice) s) (victim_withdrawals choice) refl tree (λ row. false)
     (λ row _ r. stays choice row r) (none_orphaned (resource_after_withdrawals (victim_withdrawals choice)) s.resources)
   where
-    stays : (chosen : Option Row) (row : Row) (r : Resource)
+    stays : (chosen : Option LockRow) (row : LockRow) (r : Resource)
         → held_by row.pid row.parent r ≤ held_by row.pid row.parent (resource_after_withdrawals (victim_withdrawals chosen) r)
     stays None row r = omega arith
     stays (Some victim) row r = withdrawn_held row.pid row.parent (deadlock_of victim.lkid) (λ goes. cc) r
@@ -351,7 +351,7 @@ tree_always =
 -- ---- the laws
 
 -- a row that has its parent by the test has it by the law
-has_its_parent : (all : List Resource) (r : Resource) (row : Row) → is_rooted all (position r) row ≡ true → HasItsParent all r row
+has_its_parent : (all : List Resource) (r : Resource) (row : LockRow) → is_rooted all (position r) row ≡ true → HasItsParent all r row
 has_its_parent all r row rooted =
     elim (or_cases ((r.parent == 0) && (row.parent == 0) && (r.level == 0))
     (not (r.parent == 0) && not (row.parent == 0) && list_any (is_up (position r) row.pid row.parent) all) rooted) [
@@ -390,7 +390,7 @@ parents_always history last run =
   where
     each_row : (r : Resource) → AllRooted last.resources r → All (HasItsParent last.resources r) (r.granted ++ r.converting ++ r.waiting)
     each_row r rooted =
-        let f : Row → ℕ = loose last.resources (position r) in
+        let f : LockRow → ℕ = loose last.resources (position r) in
         All-from_recursion (HasItsParent last.resources r) (r.granted ++ r.converting ++ r.waiting)
         (each_weaker (λ row. loose last.resources (position r) row ≡ 0) (HasItsParent last.resources r)
         (λ row none. has_its_parent last.resources r row (rooted_row last.resources (position r) row none)) (r.granted ++ r.converting ++ r.waiting)

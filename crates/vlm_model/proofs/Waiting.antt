@@ -2,7 +2,7 @@
 use Rattle.std.proofs.Common.{◌≡◌, ℕ, Bool, false, List, [], ◌∷◌, ◌++◌, map, Option, None, Some, refl, sym, subst}
 use Rattle.std.specs.List.{AllByRecursion, find}
 use Rattle.std.proofs.lemmas.Bool.{cond_both}
-use Rattle.vlm_words.specs.declared.locks.Row.{Row}
+use Rattle.vlm_words.specs.declared.locks.LockRow.{LockRow}
 use Rattle.vlm_words.specs.declared.resources.ValueBlock.{ValueBlock}
 use Rattle.vlm_words.specs.declared.steps.Conversion.{Conversion}
 use Rattle.vlm_words.specs.declared.steps.NewRequest.{NewRequest}
@@ -28,15 +28,15 @@ use Rattle.vlm_model.proofs.InOrder.{service_in_order}
 use Rattle.vlm_model.specs.Asts.{resource_after_warning}
 
 -- each queued row has it
-pub record Queued (P : Row → Type 0) (r : Resource) : Type 0 where
+pub record Queued (P : LockRow → Type 0) (r : Resource) : Type 0 where
   pub converting : AllByRecursion P r.converting
   pub waiting : AllByRecursion P r.waiting
 
 -- each row of the lock that converts has it as it is queued
-abbrev pub EachConverting : (Row → Type 0) → Conversion → ℕ → ConversionAdmission → Resource → Type 0
-EachConverting P c lkid a r = (row : Row) → find (is_lock_of c.pid lkid) r.granted ≡ Some row → P (wanting_row row a.request)
+abbrev pub EachConverting : (LockRow → Type 0) → Conversion → ℕ → ConversionAdmission → Resource → Type 0
+EachConverting P c lkid a r = (row : LockRow) → find (is_lock_of c.pid lkid) r.granted ≡ Some row → P (wanting_row row a.request)
 
-module _ (P : Row → Type 0) where
+module _ (P : LockRow → Type 0) where
   -- service leaves queued rows as they were
   served_queued : (block : ValueBlock) (r : Resource) → Queued P r → Queued P (served_with block r)
   unfolding resource_after_warning
@@ -52,7 +52,7 @@ module _ (P : Row → Type 0) where
   swept_queued t = each_swept (Queued P) (Queued P) served_queued t.processes t.resources
 
   -- a lock that enters is granted at once, or has it
-  entered_queued : (row : Row) (at_once : Bool) (r : Resource) → (at_once ≡ false → P row) → Queued P r
+  entered_queued : (row : LockRow) (at_once : Bool) (r : Resource) → (at_once ≡ false → P row) → Queued P r
       → Queued P (resource_after_entry row at_once r)
   unfolding resource_after_entry
   entered_queued row at_once r has queued =
@@ -79,7 +79,7 @@ module _ (P : Row → Type 0) where
   unfolding convert_change resource_after_conversion
   conversion_queued s c a has each = at_each s.resources has each
     where
-      of_found : (r : Resource) → (a.at_once ≡ false → EachConverting P c (convert_lkid s c) a r) → Queued P r → (found : Option Row)
+      of_found : (r : Resource) → (a.at_once ≡ false → EachConverting P c (convert_lkid s c) a r) → Queued P r → (found : Option LockRow)
           → find (is_lock_of c.pid (convert_lkid s c)) r.granted ≡ found
           → Queued P (resource_after_conversion_of a.request a.at_once (convert_lkid s c) (convert_blocks s c a).value_block r found)
       of_found r has queued None is = queued

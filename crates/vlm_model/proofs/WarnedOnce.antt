@@ -8,7 +8,7 @@ use Rattle.std.proofs.lemmas.List.Sums.{sum_by-append, sum_by-cons, sum_by_push}
 use Rattle.vlm_words.specs.declared.asts.AstKind.TheVariants.{Blocking}
 use Rattle.vlm_words.specs.declared.conditions.Cond.{Cond}
 use Rattle.vlm_words.specs.declared.locks.Request.{Request}
-use Rattle.vlm_words.specs.declared.locks.Row.{Row}
+use Rattle.vlm_words.specs.declared.locks.LockRow.{LockRow}
 use Rattle.vlm_words.specs.declared.resources.Site.{Site}
 use Rattle.vlm_words.specs.declared.resources.ValueBlock.{ValueBlock}
 use Rattle.vlm_words.specs.declared.conditions.Cond.TheVariants.{Normal}
@@ -57,7 +57,7 @@ abbrev warned : ℕ → Queued → ℕ
 warned lkid q = cond (is_warning_of lkid q) 1 0
 
 -- 1 for a row of the lock that is armed
-abbrev armed : ℕ → Row → ℕ
+abbrev armed : ℕ → LockRow → ℕ
 armed lkid row = cond (is_armed_lock lkid row) 1 0
 
 -- 1 for a grant to the lock that may be warned of
@@ -79,7 +79,7 @@ never true = refl
 never false = refl
 
 -- a grant arms its row at most, and only where it may be warned of
-grant_arms : (lkid : ℕ) (at_once : Bool) (row : Row) → armed lkid (granted_row row) ≡ sum_by (given lkid) (grant_endings at_once row)
+grant_arms : (lkid : ℕ) (at_once : Bool) (row : LockRow) → armed lkid (granted_row row) ≡ sum_by (given lkid) (grant_endings at_once row)
 grant_arms lkid at_once row = of_want row.want
   where
     of_want : (want : Option Request)
@@ -93,7 +93,7 @@ grant_arms lkid at_once row = of_want row.want
 abbrev ServiceArms : ℕ → Service → Resource → Type 0
 ServiceArms lkid more r = weigh (armed lkid) more.resource ≤ weigh (armed lkid) r + sum_by (given lkid) more.endings
 
-serve_converting_arms : (lkid : ℕ) (r : Resource) (rows : List Row) → r.converting ≡ rows → ServiceArms lkid (service_of_conversions r rows) r
+serve_converting_arms : (lkid : ℕ) (r : Resource) (rows : List LockRow) → r.converting ≡ rows → ServiceArms lkid (service_of_conversions r rows) r
 serve_converting_arms lkid r [] is = omega arith
 serve_converting_arms lkid r (row ∷ rows) is =
     let granted : Resource = record (resource_after_grant r row) { converting = rows } in
@@ -111,7 +111,7 @@ serve_converting_arms lkid r (row ∷ rows) is =
     ))
     (λ _. omega arith)
 
-serve_waiting_arms : (lkid : ℕ) (r : Resource) (rows : List Row) → r.waiting ≡ rows → ServiceArms lkid (service_of_waiting r rows) r
+serve_waiting_arms : (lkid : ℕ) (r : Resource) (rows : List LockRow) → r.waiting ≡ rows → ServiceArms lkid (service_of_waiting r rows) r
 serve_waiting_arms lkid r [] is = omega arith
 serve_waiting_arms lkid r (row ∷ rows) is =
     let granted : Resource = record (resource_after_grant r row) { waiting = rows } in
@@ -156,7 +156,7 @@ held_warns lkid (Some held) own pid = of_routine held.blocking
         omega (arith, sum_of_one (warned lkid) (record { pid = pid; ast = record { kind = Blocking; routine = routine; param = held.param; lkid = own } }))
 
 -- a row that is warned was armed, and is so no more
-row_disarms : (lkid : ℕ) (converting waiting : List Row) (row : Row)
+row_disarms : (lkid : ℕ) (converting waiting : List LockRow) (row : LockRow)
     → armed lkid (row_after_warning converting waiting row) + sum_by (warned lkid) (row_warnings converting waiting row) ≤ armed lkid row
 unfolding row_after_warning row_warnings
 row_disarms lkid converting waiting row = of_test (is_to_warn converting waiting row) refl
@@ -176,7 +176,7 @@ row_disarms lkid converting waiting row = of_test (is_to_warn converting waiting
           ap (λ (b : Bool). armed lkid (record row { armed = b })) (is_armed converting waiting row to_warn),
         )
 
-rows_disarm : (lkid : ℕ) (converting waiting rows : List Row)
+rows_disarm : (lkid : ℕ) (converting waiting rows : List LockRow)
     → sum_by (armed lkid) (map (row_after_warning converting waiting) rows) + sum_by (warned lkid) (flat_map (row_warnings converting waiting) rows)
     ≤ sum_by (armed lkid) rows
 rows_disarm lkid converting waiting [] = omega arith
@@ -221,7 +221,7 @@ swept_within lkid processes (r ∷ rest) =
 
 -- ---- new requests
 
-entered_arms : (lkid : ℕ) (row : Row) (at_once : Bool) (r : Resource) → row.armed ≡ false
+entered_arms : (lkid : ℕ) (row : LockRow) (at_once : Bool) (r : Resource) → row.armed ≡ false
     → weigh (armed lkid) (resource_after_entry row at_once r) ≤ weigh (armed lkid) r + sum_by (given lkid) (cond at_once (grant_endings true row) [])
 unfolding resource_after_entry
 entered_arms lkid row at_once r unarmed =
@@ -237,7 +237,7 @@ entered_arms lkid row at_once r unarmed =
       )
     ]
 
-entered_among_arms : (lkid serial : ℕ) (site : Site) (row : Row) (at_once : Bool) (resources : List Resource) → row.armed ≡ false
+entered_among_arms : (lkid serial : ℕ) (site : Site) (row : LockRow) (at_once : Bool) (resources : List Resource) → row.armed ≡ false
     → sum_by (weigh (armed lkid)) (resources_after_entry serial site row at_once resources)
     ≤ sum_by (weigh (armed lkid)) resources + sum_by (given lkid) (cond at_once (grant_endings true row) [])
 entered_among_arms lkid serial site row at_once [] unarmed =
@@ -270,7 +270,7 @@ entered_among_arms lkid serial site row at_once (r ∷ rest) unarmed =
 -- ---- conversions
 
 -- on the resource of the lock
-converted_row_arms : (lkid : ℕ) (request : Request) (at_once : Bool) (caller named : ℕ) (block : ValueBlock) (r : Resource) (row : Row)
+converted_row_arms : (lkid : ℕ) (request : Request) (at_once : Bool) (caller named : ℕ) (block : ValueBlock) (r : Resource) (row : LockRow)
     → Found (is_lock_of caller named) r.granted row
     → weigh (armed lkid) (resource_after_conversion_of request at_once named block r (Some row))
     ≤ weigh (armed lkid) r + sum_by (given lkid) (cond at_once (grant_endings true (wanting_row row request)) [])
@@ -353,7 +353,7 @@ swept_given lkid s change within =
     )
 
 -- a new request
-request_given : (lkid : ℕ) (s : State) (e : NewRequest) (choice : Option Row) → IsWithinGiven lkid s (step_change s (Enq e) choice)
+request_given : (lkid : ℕ) (s : State) (e : NewRequest) (choice : Option LockRow) → IsWithinGiven lkid s (step_change s (Enq e) choice)
 unfolding enq_change
 request_given lkid s e choice =
     omega (
@@ -397,7 +397,7 @@ end_given lkid s is_one nodes =
     )
 
 -- a step that no check refuses
-made_given : (lkid : ℕ) (s : State) (step : Step) (choice : Option Row) → Apart s → step_refusal s step ≡ None
+made_given : (lkid : ℕ) (s : State) (step : Step) (choice : Option LockRow) → Apart s → step_refusal s step ≡ None
     → IsWithinGiven lkid s (stepped_after_sweep (step_change s step choice))
 unfolding declare_change set_change take_change deq_change search_change
 made_given lkid s (Declare d) choice apart passed = swept_given lkid s (step_change s (Declare d) choice) (omega arith)
@@ -416,7 +416,7 @@ made_given lkid s (Search node) choice apart passed =
     swept_given lkid s (step_change s (Search node) choice) (withdrawn_given lkid s (Victim (victim_lkid choice)) (victim_withdrawals choice))
 made_given lkid s (Take process) choice apart passed = swept_given lkid s (step_change s (Take process) choice) (omega arith)
 
-step_given : (lkid : ℕ) (s : State) (step : Step) (choice : Option Row) → Apart s → (refusal : Option Cond) → step_refusal s step ≡ refusal
+step_given : (lkid : ℕ) (s : State) (step : Step) (choice : Option LockRow) → Apart s → (refusal : Option Cond) → step_refusal s step ≡ refusal
     → IsWithinGiven lkid s (refused_or refusal s (step_change s step choice))
 step_given lkid s step choice apart None passed = made_given lkid s step choice apart passed
 step_given lkid s step choice apart (Some refusal) is = omega arith

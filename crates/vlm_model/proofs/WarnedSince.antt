@@ -7,7 +7,7 @@ use Rattle.std.proofs.lemmas.List.Elements.{All-from_recursion}
 use Rattle.vlm_words.specs.declared.asts.AstKind.TheVariants.{Blocking}
 use Rattle.vlm_words.specs.declared.conditions.Cond.{Cond}
 use Rattle.vlm_words.specs.declared.locks.Request.{Request}
-use Rattle.vlm_words.specs.declared.locks.Row.{Row}
+use Rattle.vlm_words.specs.declared.locks.LockRow.{LockRow}
 use Rattle.vlm_words.specs.declared.resources.ValueBlock.{ValueBlock}
 use Rattle.vlm_words.specs.declared.steps.Answer.{Answer}
 use Rattle.vlm_words.specs.declared.steps.Conversion.{Conversion}
@@ -56,7 +56,7 @@ each_last P [] ys each = each
 each_last P (x ∷ xs) ys each = each_last P xs ys each.1
 
 -- each row of a resource has it
-record EachRow (P : Row → Type 0) (r : Resource) : Type 0 where
+record EachRow (P : LockRow → Type 0) (r : Resource) : Type 0 where
   granted : AllByRecursion P r.granted
   converting : AllByRecursion P r.converting
   waiting : AllByRecursion P r.waiting
@@ -65,7 +65,7 @@ record EachRow (P : Row → Type 0) (r : Resource) : Type 0 where
 abbrev Said : Type 1
 Said = ℕ → ℕ → Bool → Option Request → Type 0
 
-abbrev OfRow : Said → Row → Type 0
+abbrev OfRow : Said → LockRow → Type 0
 OfRow F row = F row.lkid row.pid row.armed row.held
 
 -- what a step ends and queues keeps what is said of rows: of a row that holds nothing, of one that is granted, and of
@@ -79,7 +79,7 @@ module _ (F : Said) (ended : List Ending) (queued : List Queued) (keeps : Keeps 
   -- ---- grants
 
   -- a row whose grant is among the endings
-  granted_so : (at_once : Bool) (row : Row) → AreIn ended (grant_endings at_once row) → OfRow F (granted_row row)
+  granted_so : (at_once : Bool) (row : LockRow) → AreIn ended (grant_endings at_once row) → OfRow F (granted_row row)
   granted_so at_once row ends = of_want row.want ends
     where
       of_want : (want : Option Request) → AreIn ended (grant_endings at_once (record row { want = want })) → F row.lkid row.pid (is_arming want) want
@@ -94,7 +94,7 @@ module _ (F : Said) (ended : List Ending) (queued : List Queued) (keeps : Keeps 
   abbrev Serves : Service → Type 0
   Serves served = AreIn ended served.endings → EachRow (OfRow F) served.resource
 
-  serve_converting_so : (r : Resource) (rows : List Row) → r.converting ≡ rows → EachRow (OfRow F) r → Serves (service_of_conversions r rows)
+  serve_converting_so : (r : Resource) (rows : List LockRow) → r.converting ≡ rows → EachRow (OfRow F) r → Serves (service_of_conversions r rows)
   serve_converting_so r [] is each = λ _. each
   serve_converting_so r (row ∷ rows) is each =
       let granted : Resource = record (resource_after_grant r row) { converting = rows } in
@@ -109,7 +109,7 @@ module _ (F : Said) (ended : List Ending) (queued : List Queued) (keeps : Keeps 
       }) (each_last (λ x. Any (λ y. x ≡ y) ended) (grant_endings false row) more.endings ends))
       (λ _ _. each)
 
-  serve_waiting_so : (r : Resource) (rows : List Row) → r.waiting ≡ rows → EachRow (OfRow F) r → Serves (service_of_waiting r rows)
+  serve_waiting_so : (r : Resource) (rows : List LockRow) → r.waiting ≡ rows → EachRow (OfRow F) r → Serves (service_of_waiting r rows)
   serve_waiting_so r [] is each = λ _. each
   serve_waiting_so r (row ∷ rows) is each =
       let granted : Resource = record (resource_after_grant r row) { waiting = rows } in
@@ -137,7 +137,7 @@ module _ (F : Said) (ended : List Ending) (queued : List Queued) (keeps : Keeps 
 
   -- ---- warnings
 
-  row_warned_so : (converting waiting : List Row) (row : Row) → AreIn queued (row_warnings converting waiting row) → OfRow F row
+  row_warned_so : (converting waiting : List LockRow) (row : LockRow) → AreIn queued (row_warnings converting waiting row) → OfRow F row
       → OfRow F (row_after_warning converting waiting row)
   unfolding row_after_warning row_warnings
   row_warned_so converting waiting row asts said = of_test (is_to_warn converting waiting row) refl asts
@@ -149,7 +149,7 @@ module _ (F : Said) (ended : List Ending) (queued : List Queued) (keeps : Keeps 
           keeps.warning row.lkid row.pid row.held
           (subst (λ (b : Bool). F row.lkid row.pid b row.held) (is_armed converting waiting row to_warn) said) asts
 
-  rows_warned_so : (converting waiting rows : List Row) → AreIn queued (flat_map (row_warnings converting waiting) rows) → AllByRecursion (OfRow F) rows
+  rows_warned_so : (converting waiting rows : List LockRow) → AreIn queued (flat_map (row_warnings converting waiting) rows) → AllByRecursion (OfRow F) rows
       → AllByRecursion (OfRow F) (map (row_after_warning converting waiting) rows)
   rows_warned_so converting waiting [] asts each = tt
   rows_warned_so converting waiting (row ∷ rows) asts each =
@@ -191,7 +191,7 @@ module _ (F : Said) (ended : List Ending) (queued : List Queued) (keeps : Keeps 
   -- ---- the changes of the steps
 
   -- a new request
-  entered_so : (row : Row) (at_once : Bool) (r : Resource) → row.held ≡ None → AreIn ended (cond at_once (grant_endings true row) [])
+  entered_so : (row : LockRow) (at_once : Bool) (r : Resource) → row.held ≡ None → AreIn ended (cond at_once (grant_endings true row) [])
       → EachRow (OfRow F) r → EachRow (OfRow F) (resource_after_entry row at_once r)
   unfolding resource_after_entry
   entered_so row true r none ends each = record {
@@ -208,7 +208,7 @@ module _ (F : Said) (ended : List Ending) (queued : List Queued) (keeps : Keeps 
   }
 
   -- a conversion, on one resource
-  converted_so : (a : ConversionAdmission) (pid lkid : ℕ) (block : ValueBlock) (r : Resource) (found : Option Row) → find (is_lock_of pid lkid) r.granted ≡ found
+  converted_so : (a : ConversionAdmission) (pid lkid : ℕ) (block : ValueBlock) (r : Resource) (found : Option LockRow) → find (is_lock_of pid lkid) r.granted ≡ found
       → a.row.lkid ≡ lkid → a.row.pid ≡ pid → AreIn ended (conversion_endings a) → EachRow (OfRow F) r
       → EachRow (OfRow F) (resource_after_conversion_of a.request a.at_once lkid block r found)
   converted_so a pid lkid block r None is named owned ends each = each
@@ -295,7 +295,7 @@ module _ (F : Said) (ended : List Ending) (queued : List Queued) (keeps : Keeps 
   Changes s change =
       AreIn ended change.endings → AllByRecursion (EachRow (OfRow F)) s.resources → AllByRecursion (EachRow (OfRow F)) change.state.resources
 
-  request_so : (s : State) (e : NewRequest) (choice : Option Row) → Changes s (step_change s (Enq e) choice)
+  request_so : (s : State) (e : NewRequest) (choice : Option LockRow) → Changes s (step_change s (Enq e) choice)
   unfolding enq_change enq_resource
   request_so s e choice ends each =
       each_entered_on (EachRow (OfRow F)) s.next_serial (enq_site s e) (enq_row s e) (enq_at_once s e) s.resources
@@ -309,7 +309,7 @@ module _ (F : Said) (ended : List Ending) (queued : List Queued) (keeps : Keeps 
   admitted_owned request pid lkid a (r ∷ rest) admitted =
       of_found (find (is_lock_of pid lkid) r.granted) refl (admission_among request pid lkid rest) (admitted_owned request pid lkid a rest) admitted
     where
-      of_found : (found : Option Row) → find (is_lock_of pid lkid) r.granted ≡ found → (later : Option ConversionAdmission)
+      of_found : (found : Option LockRow) → find (is_lock_of pid lkid) r.granted ≡ found → (later : Option ConversionAdmission)
           → (later ≡ Some a → a.row.pid ≡ pid) → admission_or request r found later ≡ Some a → a.row.pid ≡ pid
       of_found None is later behind at = behind at
       of_found (Some row) is later behind at =
@@ -324,7 +324,7 @@ module _ (F : Said) (ended : List Ending) (queued : List Queued) (keeps : Keeps 
       (admitted_stands (convert_request s c) c.pid lkid a s.resources admitted).1
       (admitted_owned (convert_request s c) c.pid lkid a s.resources admitted) ends each
 
-  change_so : (s : State) (step : Step) (choice : Option Row) → step_refusal s step ≡ None → Changes s (step_change s step choice)
+  change_so : (s : State) (step : Step) (choice : Option LockRow) → step_refusal s step ≡ None → Changes s (step_change s step choice)
   unfolding declare_change set_change take_change deq_change search_change state_after_rundown
   change_so s (Declare d) choice passed ends each = each
   change_so s (SetValue v) choice passed ends each = each
@@ -413,7 +413,7 @@ kept_so run outcome = record {
 
 -- what was so before the step is so with what it queues
 told_kept : {history : History} {old new : State} {step : Step} {answer : Answer} (run : Run history old) (outcome : Outcome old step new answer)
-    → (row : Row) → OfRow (IsTold run) row → OfRow (Kept run outcome) row
+    → (row : LockRow) → OfRow (IsTold run) row → OfRow (Kept run outcome) row
 told_kept run outcome row told = of_held row.held told
   where
     of_held : (held : Option Request) → IsTold run row.lkid row.pid row.armed held → Kept run outcome row.lkid row.pid row.armed held
@@ -430,7 +430,7 @@ told_kept run outcome row told = of_held row.held told
         }
 
 kept_told : {history : History} {old new : State} {step : Step} {answer : Answer} (run : Run history old) (outcome : Outcome old step new answer)
-    → (row : Row) → OfRow (Kept run outcome) row → OfRow (IsTold (next run outcome)) row
+    → (row : LockRow) → OfRow (Kept run outcome) row → OfRow (IsTold (next run outcome)) row
 kept_told run outcome row kept = of_held row.held kept
   where
     of_held : (held : Option Request) → Kept run outcome row.lkid row.pid row.armed held → IsTold (next run outcome) row.lkid row.pid row.armed held
@@ -439,7 +439,7 @@ kept_told run outcome row kept = of_held row.held kept
         let is = kept routine named in
         record { since = is.before ++ outcome_queued outcome; queued = is.queued; warning = is.warning }
 
-each_row_weaker : (P Q : Row → Type 0) → ((row : Row) → P row → Q row) → (r : Resource) → EachRow P r → EachRow Q r
+each_row_weaker : (P Q : LockRow → Type 0) → ((row : LockRow) → P row → Q row) → (r : Resource) → EachRow P r → EachRow Q r
 each_row_weaker P Q weaker r each = record {
   granted = each_weaker P Q weaker r.granted each.granted;
   converting = each_weaker P Q weaker r.converting each.converting;
@@ -457,7 +457,7 @@ told_always _ last (next {history} {old} {new} {step} {answer} run outcome) =
 
 pub warned_since_always : (history : History) (last : State) (run : Run history last) → EachGrantIsArmedOrWarned run
 warned_since_always history last run =
-    let Told : Row → Type 0 = λ row. IsTold run row.lkid row.pid row.armed row.held in
+    let Told : LockRow → Type 0 = λ row. IsTold run row.lkid row.pid row.armed row.held in
     All-from_recursion (λ r. All Told (r.granted ++ r.converting)) last.resources
     (each_weaker (EachRow (OfRow (IsTold run))) (λ r. All Told (r.granted ++ r.converting))
     (λ r each. All-from_recursion Told (r.granted ++ r.converting) (each_append Told r.granted r.converting each.granted each.converting))

@@ -7,7 +7,7 @@ use Rattle.std.proofs.lemmas.List.Elements.{All-from_recursion, recursion_from_A
 use Rattle.vlm_words.specs.declared.asts.AstKind.TheVariants.{Completion, Blocking}
 use Rattle.vlm_words.specs.declared.conditions.Cond.{Cond}
 use Rattle.vlm_words.specs.declared.locks.Request.{Request}
-use Rattle.vlm_words.specs.declared.locks.Row.{Row}
+use Rattle.vlm_words.specs.declared.locks.LockRow.{LockRow}
 use Rattle.vlm_words.specs.declared.resources.ValueBlock.{ValueBlock}
 use Rattle.vlm_words.specs.declared.steps.Answer.{Answer}
 use Rattle.vlm_words.specs.declared.steps.Step.{Step}
@@ -29,7 +29,7 @@ use Rattle.vlm_model.specs.Warning.{IsNamedByGrant, NamesTheRoutine, WarningsAre
 use Rattle.vlm_model.proofs.Completing.{change_queues, each_completion}
 
 -- what a lock holds was granted to it
-abbrev Was : List Ending → Row → Type 0
+abbrev Was : List Ending → LockRow → Type 0
 Was endings row = WasGranted endings row.lkid row.pid row.held
 
 -- so it is with all locks that are granted on these resources
@@ -66,7 +66,7 @@ held_named endings (Some held) lkid pid was = of_routine held.blocking refl
       tt,
     )
 
-row_named : (endings : List Ending) (converting waiting : List Row) (row : Row) → Was endings (row_after_warning converting waiting row)
+row_named : (endings : List Ending) (converting waiting : List LockRow) (row : LockRow) → Was endings (row_after_warning converting waiting row)
     → AllByRecursion (IsNamedByGrant endings) (row_warnings converting waiting row)
 unfolding row_warnings row_after_warning
 row_named endings converting waiting row was =
@@ -75,7 +75,7 @@ row_named endings converting waiting row was =
     (cond_both (is_to_warn converting waiting row) (record row { armed = false }) row (λ x. Was endings x → Was endings row) (λ _ given. given) (λ _ given. given) was))
     (λ _. tt)
 
-rows_named : (endings : List Ending) (converting waiting rows : List Row) → AllByRecursion (Was endings) (map (row_after_warning converting waiting) rows)
+rows_named : (endings : List Ending) (converting waiting rows : List LockRow) → AllByRecursion (Was endings) (map (row_after_warning converting waiting) rows)
     → AllByRecursion (IsNamedByGrant endings) (flat_map (row_warnings converting waiting) rows)
 rows_named endings converting waiting [] each = tt
 rows_named endings converting waiting (row ∷ rows) each =

@@ -5,7 +5,7 @@ use Rattle.std.specs.List.{AllByRecursion, filter, list_any, range_with_len, sum
 use Rattle.std.proofs.lemmas.Bool.{or_cases}
 use Rattle.std.proofs.lemmas.List.Sums.{sum_by-cons}
 use Rattle.vlm_words.specs.declared.locks.Request.{Request}
-use Rattle.vlm_words.specs.declared.locks.Row.{Row}
+use Rattle.vlm_words.specs.declared.locks.LockRow.{LockRow}
 use Rattle.vlm_words.specs.State.{Resource, State}
 use Rattle.vlm_model.specs.Endings.{Ending, How, row_endings, wanted_endings}
 use Rattle.vlm_words.specs.Rows.{rows_of}
@@ -21,11 +21,11 @@ use Rattle.vlm_model.proofs.Holdings.{locks}
 use Rattle.std.proofs.lemmas.Bool.Decides.{eqb_tells}
 
 -- 1 for a row of this identification that is of one of these processes
-abbrev pub among : (ℕ → Bool) → ℕ → Row → ℕ
+abbrev pub among : (ℕ → Bool) → ℕ → LockRow → ℕ
 among is_one lkid row = cond (is_lock_among is_one lkid row) 1 0
 
 -- 1 for a row of this identification that is of another process
-abbrev pub strangers : (ℕ → Bool) → ℕ → Row → ℕ
+abbrev pub strangers : (ℕ → Bool) → ℕ → LockRow → ℕ
 strangers is_one lkid row = cond ((row.lkid == lkid) && not (is_one row.pid)) 1 0
 
 -- no row of this identification is of another process
@@ -33,7 +33,7 @@ abbrev pub NoStrangers : (ℕ → Bool) → List Resource → ℕ → Type 0
 NoStrangers is_one resources lkid = sum_by (weigh (strangers is_one lkid)) resources ≡ 0
 
 -- a row of the identification is of one of the processes, or of another one
-stands_of : (is_one : ℕ → Bool) (lkid : ℕ) (row : Row) → stands lkid row ≡ among is_one lkid row + strangers is_one lkid row
+stands_of : (is_one : ℕ → Bool) (lkid : ℕ) (row : LockRow) → stands lkid row ≡ among is_one lkid row + strangers is_one lkid row
 stands_of is_one lkid row = of_tests (row.lkid == lkid) (is_one row.pid)
   where
     of_tests : (a b : Bool) → cond a 1 0 ≡ cond (a && b) 1 0 + cond (a && not b) 1 0
@@ -41,7 +41,7 @@ stands_of is_one lkid row = of_tests (row.lkid == lkid) (is_one row.pid)
     of_tests true false = refl
     of_tests false b = refl
 
-rows_of_all : (is_one : ℕ → Bool) (lkid : ℕ) (rows : List Row)
+rows_of_all : (is_one : ℕ → Bool) (lkid : ℕ) (rows : List LockRow)
     → sum_by (stands lkid) rows ≡ sum_by (among is_one lkid) rows + sum_by (strangers is_one lkid) rows
 rows_of_all is_one lkid [] = refl
 rows_of_all is_one lkid (row ∷ rows) =
@@ -70,7 +70,7 @@ all_of is_one lkid (r ∷ rest) =
     )
 
 -- what is found is counted
-rows_counted : (is_one : ℕ → Bool) (lkid : ℕ) (rows : List Row) → list_any (is_lock_among is_one lkid) rows ≡ true
+rows_counted : (is_one : ℕ → Bool) (lkid : ℕ) (rows : List LockRow) → list_any (is_lock_among is_one lkid) rows ≡ true
     → 1 ≤ sum_by (among is_one lkid) rows
 rows_counted is_one lkid [] found = cc
 rows_counted is_one lkid (row ∷ rows) found =
@@ -124,7 +124,7 @@ own_are_theirs is_one s apart =
     (each_passing (λ lkid. list_any (has_lock_among is_one lkid) s.resources) (range_with_len 1 (s.next_lkid - 1)))
 
 -- a row of a lock of another process is a stranger's
-anothers : (is_one : ℕ → Bool) (pid lkid : ℕ) → is_one pid ≡ false → (row : Row) → locks pid lkid row ≤ strangers is_one lkid row
+anothers : (is_one : ℕ → Bool) (pid lkid : ℕ) → is_one pid ≡ false → (row : LockRow) → locks pid lkid row ≤ strangers is_one lkid row
 anothers is_one pid lkid differs row =
     elim (eqb_tells row.pid pid) [
       | inl same ↦ rw (same.0, ap is_one same.1 ∙ differs) (of_tests (row.lkid == lkid))
@@ -139,7 +139,7 @@ anothers is_one pid lkid differs row =
     of_none true false = omega arith
     of_none false b = omega arith
 
-pub all_anothers : (is_one : ℕ → Bool) (pid lkid : ℕ) → is_one pid ≡ false → (rows : List Row)
+pub all_anothers : (is_one : ℕ → Bool) (pid lkid : ℕ) → is_one pid ≡ false → (rows : List LockRow)
     → sum_by (locks pid lkid) rows ≤ sum_by (strangers is_one lkid) rows
 all_anothers is_one pid lkid differs [] = omega arith
 all_anothers is_one pid lkid differs (row ∷ rows) =
@@ -158,7 +158,7 @@ abbrev pub IsTheirs : (ℕ → Bool) → Ending → Type 0
 IsTheirs is_one ending = is_one ending.pid ≡ true
 
 -- the requests of rows of which none is a stranger's are of the processes
-ends_of : (is_one : ℕ → Bool) (lkid : ℕ) (how : How) (rows : List Row) → sum_by (strangers is_one lkid) rows ≡ 0
+ends_of : (is_one : ℕ → Bool) (lkid : ℕ) (how : How) (rows : List LockRow) → sum_by (strangers is_one lkid) rows ≡ 0
     → AllByRecursion (IsTheirs is_one) (queue_endings how lkid rows)
 ends_of is_one lkid how [] nothing = tt
 ends_of is_one lkid how (row ∷ rows) nothing =
@@ -210,7 +210,7 @@ rundown_ends_are_theirs is_one s apart = withdrawn_are_theirs is_one (rundowns i
 -- ---- how many locks a process has
 
 -- 1 for a row of a lock of the process
-abbrev pub owned : ℕ → Row → ℕ
+abbrev pub owned : ℕ → LockRow → ℕ
 owned pid row = cond (row.pid == pid) 1 0
 
 -- how many locks the process has

@@ -9,7 +9,7 @@ use Rattle.std.proofs.lemmas.List.Folds.{Any-from_list_any, list_any-append, lis
 use Rattle.vlm_words.specs.declared.blocks.Block.{Block}
 use Rattle.vlm_words.specs.declared.conditions.Cond.{Cond}
 use Rattle.vlm_words.specs.declared.locks.Request.{Request}
-use Rattle.vlm_words.specs.declared.locks.Row.{Row}
+use Rattle.vlm_words.specs.declared.locks.LockRow.{LockRow}
 use Rattle.vlm_words.specs.declared.modes.Act.TheVariants.{Write}
 use Rattle.vlm_words.specs.declared.modes.Act.{Act}
 use Rattle.vlm_words.specs.declared.modes.Mode.TheVariants.{Nl, Cr, Cw, Pr, Pw, Ex}
@@ -123,7 +123,7 @@ idle_has s step none =
 -- ---- a new request
 
 -- an entry leaves the value block
-pub entry_leaves : (row : Row) (at_once : Bool) (r : Resource) → (resource_after_entry row at_once r).value_block ≡ r.value_block
+pub entry_leaves : (row : LockRow) (at_once : Bool) (r : Resource) → (resource_after_entry row at_once r).value_block ≡ r.value_block
 unfolding resource_after_entry
 entry_leaves row at_once r =
     cond_both at_once (resource_after_grant r row) (record r { waiting = r.waiting ++ row ∷ [] }) (λ after. after.value_block ≡ r.value_block) (λ _. refl) (λ _. refl)
@@ -136,7 +136,7 @@ all_older next (r ∷ rest) given = ((λ same. absurd (omega (arith, same, given
 request_has : (s : State) (e : NewRequest) → Placed s → AllByRecursion (Has s (Enq e)) (enq_change s e).resources
 unfolding enq_change
 request_has s e placed =
-    let row : Row = enq_row s e in
+    let row : LockRow = enq_row s e in
     let now : Bool = enq_at_once s e in
     let here = idle_has s (Enq e) (λ r writes. writes) in
     each_entered_at (Has s (Enq e)) s.next_serial (enq_site s e) row now
@@ -173,7 +173,7 @@ is_writer_so (Some held) (inl pw) = rw pw refl
 is_writer_so (Some held) (inr ex) = rw ex refl
 
 -- a lock that may write is among the rows
-abbrev WriterAmong : ℕ → List Row → Type 0
+abbrev WriterAmong : ℕ → List LockRow → Type 0
 WriterAmong lkid rows = Any (λ row. (row.lkid ≡ lkid) × IsWriter row.held) rows
 
 held_by_writer : (lkid : ℕ) (r : Resource) → WriterAmong lkid (r.granted ++ r.converting) → is_held_by_writer lkid r ≡ true
@@ -190,7 +190,7 @@ writer_holds lkid r held =
       | inr converting ↦ Any-behind (λ row. (row.lkid ≡ lkid) × IsWriter row.held) r.granted r.converting (among r.converting converting)
     ]
   where
-    among : (rows : List Row) → has_writer lkid rows ≡ true → WriterAmong lkid rows
+    among : (rows : List LockRow) → has_writer lkid rows ≡ true → WriterAmong lkid rows
     among rows some =
         Any-weaker (λ row. ((row.lkid == lkid) && is_writer row.held) ≡ true) (λ row. (row.lkid ≡ lkid) × IsWriter row.held)
         (λ row passes.
@@ -384,14 +384,14 @@ dequeue_has s d passed = changed_has s (Deq d) (resource_after_withdrawals (with
 -- ---- a search
 
 -- the victim leaves the value block
-victim_leaves : (choice : Option Row) (r : Resource) → (resource_after_withdrawals (victim_withdrawals choice) r).value_block ≡ r.value_block
+victim_leaves : (choice : Option LockRow) (r : Resource) → (resource_after_withdrawals (victim_withdrawals choice) r).value_block ≡ r.value_block
 victim_leaves None r = refl
 victim_leaves (Some victim) r =
     withdrawn_value (deadlock_of victim.lkid) r
     ∙ cond_both (is_held_by_writer victim.lkid r) (value_block_after_writer (deadlock_of victim.lkid) r.value_block) r.value_block
     (λ block. block ≡ r.value_block) (λ _. refl) (λ _. refl)
 
-search_has : (s : State) (node : ℕ) (choice : Option Row) → AllByRecursion (Has s (Search node)) (search_change s choice).resources
+search_has : (s : State) (node : ℕ) (choice : Option LockRow) → AllByRecursion (Has s (Search node)) (search_change s choice).resources
 unfolding search_change
 search_has s node choice =
     changed_has s (Search node) (resource_after_withdrawals (victim_withdrawals choice))
@@ -514,7 +514,7 @@ module _ (s : State) (c : Conversion) (a : ConversionAdmission) (agree : AllByRe
       (only_there (convert_request s c) c.pid (convert_lkid s c) a s.resources (apart.one_row (convert_lkid s c)) admitted) there stands
 
   -- what is so of a granted row of the lock is so of the row that converts
-  only_row : (P : Row → Type 0) (r : Resource) → Any (λ x. r ≡ x) s.resources → Any (λ row. (row.lkid ≡ convert_lkid s c) × P row) r.granted → P a.row
+  only_row : (P : LockRow → Type 0) (r : Resource) → Any (λ x. r ≡ x) s.resources → Any (λ row. (row.lkid ≡ convert_lkid s c) × P row) r.granted → P a.row
   unfolding convert_admission
   only_row P r there some =
       only_row_among P (convert_request s c) c.pid (convert_lkid s c) a s.resources (apart.one_row (convert_lkid s c)) admitted
@@ -555,16 +555,16 @@ module _ (s : State) (c : Conversion) (a : ConversionAdmission) (agree : AllByRe
       (written_value s c a now act) (part_written (λ block. block.value) (λ _. refl) p lives) (part_written (λ block. block.tail) (λ _. refl) p lives))
 
   -- a resource after the conversion
-  abbrev after_conversion : Resource → Option Row → Resource
+  abbrev after_conversion : Resource → Option LockRow → Resource
   after_conversion r there = resource_after_conversion_of a.request a.at_once (convert_lkid s c) (convert_blocks s c a).value_block r there
 
-  at_once_value : (r : Resource) (row : Row) → a.at_once ≡ true → (after_conversion r (Some row)).value_block ≡ (convert_blocks s c a).value_block
+  at_once_value : (r : Resource) (row : LockRow) → a.at_once ≡ true → (after_conversion r (Some row)).value_block ≡ (convert_blocks s c a).value_block
   at_once_value r row now = rw now refl
 
-  waiting_value : (r : Resource) (row : Row) → a.at_once ≡ false → (after_conversion r (Some row)).value_block ≡ r.value_block
+  waiting_value : (r : Resource) (row : LockRow) → a.at_once ≡ false → (after_conversion r (Some row)).value_block ≡ r.value_block
   waiting_value r row waits = rw waits refl
 
-  written_there : (r : Resource) → Any (λ x. r ≡ x) s.resources → WritesValue s (Convert c) r → (there : Option Row)
+  written_there : (r : Resource) → Any (λ x. r ≡ x) s.resources → WritesValue s (Convert c) r → (there : Option LockRow)
       → find (is_lock_of c.pid (convert_lkid s c)) r.granted ≡ there → IsWrittenValue s (Convert c) r.value_block (after_conversion r there).value_block
   written_there r member writes there is p lives =
       let from : WritesFrom a.row.held c.mode = only_row (λ row. WritesFrom row.held c.mode) r member writes.1 in
@@ -574,11 +574,11 @@ module _ (s : State) (c : Conversion) (a : ConversionAdmission) (agree : AllByRe
       (Any-weaker (λ row. (row.lkid ≡ convert_lkid s c) × WritesFrom row.held c.mode) (λ row. row.lkid ≡ convert_lkid s c) (λ row so. so.0) r.granted writes.1) in
       let row : there ≡ Some a.row = sym is ∙ ap (λ (x : Resource). find (is_lock_of c.pid (convert_lkid s c)) x.granted) same ∙ found in
       subst (IsWrittenFrom (has_flag c.flags wide) (get_or p.blocks (c.block - 1) new_status_block) r.value_block)
-      (sym (ap (λ (found : Option Row). (after_conversion r found).value_block) row ∙ at_once_value r a.row now))
+      (sym (ap (λ (found : Option LockRow). (after_conversion r found).value_block) row ∙ at_once_value r a.row now))
       (subst (λ (x : Resource). IsWrittenFrom (has_flag c.flags wide) (get_or p.blocks (c.block - 1) new_status_block) x.value_block (convert_blocks s c a).value_block)
       (sym same) (written_so p lives now (act_is (writes.0, from))))
 
-  kept_there : (r : Resource) → Any (λ x. r ≡ x) s.resources → (WritesValue s (Convert c) r → ⊥) → (there : Option Row)
+  kept_there : (r : Resource) → Any (λ x. r ≡ x) s.resources → (WritesValue s (Convert c) r → ⊥) → (there : Option LockRow)
       → find (is_lock_of c.pid (convert_lkid s c)) r.granted ≡ there → (now : Bool) → a.at_once ≡ now → (after_conversion r there).value_block ≡ r.value_block
   kept_there r member none None is now at = refl
   kept_there r member none (Some row) is false at = waiting_value r row at
@@ -595,11 +595,11 @@ module _ (s : State) (c : Conversion) (a : ConversionAdmission) (agree : AllByRe
       none (
         writes.0,
         Any_found (λ x. (x.lkid ≡ lkid) × WritesFrom x.held c.mode) (is_lock_of c.pid lkid) r.granted row is
-            (named, subst (λ (x : Row). WritesFrom x.held c.mode) (sym its) writes.1),
+            (named, subst (λ (x : LockRow). WritesFrom x.held c.mode) (sym its) writes.1),
       ))
       ∙ ap (λ (x : Resource). x.value_block) (sym same)
     where
-      row_same : (x y : Row) → Some x ≡ Some y → x ≡ y
+      row_same : (x y : LockRow) → Some x ≡ Some y → x ≡ y
       row_same x y is = cc
 
   conversion_has_its : (r : Resource) → Any (λ x. r ≡ x) s.resources
@@ -623,7 +623,7 @@ swept_change : (s : State) (step : Step) (change : Stepped) → AllByRecursion (
     → AllByRecursion (Has s step) (stepped_after_sweep change).state.resources
 swept_change s step change harmless each = swept_has s step change.state.processes change.state.resources harmless each
 
-accepted_has : (history : History) (s : State) → Run history s → (step : Step) (choice : Option Row) → step_refusal s step ≡ None
+accepted_has : (history : History) (s : State) → Run history s → (step : Step) (choice : Option LockRow) → step_refusal s step ≡ None
     → AllByRecursion (Has s step) (stepped_after_sweep (step_change s step choice)).state.resources
 unfolding declare_change set_change take_change deq_change search_change
 accepted_has history s run (Declare d) choice passed =
@@ -656,7 +656,7 @@ accepted_has history s run (Search node) choice passed =
 accepted_has history s run (Take pid) choice passed =
     swept_change s (Take pid) (step_change s (Take pid) choice) (harmless_always history s run) (idle_has s (Take pid) (λ r writes. writes))
 
-pub writers_always : (history : History) (old : State) → Run history old → (step : Step) (choice : Option Row) → IsChoice old step choice
+pub writers_always : (history : History) (old : State) → Run history old → (step : Step) (choice : Option LockRow) → IsChoice old step choice
     → step_refusal old step ≡ None → OnlyWritersChangeValues old step choice
 writers_always history old run step choice chosen passed =
     All-from_recursion (Has old step) (stepped old step choice).state.resources

@@ -7,7 +7,7 @@ use Rattle.std.proofs.lemmas.List.Sums.{sum_by-cons}
 use Rattle.vlm_words.specs.declared.conditions.Cond.TheVariants.{Badparam}
 use Rattle.vlm_words.specs.declared.conditions.Cond.{Cond}
 use Rattle.vlm_words.specs.declared.locks.Request.{Request}
-use Rattle.vlm_words.specs.declared.locks.Row.{Row}
+use Rattle.vlm_words.specs.declared.locks.LockRow.{LockRow}
 use Rattle.vlm_words.specs.declared.modes.Act.TheVariants.{Nothing, Return, Write}
 use Rattle.vlm_words.specs.declared.modes.Act.{Act}
 use Rattle.vlm_words.specs.declared.modes.Mode.TheVariants.{Nl, Cr, Cw, Pr, Pw, Ex}
@@ -103,26 +103,26 @@ write_is_not_queued (Some held) mode writes =
     is_false false negated = refl
 
 -- a mode that may be held beside every row fits
-fits_beside : (mode : Mode) (granted converting : List Row)
+fits_beside : (mode : Mode) (granted converting : List LockRow)
     → AllByRecursion (λ row. is_beside mode row.held ≡ true) (granted ++ converting) → fits mode granted converting ≡ true
 unfolding fits
 fits_beside mode [] converting each = all_pass converting each
   where
-    all_pass : (rows : List Row) → AllByRecursion (λ row. is_beside mode row.held ≡ true) rows
+    all_pass : (rows : List LockRow) → AllByRecursion (λ row. is_beside mode row.held ≡ true) rows
         → list_all (λ row. is_beside mode row.held) rows ≡ true
     all_pass [] each = refl
     all_pass (row ∷ rows) each = rw each.0 (all_pass rows each.1)
 fits_beside mode (row ∷ granted) converting each = rw each.0 (fits_beside mode granted converting each.1)
 
 -- where a lock has one row, what holds of some row of it holds of the row that converts
-only_row : (P : Row → Type 0) (pid lkid : ℕ) (rows : List Row) (row : Row) → sum_by (stands lkid) rows ≤ 1
+only_row : (P : LockRow → Type 0) (pid lkid : ℕ) (rows : List LockRow) (row : LockRow) → sum_by (stands lkid) rows ≤ 1
     → find (is_lock_of pid lkid) rows ≡ Some row → Any (λ x. (x.lkid ≡ lkid) × P x) rows → P row
 only_row P pid lkid [] row one found some = cc
 only_row P pid lkid (x ∷ xs) row one found some =
     of_test (is_lock_of pid lkid x) refl found (Any-cases (λ y. (y.lkid ≡ lkid) × P y) x xs some)
     (λ later there. only_row P pid lkid xs row (omega (arith, one, sum_by-cons (stands lkid) x xs)) later there)
   where
-    counted : (y : Row) → y.lkid ≡ lkid → stands lkid y ≡ 1
+    counted : (y : LockRow) → y.lkid ≡ lkid → stands lkid y ≡ 1
     counted y named = ap (λ (b : Bool). cond b 1 0) (eq-eqb y.lkid lkid named)
 
     others : Any (λ y. (y.lkid ≡ lkid) × P y) xs → 1 ≤ sum_by (stands lkid) xs
@@ -140,21 +140,21 @@ only_row P pid lkid (x ∷ xs) row one found some =
     of_test false is at (inr there) behind = behind at there
 
 -- a lock that stands granted on some resource is counted
-all_counted : (P : Row → Type 0) (lkid : ℕ) (resources : List Resource) → Any (λ r. Any (λ x. (x.lkid ≡ lkid) × P x) r.granted) resources
+all_counted : (P : LockRow → Type 0) (lkid : ℕ) (resources : List Resource) → Any (λ r. Any (λ x. (x.lkid ≡ lkid) × P x) r.granted) resources
     → 1 ≤ standing lkid resources
 all_counted P lkid [] some = absurd (Any-none (λ (r : Resource). Any (λ x. (x.lkid ≡ lkid) × P x) r.granted) some)
 all_counted P lkid (r ∷ rest) some =
     elim (Any-cases (λ (t : Resource). Any (λ x. (x.lkid ≡ lkid) × P x) t.granted) r rest some) [
       | inl here ↦ omega (
         arith,
-        stands_counted lkid r.granted (Any-weaker (λ (x : Row). (x.lkid ≡ lkid) × P x) (λ x. x.lkid ≡ lkid) (λ x both. both.0) r.granted here),
+        stands_counted lkid r.granted (Any-weaker (λ (x : LockRow). (x.lkid ≡ lkid) × P x) (λ x. x.lkid ≡ lkid) (λ x both. both.0) r.granted here),
         sum_by-cons (weigh (stands lkid)) r rest,
       )
       | inr there ↦ omega (arith, all_counted P lkid rest there, sum_by-cons (weigh (stands lkid)) r rest)
     ]
 
 -- the same on all resources
-pub only_row_among : (P : Row → Type 0) (request : Request) (pid lkid : ℕ) (a : ConversionAdmission) (resources : List Resource)
+pub only_row_among : (P : LockRow → Type 0) (request : Request) (pid lkid : ℕ) (a : ConversionAdmission) (resources : List Resource)
     → standing lkid resources ≤ 1 → admission_among request pid lkid resources ≡ Some a
     → Any (λ r. Any (λ x. (x.lkid ≡ lkid) × P x) r.granted) resources → P a.row
 only_row_among P request pid lkid a [] one admitted some = cc
@@ -170,7 +170,7 @@ only_row_among P request pid lkid a (r ∷ rest) one admitted some =
           stands_counted lkid r.granted (Any-weaker (λ x. (x.lkid ≡ lkid) × P x) (λ x. x.lkid ≡ lkid) (λ x both. both.0) r.granted here),
         )
 
-    of_found : (found : Option Row) → find (is_lock_of pid lkid) r.granted ≡ found
+    of_found : (found : Option LockRow) → find (is_lock_of pid lkid) r.granted ≡ found
         → admission_or request r found (admission_among request pid lkid rest) ≡ Some a
         → Any (λ x. (x.lkid ≡ lkid) × P x) r.granted ⊎ Any (λ t. Any (λ x. (x.lkid ≡ lkid) × P x) t.granted) rest
         → (admission_among request pid lkid rest ≡ Some a → Any (λ t. Any (λ x. (x.lkid ≡ lkid) × P x) t.granted) rest → P a.row) → P a.row
@@ -201,7 +201,7 @@ admission_known request pid lkid [] agree = tt
 admission_known request pid lkid (r ∷ rest) agree =
     here (find (is_lock_of pid lkid) r.granted) refl (admission_among request pid lkid rest) (admission_known request pid lkid rest agree.1)
   where
-    here : (found : Option Row) → find (is_lock_of pid lkid) r.granted ≡ found → (later : Option ConversionAdmission) → Known pid lkid later
+    here : (found : Option LockRow) → find (is_lock_of pid lkid) r.granted ≡ found → (later : Option ConversionAdmission) → Known pid lkid later
         → Known pid lkid (admission_or request r found later)
     here None is later known = known
     here (Some row) is later known = (agree.0, is)
@@ -246,7 +246,7 @@ at_once_first number a more numbered at_once =
     rw at_once (Any-here _ _ more (tt, refl, numbered))
 
 -- what an accepted conversion answers and ends
-made_conversion : (s : State) (c : Conversion) (choice : Option Row) (a : ConversionAdmission) → convert_refusal s c ≡ None → convert_admission s c ≡ Some a
+made_conversion : (s : State) (c : Conversion) (choice : Option LockRow) (a : ConversionAdmission) → convert_refusal s c ≡ None → convert_admission s c ≡ Some a
     → stepped s (Convert c) choice ≡ stepped_after_sweep (conversion_change s c (Some a))
 made_conversion s c choice a passed admitted =
     ap (λ (refusal : Option Cond). refused_or refusal s (step_change s (Convert c) choice)) passed

@@ -9,7 +9,7 @@ use Rattle.std.proofs.lemmas.List.Elements.{All-from_recursion}
 use Rattle.std.proofs.lemmas.List.Sums.{sum_by-cons}
 use Rattle.vlm_words.specs.declared.conditions.Cond.{Cond}
 use Rattle.vlm_words.specs.declared.locks.Request.{Request}
-use Rattle.vlm_words.specs.declared.locks.Row.{Row}
+use Rattle.vlm_words.specs.declared.locks.LockRow.{LockRow}
 use Rattle.vlm_words.specs.declared.modes.Mode.{Mode}
 use Rattle.vlm_words.specs.declared.resources.Domain.{Domain}
 use Rattle.vlm_words.specs.declared.resources.Domain.TheVariants.{Group, System}
@@ -63,7 +63,7 @@ beside mode None passed = tt
 beside mode (Some held) passed = passed
 
 -- a mode that all rows pass is beside each
-beside_each : (mode : Mode) (rows : List Row) → list_all (λ row. is_beside mode row.held) rows ≡ true
+beside_each : (mode : Mode) (rows : List LockRow) → list_all (λ row. is_beside mode row.held) rows ≡ true
     → AllByRecursion (λ row. IsBeside mode row.held) rows
 beside_each mode rows passed =
     each_weaker (λ row. is_beside mode row.held ≡ true) (λ row. IsBeside mode row.held) (λ row is. beside mode row.held is) rows
@@ -163,10 +163,10 @@ enters_in_turn s e apart placed passed at_once =
     (or_cases (has_flag e.flags expedite) (is_free_for (enq_request s e) (enq_resource s e)) at_once)
 
 -- a lock that stands in a queue is counted
-pub stands_counted : (lkid : ℕ) (rows : List Row) → Stands lkid rows → 1 ≤ sum_by (stands lkid) rows
+pub stands_counted : (lkid : ℕ) (rows : List LockRow) → Stands lkid rows → 1 ≤ sum_by (stands lkid) rows
 stands_counted lkid [] there = absurd (Any-none (λ row. row.lkid ≡ lkid) there)
 stands_counted lkid (row ∷ rows) there =
-    elim (Any-cases (λ (x : Row). x.lkid ≡ lkid) row rows there) [
+    elim (Any-cases (λ (x : LockRow). x.lkid ≡ lkid) row rows there) [
       | inl here ↦ (let one : stands lkid row ≡ 1 = ap (λ (b : Bool). cond b 1 0) (eq-eqb row.lkid lkid here) in
           omega (arith, sum_by-cons (stands lkid) row rows))
       | inr later ↦ omega (arith, stands_counted lkid rows later, sum_by-cons (stands lkid) row rows)
@@ -179,7 +179,7 @@ admitted_stands request pid lkid a [] admitted = cc
 admitted_stands request pid lkid a (r ∷ rest) admitted =
     of_found (find (is_lock_of pid lkid) r.granted) refl (admission_among request pid lkid rest) (admitted_stands request pid lkid a rest) admitted
   where
-    of_found : (found : Option Row) → find (is_lock_of pid lkid) r.granted ≡ found → (later : Option ConversionAdmission)
+    of_found : (found : Option LockRow) → find (is_lock_of pid lkid) r.granted ≡ found → (later : Option ConversionAdmission)
         → (later ≡ Some a → (1 ≤ standing lkid rest) × (a.row.lkid ≡ lkid)) → admission_or request r found later ≡ Some a
         → (1 ≤ standing lkid (r ∷ rest)) × (a.row.lkid ≡ lkid)
     of_found None is later behind at =
@@ -208,7 +208,7 @@ only_there request pid lkid a (r ∷ rest) one admitted =
         let all : standing lkid (x ∷ xs) ≡ weigh (stands lkid) x + standing lkid xs = sum_by-cons (weigh (stands lkid)) x xs in
         ((λ there. absurd (omega (arith, all, none, stands_counted lkid x.granted there))), none_there xs (omega (arith, all, none)))
 
-    of_found : (found : Option Row) → find (is_lock_of pid lkid) r.granted ≡ found
+    of_found : (found : Option LockRow) → find (is_lock_of pid lkid) r.granted ≡ found
         → admission_or request r found (admission_among request pid lkid rest) ≡ Some a
         → (admission_among request pid lkid rest ≡ Some a → AllByRecursion (λ x. Stands lkid x.granted → x ≡ a.resource) rest)
         → (admission_among request pid lkid rest ≡ Some a → 1 ≤ standing lkid rest)
@@ -228,7 +228,7 @@ admitted_at_once request pid lkid a [] admitted = cc
 admitted_at_once request pid lkid a (r ∷ rest) admitted =
     of_found (find (is_lock_of pid lkid) r.granted) (admission_among request pid lkid rest) (admitted_at_once request pid lkid a rest) admitted
   where
-    of_found : (found : Option Row) (later : Option ConversionAdmission)
+    of_found : (found : Option LockRow) (later : Option ConversionAdmission)
         → (later ≡ Some a → a.at_once ≡ converts_at_once request a.row.lkid a.resource) → admission_or request r found later ≡ Some a
         → a.at_once ≡ converts_at_once request a.row.lkid a.resource
     of_found None later behind at = behind at
@@ -249,7 +249,7 @@ each_unfiltered {X} P test (x ∷ xs) each =
     of_test false is kept behind = ((λ passes. cc), behind kept)
 
 -- another lock is not this one
-not_this : (lkid : ℕ) (row : Row) → row.lkid ≢ lkid → not (row.lkid == lkid) ≡ true
+not_this : (lkid : ℕ) (row : LockRow) → row.lkid ≢ lkid → not (row.lkid == lkid) ≡ true
 not_this lkid row other =
     elim (eqb_tells row.lkid lkid) [ inl same ↦ absurd (other same.1) | inr differs ↦ ap not differs.0 ]
 
@@ -309,7 +309,7 @@ conversion_in_turn s c a apart admitted =
         s.resources (only_there (convert_request s c) c.pid (convert_lkid s c) a s.resources (apart.one_row (convert_lkid s c)) admitted))
 
 -- requests that end so, and are not granted, are in their turn
-ended_in_turn : (s : State) (step : Step) (how : How) → (IsGrant how → ⊥) → (rows : List Row)
+ended_in_turn : (s : State) (step : Step) (how : How) → (IsGrant how → ⊥) → (rows : List LockRow)
     → AllByRecursion (InTurn s step) (flat_map (row_endings how false) rows)
 ended_in_turn s step how withdrawn [] = tt
 ended_in_turn s step how withdrawn (row ∷ rows) =
@@ -343,7 +343,7 @@ dequeue_in_turn s d =
     withdrawals_in_turn s (Deq d) (withdrawals_of s d) (dequeues_grant_nothing s d) s.resources
 
 -- the endings of each kind of step that is made are in their turn
-each_in_turn : (s : State) → Apart s → Placed s → (step : Step) (choice : Option Row) → step_refusal s step ≡ None
+each_in_turn : (s : State) → Apart s → Placed s → (step : Step) (choice : Option LockRow) → step_refusal s step ≡ None
     → AllByRecursion (InTurn s step) (step_change s step choice).endings
 each_in_turn s apart placed (Declare d) choice passed = tt
 each_in_turn s apart placed (SetValue v) choice passed = tt
@@ -364,7 +364,7 @@ each_in_turn s apart placed (Search node) choice passed =
 each_in_turn s apart placed (Take pid) choice passed = tt
 
 -- a step that is made grants in the order of the queues
-follows_queue_order : (s : State) → Apart s → Placed s → (step : Step) (choice : Option Row) → step_refusal s step ≡ None → GrantsFollowQueueOrder s step choice
+follows_queue_order : (s : State) → Apart s → Placed s → (step : Step) (choice : Option LockRow) → step_refusal s step ≡ None → GrantsFollowQueueOrder s step choice
 follows_queue_order s apart placed step choice passed =
     let change : Stepped = step_change s step choice in
     let made : stepped s step choice ≡ stepped_after_sweep change = ap (λ (refusal : Option Cond). refused_or refusal s change) passed in
@@ -379,6 +379,6 @@ follows_queue_order s apart placed step choice passed =
 
 -- after every run
 pub queue_order_always : (history : History) (old : State) → Run history old
-    → (step : Step) (choice : Option Row) → IsChoice old step choice → step_refusal old step ≡ None → GrantsFollowQueueOrder old step choice
+    → (step : Step) (choice : Option LockRow) → IsChoice old step choice → step_refusal old step ≡ None → GrantsFollowQueueOrder old step choice
 queue_order_always history old run step choice chosen =
     follows_queue_order old (apart_always history old run) (placed_always history old run) step choice

@@ -8,7 +8,7 @@ use Rattle.std.proofs.lemmas.List.Folds.{find-append}
 use Rattle.vlm_words.specs.declared.blocks.Block.{Block}
 use Rattle.vlm_words.specs.declared.conditions.Cond.TheVariants.{Normal, Departed, Nonexpr, Accvio, Badparam}
 use Rattle.vlm_words.specs.declared.conditions.Cond.{Cond}
-use Rattle.vlm_words.specs.declared.locks.Row.{Row}
+use Rattle.vlm_words.specs.declared.locks.LockRow.{LockRow}
 use Rattle.vlm_words.specs.declared.steps.Answer.TheVariants.{Plain, Victim}
 use Rattle.vlm_words.specs.declared.steps.Answer.{Answer}
 use Rattle.vlm_words.specs.declared.steps.Conversion.{Conversion}
@@ -245,7 +245,7 @@ found_first processes p pid before is =
     ∙ ap (λ (found : Option Process). option_or found (process_of (p ∷ []) pid)) is
 
 -- a declaration
-declaration_writes : (s : State) (d : Declaration) (choice : Option Row) → AllByRecursion IsSettled s.resources
+declaration_writes : (s : State) (d : Declaration) (choice : Option LockRow) → AllByRecursion IsSettled s.resources
     → Writes s (Declare d) (stepped_after_sweep (step_change s (Declare d) choice))
 unfolding declare_change
 declaration_writes s d choice settled =
@@ -260,7 +260,7 @@ declaration_writes s d choice settled =
     (all_left_by_none (declare_change s d).processes)
 
 -- the setting of a value
-setting_writes : (s : State) (v : ValueSetting) (choice : Option Row)
+setting_writes : (s : State) (v : ValueSetting) (choice : Option LockRow)
     → Writes s (SetValue v) (stepped_after_sweep (step_change s (SetValue v) choice))
 unfolding set_change processes_after_setting
 setting_writes s v choice =
@@ -271,7 +271,7 @@ setting_writes s v choice =
     (all_left_by_none (set_change s v).processes)
 
 -- the process is told of a grant at once, and of what a dequeue ends
-at_once_tells : (b : Bool) (row : Row) → AllByRecursion IsTold (cond b (grant_endings true row) [])
+at_once_tells : (b : Bool) (row : LockRow) → AllByRecursion IsTold (cond b (grant_endings true row) [])
 at_once_tells false row = tt
 at_once_tells true row = of_want row.want
   where
@@ -279,7 +279,7 @@ at_once_tells true row = of_want row.want
     of_want None = tt
     of_want (Some request) = (refl, tt)
 
-rows_tell : (how : How) → is_told how ≡ true → (rows : List Row) → AllByRecursion IsTold (flat_map (row_endings how false) rows)
+rows_tell : (how : How) → is_told how ≡ true → (rows : List LockRow) → AllByRecursion IsTold (flat_map (row_endings how false) rows)
 rows_tell how told [] = tt
 rows_tell how told (row ∷ rows) =
     each_append IsTold (row_endings how false row) (flat_map (row_endings how false) rows) (of_want row.want) (rows_tell how told rows)
@@ -309,7 +309,7 @@ dequeue_tells s d =
     of_cancel false = refl
 
 -- a new request
-request_writes : (s : State) (e : NewRequest) (choice : Option Row)
+request_writes : (s : State) (e : NewRequest) (choice : Option LockRow)
     → Writes s (Enq e) (stepped_after_sweep (step_change s (Enq e) choice))
 unfolding enq_change processes_after_acceptance
 request_writes s e choice =
@@ -335,12 +335,12 @@ conversion_writes s c a =
     (at_once_tells a.at_once (wanting_row a.row a.request)))
 
 -- a search
-victim_tells : (s : State) (choice : Option Row) → AllByRecursion IsTold (search_endings s choice)
+victim_tells : (s : State) (choice : Option LockRow) → AllByRecursion IsTold (search_endings s choice)
 victim_tells s None = tt
 victim_tells s (Some victim) =
     each_end IsTold (victim_withdrawals (Some victim)) s.resources (lock_tells (deadlock_of victim.lkid) refl refl s.resources, tt)
 
-search_writes : (s : State) (node : ℕ) (choice : Option Row) → Writes s (Search node) (stepped_after_sweep (step_change s (Search node) choice))
+search_writes : (s : State) (node : ℕ) (choice : Option LockRow) → Writes s (Search node) (stepped_after_sweep (step_change s (Search node) choice))
 unfolding search_change
 search_writes s node choice =
     swept_writes s (Search node) (step_change s (Search node) choice)
@@ -350,7 +350,7 @@ search_writes s node choice =
     (all_left (search_endings s choice) (blocks_with new_value_block s.processes) (victim_tells s choice))
 
 -- a dequeue
-dequeue_writes : (s : State) (d : Dequeue) (choice : Option Row) → Writes s (Deq d) (stepped_after_sweep (step_change s (Deq d) choice))
+dequeue_writes : (s : State) (d : Dequeue) (choice : Option LockRow) → Writes s (Deq d) (stepped_after_sweep (step_change s (Deq d) choice))
 unfolding deq_change
 dequeue_writes s d choice =
     swept_writes s (Deq d) (step_change s (Deq d) choice)
@@ -399,7 +399,7 @@ blocks_kept taker pid (p ∷ rest) = of_tests (p.pid == taker) (p.pid == pid) re
     of_tests false false at behind = rw at behind
 
 -- a take
-taking_writes : (s : State) (taker : ℕ) (choice : Option Row) → Writes s (Take taker) (stepped_after_sweep (step_change s (Take taker) choice))
+taking_writes : (s : State) (taker : ℕ) (choice : Option LockRow) → Writes s (Take taker) (stepped_after_sweep (step_change s (Take taker) choice))
 unfolding take_change
 taking_writes s taker choice =
     swept_writes s (Take taker) (step_change s (Take taker) choice)
@@ -414,7 +414,7 @@ taking_writes s taker choice =
     })
     (all_left_by_none (take_change s taker).processes)
 
-writes : (s : State) → Apart s → AllByRecursion IsSettled s.resources → (step : Step) (choice : Option Row)
+writes : (s : State) → Apart s → AllByRecursion IsSettled s.resources → (step : Step) (choice : Option LockRow)
     → step_refusal s step ≡ None → Writes s step (stepped_after_sweep (step_change s step choice))
 writes s apart settled (Declare d) choice passed = declaration_writes s d choice settled
 writes s apart settled (SetValue v) choice passed = setting_writes s v choice
@@ -432,7 +432,7 @@ writes s apart settled (Search node) choice passed = search_writes s node choice
 writes s apart settled (Take pid) choice passed = taking_writes s pid choice
 
 -- after every run
-pub written_always : (history : History) (old : State) → Run history old → (step : Step) (choice : Option Row) → IsChoice old step choice → WritesNamedBlocks old step choice
+pub written_always : (history : History) (old : State) → Run history old → (step : Step) (choice : Option LockRow) → IsChoice old step choice → WritesNamedBlocks old step choice
 written_always history old run step choice chosen =
     let so = of_refusal (step_refusal old step) refl in
     record {

@@ -6,7 +6,7 @@ use Rattle.vlm_words.specs.declared.asts.Ast.{Ast}
 use Rattle.vlm_words.specs.declared.asts.AstKind.{AstKind}
 use Rattle.vlm_words.specs.declared.asts.AstKind.TheVariants.{Completion, Blocking}
 use Rattle.vlm_words.specs.declared.locks.Request.{Request}
-use Rattle.vlm_words.specs.declared.locks.Row.{Row}
+use Rattle.vlm_words.specs.declared.locks.LockRow.{LockRow}
 use Rattle.vlm_words.specs.declared.modes.Mode.{Mode}
 use Rattle.vlm_words.specs.Modes.{is_compatible}
 use Rattle.vlm_words.specs.Flags.{flag_bits, has_flag, syncsts}
@@ -78,14 +78,14 @@ completions_of endings = flat_map completions endings
 -- ---- warnings
 
 -- the held mode, if there is one, is incompatible with some queued request
-abbrev pub is_in_the_way : Option Request → List Row → List Row → Bool
+abbrev pub is_in_the_way : Option Request → List LockRow → List LockRow → Bool
 is_in_the_way None converting waiting = false
 is_in_the_way (Some held) converting waiting =
     list_any (λ row. keeps_out held.mode row.want) converting
     || list_any (λ row. keeps_out held.mode row.want) waiting
 
 -- the granted lock is armed and blocks a queued request
-unfoldable pub is_to_warn : List Row → List Row → Row → Bool
+unfoldable pub is_to_warn : List LockRow → List LockRow → LockRow → Bool
 is_to_warn converting waiting row = row.armed && is_in_the_way row.held converting waiting
 
 -- the blocking AST of a held request, if it names a blocking routine
@@ -94,7 +94,7 @@ blocking_asts None lkid pid = []
 blocking_asts (Some held) lkid pid = asts_for Blocking held.blocking held lkid pid
 
 -- the blocking AST of a granted lock, if the lock is to be warned
-unfoldable pub row_warnings : List Row → List Row → Row → List Queued
+unfoldable pub row_warnings : List LockRow → List LockRow → LockRow → List Queued
 row_warnings converting waiting row =
     if is_to_warn converting waiting row then blocking_asts row.held row.lkid row.pid else []
 
@@ -103,7 +103,7 @@ unfoldable pub warnings : Resource → List Queued
 warnings r = flat_map (row_warnings r.converting r.waiting) r.granted
 
 -- a warned lock is disarmed
-unfoldable pub row_after_warning : List Row → List Row → Row → Row
+unfoldable pub row_after_warning : List LockRow → List LockRow → LockRow → LockRow
 row_after_warning converting waiting row =
     if is_to_warn converting waiting row then record row { armed = false } else row
 

@@ -1,7 +1,7 @@
 -- Waiting in a circle, and what a search finds, in words of their own.
 use Rattle.std.specs.Prelude.{◌≡◌, ◌≢◌, ◌≤◌, ◌⊎◌, ℕ, false, List, [], ◌∷◌, Any, Option, None, Some}
 use Rattle.vlm_words.specs.declared.locks.Request.{Request}
-use Rattle.vlm_words.specs.declared.locks.Row.{Row}
+use Rattle.vlm_words.specs.declared.locks.LockRow.{LockRow}
 use Rattle.vlm_words.specs.declared.modes.Mode.{Mode}
 use Rattle.vlm_words.specs.Flags.{flag_bits, has_flag, nodlckblk, nodlckwt}
 use Rattle.vlm_words.specs.State.{Resource, State}
@@ -11,17 +11,17 @@ use Rattle.vlm_model.specs.Laws.{IsBeside}
 use Rattle.vlm_model.specs.Stepped.{Stepped}
 
 -- the row is one of these
-abbrev pub IsOneOf : List Row → Row → Type 0
+abbrev pub IsOneOf : List LockRow → LockRow → Type 0
 IsOneOf rows row = Any (λ other. other ≡ row) rows
 
 -- the first row comes before the second in the queue
-abbrev pub ComesBefore : Row → Row → List Row → Type 0
+abbrev pub ComesBefore : LockRow → LockRow → List LockRow → Type 0
 ComesBefore first second [] = ⊥
 ComesBefore first second (row ∷ rows) =
     ((row ≡ first) × IsOneOf rows second) ⊎ ComesBefore first second rows
 
 -- the lock's request is ahead of the row's: earlier in the same queue, or a conversion before a waiting request
-abbrev pub IsAheadOf : Resource → Row → Row → Type 0
+abbrev pub IsAheadOf : Resource → LockRow → LockRow → Type 0
 IsAheadOf r lock row =
     ComesBefore lock row r.converting ⊎ (IsOneOf r.converting lock × IsOneOf r.waiting row)
     ⊎ ComesBefore lock row r.waiting
@@ -32,12 +32,12 @@ IsWaitedFor None = ⊥
 IsWaitedFor (Some request) = has_flag (flag_bits request.flags) nodlckblk ≡ false
 
 -- the lock holds a mode on the resource that is incompatible with this one, by a request without NODLCKBLK
-abbrev pub KeepsOut : Resource → Mode → Row → Type 0
+abbrev pub KeepsOut : Resource → Mode → LockRow → Type 0
 KeepsOut r mode lock =
     (IsOneOf r.granted lock ⊎ IsOneOf r.converting lock) × (IsBeside mode lock.held → ⊥) × IsWaitedFor lock.held
 
 -- the row's queued request, without NODLCKWT, waits for another lock, which keeps it out or is ahead of it
-pub record IsBlockedBy (r : Resource) (row lock : Row) : Type 0 where
+pub record IsBlockedBy (r : Resource) (row lock : LockRow) : Type 0 where
   pub queued : IsOneOf r.converting row ⊎ IsOneOf r.waiting row
   pub request : Request
   pub wants : row.want ≡ Some request
@@ -46,13 +46,13 @@ pub record IsBlockedBy (r : Resource) (row lock : Row) : Type 0 where
   pub why : KeepsOut r request.mode lock ⊎ (IsAheadOf r lock row × IsWaitedFor lock.want)
 
 -- on some resource the row's request waits for the lock
-abbrev pub IsBlocked : State → Row → Row → Type 0
+abbrev pub IsBlocked : State → LockRow → LockRow → Type 0
 IsBlocked s row lock = Any (λ r. IsBlockedBy r row lock) s.resources
 
 -- a request of process pid waits for a lock of the other process
 pub record IsHeldUpBy (s : State) (pid other : ℕ) : Type 0 where
-  pub row : Row
-  pub lock : Row
+  pub row : LockRow
+  pub lock : LockRow
   pub waiter : row.pid ≡ pid
   pub owner : lock.pid ≡ other
   pub blocked : IsBlocked s row lock
@@ -71,27 +71,27 @@ abbrev pub ComesBackTo : State → ℕ → ℕ → Type 0
 ComesBackTo s pid owner = (owner ≡ pid) ⊎ ((others : List ℕ) × WaitsOnTo s pid owner others)
 
 -- the row's request waits for a lock whose owner is, or waits for, the row's own process
-pub record IsCaught (s : State) (row : Row) : Type 0 where
-  pub lock : Row
+pub record IsCaught (s : State) (row : LockRow) : Type 0 where
+  pub lock : LockRow
   pub blocked : IsBlocked s row lock
   pub back : ComesBackTo s row.pid lock.pid
 
 -- the row's request is not later than the other's
-abbrev pub IsNoLater : Row → Row → Type 0
+abbrev pub IsNoLater : LockRow → LockRow → Type 0
 IsNoLater row other =
     (first later : Request) → row.want ≡ Some first → other.want ≡ Some later → first.number ≤ later.number
 
 -- the row's request ends by deadlock
-abbrev pub EndsByDeadlock : Row → List Ending → Type 0
+abbrev pub EndsByDeadlock : LockRow → List Ending → Type 0
 EndsByDeadlock row endings =
     Any (λ ending. (ending.how ≡ by_deadlock) × (ending.lkid ≡ row.lkid) × (Some ending.request ≡ row.want)) endings
 
 -- the lock's request is caught, no caught request was accepted later, and it ends by deadlock
 pub record IsCaughtLast (s : State) (made : Stepped) (lkid : ℕ) : Type 0 where
-  pub row : Row
+  pub row : LockRow
   pub lock : row.lkid ≡ lkid
   pub caught : IsCaught s row
-  pub last : (other : Row) → IsCaught s other → IsNoLater other row
+  pub last : (other : LockRow) → IsCaught s other → IsNoLater other row
   pub ended : EndsByDeadlock row made.endings
 
 -- nothing changes, no request ends, and nothing is queued

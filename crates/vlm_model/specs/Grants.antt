@@ -2,7 +2,7 @@
 use Rattle.std.specs.Prelude.{Bool, true, false, ◌&&◌, List, [], ◌∷◌, ◌++◌, Option, None, Some, is_some, if◌then◌else◌}
 use Rattle.std.specs.List.{list_all}
 use Rattle.vlm_words.specs.declared.locks.Request.{Request}
-use Rattle.vlm_words.specs.declared.locks.Row.{Row}
+use Rattle.vlm_words.specs.declared.locks.LockRow.{LockRow}
 use Rattle.vlm_words.specs.declared.modes.Act.TheVariants.{Nothing, Return}
 use Rattle.vlm_words.specs.declared.modes.Act.{Act}
 use Rattle.vlm_words.specs.declared.modes.Mode.{Mode}
@@ -14,12 +14,12 @@ use Rattle.vlm_model.specs.Endings.How.{by_grant}
 use Rattle.vlm_words.specs.Rows.{fits, granted_row, is_empty}
 
 -- the wanted request fits beside these rows; false if nothing is wanted
-abbrev pub wanted_fits : Option Request → List Row → List Row → Bool
+abbrev pub wanted_fits : Option Request → List LockRow → List LockRow → Bool
 wanted_fits None granted converting = false
 wanted_fits (Some request) granted converting = fits request.mode granted converting
 
 -- a grant: the row goes to the end of the granted queue
-abbrev pub resource_after_grant : Resource → Row → Resource
+abbrev pub resource_after_grant : Resource → LockRow → Resource
 resource_after_grant r row = record r { granted = r.granted ++ granted_row row ∷ [] }
 
 -- what VALBLK does at a grant: a new request returns the value block, a conversion goes by the table
@@ -34,7 +34,7 @@ grant_act held (Some want) =
     if has_flag (flag_bits want.flags) valblk then valblk_act held want.mode else Nothing
 
 -- the ending that a grant brings
-abbrev pub grant_endings : Bool → Row → List Ending
+abbrev pub grant_endings : Bool → LockRow → List Ending
 grant_endings at_once row = row_endings (by_grant (grant_act row.held row.want)) at_once row
 
 -- the result of a service: the resource, and the endings of the granted requests
@@ -47,11 +47,11 @@ abbrev pub no_service : Resource → Service
 no_service r = record { resource = r; endings = [] }
 
 -- one grant, and then more of the service
-abbrev pub service_after_grant : Row → Service → Service
+abbrev pub service_after_grant : LockRow → Service → Service
 service_after_grant row more = record more { endings = grant_endings false row ++ more.endings }
 
 -- grants the first conversion as long as it fits
-abbrev pub service_of_conversions : Resource → List Row → Service
+abbrev pub service_of_conversions : Resource → List LockRow → Service
 service_of_conversions r [] = no_service r
 service_of_conversions r (row ∷ rows) =
     if wanted_fits row.want r.granted rows
@@ -60,7 +60,7 @@ service_of_conversions r (row ∷ rows) =
     else no_service r
 
 -- grants the first waiting request as long as it fits
-abbrev pub service_of_waiting : Resource → List Row → Service
+abbrev pub service_of_waiting : Resource → List LockRow → Service
 service_of_waiting r [] = no_service r
 service_of_waiting r (row ∷ rows) =
     if wanted_fits row.want r.granted r.converting

@@ -1,6 +1,6 @@
 -- The law that lock identifications, request numbers and serials are given once.
 use Rattle.std.specs.Prelude.{◌≡◌, ◌+◌, ◌⊎◌, ℕ, Any, sum_by, Option}
-use Rattle.vlm_words.specs.declared.locks.Row.{Row}
+use Rattle.vlm_words.specs.declared.locks.LockRow.{LockRow}
 use Rattle.vlm_words.specs.declared.steps.Answer.TheVariants.{Lock}
 use Rattle.vlm_words.specs.declared.steps.Answer.{Answer}
 use Rattle.vlm_words.specs.declared.steps.Conversion.{Conversion}
@@ -46,6 +46,6 @@ TakesSerial old new =
     ⊎ ((new.next_serial ≡ old.next_serial) × (HasSerial old.next_serial new → ⊥))
 
 -- a step takes the numbers of what it makes, and no others
-pub record NumbersAreGivenOnce (old : State) (step : Step) (choice : Option Row) : Type 0 where
+pub record NumbersAreGivenOnce (old : State) (step : Step) (choice : Option LockRow) : Type 0 where
   pub requests : TakesNumbers old (stepped old step choice).state step (stepped old step choice).answer
   pub serials : TakesSerial old (stepped old step choice).state

@@ -2,12 +2,12 @@
 use Rattle.std.specs.Prelude.{ℕ, Bool, zero, suc, false, ◌&&◌, ◌||◌, ◌==◌, ◌-◌, ◌++◌, List, filter, flat_map, slice_get}
 use Rattle.std.specs.List.{list_any, range_with_len}
 use Rattle.std.specs.Option.{option_map_or}
-use Rattle.vlm_words.specs.declared.locks.Row.{Row}
+use Rattle.vlm_words.specs.declared.locks.LockRow.{LockRow}
 use Rattle.vlm_words.specs.Rows.{rows_of}
 use Rattle.vlm_words.specs.State.{Resource, State}
 
 -- the row is of this lock, and its process is one of these
-abbrev pub is_lock_among : (ℕ → Bool) → ℕ → Row → Bool
+abbrev pub is_lock_among : (ℕ → Bool) → ℕ → LockRow → Bool
 is_lock_among is_one lkid row = (row.lkid == lkid) && is_one row.pid
 
 -- the lock is on the resource, in some queue, and its process is one of these
@@ -22,7 +22,7 @@ own_lkids is_one s =
     filter (λ lkid. list_any (has_lock_among is_one lkid) s.resources) (range_with_len 1 (s.next_lkid - 1))
 
 -- the rows of this lock on all resources
-abbrev pub all_rows_of : ℕ → List Resource → List Row
+abbrev pub all_rows_of : ℕ → List Resource → List LockRow
 all_rows_of lkid resources =
     flat_map (λ r. rows_of lkid r.granted ++ rows_of lkid r.converting ++ rows_of lkid r.waiting) resources
 

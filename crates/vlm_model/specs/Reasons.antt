@@ -4,7 +4,7 @@ use Rattle.std.specs.Int.{bit_at}
 use Rattle.vlm_words.specs.declared.conditions.Cond.TheVariants.{Normal, Synch, Notqueued, Cancelgrant, Sublocks, Ivlockid, Cvtungrant, Parnotgrant, Exdepth, Exenqlm, Nolockid, Ivbuflen, Badparam, Unsupported, Nosyslck, Accvio, Nonexpr, Departed}
 use Rattle.vlm_words.specs.declared.conditions.Cond.{Cond}
 use Rattle.vlm_words.specs.declared.locks.Request.{Request}
-use Rattle.vlm_words.specs.declared.locks.Row.{Row}
+use Rattle.vlm_words.specs.declared.locks.LockRow.{LockRow}
 use Rattle.vlm_words.specs.declared.modes.Mode.TheVariants.{Nl}
 use Rattle.vlm_words.specs.declared.modes.Mode.{Mode}
 use Rattle.vlm_words.specs.declared.steps.Answer.TheVariants.{Process as process_answer, Lock, Plain, Taken, Victim}
@@ -65,7 +65,7 @@ abbrev pub HasLock : State → ℕ → ℕ → Type 0
 HasLock s pid lkid = Any (StandsOn lkid pid) s.resources
 
 -- the lock of this process is among the rows
-abbrev pub IsAmong : ℕ → ℕ → List Row → Type 0
+abbrev pub IsAmong : ℕ → ℕ → List LockRow → Type 0
 IsAmong lkid pid rows = Any (λ row. (row.lkid ≡ lkid) × (row.pid ≡ pid)) rows
 
 -- the lock of this process is granted on some resource
@@ -206,14 +206,14 @@ IsAcceptance (Take pid) AtOnce (Taken ast) = ⊤
 IsAcceptance step AtOnce answer = ⊥
 
 -- the step breaks no rule and is accepted
-pub record IsAccepted (old : State) (step : Step) (choice : Option Row) : Type 0 where
+pub record IsAccepted (old : State) (step : Step) (choice : Option LockRow) : Type 0 where
   pub keeps : (cond : Cond) → Breaks old step cond → ⊥
   pub answered :
       IsAcceptance step (IsGrantedAtOnce old.next_request (stepped old step choice).endings)
       (stepped old step choice).answer
 
 -- the step breaks a rule, is answered the condition of that rule, and changes nothing
-pub record IsRefused (old : State) (step : Step) (choice : Option Row) : Type 0 where
+pub record IsRefused (old : State) (step : Step) (choice : Option LockRow) : Type 0 where
   pub told : Cond
   pub breaks : Breaks old step told
   pub answered : (stepped old step choice).answer ≡ Plain told
@@ -221,5 +221,5 @@ pub record IsRefused (old : State) (step : Step) (choice : Option Row) : Type 0 
   pub none_ends : (stepped old step choice).endings ≡ []
 
 -- a step is accepted, or refused for a reason; if it breaks several rules, the law leaves open which one answers
-abbrev pub RefusalHasItsReason : State → Step → Option Row → Type 0
+abbrev pub RefusalHasItsReason : State → Step → Option LockRow → Type 0
 RefusalHasItsReason old step choice = IsAccepted old step choice ⊎ IsRefused old step choice

@@ -2,7 +2,7 @@
 //! if there is one: its contract is the law.
 
 ghost use Rattle.std.specs.Prelude.{◌≡◌, ℕ, true, Option};
-ghost use Rattle.vlm_words.specs.declared.locks.Row.{Row};
+ghost use Rattle.vlm_words.specs.declared.locks.LockRow.{LockRow};
 ghost use Rattle.vlm_words.specs.declared.conditions.Cond.TheVariants.{Normal};
 ghost use Rattle.vlm_words.specs.declared.steps.Answer.TheVariants.{Plain};
 ghost use Rattle.vlm_words.specs.declared.steps.Dequeue.{Dequeue};
@@ -58,7 +58,7 @@ pub fn law_a_request_completes_once()
 /// every AST that is queued was due.
 pub fn law_only_own_requests_raise_what_is_due()
     ensures { (history : History) (old : State) → Run history old
-        → (step : Step) (choice : Option Row)
+        → (step : Step) (choice : Option LockRow)
         → IsChoice old step choice → OnlyOwnRequestsRaiseDues old step choice }
 {
     law_asts_are_taken_in_order();
@@ -94,7 +94,7 @@ pub fn law_a_grant_is_armed_or_was_warned()
 /// In any state: a lock that a step warns is granted, after the step, in a mode that is incompatible with some queued
 /// request of its resource. The AST goes to the lock's process.
 pub fn law_a_warned_lock_is_in_the_way()
-    ensures { (s : State) (step : Step) (choice : Option Row)
+    ensures { (s : State) (step : Step) (choice : Option LockRow)
         → WarnedLocksAreInTheWay (stepped s step choice) }
 {}
 
@@ -126,7 +126,7 @@ pub fn law_an_ended_process_is_told_no_more()
 /// order.
 pub fn law_a_dequeue_of_all_takes_those_below_alone()
     ensures { (history : History) (old : State) → Run history old
-        → (d : Dequeue) (choice : Option Row) → has_flag d.flags deqall ≡ true
+        → (d : Dequeue) (choice : Option LockRow) → has_flag d.flags deqall ≡ true
         → (stepped old (Deq d) choice).answer ≡ Plain Normal
         → TakesThoseBelowAlone old d choice }
 {}
@@ -135,7 +135,7 @@ pub fn law_a_dequeue_of_all_takes_those_below_alone()
 /// of the locks, and all before the grants of its sweep.
 pub fn law_a_dequeue_of_all_aborts_by_rising_identification()
     ensures { (history : History) (old : State) → Run history old
-        → (d : Dequeue) (choice : Option Row) → has_flag d.flags deqall ≡ true
+        → (d : Dequeue) (choice : Option LockRow) → has_flag d.flags deqall ≡ true
         → (stepped old (Deq d) choice).answer ≡ Plain Normal
         → AbortsByRisingIdentification old d choice }
 {}
@@ -143,7 +143,7 @@ pub fn law_a_dequeue_of_all_aborts_by_rising_identification()
 /// A root in the system's domain is made only by a request with SYSTEM whose caller has the privilege SYSLCK.
 pub fn law_system_roots_are_privileged()
     ensures { (history : History) (old : State) → Run history old
-        → (step : Step) (choice : Option Row)
+        → (step : Step) (choice : Option LockRow)
         → IsChoice old step choice → SystemRootsArePrivileged old step choice }
 {}
 
@@ -151,14 +151,14 @@ pub fn law_system_roots_are_privileged()
 /// the processes of a departing node and the victim of a search.
 pub fn law_others_are_left_alone()
     ensures { (history : History) (old : State) → Run history old
-        → (step : Step) (choice : Option Row) → IsChoice old step choice
+        → (step : Step) (choice : Option LockRow) → IsChoice old step choice
         → OthersAreLeftAlone old step choice }
 {}
 
 /// In any state: a search makes no request deadlocked. Each request that waits in a circle after the search waited in
 /// one before it, so the grants after the victim's end close no new circle.
 pub fn law_a_search_catches_nobody_anew()
-    ensures { (s : State) (node : ℕ) (choice : Option Row)
+    ensures { (s : State) (node : ℕ) (choice : Option LockRow)
         → NoneIsCaughtAnew s (stepped s (Search node) choice).state }
 {}
 

@@ -3,7 +3,7 @@
 
 ghost use Rattle.std.specs.Prelude.{◌≡◌, ℕ, List, None, Option};
 ghost use Rattle.std.specs.List.{AllByRecursion};
-ghost use Rattle.vlm_words.specs.declared.locks.Row.{Row};
+ghost use Rattle.vlm_words.specs.declared.locks.LockRow.{LockRow};
 ghost use Rattle.vlm_words.specs.declared.steps.Answer.TheVariants.{Victim};
 ghost use Rattle.vlm_words.specs.declared.steps.Step.TheVariants.{Search};
 ghost use Rattle.vlm_words.specs.declared.steps.Step.{Step};
@@ -118,7 +118,7 @@ pub fn law_quotas_are_kept()
 /// no conversion is left.
 pub fn law_grants_follow_queue_order()
     ensures { (history : History) (old : State) → Run history old
-        → (step : Step) (choice : Option Row)
+        → (step : Step) (choice : Option LockRow)
         → IsChoice old step choice → step_refusal old step ≡ None
         → GrantsFollowQueueOrder old step choice }
 {}
@@ -126,7 +126,7 @@ pub fn law_grants_follow_queue_order()
 /// A step's own change keeps each queue in order: only its own locks leave, and at most one joins, at the end.
 pub fn law_changes_keep_the_order_of_queues()
     ensures { (history : History) (old : State) → Run history old
-        → (step : Step) (choice : Option Row) → IsChoice old step choice
+        → (step : Step) (choice : Option LockRow) → IsChoice old step choice
         → step_refusal old step ≡ None → ChangesKeepOrder old step choice }
 {}
 
@@ -161,7 +161,7 @@ pub fn law_a_sweep_touches_only_what_is_not_settled()
 /// for each new lock, a serial for each new resource. No step lowers a number, so each is given once.
 pub fn law_numbers_are_given_once()
     ensures { (history : History) (old : State) → Run history old
-        → (step : Step) (choice : Option Row)
+        → (step : Step) (choice : Option LockRow)
         → IsChoice old step choice → NumbersAreGivenOnce old step choice }
 {}
 
@@ -169,7 +169,7 @@ pub fn law_numbers_are_given_once()
 /// nothing.
 pub fn law_a_refusal_has_its_reason()
     ensures { (history : History) (old : State) → Run history old
-        → (step : Step) (choice : Option Row)
+        → (step : Step) (choice : Option LockRow)
         → IsChoice old step choice → RefusalHasItsReason old step choice }
 {}
 
@@ -183,7 +183,7 @@ pub fn law_noqueue_is_kept()
 /// gives the status. Declarations add processes, rundowns and departures remove them, and no other step does either.
 pub fn law_a_step_writes_the_status_blocks_that_are_named()
     ensures { (history : History) (old : State) → Run history old
-        → (step : Step) (choice : Option Row)
+        → (step : Step) (choice : Option LockRow)
         → IsChoice old step choice → WritesNamedBlocks old step choice }
 {}
 
@@ -191,7 +191,7 @@ pub fn law_a_step_writes_the_status_blocks_that_are_named()
 /// a Take leaves the ASTs of other processes alone. New ASTs join at the end.
 pub fn law_asts_are_taken_in_order()
     ensures { (history : History) (old : State) → Run history old
-        → (step : Step) (choice : Option Row)
+        → (step : Step) (choice : Option LockRow)
         → IsChoice old step choice → AstsAreTakenInOrder old step choice }
 {}
 
@@ -211,7 +211,7 @@ pub fn law_a_lock_stands_as_asked_for()
 /// value block.
 pub fn law_only_writers_change_value_blocks()
     ensures { (history : History) (old : State) → Run history old
-        → (step : Step) (choice : Option Row)
+        → (step : Step) (choice : Option LockRow)
         → IsChoice old step choice → step_refusal old step ≡ None
         → OnlyWritersChangeValues old step choice }
 {}
@@ -222,7 +222,7 @@ pub fn law_only_writers_change_value_blocks()
 /// WIDENOTVALID if a wide return meets only an invalid tail, else NORMAL.
 pub fn law_a_grant_returns_the_value_block()
     ensures { (history : History) (old : State) → Run history old
-        → (step : Step) (choice : Option Row)
+        → (step : Step) (choice : Option LockRow)
         → IsChoice old step choice → GrantsReturnValues old step choice }
 {}
 
@@ -231,7 +231,7 @@ pub fn law_a_grant_returns_the_value_block()
 /// for the request's own process, or was that process. No request in such a circle was accepted later.
 pub fn law_a_search_finds_who_is_caught()
     ensures { (history : History) (old : State) → Run history old
-        → (node : ℕ) (choice : Option Row) → IsChoice old (Search node) choice
+        → (node : ℕ) (choice : Option LockRow) → IsChoice old (Search node) choice
         → (lkid : Option ℕ) → (stepped old (Search node) choice).answer ≡ Victim lkid
         → FindsWhoIsCaught old (stepped old (Search node) choice) lkid }
 {}

@@ -7,7 +7,7 @@ use Rattle.vlm_words.specs.State.{State, start}
 use Rattle.vlm_watch.specs.declared.rows.RootKey.{RootKey}
 use Rattle.vlm_script.specs.declared.faults.PlayFault.{PlayFault}
 use Rattle.vlm_script.specs.declared.faults.PlayFault.TheVariants.{Line, Memory, Read, Write, Long}
-use Rattle.vlm_script.specs.declared.printing.rows.WatchedRow.{WatchedRow}
+use Rattle.vlm_script.specs.declared.printed.rows.WatchedRow.{WatchedRow}
 use Rattle.vlm_script.specs.declared.steps.ScriptStep.{ScriptStep}
 use Rattle.vlm_script.specs.Plays.{PassesPart}
 use Rattle.vlm_script.specs.Shares.{StopsShares}

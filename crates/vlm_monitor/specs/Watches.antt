@@ -12,7 +12,7 @@ use Rattle.vlm_lines.specs.declared.faults.LineFault.{LineFault}
 use Rattle.vlm_lines.specs.Lines.{lines_of}
 use Rattle.vlm_script.specs.declared.faults.PlayFault.{PlayFault}
 use Rattle.vlm_script.specs.declared.faults.PlayFault.TheVariants.{Line, Memory, Read, Write, Long}
-use Rattle.vlm_script.specs.declared.printing.rows.WatchedRow.{WatchedRow}
+use Rattle.vlm_script.specs.declared.printed.rows.WatchedRow.{WatchedRow}
 use Rattle.vlm_script.specs.declared.steps.ScriptStep.{ScriptStep}
 use Rattle.vlm_script.specs.Plays.{PassesPart, Wrote}
 use Rattle.vlm_script.specs.Shares.{StopsShares, no_shares}

@@ -14,9 +14,9 @@ use Rattle.vlm_journal.specs.Departed.{StaysDeparted}
 use Rattle.vlm_journal.specs.Journals.{JournalFrom, begin}
 use Rattle.vlm_journal.proofs.Joining.{join}
 use Rattle.vlm_ports.specs.declared.hub.Hub.{Hub}
-use Rattle.vlm_ports.specs.declared.line.Line.{Line}
+use Rattle.vlm_ports.specs.declared.node_rings.NodeRings.{NodeRings}
 use Rattle.vlm_ports.specs.Rings.{RingName}
-use Rattle.vlm_ports.specs.Links.{AreLinked, MayRest, knows, places, line_identity}
+use Rattle.vlm_ports.specs.Links.{AreLinked, MayRest, knows, places, node_rings_identity}
 use Rattle.vlm_ports.specs.Hubs.{Grew, HubTakesAlone, IsSameBut, MayRestAt, MayIdle, TakesAst, nodes, rings}
 
 -- an entry is one of itself alone
@@ -64,18 +64,18 @@ pub rest_more : (at : ℕ) (a b : Hub) → IsSameBut at a b → ((k : ℕ) → k
 rest_more at a b same below here k lt d = elim (cases_eq k at) [
   | inl e ↦ let P : ℕ → Type 0 = λ m. MayRestAt b m in subst P (sym e) here d
   | inr ne ↦
-      let P : State → Type 0 = λ s. MayRest s (get_or a.lines.items k d) in
-      let Q : Line → Type 0 = λ l. MayRest b.book.state l in
-      subst Q (sym (same.lines k d ne)) (subst P (sym same.state) (below k (omega (arith, ne)) d))
+      let P : State → Type 0 = λ s. MayRest s (get_or a.all_node_rings.items k d) in
+      let Q : NodeRings → Type 0 = λ l. MayRest b.book.state l in
+      subst Q (sym (same.all_node_rings k d ne)) (subst P (sym same.state) (below k (omega (arith, ne)) d))
 ]
 
 same_rings : (a b : Hub) → rings a ≡ rings b → nodes a ≡ nodes b
-same_rings a b e = sym (length-map a.lines.items line_identity) ∙ (ap (λ (rs : List (ℕ × RingName × RingName)). length rs) e ∙ length-map b.lines.items line_identity)
+same_rings a b e = sym (length-map a.all_node_rings.items node_rings_identity) ∙ (ap (λ (rs : List (ℕ × RingName × RingName)). length rs) e ∙ length-map b.all_node_rings.items node_rings_identity)
 
 pub within_rings : (a b : Hub) (at : ℕ) → rings a ≡ rings b → at < nodes b → at < nodes a
 within_rings a b at e lt = let n = same_rings a b e in omega arith
 
-may_idle_at : (x : Line) (xs : List Line) (s : State) (js : List Entry) → AreLinked (x ∷ xs) js → (k node : ℕ) → node ≡ k + 1 → k < length (x ∷ xs)
+may_idle_at : (x : NodeRings) (xs : List NodeRings) (s : State) (js : List Entry) → AreLinked (x ∷ xs) js → (k node : ℕ) → node ≡ k + 1 → k < length (x ∷ xs)
     → MayRest s (get_or (x ∷ xs) k x)
     → (get_or (map places (x ∷ xs)) k 0 ≡ 0) ⊎ ((first_pending node s.processes ≡ None) × (get_or (map knows (x ∷ xs)) k [] ≡ []))
 may_idle_at x xs s js linked k node is lt rests = elim rests [
@@ -86,7 +86,7 @@ may_idle_at x xs s js linked k node is lt rests = elim rests [
   )
 ]
 
-may_idle_by : (ls : List Line) (s : State) (js : List Entry) → AreLinked ls js → ((k : ℕ) → k < length ls → (d : Line) → MayRest s (get_or ls k d))
+may_idle_by : (ls : List NodeRings) (s : State) (js : List Entry) → AreLinked ls js → ((k : ℕ) → k < length ls → (d : NodeRings) → MayRest s (get_or ls k d))
     → (node : ℕ) → 0 < node → node ≤ length ls
     → (get_or (map places ls) (node - 1) 0 ≡ 0) ⊎ ((first_pending node s.processes ≡ None) × (get_or (map knows ls) (node - 1) [] ≡ []))
 may_idle_by [] s js linked rests node some within = absurd (omega arith)
@@ -95,5 +95,5 @@ may_idle_by (x ∷ xs) s js linked rests node some within =
     may_idle_at x xs s js linked (node - 1) node (omega arith) lt (rests (node - 1) lt x)
 
 -- where each line may rest the hub may idle
-pub may_idle : (h : Hub) → AreLinked h.lines.items h.book.entries → ((k : ℕ) → k < nodes h → MayRestAt h k) → MayIdle h
-may_idle h linked rests node some within = may_idle_by h.lines.items h.book.state h.book.entries linked rests node some within
+pub may_idle : (h : Hub) → AreLinked h.all_node_rings.items h.book.entries → ((k : ℕ) → k < nodes h → MayRestAt h k) → MayIdle h
+may_idle h linked rests node some within = may_idle_by h.all_node_rings.items h.book.state h.book.entries linked rests node some within

@@ -14,9 +14,9 @@ use Rattle.vlm_journal.specs.Departed.{StaysDeparted}
 use Rattle.vlm_journal.specs.Journals.{JournalFrom}
 use Rattle.vlm_journal.specs.Told.{asked, told}
 use Rattle.vlm_ports.specs.declared.hub.Hub.{Hub}
-use Rattle.vlm_ports.specs.declared.line.Line.{Line}
+use Rattle.vlm_ports.specs.declared.node_rings.NodeRings.{NodeRings}
 use Rattle.vlm_ports.specs.declared.port.Port.{Port}
-use Rattle.vlm_ports.specs.Links.{Base, IsDrawn, Lasts, MayRest, knows, line_base, line_identity, no_base, places}
+use Rattle.vlm_ports.specs.Links.{Base, IsDrawn, Lasts, MayRest, knows, node_rings_base, node_rings_identity, no_base, places}
 use Rattle.vlm_ports.specs.Ports.{identity}
 use Rattle.vlm_ports.specs.Rings.{RingName}
 
@@ -32,15 +32,15 @@ base h = h.book.base
 
 -- how many nodes the hub serves
 abbrev pub nodes : Hub → ℕ
-nodes h = length h.lines.items
+nodes h = length h.all_node_rings.items
 
 -- the nodes and their rings
 abbrev pub rings : Hub → List (ℕ × RingName × RingName)
-rings h = map line_identity h.lines.items
+rings h = map node_rings_identity h.all_node_rings.items
 
 -- the requests and the items of each node before the last cut
 abbrev pub bases : Hub → List Base
-bases h = map (line_base (journal h)) h.lines.items
+bases h = map (node_rings_base (journal h)) h.all_node_rings.items
 
 abbrev pub asked_before : Hub → ℕ → List Step
 asked_before h node = (slice_index_or (bases h) (node - 1) no_base).asked_before
@@ -50,11 +50,11 @@ told_before h node = (slice_index_or (bases h) (node - 1) no_base).told_before
 
 -- the posts of a node that the hub knows to be on its ring
 abbrev pub waiting : Hub → ℕ → List Step
-waiting h node = slice_index_or (map knows h.lines.items) (node - 1) []
+waiting h node = slice_index_or (map knows h.all_node_rings.items) (node - 1) []
 
 -- how many places the hub knows to be free on the item ring of a node
 abbrev pub free_for : Hub → ℕ → ℕ
-free_for h node = slice_index_or (map places h.lines.items) (node - 1) 0
+free_for h node = slice_index_or (map places h.all_node_rings.items) (node - 1) 0
 
 -- the posts of a node that the hub knows of: first those that it has made, then those that wait
 abbrev pub known_posts : Hub → ℕ → List Step
@@ -79,8 +79,8 @@ abbrev pub OthersLast : ℕ → Hub → Hub → Type 0
 OthersLast own old new = (node : ℕ) → 0 < node → (node ≡ own → ⊥) → KnowsTheSame node old new
 
 -- no line forgets anything
-abbrev pub LinesLast : Hub → Hub → Type 0
-LinesLast old new = (k : ℕ) (d : Line) → Lasts (slice_index_or old.lines.items k d) (slice_index_or new.lines.items k d)
+abbrev pub AllNodeRingsLast : Hub → Hub → Type 0
+AllNodeRingsLast old new = (k : ℕ) (d : NodeRings) → Lasts (slice_index_or old.all_node_rings.items k d) (slice_index_or new.all_node_rings.items k d)
 
 -- the port was made with this hub
 abbrev pub IsPortOf : Hub → Port → Type 0
@@ -93,16 +93,16 @@ MayIdle h = (node : ℕ) → 0 < node → node ≤ nodes h
 
 -- nothing is left to draw for the line at a place
 abbrev pub IsDrawnAt : Hub → ℕ → Type 0
-IsDrawnAt h k = (d : Line) → IsDrawn (state h) (slice_index_or h.lines.items k d)
+IsDrawnAt h k = (d : NodeRings) → IsDrawn (state h) (slice_index_or h.all_node_rings.items k d)
 
 -- the line at a place may rest
 abbrev pub MayRestAt : Hub → ℕ → Type 0
-MayRestAt h k = (d : Line) → MayRest (state h) (slice_index_or h.lines.items k d)
+MayRestAt h k = (d : NodeRings) → MayRest (state h) (slice_index_or h.all_node_rings.items k d)
 
 -- only the line at a place has changed, and not the state
 pub record IsSameBut (at : ℕ) (old new : Hub) : Type 0 where
   pub state : new.book.state ≡ old.book.state
-  pub lines : (k : ℕ) (d : Line) → (k ≡ at → ⊥) → slice_index_or new.lines.items k d ≡ slice_index_or old.lines.items k d
+  pub all_node_rings : (k : ℕ) (d : NodeRings) → (k ≡ at → ⊥) → slice_index_or new.all_node_rings.items k d ≡ slice_index_or old.all_node_rings.items k d
 
 -- the entry is a take, and its answer is an AST
 pub record TakesAst (entry : Entry) : Type 0 where

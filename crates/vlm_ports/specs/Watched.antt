@@ -54,7 +54,7 @@ published h = published_in (board h)
 
 -- its journal, its core, its rings and what it knows of them are the same
 abbrev pub IsSameHub : Hub → Hub → Type 0
-IsSameHub old new = (new.book ≡ old.book) × (new.lines ≡ old.lines)
+IsSameHub old new = (new.book ≡ old.book) × (new.all_node_rings ≡ old.all_node_rings)
 
 -- it is watched as it was: by the same watchers, under the same keys
 abbrev pub IsWatchedAsBefore : Hub → Hub → Type 0

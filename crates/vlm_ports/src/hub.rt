@@ -2,10 +2,10 @@
 
 ghost use Rattle.std.specs.Prelude.{◌≡◌, ◌⊎◌, ◌≤◌, ◌<◌, ◌+◌, ◌*◌, ◌∷◌, ◌++◌, ◌-◌, ◌^◌, [], length, min, vec_len, IfOk, OnErr, OnOk, IsFalse, All, map, ℕ};
 ghost use mathlib.Core.List.{IsPrefix};
-ghost use Rattle.vlm_ports.specs.Links.{AreFresh, AreLinked, line_identity};
+ghost use Rattle.vlm_ports.specs.Links.{AreFresh, AreLinked, node_rings_identity};
 ghost use Rattle.vlm_ports.specs.Ports.{AreNew as AreNewPorts, identity as port_identity};
 
-use crate::line::{Line, Settled};
+use crate::node_rings::{NodeRings, Settled};
 use crate::port::Port;
 use std::alloc::{AllocError, Global};
 use std::sync::Wait;
@@ -20,11 +20,11 @@ use vlm_words::steps::Answer;
 /// hub may have to wait: end it by [`Hub::finish`], or by [`Hub::close`] if it is not watched.
 pub struct Hub {
     pub(crate) book: Book,
-    lines: Vec<Line>,
+    all_node_rings: Vec<NodeRings>,
     // the board of its watchers, once it is watched
     pub(crate) board: Option<Board>,
-    ghost few: { vec_len lines ≤ 8 },
-    ghost linked: { AreLinked lines.items book.entries },
+    ghost few: { vec_len all_node_rings ≤ 8 },
+    ghost linked: { AreLinked all_node_rings.items book.entries },
 }
 
 /// The result of a turn.
@@ -55,7 +55,7 @@ impl Hub {
     ghost use Rattle.vlm_journal.specs.Books.{GoesOn, made};
     ghost use Rattle.vlm_journal.specs.Told.{asked, told};
     ghost use Rattle.vlm_ports.specs.Turns.{IsIdleTurn, IsServedTurn, turn_entries};
-    ghost use Rattle.vlm_ports.specs.Hubs.{EachAsksOnce, HubGrew, IsAsWritten, IsDrawnAt, IsNewHub, IsPortOf, IsSameBut, KeepsKnown, LinesLast, MayIdle, MayRestAt, NoneAsks, OneAsks, OthersLast, asked_before, base, bases, free_for, journal, nodes, rings, state, told_before, waiting};
+    ghost use Rattle.vlm_ports.specs.Hubs.{EachAsksOnce, HubGrew, IsAsWritten, IsDrawnAt, IsNewHub, IsPortOf, IsSameBut, KeepsKnown, AllNodeRingsLast, MayIdle, MayRestAt, NoneAsks, OneAsks, OthersLast, asked_before, base, bases, free_for, journal, nodes, rings, state, told_before, waiting};
     ghost use Rattle.vlm_ports.specs.Ports.{AreNew, arrived, free_places, identity, posted, taken};
     ghost use Rattle.vlm_ports.specs.Watched.{IsUnwatched, board};
 
@@ -63,7 +63,7 @@ impl Hub {
     pub fn nodes(&self) -> usize
         ensures { result ≡ nodes self.now }
     {
-        self.lines.len()
+        self.all_node_rings.len()
     }
 
     /// The entries since the last cut.
@@ -99,10 +99,10 @@ impl Hub {
         ensures rings { IfOk result (λ r. map identity r.1.items ≡ rings r.0) }
         ensures ours { IfOk result (λ r. All (IsPortOf r.0) r.1.items) }
     {
-        let (lines, ports) = ring_ends(alloc, count)?;
+        let (all_node_rings, ports) = ring_ends(alloc, count)?;
         let hub = Hub {
             book: Book::new(core, alloc),
-            lines,
+            all_node_rings,
             board: None,
         };
         Ok((hub, ports))
@@ -185,8 +185,8 @@ impl Hub {
         ensures known { KeepsKnown self.old self.new }
         ensures others { OthersLast port.new.node self.old self.new }
     {
-        let line = &mut self.lines[port.node as usize - 1];
-        line.settle(port)
+        let node_rings = &mut self.all_node_rings[port.node as usize - 1];
+        node_rings.settle(port)
     }
 
     /// Hands out the entries since the last cut, and begins a new part. It takes no memory.
@@ -219,7 +219,7 @@ impl Hub {
     {
         let Hub {
             book,
-            lines: _,
+            all_node_rings: _,
             board,
         } = self;
         match board {
@@ -253,7 +253,7 @@ impl Hub {
         ensures once { OneAsks at (journal self.old) (journal self.new) }
         ensures idle { result.made ≡ 0 → IsFalse result.refused
             → IsSameBut at self.old self.new × MayRestAt self.new at }
-        ensures known { LinesLast self.old self.new }
+        ensures known { AllNodeRingsLast self.old self.new }
     {
         match self.draw(at) {
             Err(_) => Attended {
@@ -284,20 +284,20 @@ impl Hub {
         ensures none_asks { IfOk result (λ n. NoneAsks (journal self.old) (journal self.new)) }
         ensures drawn { IfOk result (λ n. n ≡ 0
             → IsSameBut at self.old self.new × IsDrawnAt self.new at) }
-        ensures known { LinesLast self.old self.new }
+        ensures known { AllNodeRingsLast self.old self.new }
         ensures refused { OnErr result (IsAsWritten self.old self.new) }
     {
-        let line = &mut self.lines[at];
-        if !line.has_place() {
+        let node_rings = &mut self.all_node_rings[at];
+        if !node_rings.has_place() {
             return Ok(0);
         }
-        let node = line.node;
+        let node = node_rings.node;
         let Some(pid) = self.book.pending_of(node) else {
             return Ok(0);
         };
         self.book.reserve()?;
         let ast = self.book.draw(node, pid);
-        line.tell(Item::Ast(pid, ast));
+        node_rings.tell(Item::Ast(pid, ast));
         Ok(1)
     }
 
@@ -312,39 +312,39 @@ impl Hub {
         ensures once { IfOk result (λ n. OneAsks at (journal self.old) (journal self.new)) }
         ensures served { IfOk result (λ n. n ≡ 0
             → IsSameBut at self.old self.new × (IsDrawnAt self.old at → MayRestAt self.new at)) }
-        ensures known { LinesLast self.old self.new }
+        ensures known { AllNodeRingsLast self.old self.new }
         ensures refused { OnErr result (IsAsWritten self.old self.new) }
     {
-        let line = &mut self.lines[at];
-        if !line.has_known_place() {
+        let node_rings = &mut self.all_node_rings[at];
+        if !node_rings.has_known_place() {
             return Ok(0);
         }
-        if !line.has_request() {
+        if !node_rings.has_request() {
             return Ok(0);
         }
         self.book.reserve()?;
-        let step = line.request();
-        let answer = self.book.serve(line.node, step);
-        line.tell(Item::Answer(answer));
+        let step = node_rings.request();
+        let answer = self.book.serve(node_rings.node, step);
+        node_rings.tell(Item::Answer(answer));
         Ok(1)
     }
 }
 
 // The hub's and the nodes' ends of the rings of so many nodes.
-fn ring_ends(alloc: Global, count: usize) -> Result<(Vec<Line>, Vec<Port>), AllocError>
+fn ring_ends(alloc: Global, count: usize) -> Result<(Vec<NodeRings>, Vec<Port>), AllocError>
     requires count { count ≤ 8 }
-    ensures lines { IfOk result (λ r. (length r.0.items ≡ count) × AreFresh r.0.items) }
+    ensures all_node_rings { IfOk result (λ r. (length r.0.items ≡ count) × AreFresh r.0.items) }
     ensures ports { IfOk result (λ r. (length r.1.items ≡ count) × AreNewPorts r.1.items) }
-    ensures rings { IfOk result (λ r. map port_identity r.1.items ≡ map line_identity r.0.items) }
+    ensures rings { IfOk result (λ r. map port_identity r.1.items ≡ map node_rings_identity r.0.items) }
 {
-    let mut lines = Vec::new(alloc);
+    let mut all_node_rings = Vec::new(alloc);
     let mut ports = Vec::new(alloc);
     for at in 0..count {
-        let (line, port) = Line::make(alloc, at as u8 + 1)?;
-        lines.push(line)?;
+        let (node_rings, port) = NodeRings::make(alloc, at as u8 + 1)?;
+        all_node_rings.push(node_rings)?;
         ports.push(port)?;
     }
-    Ok((lines, ports))
+    Ok((all_node_rings, ports))
 }
 
 // The condition in an answer.

@@ -6,13 +6,13 @@
 #![tactic(auto)]
 
 mod hub;
-mod line;
+mod node_rings;
 mod port;
 mod posts;
-mod watching;
+mod watched_hub;
 
 pub use hub::{Hub, Turn};
-pub use line::Settled;
+pub use node_rings::Settled;
 pub use port::{Full, Port};
 pub use vlm_journal::entries::{Entry, Item, Part};
 pub use vlm_watch::{BoardFault, RootKey, Row, Told, Watcher};

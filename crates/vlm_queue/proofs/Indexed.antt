@@ -3,7 +3,7 @@ use Rattle.std.proofs.Common.{◌≡◌, ℕ, zero, suc, ◌≤◌, List, [], �
 use Rattle.std.specs.Option.{ForSome, option_map, option_map_or}
 use Rattle.std.proofs.lemmas.List.{length-map}
 use Rattle.std.proofs.lemmas.Option.{same_Some}
-use Rattle.vlm_words.specs.declared.locks.Row.{Row}
+use Rattle.vlm_words.specs.declared.locks.LockRow.{LockRow}
 use Rattle.vlm_words.specs.declared.resources.Queue.{Queue}
 use Rattle.vlm_words.specs.declared.resources.Queue.TheVariants.{Granted, Conversion, Waiting}
 use Rattle.vlm_collections.specs.Lists.{IsIn}
@@ -79,7 +79,7 @@ first-index [] = refl
 first-index (k ∷ ks) = refl
 
 -- the lock at an index is one of these, with the row at this index
-pub lock_index-among : (i : ℕ) (ks : List StoredLock) (at : ℕ) → lock_at_index i ks ≡ Some at → (row : Row) × (IsIn (record { at = at; row = row }) ks × (slice_get (rows_of_locks ks) i ≡ Some row))
+pub lock_index-among : (i : ℕ) (ks : List StoredLock) (at : ℕ) → lock_at_index i ks ≡ Some at → (row : LockRow) × (IsIn (record { at = at; row = row }) ks × (slice_get (rows_of_locks ks) i ≡ Some row))
 lock_index-among i [] at is = cc
 lock_index-among zero (k ∷ ks) at is = (k.row, (inl (ap (λ x. record { at = x; row = k.row }) (same_Some k.at at is)), refl))
 lock_index-among (suc i) (k ∷ ks) at is = let behind = lock_index-among i ks at is in (behind.0, (inr behind.1.0, behind.1.1))
@@ -168,7 +168,7 @@ row_shown-index (suc i) (x ∷ rs) res queue index apart is =
 
 -- a lock of the queue is shown as it is stored
 pub lock_shown : (s : Records) (i res : ℕ) (queue : Queue) (index at : ℕ) (view : RowView) → IsSound s → resource_at_index i s.resources ≡ Some res
-    → lock_at_index index (locks_at (Queued res queue) s) ≡ Some at → ((row : Row) → Stores s at row → view ≡ row_view row)
+    → lock_at_index index (locks_at (Queued res queue) s) ≡ Some at → ((row : LockRow) → Stores s at row → view ≡ row_view row)
     → Some view ≡ row_shown (slice_get (map plain_resource s.resources) i) queue index
 lock_shown s i res queue index at view sound is stands told =
     let there = lock_index-among index (locks_at (Queued res queue) s) at stands in

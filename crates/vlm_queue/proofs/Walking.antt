@@ -2,7 +2,7 @@
 use Rattle.std.proofs.Common.{◌≡◌, ◌<◌, ℕ, arith, length, List, [], ◌∷◌, map, Option, None, Some, IfSome, IsSome, refl, sym, ap, ◌∙◌, inl, inr, eq-eqb, ne_eqb}
 use Rattle.std.specs.Option.{ForSome, option_map, option_map_or}
 use Rattle.std.proofs.lemmas.Bool.{cases_eq}
-use Rattle.vlm_words.specs.declared.locks.Row.{Row}
+use Rattle.vlm_words.specs.declared.locks.LockRow.{LockRow}
 use Rattle.vlm_words.specs.declared.resources.Queue.{Queue}
 use Rattle.vlm_words.specs.declared.resources.Queue.TheVariants.{Granted, Conversion, Waiting}
 use Rattle.vlm_collections.specs.Lists.{IsIn}
@@ -94,18 +94,18 @@ begins s res queue head first =
 
 -- a lock in its queue, with what a walk has left behind it
 pub record Passes (res : ℕ) (queue : Queue) (lock : ℕ) (next : Option ℕ) (s : Records) : Type 0 where
-  pub row : Row
+  pub row : LockRow
   pub stored : Stores s lock row
   pub left : rows_to_walk res queue (Some lock) s ≡ row ∷ rows_to_walk res queue next s
   pub there : IsInQueue res queue next s
 
 -- fewer are left behind a row
-pub fewer_rows : (row : Row) (rest left : List Row) → left ≡ row ∷ rest → length rest < length left
+pub fewer_rows : (row : LockRow) (rest left : List LockRow) → left ≡ row ∷ rest → length rest < length left
 fewer_rows row rest left is = rw is (omega arith)
 
 -- a walk that has come to a lock goes on to the one that follows it
 pub passes : (s : Records) (res : ℕ) (queue : Queue) (lock : ℕ) (next : Option ℕ) → IsSound s → IsInQueue res queue (Some lock) s
-    → ((place : Place) (row : Row) → IsIn (record { at = lock; row = row }) (locks_at place s) → next ≡ at_after lock (locks_at place s))
+    → ((place : Place) (row : LockRow) → IsIn (record { at = lock; row = row }) (locks_at place s) → next ≡ at_after lock (locks_at place s))
     → Passes res queue lock next s
 passes s res queue lock next sound come follows =
     let place = Queued res queue in

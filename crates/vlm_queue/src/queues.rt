@@ -3,7 +3,7 @@
 ghost use Rattle.std.specs.Prelude.{◌≡◌, IfSome};
 ghost use Rattle.std.specs.Bool.{OnTrue, OnFalse};
 ghost use Rattle.std.specs.Option.{ForSome};
-ghost use Rattle.vlm_words.specs.declared.locks.Row.{Row};
+ghost use Rattle.vlm_words.specs.declared.locks.LockRow.{LockRow};
 ghost use Rattle.vlm_words.specs.Rows.{is_empty};
 ghost use Rattle.vlm_collections.specs.Lists.{IsIn};
 ghost use Rattle.vlm_records.specs.declared.handles.Place.{Place};
@@ -26,7 +26,7 @@ pub fn head(store: &Store, res: ResAt, queue: Queue) -> Option<LockAt>
 /// The next lock in the queue of this lock, if there is one.
 pub fn next(store: &Store, lock: LockAt) -> Option<LockAt>
     requires { IsStored lock store.now }
-    ensures { (place : Place) (row : Row)
+    ensures { (place : Place) (row : LockRow)
         → IsIn (record { at = lock; row = row }) (locks_at place store.now)
         → result ≡ at_after lock (locks_at place store.now) }
 {
@@ -36,13 +36,13 @@ pub fn next(store: &Store, lock: LockAt) -> Option<LockAt>
 /// Whether the mode fits: it is compatible with the held mode of every lock of the resource, granted or converting,
 /// except the asking lock.
 #[inline(always)]
-pub fn can_hold(store: &Store, res: ResAt, mode: Mode, asking: Option<LockAt>) -> bool
+pub fn can_hold(store: &Store, res: ResAt, mode: Mode, except: Option<LockAt>) -> bool
     requires there { HasResource res store.now }
-    requires asking { ForSome asking (λ lock. IsStored lock store.now) }
+    requires except { ForSome except (λ lock. IsStored lock store.now) }
     ensures { IfSome (resource_at res store.now.resources)
-        (λ r. result ≡ fits_beside mode asking r) }
+        (λ r. result ≡ fits_beside mode except r) }
 {
-    store.can_hold(res, mode, asking)
+    store.can_hold(res, mode, except)
 }
 
 /// Whether the queue has no lock.

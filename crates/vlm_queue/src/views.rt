@@ -1,14 +1,14 @@
 //! Views of a resource and of a lock, as copies that outlive the next step.
 
 ghost use Rattle.std.specs.Prelude.{◌≡◌, IfSome};
-ghost use Rattle.vlm_words.specs.declared.locks.Row.{Row};
+ghost use Rattle.vlm_words.specs.declared.locks.LockRow.{LockRow};
 ghost use Rattle.vlm_words.specs.Resources.{key_name, key_parent};
 ghost use Rattle.vlm_store.specs.Records.{HasResource, IsStored, Stores};
 ghost use Rattle.vlm_queue.specs.Views.{resource_view, row_view, usage};
 ghost use Rattle.vlm_queue.specs.Walks.{plain_resource_at};
 
 use vlm_store::{LockAt, ResAt, Resource, Store};
-use vlm_words::locks::Row;
+use vlm_words::locks::LockRow;
 use vlm_words::modes::Mode;
 use vlm_words::names::Name;
 use vlm_words::resources::{Domain, Queue};
@@ -91,7 +91,7 @@ impl ResourceView {
 
 impl RowView {
     /// The view of a row.
-    pub fn of(row: &Row) -> RowView
+    pub fn of(row: &LockRow) -> RowView
         ensures { result ≡ row_view row.now }
     {
         RowView {
@@ -114,7 +114,7 @@ pub fn resource_view(store: &Store, res: ResAt) -> ResourceView
 /// The view of a lock in the store.
 pub fn row_view(store: &Store, lock: LockAt) -> RowView
     requires { IsStored lock store.now }
-    ensures { (row : Row) → Stores store.now lock row → result ≡ row_view row }
+    ensures { (row : LockRow) → Stores store.now lock row → result ≡ row_view row }
 {
     RowView::of(&store.lock_record(lock).row.row())
 }

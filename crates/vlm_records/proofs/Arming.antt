@@ -16,7 +16,7 @@ use Rattle.vlm_collections.proofs.HandleLists.{IsIn-push_last, IsIn-without, IsI
 use Rattle.vlm_collections.proofs.Keeping.{relinked_same}
 use Rattle.vlm_collections.proofs.Rings.{kept-handles, kept-linked, no_list-linked}
 use Rattle.vlm_collections.proofs.Walks.{without_last}
-use Rattle.vlm_words.specs.declared.locks.Row.{Row}
+use Rattle.vlm_words.specs.declared.locks.LockRow.{LockRow}
 use Rattle.vlm_words.specs.declared.resources.Queue.{Queue}
 use Rattle.vlm_words.specs.declared.resources.Queue.TheVariants.{Granted, Conversion, Waiting}
 use Rattle.vlm_records.specs.declared.handles.Armed.{Armed}
@@ -226,7 +226,7 @@ tally-armed (Some r) = refl
 module _ (which : Armed) where
   -- ---- handles whose rows are armed
 
-  module _ (rows : ℕ → Row) where
+  module _ (rows : ℕ → LockRow) where
     -- one of them is one of all, and armed
     pub armed-in : (at : ℕ) (ks : List ℕ) → IsIn at (armed_handles which rows ks) → IsIn at ks × (is_listed which (rows at) ≡ true)
     armed-in at [] found = absurd found
@@ -292,10 +292,10 @@ module _ (which : Armed) where
         cc)
 
   -- the rows of these stay
-  pub armed-kept : (rows rows' : ℕ → Row) (ks : List ℕ) → ((k : ℕ) → IsIn k ks → rows' k ≡ rows k) → armed_handles which rows' ks ≡ armed_handles which rows ks
+  pub armed-kept : (rows rows' : ℕ → LockRow) (ks : List ℕ) → ((k : ℕ) → IsIn k ks → rows' k ≡ rows k) → armed_handles which rows' ks ≡ armed_handles which rows ks
   armed-kept rows rows' [] same = refl
   armed-kept rows rows' (k ∷ ks) same =
-      ap (λ (r : Row). cond (is_listed which r) (k ∷ armed_handles which rows' ks) (armed_handles which rows' ks)) (same k (inl refl))
+      ap (λ (r : LockRow). cond (is_listed which r) (k ∷ armed_handles which rows' ks) (armed_handles which rows' ks)) (same k (inl refl))
       ∙ ap (λ rest. cond (is_listed which (rows k)) (k ∷ rest) rest) (armed-kept rows rows' ks (λ x h. same x (inr h)))
 
   -- ---- where a lock is granted and armed
@@ -537,7 +537,7 @@ module _ (which : Armed) where
           present k there = there_through but_in_armed q.locks locks1 relisted_kin k there
 
           rows_same : (ks : List ℕ) → armed_handles (other_list which) (rows relisted) ks ≡ armed_handles (other_list which) (rows q) ks
-          rows_same ks = ap (λ (f : ℕ → Row). armed_handles (other_list which) f ks) (fun_ext rows_stay)
+          rows_same ks = ap (λ (f : ℕ → LockRow). armed_handles (other_list which) f ks) (fun_ext rows_stay)
 
           granted_stays : (out : Option ℕ) (r : ℕ) → armed_granted (other_list which) relisted out r ≡ armed_granted (other_list which) q out r
           granted_stays None r = ap (armed_handles (other_list which) (rows relisted)) (relisted_handles (Queued r Granted)) ∙ rows_same (handles_at q (Queued r Granted))
@@ -632,10 +632,10 @@ module _ (which : Armed) where
               }
 
   -- ---- a lock has another row where it stands, listed as it was
-  armed_flags : (rows rows' : ℕ → Row) (ks : List ℕ) → ((k : ℕ) → is_listed which (rows' k) ≡ is_listed which (rows k)) → armed_handles which rows' ks ≡ armed_handles which rows ks
+  armed_flags : (rows rows' : ℕ → LockRow) (ks : List ℕ) → ((k : ℕ) → is_listed which (rows' k) ≡ is_listed which (rows k)) → armed_handles which rows' ks ≡ armed_handles which rows ks
   armed_flags rows rows' ks same = ap (λ (listed : ℕ → Bool). filter listed ks) (fun_ext same)
 
-  pub armed_rewritten : (q q' : Queues) (at : ℕ) (now : Row) → Rewrites at now q q' → armed_rank (rows q at) ≡ armed_rank now → IsArmed which q None → IsArmed which q' None
+  pub armed_rewritten : (q q' : Queues) (at : ℕ) (now : LockRow) → Rewrites at now q q' → armed_rank (rows q at) ≡ armed_rank now → IsArmed which q None → IsArmed which q' None
   armed_rewritten q q' at now rewrites same armed =
       armed_stays q q' None None armed (armed_lists q.resources q'.resources rewrites.kept.rest)
       (λ res k _. by_part but_requeued (next_in (armed_links which)) (next-requeued which) (get q'.locks k) (get q.locks k) (rewrites.kept.kin k))
@@ -652,7 +652,7 @@ module _ (which : Armed) where
 -- ---- rows that are not armed
 
 -- none of them is listed
-pub unarmed_unlisted : (which : Armed) (row : Row) → row.armed ≡ false → is_listed which row ≡ false
+pub unarmed_unlisted : (which : Armed) (row : LockRow) → row.armed ≡ false → is_listed which row ≡ false
 unarmed_unlisted AboveNl row unarmed = rw unarmed refl
 unarmed_unlisted AboveCr row unarmed = rw unarmed refl
 

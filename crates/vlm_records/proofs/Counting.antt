@@ -9,7 +9,7 @@ use Rattle.vlm_collections.specs.declared.link.TheConstants.{LAST_HANDLE}
 use Rattle.vlm_collections.specs.Lists.{IsIn, IsApart, IsLinked, handles_of, without}
 use Rattle.vlm_collections.proofs.Keeping.{updated-handles}
 use Rattle.vlm_collections.proofs.HandleLists.{IsIn-without, IsApart-without, IsApart-push, length-below, without_head, without_past, without_absent}
-use Rattle.vlm_words.specs.declared.locks.Row.{Row}
+use Rattle.vlm_words.specs.declared.locks.LockRow.{LockRow}
 use Rattle.vlm_words.specs.declared.modes.Mode.{Mode}
 use Rattle.vlm_words.specs.declared.resources.Queue.{Queue}
 use Rattle.vlm_words.specs.declared.resources.Queue.TheVariants.{Granted, Conversion, Waiting}
@@ -26,7 +26,7 @@ use Rattle.vlm_records.proofs.Totals.{total-length}
 use Rattle.vlm_records.proofs.Families.{family-added, family-removed}
 use Rattle.vlm_records.proofs.Places.{one_place, place_cases, tally_but_lists}
 
-pub total-without : (weight : Row → ℕ) (rows : ℕ → Row) (ks : List ℕ) (at : ℕ) → IsApart ks → IsIn at ks → total weight rows (without at ks) + weight (rows at) ≡ total weight rows ks
+pub total-without : (weight : LockRow → ℕ) (rows : ℕ → LockRow) (ks : List ℕ) (at : ℕ) → IsApart ks → IsIn at ks → total weight rows (without at ks) + weight (rows at) ≡ total weight rows ks
 total-without weight rows [] at apart found = absurd found
 total-without weight rows (k ∷ ks) at apart found =
     elim (cases_eq k at) [
@@ -39,7 +39,7 @@ total-without weight rows (k ∷ ks) at apart found =
     ]
 
 -- rows that stay weigh the same
-pub total-kept : (weight : Row → ℕ) (rows rows' : ℕ → Row) (ks : List ℕ) → ((at : ℕ) → IsIn at ks → rows' at ≡ rows at) → total weight rows' ks ≡ total weight rows ks
+pub total-kept : (weight : LockRow → ℕ) (rows rows' : ℕ → LockRow) (ks : List ℕ) → ((at : ℕ) → IsIn at ks → rows' at ≡ rows at) → total weight rows' ks ≡ total weight rows ks
 total-kept weight rows rows' [] same = refl
 total-kept weight rows rows' (k ∷ ks) same =
     rw (same k (inl refl)) (ap (λ n. weight (rows k) + n) (total-kept weight rows rows' ks (λ at found. same at (inr found))))
@@ -57,7 +57,7 @@ IsApart-append (x ∷ xs) ys apart apart' other = (
   IsApart-append xs ys apart.1 apart' (λ k h. other k (inr h)),
 )
 
-module _ (q : Queues) (weight : Queue → Row → ℕ) (at : ℕ) (place : Place) (placed : IsPlaced q None) (is : noted q at ≡ Some place) (res : ℕ) where
+module _ (q : Queues) (weight : Queue → LockRow → ℕ) (at : ℕ) (place : Place) (placed : IsPlaced q None) (is : noted q at ≡ Some place) (res : ℕ) where
   stood : IsIn at (handles_at q place)
   stood = placed.stands place at (λ same. none-some at (sym same)) is
 
@@ -72,7 +72,7 @@ module _ (q : Queues) (weight : Queue → Row → ℕ) (at : ℕ) (place : Place
       sym (total-without (weight queue) (rows q) (handles_at q (Queued res queue)) at (placed.linked (Queued res queue)).apart (subst (λ p. IsIn at (handles_at q p)) same stood))
 
 -- the shares of a resource are those of the other locks, and that of the lock
-pub shares-out : (q : Queues) (weight : Queue → Row → ℕ) (at : ℕ) (place : Place) → IsPlaced q None → noted q at ≡ Some place → (res : ℕ)
+pub shares-out : (q : Queues) (weight : Queue → LockRow → ℕ) (at : ℕ) (place : Place) → IsPlaced q None → noted q at ≡ Some place → (res : ℕ)
     → shares q weight None res ≡ shares q weight (Some at) res + share_of weight place res (rows q at)
 shares-out q weight at (Queued r queue) placed is res =
     elim (cases_eq r res) [
@@ -111,7 +111,7 @@ shares-out q weight at (Queued r queue) placed is res =
         )
 
 -- the other locks of a resource are fewer than a number of four bytes tells
-pub shares-room : (q : Queues) (weight : Queue → Row → ℕ) → ((queue : Queue) (row : Row) → weight queue row ≤ 1) → (at : ℕ) (place : Place) → IsPlaced q None → noted q at ≡ Some place
+pub shares-room : (q : Queues) (weight : Queue → LockRow → ℕ) → ((queue : Queue) (row : LockRow) → weight queue row ≤ 1) → (at : ℕ) (place : Place) → IsPlaced q None → noted q at ≡ Some place
     → (res : ℕ) → shares q weight (Some at) res + 1 ≤ LAST_HANDLE + 1
 shares-room q weight one at place placed is res =
     let left : Queue → List ℕ = λ queue. without at (handles_at q (Queued res queue)) in
@@ -169,7 +169,7 @@ module _ (count : Tally → ℕ) (s : Slab Resource) (res : ℕ) (was now : Reso
       ]
 
 -- shares stay where the handles do, and the rows of all locks but the one that is out
-pub shares_same : (q q' : Queues) (weight : Queue → Row → ℕ) (out : Option ℕ) (res : ℕ) → ((p : Place) → handles_at q' p ≡ handles_at q p) → ((k : ℕ) → Some k ≢ out → rows q' k ≡ rows q k)
+pub shares_same : (q q' : Queues) (weight : Queue → LockRow → ℕ) (out : Option ℕ) (res : ℕ) → ((p : Place) → handles_at q' p ≡ handles_at q p) → ((k : ℕ) → Some k ≢ out → rows q' k ≡ rows q k)
     → shares q' weight out res ≡ shares q weight out res
 shares_same q q' weight out res handles same = omega (arith, part Granted, part Conversion, part Waiting)
   where
@@ -187,7 +187,7 @@ shares_same q q' weight out res handles same = omega (arith, part Granted, part 
 
 -- a lock in a queue is counted out, or in
 module _ (q q' : Queues) (at res : ℕ) (queue : Queue) (l : Lock) (placed : IsPlaced q None) (here : get q.locks at ≡ Some l) (is : l.place ≡ Queued res queue)
-    (lists : (p : Place) → list_at q' p ≡ list_at q p) (locks : q'.locks ≡ q.locks) (weight : Queue → Row → ℕ) where
+    (lists : (p : Place) → list_at q' p ≡ list_at q p) (locks : q'.locks ≡ q.locks) (weight : Queue → LockRow → ℕ) where
   notes : noted q at ≡ Some (Queued res queue)
   notes = ap noted_in here ∙ ap Some is
 
@@ -217,7 +217,7 @@ one_if-le : (b : Bool) → one_if b ≤ 1
 one_if-le true = omega arith
 one_if-le false = omega arith
 
-pub weight_of-le : (count : Count) (mode : Mode) (queue : Queue) (row : Row) → weight_of count mode queue row ≤ 1
+pub weight_of-le : (count : Count) (mode : Mode) (queue : Queue) (row : LockRow) → weight_of count mode queue row ≤ 1
 weight_of-le count mode queue row = one_if-le (is_mode mode (counted_request count queue row))
 
 pub without-twice : (at : ℕ) (ks : List ℕ) → without at (without at ks) ≡ without at ks
@@ -231,13 +231,13 @@ without-push at (k ∷ ks) absent =
 -- the counts of all but one lock stay as that lock moves
 module _ (q q' : Queues) (at : ℕ) (tallies : (r : ℕ) → tally_in (get q'.resources r) ≡ tally_in (get q.resources r))
     (handles : (p : Place) → without at (handles_at q' p) ≡ without at (handles_at q p)) (same : (k : ℕ) → k ≢ at → rows q' k ≡ rows q k) where
-  part_moved : (weight : Queue → Row → ℕ) (r : ℕ) (queue : Queue)
+  part_moved : (weight : Queue → LockRow → ℕ) (r : ℕ) (queue : Queue)
       → total (weight queue) (rows q') (without at (handles_at q' (Queued r queue))) ≡ total (weight queue) (rows q) (without at (handles_at q (Queued r queue)))
   part_moved weight r queue =
       ap (total (weight queue) (rows q')) (handles (Queued r queue))
       ∙ total-kept (weight queue) (rows q) (rows q') (without at (handles_at q (Queued r queue))) (λ k found. same k (IsIn-without at k _ found).1)
 
-  shares_moved : (weight : Queue → Row → ℕ) (r : ℕ) → shares q' weight (Some at) r ≡ shares q weight (Some at) r
+  shares_moved : (weight : Queue → LockRow → ℕ) (r : ℕ) → shares q' weight (Some at) r ≡ shares q weight (Some at) r
   shares_moved weight r = omega (arith, part_moved weight r Granted, part_moved weight r Conversion, part_moved weight r Waiting)
 
   pub tallied_moved : IsTallied q (Some at) → IsTallied q' (Some at)
@@ -280,13 +280,13 @@ module _ (q q' : Queues) (at : ℕ) (slot : Option Lock) (updates : Updates q.lo
       family-removed queue_links noted_in q.locks (list_at q) (Some at) placed q'.locks (list_at q') lists at slot updates unlisted (λ p e. none-some p (sym (ap noted_in nothing) ∙ e)) refl
 
   module _ (resources : q'.resources ≡ q.resources) where
-    part_updated : (weight : Queue → Row → ℕ) (r : ℕ) (queue : Queue)
+    part_updated : (weight : Queue → LockRow → ℕ) (r : ℕ) (queue : Queue)
         → total (weight queue) (rows q') (handles_at q' (Queued r queue)) ≡ total (weight queue) (rows q) (handles_at q (Queued r queue))
     part_updated weight r queue =
         ap (total (weight queue) (rows q')) (updated_handles (Queued r queue))
         ∙ total-kept (weight queue) (rows q) (rows q') (handles_at q (Queued r queue)) (λ k found. ap row_in (updates.others k (other_handle (Queued r queue) k found)))
 
-    all_or_but : (weight : Queue → Row → ℕ) (r : ℕ) → shares q weight (Some at) r ≡ shares q weight None r
+    all_or_but : (weight : Queue → LockRow → ℕ) (r : ℕ) → shares q weight (Some at) r ≡ shares q weight None r
     all_or_but weight r =
         omega (
           arith,
@@ -295,7 +295,7 @@ module _ (q q' : Queues) (at : ℕ) (slot : Option Lock) (updates : Updates q.lo
           ap (total (weight Waiting) (rows q)) (without_absent at (handles_at q (Queued r Waiting)) (unlisted (Queued r Waiting))),
         )
 
-    shares_updated : (weight : Queue → Row → ℕ) (r : ℕ) → shares q' weight None r ≡ shares q weight None r
+    shares_updated : (weight : Queue → LockRow → ℕ) (r : ℕ) → shares q' weight None r ≡ shares q weight None r
     shares_updated weight r = omega (arith, part_updated weight r Granted, part_updated weight r Conversion, part_updated weight r Waiting)
 
     pub removed_tallied : IsTallied q (Some at) → IsTallied q' None
@@ -303,7 +303,7 @@ module _ (q q' : Queues) (at : ℕ) (slot : Option Lock) (updates : Updates q.lo
       counts = λ count r mode. ap (λ s. how_many count (tally_in (get s r)) mode) resources ∙ tallied.counts count r mode ∙ all_or_but (weight_of count mode) r ∙ sym (shares_updated (weight_of count mode) r);
     }
 
-    all_or_but' : (weight : Queue → Row → ℕ) (r : ℕ) → shares q' weight (Some at) r ≡ shares q' weight None r
+    all_or_but' : (weight : Queue → LockRow → ℕ) (r : ℕ) → shares q' weight (Some at) r ≡ shares q' weight None r
     all_or_but' weight r =
         let unlisted' : (p : Place) → ¬ IsIn at (handles_at q' p) = λ p found. unlisted p (subst (IsIn at) (updated_handles p) found) in
         omega (
@@ -319,7 +319,7 @@ module _ (q q' : Queues) (at : ℕ) (slot : Option Lock) (updates : Updates q.lo
     }
 
 -- the shares of a resource are those of the other locks, and that of one that is there
-pub own_weighs : (q : Queues) (weight : Queue → Row → ℕ) (own : ℕ) (l : Lock) → IsPlaced q None → get q.locks own ≡ Some l → (res : ℕ)
+pub own_weighs : (q : Queues) (weight : Queue → LockRow → ℕ) (own : ℕ) (l : Lock) → IsPlaced q None → get q.locks own ≡ Some l → (res : ℕ)
     → shares q weight None res ≡ shares q weight (Some own) res + share_of weight l.place res l.row
 own_weighs q weight own l placed here res =
     shares-out q weight own l.place placed (ap noted_in here) res ∙ ap (λ row. shares q weight (Some own) res + share_of weight l.place res row) (ap row_in here)
@@ -337,7 +337,7 @@ tally_changed count s res was now less more there here change r =
     ]
 
 -- a lock is counted out, and in with another row
-module _ (q : Queues) (at res : ℕ) (queue : Queue) (l : Lock) (was : Resource) (mid new : Tally) (now : Row) (here : get q.locks at ≡ Some l) (is : l.place ≡ Queued res queue) (held : get q.resources res ≡ Some was)
+module _ (q : Queues) (at res : ℕ) (queue : Queue) (l : Lock) (was : Resource) (mid new : Tally) (now : LockRow) (here : get q.locks at ≡ Some l) (is : l.place ≡ Queued res queue) (held : get q.resources res ≡ Some was)
     (less : (count : Count) (mode : Mode) → how_many count mid mode + weight_of count mode queue l.row ≡ how_many count was.tally mode)
     (more : (count : Count) (mode : Mode) → how_many count new mode ≡ how_many count mid mode + weight_of count mode queue now) where
   abbrev counted : Slab Resource
@@ -356,7 +356,7 @@ module _ (q : Queues) (at res : ℕ) (queue : Queue) (l : Lock) (was : Resource)
       }))
 
 -- a lock has another row where it stands, and is counted with it
-module _ (q q' : Queues) (at : ℕ) (now : Row) (placed : IsPlaced q None) (placed' : IsPlaced q' None) (there : ContainsKey q.locks at)
+module _ (q q' : Queues) (at : ℕ) (now : LockRow) (placed : IsPlaced q None) (placed' : IsPlaced q' None) (there : ContainsKey q.locks at)
     (handles : (p : Place) → handles_at q' p ≡ handles_at q p) (others : (k : ℕ) → k ≢ at → rows q' k ≡ rows q k) (here : rows q' at ≡ now) (notes : noted q' at ≡ noted q at) where
   pub recounted : ((place : Place) → noted q at ≡ Some place → Recounts place (rows q at) now q.resources q'.resources) → IsTallied q None → IsTallied q' None
   recounted recounts tallied = by_slot (get q.locks at) refl

@@ -6,7 +6,7 @@ use Rattle.std.proofs.lemmas.List.Folds.{list_all-append}
 use Rattle.vlm_words.specs.declared.locks.Request.{Request}
 use Rattle.vlm_words.specs.declared.modes.Mode.{Mode}
 use Rattle.vlm_words.specs.Rows.{keeps_out, is_beside}
-use Rattle.vlm_words.specs.declared.locks.Row.{Row}
+use Rattle.vlm_words.specs.declared.locks.LockRow.{LockRow}
 use Rattle.vlm_words.specs.declared.resources.Queue.TheVariants.{Granted, Conversion, Waiting}
 use Rattle.vlm_words.specs.Modes.{is_compatible}
 use Rattle.vlm_words.proofs.Compatible.{is_compatible-comm}
@@ -37,7 +37,7 @@ not_both true b = refl
 not_both false b = refl
 
 -- not all rows of these handles pass where one does not
-not_all : (p : Row → Bool) (rows : ℕ → Row) (ks : List ℕ) → not (list_all (λ k. p (rows k)) ks) ≡ list_any (λ row. not (p row)) (map rows ks)
+not_all : (p : LockRow → Bool) (rows : ℕ → LockRow) (ks : List ℕ) → not (list_all (λ k. p (rows k)) ks) ≡ list_any (λ row. not (p row)) (map rows ks)
 not_all p rows [] = refl
 not_all p rows (k ∷ ks) = not_both (p (rows k)) (list_all (λ x. p (rows x)) ks) ∙ ap (λ b. not (p (rows k)) || b) (not_all p rows ks)
 
@@ -46,7 +46,7 @@ passes_not : (mode : Mode) (want : Option Request) → not (passes (is_compatibl
 passes_not mode None = refl
 passes_not mode (Some want) = ap not (is_compatible-comm mode want.mode)
 
-module _ (rows : ℕ → Row) (converting waiting : List ℕ) (fit : Mode → Bool)
+module _ (rows : ℕ → LockRow) (converting waiting : List ℕ) (fit : Mode → Bool)
     (is : (mode : Mode) → fit mode ≡ list_all (λ k. passes (is_compatible mode) (rows k).want) (converting ++ waiting)) where
   -- a mode is in the way where it does not fit beside all that is wanted
   pub in_the_way : (mode : Mode) → not (fit mode) ≡ (list_any (λ row. keeps_out mode row.want) (map rows converting) || list_any (λ row. keeps_out mode row.want) (map rows waiting))
@@ -59,7 +59,7 @@ module _ (rows : ℕ → Row) (converting waiting : List ℕ) (fit : Mode → Bo
       some : (ks : List ℕ) → not (list_all (λ k. passes (is_compatible mode) (rows k).want) ks) ≡ list_any (λ row. keeps_out mode row.want) (map rows ks)
       some ks =
           not_all (λ row. passes (is_compatible mode) row.want) rows ks
-          ∙ ap (λ test. list_any test (map rows ks)) (fun_ext (λ (row : Row). passes_not mode row.want))
+          ∙ ap (λ test. list_any test (map rows ks)) (fun_ext (λ (row : LockRow). passes_not mode row.want))
 
 -- counts that are the shares of a resource tell which modes are in the way
 pub wanted-rows : (q : Queues) (res : ℕ) (wanted : Mode → ℕ) → ((m : Mode) → wanted m ≡ shares q (weight_of of_wanted m) None res) → (mode : Mode)

@@ -4,7 +4,7 @@ pub mod Arming
 pub mod Counting
 pub mod Families
 pub mod Fitting
-pub mod Lining
+pub mod WaitLists
 pub mod Making
 pub mod OwnLocks
 pub mod Packing

@@ -10,7 +10,7 @@ use Rattle.vlm_collections.specs.declared.lists.LinkedList.{LinkedList}
 use Rattle.vlm_collections.specs.Lists.{IsIn, IsLinked, IsNoList, Relinks, handles_of, without}
 use Rattle.vlm_collections.proofs.Keeping.{relinked_same}
 use Rattle.vlm_collections.proofs.HandleLists.{IsIn-push_kept, IsIn-push_last, IsIn-without_kept}
-use Rattle.vlm_words.specs.declared.locks.Row.{Row}
+use Rattle.vlm_words.specs.declared.locks.LockRow.{LockRow}
 use Rattle.vlm_words.specs.declared.resources.Queue.{Queue}
 use Rattle.vlm_words.specs.declared.resources.Queue.TheVariants.{Granted, Conversion, Waiting}
 use Rattle.vlm_records.specs.declared.handles.Armed.{Armed}
@@ -190,13 +190,13 @@ module _ (q : Queues) (r1 r2 : Slab Resource) (at : ℕ) (relinks : Relinks with
       ∙ sym (no_list_has (armed_links which) q.locks (armed_list which q at) (armed.linked at) (armed.order at ∙ ap (armed_handles which (rows q)) (idle Granted))))
       (λ k differs. ap (armed_list_in which) (updates.others k differs) ∙ relinked_same with_order_links (armed_list_in which) (armed_list_stays which) q.resources r1 relinks k)
 
-  no_share : (weight : Queue → Row → ℕ) → shares q weight None at ≡ 0
+  no_share : (weight : Queue → LockRow → ℕ) → shares q weight None at ≡ 0
   no_share weight = omega (arith, ap (total (weight Granted) (rows q)) (idle Granted), ap (total (weight Conversion) (rows q)) (idle Conversion), ap (total (weight Waiting) (rows q)) (idle Waiting))
 
   pub removed_tally : IsTallied q None → IsTallied (record q { resources = r2 }) None
   removed_tally tallied =
       let q' : Queues = record q { resources = r2 } in
-      let kept : (weight : Queue → Row → ℕ) (r : ℕ) → shares q' weight None r ≡ shares q weight None r =
+      let kept : (weight : Queue → LockRow → ℕ) (r : ℕ) → shares q' weight None r ≡ shares q weight None r =
       λ weight r. shares_same q q' weight None r (resources_handles q r2 placed removed_lists) (λ k _. refl) in
       record {
         counts = λ count r mode. elim (cases_eq r at) [

@@ -6,7 +6,7 @@ use Rattle.std.specs.List.{list_all}
 use Rattle.std.proofs.lemmas.Bool.{and_parts, or_left, or_right}
 use Rattle.std.proofs.lemmas.Bool.Decides.{nat_tests}
 use Rattle.vlm_words.specs.declared.locks.Request.{Request}
-use Rattle.vlm_words.specs.declared.locks.Row.{Row}
+use Rattle.vlm_words.specs.declared.locks.LockRow.{LockRow}
 use Rattle.vlm_words.specs.declared.modes.Mode.{Mode}
 use Rattle.vlm_words.specs.declared.modes.Mode.TheVariants.{Nl, Cr, Cw, Pr, Pw, Ex}
 use Rattle.vlm_words.specs.Modes.{is_compatible, rank}
@@ -99,21 +99,21 @@ module _ (test : Mode → Bool) where
   all_free : (f : Mode → ℕ) → ((m : Mode) → none_or test f m ≡ true) → each_counted test f ≡ true
   all_free f free = rw (free Nl, free Cr, free Cw, free Pr, free Pw, free Ex) refl
 
-  module _ (asked : Row → Option Request) (rows : ℕ → Row) where
+  module _ (asked : LockRow → Option Request) (rows : ℕ → LockRow) where
     -- how many of the rows ask for a mode
-    abbrev asking : List ℕ → Mode → ℕ
-    asking ks m = total (λ row. one_if (is_mode m (asked row))) rows ks
+    abbrev except : List ℕ → Mode → ℕ
+    except ks m = total (λ row. one_if (is_mode m (asked row))) rows ks
 
     passes_first : (request : Option Request) (count : Mode → ℕ) → ((m : Mode) → none_or test (λ x. one_if (is_mode x request) + count x) m ≡ true) → passes test request ≡ true
     passes_first None count free = refl
     passes_first (Some request) count free =
         let h = free request.mode in rw (same_rank request.mode, more_than_zero (count request.mode)) at h
 
-    all_pass : (ks : List ℕ) → ((m : Mode) → none_or test (asking ks) m ≡ true) → list_all (λ k. passes test (asked (rows k))) ks ≡ true
+    all_pass : (ks : List ℕ) → ((m : Mode) → none_or test (except ks) m ≡ true) → list_all (λ k. passes test (asked (rows k))) ks ≡ true
     all_pass [] free = refl
     all_pass (k ∷ ks) free =
-        rw (passes_first (asked (rows k)) (asking ks) free)
-        (all_pass ks (λ m. free_rest (one_if (is_mode m (asked (rows k)))) (asking ks m) (test m) (free m)))
+        rw (passes_first (asked (rows k)) (except ks) free)
+        (all_pass ks (λ m. free_rest (one_if (is_mode m (asked (rows k)))) (except ks m) (test m) (free m)))
 
     none_first : (request : Option Request) (m : Mode) → passes test request ≡ true → test m ≡ false → is_mode m request ≡ false
     none_first None m pass fails = refl
@@ -123,23 +123,23 @@ module _ (test : Mode → Bool) where
           | false ↦ λ _. refl
         ] refl
 
-    none_asks : (ks : List ℕ) → list_all (λ k. passes test (asked (rows k))) ks ≡ true → (m : Mode) → test m ≡ false → (asking ks m == 0) ≡ true
+    none_asks : (ks : List ℕ) → list_all (λ k. passes test (asked (rows k))) ks ≡ true → (m : Mode) → test m ≡ false → (except ks m == 0) ≡ true
     none_asks [] pass m fails = refl
     none_asks (k ∷ ks) pass m fails =
         let parts = and_parts (passes test (asked (rows k))) (list_all (λ x. passes test (asked (rows x))) ks) pass in
-        rw (none_first (asked (rows k)) m parts.0 fails) (nothing_more (asking ks m) (none_asks ks parts.1 m fails))
+        rw (none_first (asked (rows k)) m parts.0 fails) (nothing_more (except ks m) (none_asks ks parts.1 m fails))
 
-    free_all : (ks : List ℕ) → list_all (λ k. passes test (asked (rows k))) ks ≡ true → (m : Mode) → none_or test (asking ks) m ≡ true
+    free_all : (ks : List ℕ) → list_all (λ k. passes test (asked (rows k))) ks ≡ true → (m : Mode) → none_or test (except ks) m ≡ true
     free_all ks pass m =
-        elim (test m) as (λ b. test m ≡ b → ((asking ks m == 0) || b) ≡ true) [
-          | true ↦ λ _. or_right (asking ks m == 0) true refl
+        elim (test m) as (λ b. test m ≡ b → ((except ks m == 0) || b) ≡ true) [
+          | true ↦ λ _. or_right (except ks m == 0) true refl
           | false ↦ λ fails. or_left _ _ (none_asks ks pass m fails)
         ] refl
 
     -- the modes that are counted pass exactly where each row asks for a mode that does
     pub each_counted-rows : (ks : List ℕ) → each_counted test (λ x. total (λ row. one_if (is_mode x (asked row))) rows ks) ≡ list_all (λ k. passes test (asked (rows k))) ks
     each_counted-rows ks =
-        same_test _ _ (λ fit. all_pass ks (each_free (asking ks) fit)) (λ pass. all_free (asking ks) (free_all ks pass))
+        same_test _ _ (λ fit. all_pass ks (each_free (except ks) fit)) (λ pass. all_free (except ks) (free_all ks pass))
 
 -- a mode is compatible with what is held, or nothing is
 beside_is : (mode : Mode) (held : Option Request) → passes (is_compatible mode) held ≡ is_beside mode held
@@ -147,7 +147,7 @@ beside_is mode None = refl
 beside_is mode (Some held) = refl
 
 -- the counts fit exactly where the mode is compatible with what each lock holds
-pub counts_fit-rows : (mode : Mode) (rows : ℕ → Row) (ks : List ℕ) → counts_fit mode (λ x. total (λ row. one_if (is_mode x row.held)) rows ks) ≡ list_all (λ k. is_beside mode (rows k).held) ks
+pub counts_fit-rows : (mode : Mode) (rows : ℕ → LockRow) (ks : List ℕ) → counts_fit mode (λ x. total (λ row. one_if (is_mode x row.held)) rows ks) ≡ list_all (λ k. is_beside mode (rows k).held) ks
 unfolding counts_fit
 counts_fit-rows mode rows ks =
     each_counted-rows (is_compatible mode) (λ row. row.held) rows ks ∙ ap (λ test. list_all test ks) (fun_ext (λ k. beside_is mode (rows k).held))

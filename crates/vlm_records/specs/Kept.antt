@@ -2,7 +2,7 @@
 use Rattle.std.specs.Prelude.{◌≡◌, ◌≢◌, ◌+◌, ℕ, None, [], ◌∷◌, ◌++◌}
 use Rattle.slab.specs.Slab.{Slab, get}
 use Rattle.vlm_collections.specs.Lists.{without}
-use Rattle.vlm_words.specs.declared.locks.Row.{Row}
+use Rattle.vlm_words.specs.declared.locks.LockRow.{LockRow}
 use Rattle.vlm_words.specs.declared.modes.Mode.{Mode}
 use Rattle.vlm_records.specs.Tallies.{Count, how_many, weight_of}
 use Rattle.vlm_records.specs.declared.handles.Place.{Place}
@@ -33,7 +33,7 @@ pub record WritesCounts (old new : Queues) : Type 0 where
   pub resources_room : room_in new.resources ≡ room_in old.resources
 
 -- a lock in this queue is counted with another row
-pub record Recounts (place : Place) (was now : Row) (old new : Slab Resource) : Type 0 where
+pub record Recounts (place : Place) (was now : LockRow) (old new : Slab Resource) : Type 0 where
   pub change : (count : Count) (mode : Mode) (res : ℕ)
       → how_many count (tally_in (get new res)) mode + share_of (weight_of count mode) place res was
       ≡ how_many count (tally_in (get old res)) mode + share_of (weight_of count mode) place res now
@@ -46,7 +46,7 @@ pub record WritesLock (at : ℕ) (old new : Queues) : Type 0 where
   pub locks_room : room_in new.locks ≡ room_in old.locks
 
 -- one lock has another row and keeps its place
-pub record Rewrites (at : ℕ) (now : Row) (old new : Queues) : Type 0 where
+pub record Rewrites (at : ℕ) (now : LockRow) (old new : Queues) : Type 0 where
   pub placed : IsPlaced new None
   pub tallied : IsTallied new None
   pub handles : (place : Place) → handles_at new place ≡ handles_at old place
@@ -55,7 +55,7 @@ pub record Rewrites (at : ℕ) (now : Row) (old new : Queues) : Type 0 where
   pub kept : Keeps but_requeued but_counted old new
 
 -- one lock has another row and is at the end of a queue
-pub record Requeues (at : ℕ) (now : Row) (to : Place) (old new : Queues) : Type 0 where
+pub record Requeues (at : ℕ) (now : LockRow) (to : Place) (old new : Queues) : Type 0 where
   pub placed : IsPlaced new None
   pub tallied : IsTallied new None
   pub here : handles_at new to ≡ without at (handles_at old to) ++ at ∷ []

@@ -3,7 +3,7 @@ pub mod Armed
 pub mod Families
 pub mod Kept
 pub mod Kin
-pub mod Line
+pub mod WaitList
 pub mod Pending
 pub mod Requests
 pub mod Rows

@@ -1,34 +1,34 @@
 -- The parts of a packed row.
 use Rattle.std.specs.Prelude.{◌≡◌}
-use Rattle.vlm_words.specs.declared.locks.Row.{Row}
+use Rattle.vlm_words.specs.declared.locks.LockRow.{LockRow}
 use Rattle.vlm_records.specs.declared.rows.StoredRow.TheInside.{Inside}
-use Rattle.vlm_records.specs.Requests.{asked_kept, kept_of, number_kept, request_shown, routines_kept}
+use Rattle.vlm_records.specs.Requests.{packed_terms, tag_of, packed_number, request_shown, packed_routines}
 
 -- the row that the parts show
-abbrev pub row_shown : Inside → Row
+abbrev pub row_shown : Inside → LockRow
 row_shown r = record {
   lkid = r.lkid;
   pid = r.pid;
   parent = r.parent;
   armed = r.armed;
-  held = request_shown r.held_kept r.held_number r.held_routines r.held_asked;
-  want = request_shown r.want_kept r.want_number r.want_routines r.want_asked;
+  held = request_shown r.held_tag r.held_number r.held_routines r.held_terms;
+  want = request_shown r.want_tag r.want_number r.want_routines r.want_terms;
 }
 
 -- the packed form of a row
-abbrev pub packed : Row → Inside
+abbrev pub packed : LockRow → Inside
 packed row = record {
-  held_number = number_kept row.held;
-  want_number = number_kept row.want;
-  held_routines = routines_kept row.held;
-  want_routines = routines_kept row.want;
+  held_number = packed_number row.held;
+  want_number = packed_number row.want;
+  held_routines = packed_routines row.held;
+  want_routines = packed_routines row.want;
   lkid = row.lkid;
   pid = row.pid;
   parent = row.parent;
-  held_asked = asked_kept row.held;
-  want_asked = asked_kept row.want;
-  held_kept = kept_of row.held;
-  want_kept = kept_of row.want;
+  held_terms = packed_terms row.held;
+  want_terms = packed_terms row.want;
+  held_tag = tag_of row.held;
+  want_tag = tag_of row.want;
   armed = row.armed;
 }
 

@@ -6,7 +6,7 @@ use Rattle.slab.specs.Slab.{Slab, get, slab_len, ContainsKey}
 use Rattle.vlm_collections.specs.declared.link.Links.{Links}
 use Rattle.vlm_collections.specs.declared.lists.LinkedList.{LinkedList}
 use Rattle.vlm_collections.specs.Lists.{handles_of, without}
-use Rattle.vlm_words.specs.declared.locks.Row.{Row}
+use Rattle.vlm_words.specs.declared.locks.LockRow.{LockRow}
 use Rattle.vlm_words.specs.declared.modes.Mode.{Mode}
 use Rattle.vlm_words.specs.declared.resources.Domain.{Domain}
 use Rattle.vlm_words.specs.declared.resources.Domain.TheVariants.{System}
@@ -45,7 +45,7 @@ with_queue_list Conversion list r = record r { converting = list }
 with_queue_list Waiting list r = record r { waiting = list }
 
 -- the row of a missing lock
-abbrev pub no_row : Row
+abbrev pub no_row : LockRow
 no_row = record { lkid = 0; pid = 0; parent = 0; held = None; want = None; armed = false }
 
 -- the place of a lock whose place is left out
@@ -53,7 +53,7 @@ abbrev pub no_place : Place
 no_place = Queued 0 Granted
 
 -- the row of the lock in a place of the slab
-abbrev pub row_in : Option Lock → Row
+abbrev pub row_in : Option Lock → LockRow
 row_in None = no_row
 row_in (Some l) = l.row
 
@@ -129,7 +129,7 @@ abbrev pub no_links : Links
 no_links = record { prev = None; next = None }
 
 -- what never changes in a row: lock, process and parent lock
-abbrev pub named_row : Row → Row
+abbrev pub named_row : LockRow → LockRow
 named_row row = record no_row { lkid = row.lkid; pid = row.pid; parent = row.parent }
 
 -- the lock without its queue and the changing part of its row
@@ -141,26 +141,26 @@ abbrev pub but_in_armed : Lock → Lock
 but_in_armed l = record l { in_above_nl = no_links; in_above_cr = no_links }
 
 -- the lock without its links in the line
-abbrev pub but_in_line : Lock → Lock
-but_in_line l = record l { in_line = no_links }
+abbrev pub but_in_wait_list : Lock → Lock
+but_in_wait_list l = record l { in_wait_list = no_links }
 
 -- the lock without its lists on a resource, the line, and the changing part of its row
 abbrev pub but_queued : Lock → Lock
-but_queued l = but_in_line (but_in_armed (but_requeued l))
+but_queued l = but_in_wait_list (but_in_armed (but_requeued l))
 
 -- the lock without its links in the line, its process and its parent's sublocks, and without its own sublocks
 abbrev pub but_kin : Lock → Lock
-but_kin l = but_in_line (record l { of_process = no_links; of_parent = no_links; sublocks = no_list })
+but_kin l = but_in_wait_list (record l { of_process = no_links; of_parent = no_links; sublocks = no_list })
 
 -- a new lock that is in no list, without the changing part of its row
-abbrev pub new_lock : Row → ℕ → Option ℕ → Lock
+abbrev pub new_lock : LockRow → ℕ → Option ℕ → Lock
 new_lock row owner parent = record {
   row = named_row row;
   place = no_place;
   in_queue = no_links;
   in_above_nl = no_links;
   in_above_cr = no_links;
-  in_line = no_links;
+  in_wait_list = no_links;
   owner = owner;
   of_process = no_links;
   parent = parent;
@@ -182,7 +182,7 @@ IsThere resources (Queued res queue) = ContainsKey resources res
 
 module _ (q : Queues) where
   -- the row of the lock with this handle
-  abbrev pub rows : ℕ → Row
+  abbrev pub rows : ℕ → LockRow
   rows at = row_in (get q.locks at)
 
   -- the place that the lock with this handle notes
@@ -207,7 +207,7 @@ module _ (q : Queues) where
   IsPlaced out = IsFamily queue_links noted_in q.locks list_at out
 
   -- the sum of a weight over the locks of a resource, except one lock
-  abbrev pub shares : (Queue → Row → ℕ) → Option ℕ → ℕ → ℕ
+  abbrev pub shares : (Queue → LockRow → ℕ) → Option ℕ → ℕ → ℕ
   shares weight out res =
       total (weight Granted) rows (handles_but out (Queued res Granted))
       + (total (weight Conversion) rows (handles_but out (Queued res Conversion)) + total (weight Waiting) rows (handles_but out (Queued res Waiting)))
@@ -217,12 +217,12 @@ module _ (q : Queues) where
     pub counts : (count : Count) (res : ℕ) (mode : Mode) → how_many count (tally_in (get q.resources res)) mode ≡ shares (weight_of count mode) out res
 
 -- the mode is compatible with the held mode of each of these locks
-abbrev pub handles_fit : Mode → (ℕ → Row) → List ℕ → List ℕ → Bool
+abbrev pub handles_fit : Mode → (ℕ → LockRow) → List ℕ → List ℕ → Bool
 handles_fit mode rows granted converting =
     list_all (λ k. is_beside mode (rows k).held) granted && list_all (λ k. is_beside mode (rows k).held) converting
 
 -- what a lock at this place adds to the count of a resource
-abbrev pub share_of : (Queue → Row → ℕ) → Place → ℕ → Row → ℕ
+abbrev pub share_of : (Queue → LockRow → ℕ) → Place → ℕ → LockRow → ℕ
 share_of weight (Queued at queue) res row = if at == res then weight queue row else 0
 
 -- a resource without its lists and counts

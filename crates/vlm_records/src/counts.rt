@@ -85,21 +85,21 @@ impl Queues {
     /// reads counts, not locks.
     // Inlined: its caller reads the same lock and resource.
     #[inline(always)]
-    pub fn fits(&self, res: ResAt, mode: Mode, asking: Option<LockAt>) -> bool
+    pub fn fits(&self, res: ResAt, mode: Mode, except: Option<LockAt>) -> bool
         requires placed { IsPlaced self.now None }
         requires tallied { IsTallied self.now None }
         requires there { ContainsKey self.now.resources res }
-        requires asking { ForSome asking (λ at. ContainsKey self.now.locks at) }
+        requires except { ForSome except (λ at. ContainsKey self.now.locks at) }
         ensures { result
             ≡ handles_fit mode (rows self.now)
-            (handles_but self.now asking (Place.Queued res Queue.Granted))
-            (handles_but self.now asking (Place.Queued res Queue.Conversion)) }
+            (handles_but self.now except (Place.Queued res Queue.Granted))
+            (handles_but self.now except (Place.Queued res Queue.Conversion)) }
     {
         let tally = &self.resources[res.slot()].tally;
-        match asking {
+        match except {
             None => tally.fits(mode),
-            Some(asking) => {
-                let lock = &self.locks[asking.slot()];
+            Some(except) => {
+                let lock = &self.locks[except.slot()];
                 tally.fits_beside(mode, &held_on(res, &lock.place, &lock.row))
             }
         }

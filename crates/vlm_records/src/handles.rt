@@ -55,7 +55,7 @@ pub enum Place {
 }
 
 impl Place {
-    ghost use Rattle.vlm_records.specs.Line.{is_queued};
+    ghost use Rattle.vlm_records.specs.WaitList.{is_queued};
 
     pub fn parts(&self) -> (ResAt, Queue)
         ensures { self.now ≡ Place.Queued result.0 result.1 }

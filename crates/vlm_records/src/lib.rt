@@ -8,17 +8,19 @@
 //! A lock is in one queue of a resource, in the list of its process and, if it has a parent lock, in the sublocks of
 //! that lock. For each list it has a pair of links. The ends of the lists are in the other records. Three more lists
 //! have only some locks: the armed locks of a resource above NL, those above CR, both in the order of the granted
-//! queue, and the line, which has the queued locks of all resources. Resources and processes are linked in the order
-//! of making.
+//! queue, and the wait list, which has the queued locks of all resources. Resources and processes are linked in the
+//! order of making.
 //!
-//! A resource counts its locks by mode in a tally. A lock that moves leaves the armed locks, is counted out, is
+//! A resource counts its locks by mode in a tally: a granted lock as holding, a waiting lock as wanting, and a
+//! converting lock as both. So two questions take constant time: does a mode fit beside all others, and is a held mode
+//! in the way of a queued request? A lock that moves leaves the armed locks, is counted out, is
 //! linked anew, is counted in, and joins the armed locks again if it is armed. One case is shorter: a granted lock
 //! that is last in its queue, and goes to the end of that queue with the same armed rank, keeps its links. Only its
 //! row and the counts change.
 //!
 //! `Queues` has the slabs of locks and resources, and links the lists of a resource (`queues`, `counts`, `armed`).
-//! The store has the slab of processes, the line, and the two orders of making, so functions beside `Queues` link
-//! their lists and the sublocks (`kin`, `line`). Nothing here takes memory or looks a record up: the caller made the
+//! The store has the slab of processes, the wait list, and the two orders of making, so functions beside `Queues` link
+//! their lists and the sublocks (`kin`, `wait_list`). Nothing here takes memory or looks a record up: the caller made the
 //! room, and has the handle.
 #![tactic(auto)]
 
@@ -26,20 +28,20 @@ mod armed;
 mod counts;
 mod handles;
 mod kin;
-mod line;
 mod locks;
-mod pending;
+mod process_asts;
 mod processes;
 mod queues;
 mod resources;
 mod rows;
 mod tallies;
+mod wait_list;
 
 pub use handles::{Armed, LockAt, LockKind, Place, ProcAt, ProcessKind, ResAt, ResourceKind};
 pub use kin::{join_parent, join_process, leave_parent, leave_process};
-pub use line::{join_line, leave_line};
-pub use locks::{InAboveCr, InAboveNl, InLine, InQueue, Lock, OfParent, OfProcess};
+pub use locks::{InAboveCr, InAboveNl, InQueue, InWaitList, Lock, OfParent, OfProcess};
 pub use processes::{Authorization, Process, put_in, take_out};
 pub use queues::Queues;
 pub use resources::{InOrder, Resource};
 pub use rows::StoredRow;
+pub use wait_list::{join_wait_list, leave_wait_list};

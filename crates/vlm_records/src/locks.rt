@@ -17,7 +17,7 @@ pub struct InAboveNl;
 pub struct InAboveCr;
 
 /// Marks the line: the queued locks of all resources, in the order of queueing.
-pub struct InLine;
+pub struct InWaitList;
 
 /// Marks the lists of the locks of a process, in the order of making.
 pub struct OfProcess;
@@ -40,7 +40,7 @@ pub struct Lock {
     // its neighbours in the armed locks above CR, if it is one of them
     pub(crate) in_above_cr: Links,
     // its neighbours in the line, if its request is queued
-    pub(crate) in_line: Links,
+    pub(crate) in_wait_list: Links,
     /// The process that owns it.
     pub owner: ProcAt,
     // its neighbours in the locks of its process
@@ -130,10 +130,10 @@ impl Linked<InAboveCr> for Lock {
     }
 }
 
-impl Linked<InLine> for Lock {
-    ghost links = { λ l. l.in_line };
+impl Linked<InWaitList> for Lock {
+    ghost links = { λ l. l.in_wait_list };
 
-    ghost with_links = { λ l pair. record l { in_line = pair } };
+    ghost with_links = { λ l pair. record l { in_wait_list = pair } };
 
     ghost links_written = { λ l pair. refl };
 
@@ -142,11 +142,11 @@ impl Linked<InLine> for Lock {
     ghost written_as_was = { λ l. refl };
 
     fn links(&self) -> Links {
-        self.in_line
+        self.in_wait_list
     }
 
     fn set_links(&mut self, pair: Links) {
-        self.in_line = pair;
+        self.in_wait_list = pair;
     }
 }
 

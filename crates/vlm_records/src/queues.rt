@@ -8,7 +8,7 @@ ghost use Rattle.vlm_collections.specs.Lists.{IsIn, IsLinked, Lists, Relinks, wi
 ghost use Rattle.vlm_records.specs.declared.handles.Place.{Place};
 ghost use Rattle.vlm_records.specs.Armed.{IsLaidOut, StandsLast, armed_rank};
 ghost use Rattle.vlm_records.specs.Kept.{Keeps, Requeues, Rewrites, WritesLock};
-ghost use Rattle.vlm_records.specs.Line.{line_links};
+ghost use Rattle.vlm_records.specs.WaitList.{wait_list_links};
 ghost use Rattle.vlm_records.specs.Shown.{IsPlaced, IsTallied, IsThere, SameBut, but_counted, but_lists, but_place, but_queued, but_queues, but_requeued, but_row, handles_at, list_at, named_row, new_lock, noted, queue_links, room_in, rows, with_queue_links};
 
 use crate::handles::{LockAt, Place, ProcAt};
@@ -223,7 +223,7 @@ impl Queues {
         ensures row { rows self.new at ≡ row.now }
         ensures rows { (other : ℕ) → other ≢ at → rows self.new other ≡ rows self.old other }
         ensures kept { Keeps but_queued but_queues self.old self.new }
-        ensures line { SameBut line_links self.old.locks self.new.locks }
+        ensures wait_list { SameBut wait_list_links self.old.locks self.new.locks }
     {
         if self.stays(at, row, &to) {
             self.rewrite(at, row);
@@ -243,7 +243,7 @@ impl Queues {
         ensures row { rows self.new at ≡ record (rows self.old at) { armed = false } }
         ensures rows { (other : ℕ) → other ≢ at → rows self.new other ≡ rows self.old other }
         ensures kept { Keeps but_queued but_queues self.old self.new }
-        ensures line { SameBut line_links self.old.locks self.new.locks }
+        ensures wait_list { SameBut wait_list_links self.old.locks self.new.locks }
     {
         self.leave_armed(at);
         let row = self.locks[at].row.disarmed();
@@ -277,9 +277,9 @@ impl Queues {
         ensures kin { (other : ℕ) → other ≢ result
             → option_map but_queued (get self.new.locks other)
             ≡ option_map but_queued (get self.old.locks other) }
-        ensures line { (other : ℕ) → other ≢ result
-            → option_map line_links (get self.new.locks other)
-            ≡ option_map line_links (get self.old.locks other) }
+        ensures wait_list { (other : ℕ) → other ≢ result
+            → option_map wait_list_links (get self.new.locks other)
+            ≡ option_map wait_list_links (get self.old.locks other) }
         ensures rest { SameBut but_queues self.old.resources self.new.resources }
         ensures taken { (room_in self.new.locks).0 + 1 ≡ (room_in self.old.locks).0 }
         ensures resources_room { room_in self.new.resources ≡ room_in self.old.resources }
@@ -290,7 +290,7 @@ impl Queues {
             in_queue: Links::none(),
             in_above_nl: Links::none(),
             in_above_cr: Links::none(),
-            in_line: Links::none(),
+            in_wait_list: Links::none(),
             owner,
             of_process: Links::none(),
             parent: MaybeAt::of(parent),
@@ -314,8 +314,8 @@ impl Queues {
         ensures rows { (other : ℕ) → other ≢ at → rows self.new other ≡ rows self.old other }
         ensures kin { (other : ℕ) → other ≢ at → option_map but_queued (get self.new.locks other)
             ≡ option_map but_queued (get self.old.locks other) }
-        ensures line { (other : ℕ) → other ≢ at → option_map line_links (get self.new.locks other)
-            ≡ option_map line_links (get self.old.locks other) }
+        ensures wait_list { (other : ℕ) → other ≢ at → option_map wait_list_links (get self.new.locks other)
+            ≡ option_map wait_list_links (get self.old.locks other) }
         ensures rest { SameBut but_queues self.old.resources self.new.resources }
         ensures given_back { room_in self.new.locks ≡ ((room_in self.old.locks).0 + 1, at) }
         ensures resources_room { room_in self.new.resources ≡ room_in self.old.resources }

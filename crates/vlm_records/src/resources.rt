@@ -12,9 +12,9 @@ ghost use Rattle.vlm_records.specs.Shown.{SameBut, but_value_block, face_in, fac
 use crate::handles::Armed;
 use crate::locks::{InAboveCr, InAboveNl, InQueue, Lock};
 use crate::queues::Queues;
+use crate::tallies::Tally;
 use slab::Slab;
 use vlm_collections::{LAST_HANDLE, Linked, LinkedList, Links};
-use crate::tallies::Tally;
 use vlm_words::resources::{Domain, Key, Queue, Site, ValueBlock};
 
 /// Marks the order of making, of resources and of processes.

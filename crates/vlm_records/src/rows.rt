@@ -4,24 +4,24 @@ ghost use Rattle.std.specs.Prelude.{◌≡◌, ℕ, None, false};
 ghost use Rattle.vlm_words.specs.Rows.{wanting_row, granted_row, is_arming};
 ghost use Rattle.vlm_words.specs.Dues.{routines_of};
 ghost use Rattle.vlm_records.specs.Armed.{armed_rank};
-ghost use Rattle.vlm_records.specs.declared.rows.Asked.{Asked};
+ghost use Rattle.vlm_records.specs.declared.rows.RequestTerms.{RequestTerms};
 ghost use Rattle.vlm_records.specs.declared.rows.Routines.{Routines};
-ghost use Rattle.vlm_records.specs.Requests.{asked_kept, blocking_shown, completion_shown, kept_of, number_kept, request_shown, routines_kept};
+ghost use Rattle.vlm_records.specs.Requests.{packed_terms, blocking_shown, completion_shown, tag_of, packed_number, request_shown, packed_routines};
 
 use bitflags::Flags;
 use std::marker::Model;
 use vlm_words::flags::EnqFlags;
-use vlm_words::locks::{Request, Row};
+use vlm_words::locks::{LockRow, Request};
 use vlm_words::modes::Mode;
 
 // Which routines a request names, if there is a request. Every number is a valid routine, so no number can say that
 // there is no routine.
 #[derive(Clone, Copy)]
-enum Kept {
+enum RequestTag {
     // there is no request
     Nothing,
     // a request without routines
-    Neither,
+    NoRoutine,
     // only a completion routine
     Completion,
     // only a blocking routine
@@ -40,13 +40,13 @@ struct Routines {
 
 // The flags, mode and status block of a request.
 #[derive(Clone, Copy)]
-struct Asked {
+struct RequestTerms {
     flags: EnqFlags,
     mode: Mode,
     block: u8,
 }
 
-/// The row of a lock in 64 bytes. A `Row` with its two requests takes 96 bytes, and each function that hands it on
+/// The row of a lock in 64 bytes. A `LockRow` with its two requests takes 96 bytes, and each function that hands it on
 /// copies it. Here the parts of both requests are grouped by size, so that there is no padding between them, and a
 /// caller can read a single field.
 #[derive(Clone, Copy)]
@@ -62,19 +62,19 @@ pub struct StoredRow {
     pid: u32,
     parent: u32,
     // their flags, modes and status blocks; zeros and NL without a request
-    held_asked: Asked,
-    want_asked: Asked,
+    held_terms: RequestTerms,
+    want_terms: RequestTerms,
     // whether there is a held request and a wanted one, and which routines each names
-    held_kept: Kept,
-    want_kept: Kept,
+    held_tag: RequestTag,
+    want_tag: RequestTag,
     // whether the held request may still bring a blocking AST
     armed: bool,
 }
 
 impl Model for StoredRow {
-    ghost use Rattle.vlm_words.specs.declared.locks.Row.{Row};
+    ghost use Rattle.vlm_words.specs.declared.locks.LockRow.{LockRow};
 
-    ghost Value = { Row };
+    ghost Value = { LockRow };
 
     ghost use Rattle.vlm_records.specs.Rows.{IsPacked, packed, row_shown};
 
@@ -87,22 +87,22 @@ impl Model for StoredRow {
     ghost inverse_ok = { λ r h. h };
 }
 
-fn kept_of(request: &Option<Request>) -> Kept
-    ensures { result ≡ kept_of request.now }
+fn tag_of(request: &Option<Request>) -> RequestTag
+    ensures { result ≡ tag_of request.now }
 {
     let Some(request) = request else {
-        return Kept::Nothing;
+        return RequestTag::Nothing;
     };
     match (request.completion, request.blocking) {
-        (None, None) => Kept::Neither,
-        (Some(_), None) => Kept::Completion,
-        (None, Some(_)) => Kept::Blocking,
-        (Some(_), Some(_)) => Kept::Both,
+        (None, None) => RequestTag::NoRoutine,
+        (Some(_), None) => RequestTag::Completion,
+        (None, Some(_)) => RequestTag::Blocking,
+        (Some(_), Some(_)) => RequestTag::Both,
     }
 }
 
-fn number_kept(request: &Option<Request>) -> u64
-    ensures { result ≡ number_kept request.now }
+fn packed_number(request: &Option<Request>) -> u64
+    ensures { result ≡ packed_number request.now }
 {
     match request {
         Some(request) => request.number,
@@ -110,8 +110,8 @@ fn number_kept(request: &Option<Request>) -> u64
     }
 }
 
-fn routines_kept(request: &Option<Request>) -> Routines
-    ensures { result ≡ routines_kept request.now }
+fn packed_routines(request: &Option<Request>) -> Routines
+    ensures { result ≡ packed_routines request.now }
 {
     match request {
         Some(request) => Routines {
@@ -127,16 +127,16 @@ fn routines_kept(request: &Option<Request>) -> Routines
     }
 }
 
-fn asked_kept(request: &Option<Request>) -> Asked
-    ensures { result ≡ asked_kept request.now }
+fn packed_terms(request: &Option<Request>) -> RequestTerms
+    ensures { result ≡ packed_terms request.now }
 {
     match request {
-        Some(request) => Asked {
+        Some(request) => RequestTerms {
             flags: request.flags,
             mode: request.mode,
             block: request.block,
         },
-        None => Asked {
+        None => RequestTerms {
             flags: EnqFlags::empty(),
             mode: Mode::Nl,
             block: 0,
@@ -144,30 +144,35 @@ fn asked_kept(request: &Option<Request>) -> Asked
     }
 }
 
-fn completion_shown(kept: Kept, routines: &Routines) -> Option<u32>
+fn completion_shown(kept: RequestTag, routines: &Routines) -> Option<u32>
     ensures { result ≡ completion_shown kept routines.now }
 {
     match kept {
-        Kept::Completion | Kept::Both => Some(routines.completion),
-        Kept::Nothing | Kept::Neither | Kept::Blocking => None,
+        RequestTag::Completion | RequestTag::Both => Some(routines.completion),
+        RequestTag::Nothing | RequestTag::NoRoutine | RequestTag::Blocking => None,
     }
 }
 
-fn blocking_shown(kept: Kept, routines: &Routines) -> Option<u32>
+fn blocking_shown(kept: RequestTag, routines: &Routines) -> Option<u32>
     ensures { result ≡ blocking_shown kept routines.now }
 {
     match kept {
-        Kept::Blocking | Kept::Both => Some(routines.blocking),
-        Kept::Nothing | Kept::Neither | Kept::Completion => None,
+        RequestTag::Blocking | RequestTag::Both => Some(routines.blocking),
+        RequestTag::Nothing | RequestTag::NoRoutine | RequestTag::Completion => None,
     }
 }
 
 // A request from its parts. Each part is computed by itself, so a caller that reads one part does not pay for the
 // others.
-fn request_shown(kept: Kept, number: u64, routines: &Routines, asked: &Asked) -> Option<Request>
+fn request_shown(
+    kept: RequestTag,
+    number: u64,
+    routines: &Routines,
+    asked: &RequestTerms,
+) -> Option<Request>
     ensures { result ≡ request_shown kept number routines.now asked.now }
 {
-    if matches!(kept, Kept::Nothing) {
+    if matches!(kept, RequestTag::Nothing) {
         return None;
     }
     Some(Request {
@@ -182,42 +187,42 @@ fn request_shown(kept: Kept, number: u64, routines: &Routines, asked: &Asked) ->
 }
 
 // Whether the grant of this request arms its lock: it names a blocking routine.
-fn is_arming(kept: Kept) -> bool
-    ensures { (number : ℕ) (routines : Routines) (asked : Asked)
+fn is_arming(kept: RequestTag) -> bool
+    ensures { (number : ℕ) (routines : Routines) (asked : RequestTerms)
         → result ≡ is_arming (request_shown kept number routines asked) }
 {
     match kept {
-        Kept::Nothing | Kept::Neither | Kept::Completion => false,
-        Kept::Blocking | Kept::Both => true,
+        RequestTag::Nothing | RequestTag::NoRoutine | RequestTag::Completion => false,
+        RequestTag::Blocking | RequestTag::Both => true,
     }
 }
 
 impl StoredRow {
     /// Packs a row.
-    pub fn of(row: &Row) -> Self
+    pub fn of(row: &LockRow) -> Self
         ensures { result ≡ row.now }
     {
         StoredRow {
-            held_number: number_kept(&row.held),
-            want_number: number_kept(&row.want),
-            held_routines: routines_kept(&row.held),
-            want_routines: routines_kept(&row.want),
+            held_number: packed_number(&row.held),
+            want_number: packed_number(&row.want),
+            held_routines: packed_routines(&row.held),
+            want_routines: packed_routines(&row.want),
             lkid: row.lkid,
             pid: row.pid,
             parent: row.parent,
-            held_asked: asked_kept(&row.held),
-            want_asked: asked_kept(&row.want),
-            held_kept: kept_of(&row.held),
-            want_kept: kept_of(&row.want),
+            held_terms: packed_terms(&row.held),
+            want_terms: packed_terms(&row.want),
+            held_tag: tag_of(&row.held),
+            want_tag: tag_of(&row.want),
             armed: row.armed,
         }
     }
 
     /// Unpacks the row.
-    pub fn row(&self) -> Row
+    pub fn row(&self) -> LockRow
         ensures { result ≡ self.now }
     {
-        Row {
+        LockRow {
             lkid: self.lkid,
             pid: self.pid,
             parent: self.parent,
@@ -261,10 +266,10 @@ impl StoredRow {
     pub(crate) fn armed_rank(&self) -> usize
         ensures { result ≡ armed_rank self.now }
     {
-        if !self.armed || matches!(self.held_kept, Kept::Nothing) {
+        if !self.armed || matches!(self.held_tag, RequestTag::Nothing) {
             return 0;
         }
-        self.held_asked.mode.rank()
+        self.held_terms.mode.rank()
     }
 
     /// The last granted request, if there is one.
@@ -272,10 +277,10 @@ impl StoredRow {
         ensures { result ≡ self.now.held }
     {
         request_shown(
-            self.held_kept,
+            self.held_tag,
             self.held_number,
             &self.held_routines,
-            &self.held_asked,
+            &self.held_terms,
         )
     }
 
@@ -283,10 +288,10 @@ impl StoredRow {
     pub fn wanted_routines(&self) -> usize
         ensures { result ≡ routines_of self.now.want }
     {
-        match self.want_kept {
-            Kept::Nothing | Kept::Neither => 0,
-            Kept::Completion | Kept::Blocking => 1,
-            Kept::Both => 2,
+        match self.want_tag {
+            RequestTag::Nothing | RequestTag::NoRoutine => 0,
+            RequestTag::Completion | RequestTag::Blocking => 1,
+            RequestTag::Both => 2,
         }
     }
 
@@ -295,10 +300,10 @@ impl StoredRow {
         ensures { result ≡ self.now.want }
     {
         request_shown(
-            self.want_kept,
+            self.want_tag,
             self.want_number,
             &self.want_routines,
-            &self.want_asked,
+            &self.want_terms,
         )
     }
 
@@ -309,9 +314,9 @@ impl StoredRow {
         StoredRow {
             held_number: self.want_number,
             held_routines: self.want_routines,
-            held_asked: self.want_asked,
-            held_kept: self.want_kept,
-            armed: is_arming(self.want_kept),
+            held_terms: self.want_terms,
+            held_tag: self.want_tag,
+            armed: is_arming(self.want_tag),
             ..self.without_want()
         }
     }
@@ -322,10 +327,10 @@ impl StoredRow {
     {
         let want = Some(*request);
         StoredRow {
-            want_number: number_kept(&want),
-            want_routines: routines_kept(&want),
-            want_asked: asked_kept(&want),
-            want_kept: kept_of(&want),
+            want_number: packed_number(&want),
+            want_routines: packed_routines(&want),
+            want_terms: packed_terms(&want),
+            want_tag: tag_of(&want),
             ..*self
         }
     }
@@ -335,10 +340,10 @@ impl StoredRow {
         ensures { result ≡ record self.now { want = None } }
     {
         StoredRow {
-            want_number: number_kept(&None),
-            want_routines: routines_kept(&None),
-            want_asked: asked_kept(&None),
-            want_kept: kept_of(&None),
+            want_number: packed_number(&None),
+            want_routines: packed_routines(&None),
+            want_terms: packed_terms(&None),
+            want_tag: tag_of(&None),
             ..*self
         }
     }

@@ -1,7 +1,7 @@
 -- What a walk of the records has printed, and what it has left to print.
 use Rattle.std.proofs.Common.{◌≡◌, ℕ, ◌<◌, List, [], ◌∷◌, ◌++◌, length, Option, None, Some, IfSome, IsSome, refl, append_assoc, arith}
 use Rattle.std.specs.Prelude.{flat_map}
-use Rattle.vlm_words.specs.declared.locks.Row.{Row}
+use Rattle.vlm_words.specs.declared.locks.LockRow.{LockRow}
 use Rattle.vlm_words.specs.declared.resources.Queue.{Queue}
 use Rattle.vlm_words.specs.declared.resources.Queue.TheVariants.{Granted, Conversion, Waiting}
 use Rattle.vlm_words.specs.State.{Resource}
@@ -11,7 +11,7 @@ use Rattle.vlm_script.specs.declared.show.Part.{Part}
 use Rattle.vlm_script.specs.Texts.{no_resources_line, part_text, parts_text, queue_lines, resource_line, resource_text, row_line}
 
 -- a row is printed, and the others are left
-pub row_printed : (queue : Queue) (row : Row) (rows left : List Row) (a b : List ℕ) → left ≡ row ∷ rows → b ≡ a ++ row_line queue (row_view row)
+pub row_printed : (queue : Queue) (row : LockRow) (rows left : List LockRow) (a b : List ℕ) → left ≡ row ∷ rows → b ≡ a ++ row_line queue (row_view row)
     → b ++ queue_lines queue rows ≡ a ++ queue_lines queue left
 row_printed queue row rows left a b one printed = rw (one, printed) (append_assoc a (row_line queue (row_view row)) (queue_lines queue rows))
 
@@ -27,7 +27,7 @@ fewer_left None rest left there one = cc
 fewer_left (Some r) rest left there one = rw one (omega arith)
 
 -- a resource's own line and its three queues, put one behind another, are its text
-pub resource_printed : (o : Option Resource) (view : ResourceView) (granted converting waiting : List Row) (a b c d e : List ℕ) → IfSome o (λ r. view ≡ resource_view r)
+pub resource_printed : (o : Option Resource) (view : ResourceView) (granted converting waiting : List LockRow) (a b c d e : List ℕ) → IfSome o (λ r. view ≡ resource_view r)
     → IfSome o (λ r. granted ≡ rows_in Granted r) → IfSome o (λ r. converting ≡ rows_in Conversion r) → IfSome o (λ r. waiting ≡ rows_in Waiting r)
     → b ≡ a ++ resource_line view → c ≡ b ++ queue_lines Granted granted → d ≡ c ++ queue_lines Conversion converting → e ≡ d ++ queue_lines Waiting waiting → IfSome o (λ r. e ≡ a ++ resource_text r)
 unfolding resource_text

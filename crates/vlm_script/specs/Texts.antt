@@ -5,7 +5,7 @@ use Rattle.vlm_words.specs.declared.asts.Ast.{Ast}
 use Rattle.vlm_words.specs.declared.asts.AstKind.TheVariants.{Completion, Blocking}
 use Rattle.vlm_words.specs.declared.asts.AstKind.{AstKind}
 use Rattle.vlm_words.specs.declared.blocks.Block.{Block}
-use Rattle.vlm_words.specs.declared.locks.Row.{Row}
+use Rattle.vlm_words.specs.declared.locks.LockRow.{LockRow}
 use Rattle.vlm_words.specs.declared.modes.Mode.TheVariants.{Nl, Cr, Cw, Pr, Pw, Ex}
 use Rattle.vlm_words.specs.declared.modes.Mode.{Mode}
 use Rattle.vlm_words.specs.declared.resources.Domain.TheVariants.{Group, System}
@@ -20,7 +20,7 @@ use Rattle.vlm_words.specs.declared.resources.Queue.TheVariants.{Granted, Conver
 use Rattle.vlm_queue.specs.declared.views.ResourceView.{ResourceView}
 use Rattle.vlm_queue.specs.declared.views.RowView.{RowView}
 use Rattle.vlm_queue.specs.Views.{resource_view, row_view}
-use Rattle.vlm_script.specs.declared.printing.rows.WatchedRow.{WatchedRow}
+use Rattle.vlm_script.specs.declared.printed.rows.WatchedRow.{WatchedRow}
 use Rattle.vlm_script.specs.declared.show.Part.{Part}
 use Rattle.vlm_script.specs.declared.show.Part.TheVariants.{Queues, Tail}
 
@@ -153,7 +153,7 @@ row_line Conversion row = converting_line row
 row_line Waiting row = waiting_line row
 
 -- the lines of a queue, in queue order
-abbrev pub queue_lines : Queue → List Row → List ℕ
+abbrev pub queue_lines : Queue → List LockRow → List ℕ
 queue_lines queue rows = flat_map (λ row. row_line queue (row_view row)) rows
 
 -- a resource with its three queues

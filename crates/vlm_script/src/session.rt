@@ -6,7 +6,7 @@ ghost use Rattle.vlm_script.specs.Texts.{answer_line};
 ghost use Rattle.vlm_script.specs.Sessions.{RunsStep, IsRun, IsPrinted, StopsBytes, StopsLine, StopsName};
 
 use crate::bindings::{Bindings, bind_reserved, bound_to, process_of};
-use crate::printing::{answer_line, node_line, status_block_line, status_tail_line};
+use crate::printed::{answer_line, node_line, status_block_line, status_tail_line};
 use crate::show::{Part, show};
 use crate::stops::Stop;
 use std::alloc::Global;

@@ -8,7 +8,7 @@ ghost use Rattle.vlm_script.specs.Sharing.{StopsShareLines};
 
 use crate::cuts::next_line;
 use crate::faults::PlayFault;
-use crate::sharing::Sharing;
+use crate::node_lists::Sharing;
 use crate::streams::read_whole;
 use std::alloc::Global;
 use std::io::Read;

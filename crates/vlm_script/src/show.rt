@@ -5,7 +5,7 @@ ghost use Rattle.vlm_queue.specs.Views.{resource_view};
 ghost use Rattle.vlm_queue.specs.Walks.{HasResource, plain_resource_at, rows_queued};
 ghost use Rattle.vlm_script.specs.Texts.{part_text, parts_text, queue_lines, resource_line, resource_text, row_line, tail_line};
 
-use crate::printing::{
+use crate::printed::{
     converting_line, granted_line, no_resources, resource_line, tail_line, waiting_line,
 };
 use std::alloc::AllocError;

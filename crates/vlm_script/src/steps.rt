@@ -10,7 +10,7 @@ ghost use Rattle.vlm_script.specs.Steps.{IsPostable, numbered, read_step, steps_
 
 use crate::cuts::next_line;
 use crate::faults::PlayFault;
-use crate::sharing::Sharing;
+use crate::node_lists::Sharing;
 use crate::stops::Stop;
 use crate::streams::read_whole;
 use std::alloc::Global;

@@ -2,7 +2,7 @@
 use Rattle.std.proofs.Common.{◌≡◌, ℕ, List, [], ◌∷◌, map, cond, true, false, Some, refl, sym, ap, ◌∙◌, subst}
 use Rattle.slab.specs.Slab.{get, ContainsKey}
 use Rattle.vlm_collections.specs.Lists.{IsIn, handles_of}
-use Rattle.vlm_words.specs.declared.locks.Row.{Row}
+use Rattle.vlm_words.specs.declared.locks.LockRow.{LockRow}
 use Rattle.vlm_words.specs.declared.resources.Queue.TheVariants.{Granted}
 use Rattle.vlm_records.specs.declared.handles.Armed.{Armed}
 use Rattle.vlm_records.specs.declared.handles.Place.TheVariants.{Queued}
@@ -17,7 +17,7 @@ use Rattle.vlm_store.specs.Store.{tables, under_handle}
 use Rattle.vlm_store.proofs.Layouts.{HasResource-order, locks_at-seen, under_handle-among}
 
 -- those of the locks under these handles that are armed
-pub armed-seen : (which : Armed) (rows : ℕ → Row) (ks : List ℕ) → armed_among which (map (under_handle rows) ks) ≡ map (under_handle rows) (armed_handles which rows ks)
+pub armed-seen : (which : Armed) (rows : ℕ → LockRow) (ks : List ℕ) → armed_among which (map (under_handle rows) ks) ≡ map (under_handle rows) (armed_handles which rows ks)
 armed-seen which rows [] = refl
 armed-seen which rows (k ∷ ks) =
     elim (is_listed which (rows k)) as (λ b. cond b (under_handle rows k ∷ armed_among which (map (under_handle rows) ks)) (armed_among which (map (under_handle rows) ks)) ≡ map (under_handle rows) (cond b (k ∷ armed_handles which rows ks) (armed_handles which rows ks))) [

@@ -8,7 +8,7 @@ use Rattle.std.proofs.lemmas.List.Sums.{length-filter, sum_by-cons}
 use Rattle.vlm_collections.specs.Lists.{IsApart, IsIn, without}
 use Rattle.vlm_collections.proofs.Images.{IsIn-image, IsIn-of_image}
 use Rattle.vlm_collections.proofs.HandleLists.{IsApart-without, IsIn-without_kept, length-without}
-use Rattle.vlm_words.specs.declared.locks.Row.{Row}
+use Rattle.vlm_words.specs.declared.locks.LockRow.{LockRow}
 use Rattle.vlm_words.specs.declared.resources.Queue.{Queue}
 use Rattle.vlm_words.specs.declared.resources.Queue.TheVariants.{Granted, Conversion, Waiting}
 use Rattle.vlm_records.specs.declared.handles.Place.{Place}
@@ -70,7 +70,7 @@ module _ (pid : ℕ) where
       length-map (filter (λ (k : StoredLock). k.row.pid == pid) locks) (λ (k : StoredLock). k.at) ∙ length-filter (λ (k : StoredLock). k.row.pid == pid) locks
 
   -- the lock of a handle
-  among_handles : (locks : List StoredLock) (at : ℕ) → IsIn at (handles_among locks) → (row : Row) × (IsIn (record { at = at; row = row }) locks × (row.pid ≡ pid))
+  among_handles : (locks : List StoredLock) (at : ℕ) → IsIn at (handles_among locks) → (row : LockRow) × (IsIn (record { at = at; row = row }) locks × (row.pid ≡ pid))
   among_handles [] at found = absurd found
   among_handles (k ∷ rest) at found =
       elim (cases_eq k.row.pid pid) [
@@ -117,7 +117,7 @@ module _ (pid : ℕ) where
         handles_among-length r.waiting,
       )
 
-  in_queue : (r : StoredResource) (at : ℕ) → IsIn at (handles_on r) → (queue : Queue) × (row : Row) × (IsIn (record { at = at; row = row }) (queued queue r) × (row.pid ≡ pid))
+  in_queue : (r : StoredResource) (at : ℕ) → IsIn at (handles_on r) → (queue : Queue) × (row : LockRow) × (IsIn (record { at = at; row = row }) (queued queue r) × (row.pid ≡ pid))
   in_queue r at found =
       IsIn-append at (handles_among r.granted) (handles_among r.converting ++ handles_among r.waiting) _ (λ here. let lock = among_handles r.granted at here in (Granted, lock.0, lock.1))
       (λ later. IsIn-append at (handles_among r.converting) (handles_among r.waiting) _ (λ here. let lock = among_handles r.converting at here in (Conversion, lock.0, lock.1)) (λ here. let lock = among_handles r.waiting at here in (Waiting, lock.0, lock.1)) later) found
@@ -152,7 +152,7 @@ module _ (pid : ℕ) where
   module _ (s : Records) (sound : IsSound s) where
     -- a handle of a resource is that of a lock in one of its queues
     stands_on : (r : StoredResource) → IsIn r s.resources → (at : ℕ) → IsIn at (handles_on r)
-        → (queue : Queue) × (row : Row) × (IsIn (record { at = at; row = row }) (locks_at (Queued r.at queue) s) × (row.pid ≡ pid))
+        → (queue : Queue) × (row : LockRow) × (IsIn (record { at = at; row = row }) (locks_at (Queued r.at queue) s) × (row.pid ≡ pid))
     stands_on r among at found =
         let stands = in_queue r at found in
         (stands.0, stands.1, (subst (IsIn (record { at = at; row = stands.1 })) (sym (queue_at s sound r among stands.0)) stands.2.0, stands.2.1))
@@ -200,13 +200,13 @@ module _ (pid : ℕ) where
     handles_by-apart : IsApart handles_by
     handles_by-apart = handles_in-apart s.resources sound.resources_apart (λ r among. among)
 
-    stored_handle : (at : ℕ) (row : Row) → Stores s at row → row.pid ≡ pid → IsIn at handles_by
+    stored_handle : (at : ℕ) (row : LockRow) → Stores s at row → row.pid ≡ pid → IsIn at handles_by
     stored_handle at row stored is = by_place stored.0 stored.1
       where
         by_place : (place : Place) → IsIn (record { at = at; row = row }) (locks_at place s) → IsIn at handles_by
         by_place (Queued res queue) among = resource_in s.resources res queue (record { at = at; row = row }) among is
 
-    handle_stored : (at : ℕ) → IsIn at handles_by → (row : Row) × (Stores s at row × (row.pid ≡ pid))
+    handle_stored : (at : ℕ) → IsIn at handles_by → (row : LockRow) × (Stores s at row × (row.pid ≡ pid))
     handle_stored at found =
         let on = in_resource s.resources at found in
         let stands = stands_on on.0 on.1.0 at on.1.1 in

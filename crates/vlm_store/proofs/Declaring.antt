@@ -179,7 +179,7 @@ module _ (s : Inside) (kept : IsKept s) (processes : Slab Process) (rows : List 
     placed = kept.placed;
     tallied = kept.tallied;
     armed = kept.armed;
-    line = kept.line;
+    wait_list = kept.wait_list;
     linked = kept.linked;
     ordered = kept.ordered;
     locks = kept.locks;
@@ -200,7 +200,7 @@ more_marks s kept marks grows = record {
   placed = kept.placed;
   tallied = kept.tallied;
   armed = kept.armed;
-  line = kept.line;
+  wait_list = kept.wait_list;
   linked = kept.linked;
   ordered = kept.ordered;
   locks = kept.locks;

@@ -3,7 +3,7 @@ use Rattle.std.proofs.Common.{◌≡◌, ℕ, List, [], ◌∷◌, map, not, ◌
 use Rattle.std.specs.List.{list_all, list_any}
 use Rattle.vlm_words.specs.declared.modes.Mode.{Mode}
 use Rattle.vlm_words.specs.Rows.{keeps_out, fits, is_beside}
-use Rattle.vlm_words.specs.declared.locks.Row.{Row}
+use Rattle.vlm_words.specs.declared.locks.LockRow.{LockRow}
 use Rattle.vlm_words.specs.declared.resources.Queue.TheVariants.{Granted, Conversion, Waiting}
 use Rattle.vlm_collections.specs.Lists.{without}
 use Rattle.vlm_records.specs.Tallies.{counts_fit, weight_of}
@@ -17,7 +17,7 @@ use Rattle.vlm_store.specs.Store.{Layout, under_handle, resource_of}
 use Rattle.vlm_store.proofs.Layouts.{under_handle-without}
 
 -- what fits beside the locks that a caller sees
-beside-under_handle : (mode : Mode) (rows : ℕ → Row) (ks : List ℕ) → list_all (λ row. is_beside mode row.held) (rows_of_locks (map (under_handle rows) ks)) ≡ list_all (λ k. is_beside mode (rows k).held) ks
+beside-under_handle : (mode : Mode) (rows : ℕ → LockRow) (ks : List ℕ) → list_all (λ row. is_beside mode row.held) (rows_of_locks (map (under_handle rows) ks)) ≡ list_all (λ k. is_beside mode (rows k).held) ks
 beside-under_handle mode rows [] = refl
 beside-under_handle mode rows (k ∷ ks) = ap (λ b. is_beside mode (rows k).held && b) (beside-under_handle mode rows ks)
 
@@ -36,7 +36,7 @@ fits_beside-handles q l r mode (Some own) handles rows_same =
     ) refl))
 
 -- and so does a caller see it
-rows-under_handle : (rows : ℕ → Row) (ks : List ℕ) → rows_of_locks (map (under_handle rows) ks) ≡ map rows ks
+rows-under_handle : (rows : ℕ → LockRow) (ks : List ℕ) → rows_of_locks (map (under_handle rows) ks) ≡ map rows ks
 rows-under_handle rows [] = refl
 rows-under_handle rows (k ∷ ks) = ap (λ rest. rows k ∷ rest) (rows-under_handle rows ks)
 

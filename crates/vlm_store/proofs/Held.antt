@@ -3,7 +3,7 @@ use Rattle.std.proofs.Common.{◌≡◌, ◌≤◌, ℕ, ◌+◌, List, [], ◌�
 use Rattle.std.proofs.Math.Path.{fun_ext}
 use Rattle.std.proofs.lemmas.List.{length-map}
 use Rattle.std.proofs.lemmas.List.Sums.{sum_by-append, sum_by-cons}
-use Rattle.vlm_words.specs.declared.locks.Row.{Row}
+use Rattle.vlm_words.specs.declared.locks.LockRow.{LockRow}
 use Rattle.vlm_words.specs.declared.modes.Mode.{Mode}
 use Rattle.vlm_words.specs.declared.resources.Queue.{Queue}
 use Rattle.vlm_words.specs.declared.resources.Queue.TheVariants.{Granted, Conversion, Waiting}
@@ -24,7 +24,7 @@ use Rattle.vlm_store.proofs.Layouts.{queued-handles}
 -- ---- how many hold each mode
 
 -- what the rows under these handles weigh together is how many of them hold the mode
-total-holds : (mode : Mode) (rows : ℕ → Row) (ks : List ℕ) → total (λ row. one_if (is_mode mode row.held)) rows ks ≡ count_by (λ row. is_mode mode row.held) (rows_of_locks (map (under_handle rows) ks))
+total-holds : (mode : Mode) (rows : ℕ → LockRow) (ks : List ℕ) → total (λ row. one_if (is_mode mode row.held)) rows ks ≡ count_by (λ row. is_mode mode row.held) (rows_of_locks (map (under_handle rows) ks))
 total-holds mode rows [] = refl
 total-holds mode rows (k ∷ ks) =
     ap (λ n. one_if (is_mode mode (rows k).held) + n) (total-holds mode rows ks)
@@ -34,7 +34,7 @@ total-holds mode rows (k ∷ ks) =
 pub held_counts-handles : (q : Queues) (l : Layout) (r : ℕ) (held : Mode → ℕ) → ((m : Mode) → held m ≡ shares q (weight_of of_held m) None r) → l.handles ≡ handles_at q → l.rows ≡ rows q
     → by_mode held ≡ held_counts (rows_of_locks (resource_of l r).granted ++ rows_of_locks (resource_of l r).converting)
 held_counts-handles q l r held held_is handles rows_same =
-    let seen : List ℕ → List Row = λ ks. rows_of_locks (map (under_handle (rows q)) ks) in
+    let seen : List ℕ → List LockRow = λ ks. rows_of_locks (map (under_handle (rows q)) ks) in
     let granted = handles_at q (Queued r Granted) in
     let converting = handles_at q (Queued r Conversion) in
     let of_rows : (m : Mode) → held m ≡ count_by (λ row. is_mode m row.held) (seen granted ++ seen converting) =

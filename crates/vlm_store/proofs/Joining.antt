@@ -6,7 +6,7 @@ use Rattle.std.specs.Option.{option_map}
 use Rattle.slab.specs.Slab.{Slab, get, ContainsKey}
 use Rattle.vlm_collections.specs.Lists.{IsIn, Relinks, handles_of, next_in, prev_in}
 use Rattle.vlm_collections.proofs.Keeping.{vacant_unlisted}
-use Rattle.vlm_words.specs.declared.locks.Row.{Row}
+use Rattle.vlm_words.specs.declared.locks.LockRow.{LockRow}
 use Rattle.vlm_records.specs.declared.locks.Lock.{Lock}
 use Rattle.vlm_records.specs.declared.processes.Process.{Process}
 use Rattle.vlm_store.specs.declared.store.Store.TheInside.{Inside}
@@ -26,7 +26,7 @@ parent-named None = refl
 parent-named (Some l) = refl
 
 -- the record comes, and is not yet linked
-module _ (s : Inside) (kept : IsKept s) (locks1 locks2 : Slab Lock) (at : ℕ) (row : Row) (owner : ℕ) (parent : Option ℕ) (same1 : (k : ℕ) → get locks1 k ≡ get s.queues.locks k)
+module _ (s : Inside) (kept : IsKept s) (locks1 locks2 : Slab Lock) (at : ℕ) (row : LockRow) (owner : ℕ) (parent : Option ℕ) (same1 : (k : ℕ) → get locks1 k ≡ get s.queues.locks k)
     (fresh : get locks1 at ≡ None) (lock : option_map but_queued (get locks2 at) ≡ Some (new_lock row owner parent))
     (kin : (k : ℕ) → k ≢ at → option_map but_queued (get locks2 k) ≡ option_map but_queued (get locks1 k)) (owner_is : IsProcess owner row.pid (records_shown s)) (parent_is : IsParentOf parent row (records_shown s)) where
   roomy : SameBut but_queued s.queues.locks locks1
@@ -131,7 +131,7 @@ module _ (s : Inside) (kept : IsKept s) (locks1 locks2 : Slab Lock) (at : ℕ) (
       names (Some k) is up =
           let there = lock_there s kept k up.0 up.1.0 in
           by_part lasting_part (option_map lkid_of) lkid-named (get locks2 k) (get s.queues.locks k) (named_other k (was_other k there.0))
-          ∙ lkid_of_row (get s.queues.locks k) there.0 ∙ ap (λ (r : Row). Some r.lkid) there.2 ∙ ap Some up.1.1
+          ∙ lkid_of_row (get s.queues.locks k) there.0 ∙ ap (λ (r : LockRow). Some r.lkid) there.2 ∙ ap Some up.1.1
 
   pub new_lkid : option_map lkid_of (get locks2 at) ≡ Some row.lkid
   new_lkid = by_part but_queued (option_map lkid_of) lkid-queued (get locks2 at) (Some (new_lock row owner parent)) lock

@@ -7,7 +7,7 @@ use Rattle.vlm_collections.specs.declared.link.TheConstants.{LAST_HANDLE}
 use Rattle.vlm_collections.specs.declared.lists.LinkedList.{LinkedList}
 use Rattle.vlm_collections.specs.Lists.{IsIn, IsLinked, IsNoList, handles_of, next_in, prev_in}
 use Rattle.vlm_collections.proofs.Rings.{no_list-linked}
-use Rattle.vlm_words.specs.declared.locks.Row.{Row}
+use Rattle.vlm_words.specs.declared.locks.LockRow.{LockRow}
 use Rattle.vlm_words.specs.declared.resources.Queue.{Queue}
 use Rattle.vlm_words.specs.declared.resources.Queue.TheVariants.{Granted, Conversion, Waiting}
 use Rattle.vlm_words.specs.declared.resources.Key.{Key}
@@ -30,7 +30,7 @@ use Rattle.vlm_records.proofs.Places.{kept_handles, kept_placed, lists_same, lki
 
 module _ (q : Queues) (order : LinkedList InOrder) (beside : Beside) (placed : IsPlaced q None) where
   -- a lock that a caller sees is there
-  pub stored_there : (at : ℕ) (row : Row) → Stores (records_of (tables q order beside)) at row → ContainsKey q.locks at × (at ≤ LAST_HANDLE) × (rows q at ≡ row)
+  pub stored_there : (at : ℕ) (row : LockRow) → Stores (records_of (tables q order beside)) at row → ContainsKey q.locks at × (at ≤ LAST_HANDLE) × (rows q at ≡ row)
   stored_there at row stored =
       let listed = Stores-listed (tables q order beside) at row stored in
       let linked = placed.linked listed.0 in
@@ -52,13 +52,13 @@ module _ (q : Queues) (order : LinkedList InOrder) (beside : Beside) (placed : I
     place_there (Queued r queue) has = linked.present r (HasPlace-seen (tables q order beside) (Queued r queue) has)
 
     -- the record of a lock that a caller sees has its identification
-    lkid_seen : (at : ℕ) (row : Row) → Stores (records_of (tables q order beside)) at row → lkid_at q at ≡ Some row.lkid
+    lkid_seen : (at : ℕ) (row : LockRow) → Stores (records_of (tables q order beside)) at row → lkid_at q at ≡ Some row.lkid
     lkid_seen at row stored =
         let there = stored_there at row stored in
-        lkid_of_row (get q.locks at) there.0 ∙ ap (λ (r : Row). Some r.lkid) there.2
+        lkid_of_row (get q.locks at) there.0 ∙ ap (λ (r : LockRow). Some r.lkid) there.2
 
     -- no two locks have one identification
-    pub lkids_apart : (found : ℕ → Option ℕ) → Indexes found (lkid_at q) → (a b : ℕ) (x y : Row) → Stores (records_of (tables q order beside)) a x → Stores (records_of (tables q order beside)) b y
+    pub lkids_apart : (found : ℕ → Option ℕ) → Indexes found (lkid_at q) → (a b : ℕ) (x y : LockRow) → Stores (records_of (tables q order beside)) a x → Stores (records_of (tables q order beside)) b y
         → x.lkid ≡ y.lkid → a ≡ b
     lkids_apart found indexes a b x y stored_a stored_b same =
         same_Some a b (sym (indexes.complete x.lkid a (lkid_seen a x stored_a)) ∙ indexes.complete x.lkid b (lkid_seen b y stored_b ∙ ap Some (sym same)))
@@ -135,7 +135,7 @@ module _ (q : Queues) (no_locks : (k : ℕ) → get q.locks k ≡ None) (no_reso
   pub empty_placed : IsPlaced q None
   empty_placed = family-empty queue_links noted_in q.locks (list_at q) empty_list no_locks (λ p. none-some p)
 
-  empty_shares : (weight : Queue → Row → ℕ) (r : ℕ) → shares q weight None r ≡ 0
+  empty_shares : (weight : Queue → LockRow → ℕ) (r : ℕ) → shares q weight None r ≡ 0
   empty_shares weight r =
       omega (
         arith,

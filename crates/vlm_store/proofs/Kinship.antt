@@ -5,12 +5,12 @@ use Rattle.std.proofs.lemmas.Bool.{cases_eq}
 use Rattle.std.proofs.lemmas.Option.{none-some, same_Some}
 use Rattle.std.specs.Option.{option_map}
 use Rattle.slab.specs.Slab.{Slab, get, ContainsKey}
-use Rattle.vlm_collections.specs.declared.hashing.HashKeys.{HashKeys}
+use Rattle.vlm_collections.specs.declared.hashers.HashKeys.{HashKeys}
 use Rattle.vlm_collections.specs.declared.lists.LinkedList.{LinkedList}
 use Rattle.vlm_collections.specs.Lists.{IsIn, IsLinked, Relinks, handles_of, next_in, prev_in}
 use Rattle.vlm_collections.proofs.Keeping.{relinked_same}
 use Rattle.vlm_collections.proofs.Rings.{kept-handles, kept-linked}
-use Rattle.vlm_words.specs.declared.locks.Row.{Row}
+use Rattle.vlm_words.specs.declared.locks.LockRow.{LockRow}
 use Rattle.vlm_records.specs.declared.handles.Place.{Place}
 use Rattle.vlm_records.specs.declared.locks.Lock.{Lock}
 use Rattle.vlm_records.specs.declared.processes.Process.{Process}
@@ -342,5 +342,5 @@ module _ (processes processes' : Slab Process) (same : SameBut but_own processes
   own_pids = through but_own (option_map pid_of) pid-own processes processes' same
 
 -- two rows of one lock name the same
-pub named_same : (a b : Row) → IsSameLock a b → named_row a ≡ named_row b
+pub named_same : (a b : LockRow) → IsSameLock a b → named_row a ≡ named_row b
 named_same a b same = rw (same.lkid, same.pid, same.parent) refl

@@ -3,11 +3,11 @@ use Rattle.std.proofs.Common.{◌≡◌, ◌≢◌, ◌⊎◌, ℕ, List, [], �
 use Rattle.std.specs.Prelude.{◌==◌}
 use Rattle.std.specs.Option.{option_map_or}
 use Rattle.std.proofs.lemmas.Bool.{cases_eq}
-use Rattle.vlm_collections.specs.declared.hashing.HashKeys.{HashKeys}
+use Rattle.vlm_collections.specs.declared.hashers.HashKeys.{HashKeys}
 use Rattle.vlm_collections.specs.Lists.{IsIn, IsApart, first_handle, handle_after, without}
 use Rattle.vlm_collections.proofs.Images.{IsIn-image, IsIn-told}
 use Rattle.vlm_collections.proofs.HandleLists.{IsIn-without, without_head, without_past}
-use Rattle.vlm_words.specs.declared.locks.Row.{Row}
+use Rattle.vlm_words.specs.declared.locks.LockRow.{LockRow}
 use Rattle.vlm_words.specs.declared.resources.Queue.{Queue}
 use Rattle.vlm_words.specs.declared.resources.Queue.TheVariants.{Granted, Conversion, Waiting}
 use Rattle.vlm_records.specs.declared.handles.Place.{Place}
@@ -19,11 +19,11 @@ use Rattle.vlm_store.proofs.Records.{is_place-other, is_place-same}
 
 -- ---- locks under their handles
 
-pub under_handle-append : (rows : ℕ → Row) (ks : List ℕ) (at : ℕ) → map (under_handle rows) (ks ++ at ∷ []) ≡ map (under_handle rows) ks ++ under_handle rows at ∷ []
+pub under_handle-append : (rows : ℕ → LockRow) (ks : List ℕ) (at : ℕ) → map (under_handle rows) (ks ++ at ∷ []) ≡ map (under_handle rows) ks ++ under_handle rows at ∷ []
 under_handle-append rows [] at = refl
 under_handle-append rows (k ∷ ks) at = ap (λ rest. under_handle rows k ∷ rest) (under_handle-append rows ks at)
 
-pub under_handle-without : (rows : ℕ → Row) (at : ℕ) (ks : List ℕ) → without_lock at (map (under_handle rows) ks) ≡ map (under_handle rows) (without at ks)
+pub under_handle-without : (rows : ℕ → LockRow) (at : ℕ) (ks : List ℕ) → without_lock at (map (under_handle rows) ks) ≡ map (under_handle rows) (without at ks)
 under_handle-without rows at [] = refl
 under_handle-without rows at (k ∷ ks) =
     elim (k == at) as (λ b. cond (not b) (under_handle rows k ∷ without_lock at (map (under_handle rows) ks)) (without_lock at (map (under_handle rows) ks))
@@ -32,24 +32,24 @@ under_handle-without rows at (k ∷ ks) =
       | false ↦ ap (λ rest. under_handle rows k ∷ rest) (under_handle-without rows at ks)
     ]
 
-pub under_handle-kept : (rows rows' : ℕ → Row) (ks : List ℕ) → ((k : ℕ) → IsIn k ks → rows' k ≡ rows k) → map (under_handle rows') ks ≡ map (under_handle rows) ks
+pub under_handle-kept : (rows rows' : ℕ → LockRow) (ks : List ℕ) → ((k : ℕ) → IsIn k ks → rows' k ≡ rows k) → map (under_handle rows') ks ≡ map (under_handle rows) ks
 under_handle-kept rows rows' [] same = refl
 under_handle-kept rows rows' (k ∷ ks) same =
     ap (λ r. record { at = k; row = r } ∷ map (under_handle rows') ks) (same k (inl refl)) ∙ ap (λ rest. under_handle rows k ∷ rest) (under_handle-kept rows rows' ks (λ x h. same x (inr h)))
 
 -- a lock that a caller sees is there, with its row
-pub under_handle-among : (rows : ℕ → Row) (ks : List ℕ) (lock : StoredLock) → IsIn lock (map (under_handle rows) ks) → IsIn lock.at ks × (rows lock.at ≡ lock.row)
+pub under_handle-among : (rows : ℕ → LockRow) (ks : List ℕ) (lock : StoredLock) → IsIn lock (map (under_handle rows) ks) → IsIn lock.at ks × (rows lock.at ≡ lock.row)
 under_handle-among rows ks lock found = let of = IsIn-told (under_handle rows) (λ (x : StoredLock). x.at) (λ k. refl) ks lock found in (of.0, ap (λ (x : StoredLock). x.row) of.1)
 
-pub among-under_handle : (rows : ℕ → Row) (ks : List ℕ) (at : ℕ) → IsIn at ks → IsIn (record { at = at; row = rows at }) (map (under_handle rows) ks)
+pub among-under_handle : (rows : ℕ → LockRow) (ks : List ℕ) (at : ℕ) → IsIn at ks → IsIn (record { at = at; row = rows at }) (map (under_handle rows) ks)
 among-under_handle rows = IsIn-image (under_handle rows)
 
 -- the first lock, and the one that follows another
-pub under_handle-first : (rows : ℕ → Row) (ks : List ℕ) → first_at (map (under_handle rows) ks) ≡ first_handle ks
+pub under_handle-first : (rows : ℕ → LockRow) (ks : List ℕ) → first_at (map (under_handle rows) ks) ≡ first_handle ks
 under_handle-first rows [] = refl
 under_handle-first rows (k ∷ ks) = refl
 
-pub under_handle-after : (rows : ℕ → Row) (at : ℕ) (ks : List ℕ) → at_after at (map (under_handle rows) ks) ≡ handle_after at ks
+pub under_handle-after : (rows : ℕ → LockRow) (at : ℕ) (ks : List ℕ) → at_after at (map (under_handle rows) ks) ≡ handle_after at ks
 under_handle-after rows at [] = refl
 under_handle-after rows at (k ∷ ks) =
     elim (k == at) as (λ b. cond b (first_at (map (under_handle rows) ks)) (at_after at (map (under_handle rows) ks)) ≡ cond b (first_handle ks) (handle_after at ks)) [
@@ -57,14 +57,14 @@ under_handle-after rows at (k ∷ ks) =
       | false ↦ under_handle-after rows at ks
     ]
 
-under_handle-apart : (rows : ℕ → Row) (ks : List ℕ) → IsApart ks → AreApart (map (under_handle rows) ks)
+under_handle-apart : (rows : ℕ → LockRow) (ks : List ℕ) → IsApart ks → AreApart (map (under_handle rows) ks)
 under_handle-apart rows [] apart = tt
 under_handle-apart rows (k ∷ ks) apart = (λ row found. apart.0 (under_handle-among rows ks (record { at = k; row = row }) found).0, under_handle-apart rows ks apart.1)
 
 -- ---- all lists change
 
 -- what a list becomes
-pub moving-under_handle : (rows rows' : ℕ → Row) (handles handles' : Place → List ℕ) (at : ℕ) (row : Row) (to : Place) → rows' at ≡ row → ((k : ℕ) → k ≢ at → rows' k ≡ rows k)
+pub moving-under_handle : (rows rows' : ℕ → LockRow) (handles handles' : Place → List ℕ) (at : ℕ) (row : LockRow) (to : Place) → rows' at ≡ row → ((k : ℕ) → k ≢ at → rows' k ≡ rows k)
     → handles' to ≡ without at (handles to) ++ at ∷ [] → ((p : Place) → p ≢ to → handles' p ≡ without at (handles p))
     → (p : Place) → map (under_handle rows') (handles' p) ≡ moving to (record { at = at; row = row }) p (map (under_handle rows) (handles p))
 moving-under_handle rows rows' handles handles' at row to here others joined left p =
@@ -80,7 +80,7 @@ moving-under_handle rows rows' handles handles' at row to here others joined lef
     rest : (p : Place) → map (under_handle rows') (without at (handles p)) ≡ without_lock at (map (under_handle rows) (handles p))
     rest p = under_handle-kept rows rows' (without at (handles p)) (λ k found. others k (IsIn-without at k (handles p) found).1) ∙ sym (under_handle-without rows at (handles p))
 
-pub joining-under_handle : (rows rows' : ℕ → Row) (handles handles' : Place → List ℕ) (at : ℕ) (row : Row) (to : Place) → rows' at ≡ row → ((k : ℕ) → k ≢ at → rows' k ≡ rows k)
+pub joining-under_handle : (rows rows' : ℕ → LockRow) (handles handles' : Place → List ℕ) (at : ℕ) (row : LockRow) (to : Place) → rows' at ≡ row → ((k : ℕ) → k ≢ at → rows' k ≡ rows k)
     → ((p : Place) → ¬ IsIn at (handles p)) → handles' to ≡ handles to ++ at ∷ [] → ((p : Place) → p ≢ to → handles' p ≡ handles p)
     → (p : Place) → map (under_handle rows') (handles' p) ≡ joining to (record { at = at; row = row }) p (map (under_handle rows) (handles p))
 joining-under_handle rows rows' handles handles' at row to here others unlisted joined stay p =
@@ -96,12 +96,12 @@ joining-under_handle rows rows' handles handles' at row to here others unlisted 
     rest : (p : Place) → map (under_handle rows') (handles p) ≡ map (under_handle rows) (handles p)
     rest p = under_handle-kept rows rows' (handles p) (λ k found. others k (λ same. unlisted p (subst (λ x. IsIn x (handles p)) same found)))
 
-pub leaving-under_handle : (rows rows' : ℕ → Row) (handles handles' : Place → List ℕ) (at : ℕ) → ((k : ℕ) → k ≢ at → rows' k ≡ rows k) → ((p : Place) → handles' p ≡ without at (handles p))
+pub leaving-under_handle : (rows rows' : ℕ → LockRow) (handles handles' : Place → List ℕ) (at : ℕ) → ((k : ℕ) → k ≢ at → rows' k ≡ rows k) → ((p : Place) → handles' p ≡ without at (handles p))
     → (p : Place) → map (under_handle rows') (handles' p) ≡ leaving at p (map (under_handle rows) (handles p))
 leaving-under_handle rows rows' handles handles' at others left p =
     ap (map (under_handle rows')) (left p) ∙ under_handle-kept rows rows' (without at (handles p)) (λ k found. others k (IsIn-without at k (handles p) found).1) ∙ sym (under_handle-without rows at (handles p))
 
-pub disarming-under_handle : (rows rows' : ℕ → Row) (at : ℕ) → rows' at ≡ record (rows at) { armed = false } → ((k : ℕ) → k ≢ at → rows' k ≡ rows k)
+pub disarming-under_handle : (rows rows' : ℕ → LockRow) (at : ℕ) → rows' at ≡ record (rows at) { armed = false } → ((k : ℕ) → k ≢ at → rows' k ≡ rows k)
     → (p : Place) (ks : List ℕ) → map (under_handle rows') ks ≡ disarming at p (map (under_handle rows) ks)
 disarming-under_handle rows rows' at here others p [] = refl
 disarming-under_handle rows rows' at here others p (k ∷ ks) =
@@ -222,7 +222,7 @@ among-seen l p lock found =
       | inr none ↦ let nothing : IsIn lock [] = rw none at found in absurd nothing
     ]
 
-pub Stores-listed : (l : Layout) (at : ℕ) (row : Row) → Stores (records_of l) at row → (p : Place) × (IsIn at (l.handles p) × (l.rows at ≡ row))
+pub Stores-listed : (l : Layout) (at : ℕ) (row : LockRow) → Stores (records_of l) at row → (p : Place) × (IsIn at (l.handles p) × (l.rows at ≡ row))
 Stores-listed l at row stored = (stored.0, locks_at-among l stored.0 (record { at = at; row = row }) stored.1)
 
 -- a place where a lock stands is there
@@ -252,7 +252,7 @@ resources_apart l (r ∷ rs) apart = (
 
 -- what a caller sees is sound
 pub IsSound-records_of : (l : Layout) → IsApart l.order → ((p : Place) → IsApart (l.handles p)) → ((at : ℕ) (p q : Place) → IsIn at (l.handles p) → IsIn at (l.handles q) → p ≡ q)
-    → ((a b : ℕ) (x y : Row) → Stores (records_of l) a x → Stores (records_of l) b y → x.lkid ≡ y.lkid → a ≡ b)
+    → ((a b : ℕ) (x y : LockRow) → Stores (records_of l) a x → Stores (records_of l) b y → x.lkid ≡ y.lkid → a ≡ b)
     → ((a b : StoredResource) → IsIn a (records_of l).resources → IsIn b (records_of l).resources → a.key ≡ b.key → a.at ≡ b.at)
     → AreProcessesApart l.processes → AreOwned (records_of l) → ((p : StoredProcess) → IsIn p l.processes → AreOwnApart p.own) → IsSound (records_of l)
 unfolding records_of

@@ -12,7 +12,7 @@ pub mod Kept
 pub mod Kinship
 pub mod Layouts
 pub mod Leaving
-pub mod Lined
+pub mod WaitListed
 pub mod Living
 pub mod Marked
 pub mod Members

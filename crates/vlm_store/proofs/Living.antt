@@ -11,7 +11,7 @@ use Rattle.vlm_collections.specs.Parts.{handle_in}
 use Rattle.vlm_store.specs.Index.{hash_key}
 use Rattle.vlm_collections.specs.declared.link.TheConstants.{LAST_HANDLE}
 use Rattle.vlm_collections.specs.Lists.{IsApart, IsIn, handles_of}
-use Rattle.vlm_words.specs.declared.locks.Row.{Row}
+use Rattle.vlm_words.specs.declared.locks.LockRow.{LockRow}
 use Rattle.vlm_records.specs.declared.locks.Lock.{Lock}
 use Rattle.vlm_records.specs.declared.processes.Process.{Process}
 use Rattle.vlm_store.specs.declared.store.Store.TheInside.{Inside}
@@ -84,11 +84,11 @@ module _ (s : Inside) (kept : IsKept s) where
   pub shown_among : (p : StoredProcess) → IsIn p (records_shown s).processes → IsIn p.at (handles_of process_links s.processes s.process_order) × (process_under held p.at ≡ p)
   shown_among p among = seen_process held p (subst (IsIn p) shown among)
 
-  pub lock_there : (at : ℕ) (row : Row) → Stores (records_shown s) at row → ContainsKey s.queues.locks at × (at ≤ LAST_HANDLE) × (rows s.queues at ≡ row)
+  pub lock_there : (at : ℕ) (row : LockRow) → Stores (records_shown s) at row → ContainsKey s.queues.locks at × (at ≤ LAST_HANDLE) × (rows s.queues at ≡ row)
   lock_there = stored_there s.queues s.order (beside_shown s) kept.placed
 
   -- so its handle, as that of a parent, fits into a link
-  pub parent_within : (parent : Option ℕ) (row : Row) → IsParentOf parent row (records_shown s) → ForSome parent (λ up. up ≤ LAST_HANDLE)
+  pub parent_within : (parent : Option ℕ) (row : LockRow) → IsParentOf parent row (records_shown s) → ForSome parent (λ up. up ≤ LAST_HANDLE)
   parent_within None row is up named = absurd (none-some up named)
   parent_within (Some parent) row is up named = subst (λ k. k ≤ LAST_HANDLE) (same_Some parent up named) (lock_there parent is.0 is.1.0).1
 
@@ -110,7 +110,7 @@ module _ (s : Inside) (kept : IsKept s) where
       (own_among held (own_handles s.processes s.queues.locks p.at) own (subst (IsIn own) (sym is) has), sym is)
 
   -- a stored lock is among those of the process that its row names
-  is_owned : (at : ℕ) (row : Row) → Stores (records_shown s) at row
+  is_owned : (at : ℕ) (row : LockRow) → Stores (records_shown s) at row
       → (p : StoredProcess) × (own : OwnLock) × (IsIn p (records_shown s).processes × (p.process.pid ≡ row.pid) × IsIn own p.own × (own.at ≡ at))
   is_owned at row stored =
       let there = lock_there at row stored in
@@ -123,19 +123,19 @@ module _ (s : Inside) (kept : IsKept s) where
         own_of held at,
         (
           among_shown l.0.owner (kept.processes_ordered l.0.owner owner.0),
-          owner.1 ∙ ap (λ (r : Row). r.pid) row_is,
+          owner.1 ∙ ap (λ (r : LockRow). r.pid) row_is,
           among_own held (own_handles s.processes s.queues.locks l.0.owner) at stands,
           refl,
         ),
       )
 
   -- a lock whose row names a parent stands below it
-  stands_below : (at : ℕ) (row : Row) → Stores (records_shown s) at row → ¬ (row.parent ≡ 0)
+  stands_below : (at : ℕ) (row : LockRow) → Stores (records_shown s) at row → ¬ (row.parent ≡ 0)
       → (up : ℕ) × (IsIn at (below_handles s.queues.locks up) × ContainsKey s.queues.locks up × ((rows s.queues up).lkid ≡ row.parent))
   stands_below at row stored has_parent =
       let there = lock_there at row stored in
       let l = there_is (get s.queues.locks at) there.0 in
-      let names : l.0.row.parent ≡ row.parent = ap (λ (r : Row). r.parent) (sym (ap row_in l.1) ∙ there.2) in
+      let names : l.0.row.parent ≡ row.parent = ap (λ (r : LockRow). r.parent) (sym (ap row_in l.1) ∙ there.2) in
       let fits = subst (ParentFits s.queues.locks) l.1 (kept.named.parents at) in
       let up = named_parent s.queues.locks l.0.parent l.0.row.parent fits (λ none. has_parent (sym names ∙ none)) in (
         up.0,
@@ -210,7 +210,7 @@ module _ (s : Inside) (kept : IsKept s) where
       )
 
   -- no lock stands below this one
-  pub childless : (at : ℕ) (row : Row) → Stores (records_shown s) at row → HasNoSublocks at (records_shown s) → below_handles s.queues.locks at ≡ []
+  pub childless : (at : ℕ) (row : LockRow) → Stores (records_shown s) at row → HasNoSublocks at (records_shown s) → below_handles s.queues.locks at ≡ []
   childless at row stored none =
       let found = are_owned.owned at row stored in
       let seen = own_among_shown found.0 found.1 found.2.0 found.2.2 in
@@ -225,7 +225,7 @@ module _ (s : Inside) (kept : IsKept s) where
       no_length (k ∷ rest) none = absurd (omega (arith, none))
   no_sublocks at (suc n) is = rw (is_positive n) tt
 
-  pub are_sublocks : (at : ℕ) (row : Row) → Stores (records_shown s) at row → (n : ℕ) → n ≡ length (below_handles s.queues.locks at) → OnTrue (nat_lt 0 n) (¬ HasNoSublocks at (records_shown s))
+  pub are_sublocks : (at : ℕ) (row : LockRow) → Stores (records_shown s) at row → (n : ℕ) → n ≡ length (below_handles s.queues.locks at) → OnTrue (nat_lt 0 n) (¬ HasNoSublocks at (records_shown s))
   are_sublocks at row stored zero is = tt
   are_sublocks at row stored (suc n) is = rw (is_positive n) (λ none. let nothing : suc n ≡ 0 = is ∙ ap length (childless at row stored none) in absurd (omega (arith, nothing)))
 

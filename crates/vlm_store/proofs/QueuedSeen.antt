@@ -9,8 +9,8 @@ use Rattle.vlm_words.specs.declared.resources.Queue.TheVariants.{Granted, Conver
 use Rattle.vlm_records.specs.declared.handles.Place.{Place}
 use Rattle.vlm_records.specs.declared.handles.Place.TheVariants.{Queued}
 use Rattle.vlm_records.specs.declared.locks.Lock.{Lock}
-use Rattle.vlm_records.specs.Line.{is_queued, line_handles, line_in, queued_line}
-use Rattle.vlm_records.proofs.Lining.{queued_noted}
+use Rattle.vlm_records.specs.WaitList.{is_queued, wait_list_handles, wait_list_in, queued_wait_list}
+use Rattle.vlm_records.proofs.WaitLists.{queued_noted}
 use Rattle.vlm_records.proofs.Places.{stands_there}
 use Rattle.vlm_records.specs.Shown.{IsThere, handles_at, noted_in, rows}
 use Rattle.vlm_store.specs.declared.store.Store.TheInside.{Inside}
@@ -18,7 +18,7 @@ use Rattle.vlm_store.specs.Kept.{IsKept, beside_shown, records_shown}
 use Rattle.vlm_store.specs.Queued.{IsQueued, handles_on}
 use Rattle.vlm_store.specs.Store.{tables}
 use Rattle.vlm_store.proofs.Layouts.{IsSeen, among-under_handle, locks_at-among, locks_at-seen}
-use Rattle.vlm_store.proofs.Lined.{line_at, line_noted}
+use Rattle.vlm_store.proofs.WaitListed.{wait_list_at, wait_list_noted}
 
 -- ---- what is left
 
@@ -56,11 +56,11 @@ on_next at (first ∷ rest) apart found =
 
 -- ---- which locks they are
 
-listed_at : (slot : Option Lock) → line_in slot ≡ Some tt → (place : Place) × ((noted_in slot ≡ Some place) × (is_queued place ≡ true))
+listed_at : (slot : Option Lock) → wait_list_in slot ≡ Some tt → (place : Place) × ((noted_in slot ≡ Some place) × (is_queued place ≡ true))
 listed_at None is = absurd (none-some tt is)
 listed_at (Some l) is = (l.place, (refl, of_place l.place is))
   where
-    of_place : (place : Place) → queued_line place ≡ Some tt → is_queued place ≡ true
+    of_place : (place : Place) → queued_wait_list place ≡ Some tt → is_queued place ≡ true
     of_place (Queued res Granted) is = absurd (none-some tt is)
     of_place (Queued res Conversion) is = refl
     of_place (Queued res Waiting) is = refl
@@ -70,16 +70,16 @@ module _ (s : Inside) (kept : IsKept s) where
   seen (Queued res queue) there = kept.ordered res there
 
   -- one of the list is queued, as a caller sees it
-  pub listed_queued : (at : ℕ) → IsIn at (line_handles s.queues.locks s.line) → IsQueued at (records_shown s)
+  pub listed_queued : (at : ℕ) → IsIn at (wait_list_handles s.queues.locks s.wait_list) → IsQueued at (records_shown s)
   listed_queued at found =
       let l = tables s.queues s.order (beside_shown s) in
-      let place = listed_at (get s.queues.locks at) (kept.line.listed tt at found) in
+      let place = listed_at (get s.queues.locks at) (kept.wait_list.listed tt at found) in
       let stands = kept.placed.stands place.0 at (λ e. none-some at (sym e)) place.1.0 in
       (place.0, rows s.queues at, (place.1.1, rw (locks_at-seen l place.0 (seen place.0 (stands_there s.queues place.0 at stands))) (among-under_handle (rows s.queues) (handles_at s.queues place.0) at stands)))
 
   -- and the other way
-  pub queued_listed : (at : ℕ) → IsQueued at (records_shown s) → IsIn at (line_handles s.queues.locks s.line)
+  pub queued_listed : (at : ℕ) → IsQueued at (records_shown s) → IsIn at (wait_list_handles s.queues.locks s.wait_list)
   queued_listed at queued =
       let place = queued.0 in
       let stands = (locks_at-among (tables s.queues s.order (beside_shown s)) place (record { at = at; row = queued.1 }) queued.2.1).0 in
-      kept.line.stands tt at (λ e. none-some at (sym e)) (line_noted (get s.queues.locks at) ∙ ap line_at (kept.placed.listed place at stands) ∙ queued_noted place queued.2.0)
+      kept.wait_list.stands tt at (λ e. none-some at (sym e)) (wait_list_noted (get s.queues.locks at) ∙ ap wait_list_at (kept.placed.listed place at stands) ∙ queued_noted place queued.2.0)

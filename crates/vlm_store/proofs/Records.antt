@@ -3,7 +3,7 @@ use Rattle.std.proofs.Common.{◌≡◌, ◌≢◌, ℕ, Bool, List, [], ◌∷�
 use Rattle.std.specs.Prelude.{◌==◌}
 use Rattle.std.specs.Option.{option_map_or}
 use Rattle.std.proofs.lemmas.Bool.{cases_eq}
-use Rattle.vlm_words.specs.declared.locks.Row.{Row}
+use Rattle.vlm_words.specs.declared.locks.LockRow.{LockRow}
 use Rattle.vlm_words.specs.declared.resources.Queue.{Queue}
 use Rattle.vlm_words.specs.declared.resources.Queue.TheVariants.{Granted, Conversion, Waiting}
 use Rattle.vlm_collections.specs.Lists.{IsIn}
@@ -42,7 +42,7 @@ is_place-other (Queued a p) (Queued b q) differs =
 -- ---- locks and resources
 
 -- a list without a lock that it does not have stays
-pub without_absent : (at : ℕ) (locks : List StoredLock) → ((row : Row) → ¬ IsIn (record { at = at; row = row }) locks) → without_lock at locks ≡ locks
+pub without_absent : (at : ℕ) (locks : List StoredLock) → ((row : LockRow) → ¬ IsIn (record { at = at; row = row }) locks) → without_lock at locks ≡ locks
 without_absent at [] absent = refl
 without_absent at (k ∷ rest) absent =
     elim (cases_eq k.at at) [
@@ -70,14 +70,14 @@ queue_at s sound r among queue = ap (λ o. option_map_or (queued queue) o []) (r
 
 -- a queue without a lock that does not stand there stays
 pub queue_without : (s : Records) → IsSound s → (at : ℕ) (r : StoredResource) → IsIn r s.resources
-    → ((queue : Queue) (row : Row) → ¬ IsIn (record { at = at; row = row }) (locks_at (Queued r.at queue) s)) → (queue : Queue) → without_lock at (queued queue r) ≡ queued queue r
+    → ((queue : Queue) (row : LockRow) → ¬ IsIn (record { at = at; row = row }) (locks_at (Queued r.at queue) s)) → (queue : Queue) → without_lock at (queued queue r) ≡ queued queue r
 queue_without s sound at r among absent queue =
     without_absent at (queued queue r) (λ row found. absent queue row (subst (IsIn (record { at = at; row = row })) (sym (queue_at s sound r among queue)) found))
 
 -- ---- a lock moves
 
 -- a lock that stands at one place leaves the lists of no other
-module _ (s : Records) (at : ℕ) (row : Row) (from : Place) (sound : IsSound s) (stands : IsIn (record { at = at; row = row }) (locks_at from s)) where
+module _ (s : Records) (at : ℕ) (row : LockRow) (from : Place) (sound : IsSound s) (stands : IsIn (record { at = at; row = row }) (locks_at from s)) where
   pub unmoved : (p : Place) → p ≢ from → without_lock at (locks_at p s) ≡ locks_at p s
   unmoved p differs = without_absent at (locks_at p s) (λ other found. differs (sound.one_place at other row p from found stands))
 

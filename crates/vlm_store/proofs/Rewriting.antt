@@ -42,7 +42,7 @@ module _ (s : Inside) (kept : IsKept s) (at : ℕ) (was now : Process) (here : g
         placed = kept.placed;
         tallied = kept.tallied;
         armed = kept.armed;
-        line = kept.line;
+        wait_list = kept.wait_list;
         linked = kept.linked;
         ordered = kept.ordered;
         locks = kept.locks;

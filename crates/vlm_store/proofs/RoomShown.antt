@@ -1,6 +1,6 @@
 -- What a caller sees of the room for more records.
 use Rattle.vlm_store.specs.Index.{hash_key}
-use Rattle.vlm_store.proofs.Lined.{line_same}
+use Rattle.vlm_store.proofs.WaitListed.{wait_list_same}
 use Rattle.std.proofs.Common.{◌≡◌, ℕ, ◌+◌, ◌<◌, ◌≤◌, List, [], None, Result, Ok, Err, OnOk, refl, sym, ap, ◌∙◌, subst, arith}
 use Rattle.std.specs.Option.{option_map}
 use Rattle.vlm_store.specs.KeyIndexes.{IsSame, spares_in}
@@ -141,7 +141,7 @@ lock_room_kept s kept locks index is finds =
       placed = reserved_placed s.queues locks same kept.placed;
       tallied = reserved_tallied s.queues locks same kept.placed kept.tallied;
       armed = λ which. armed_reserved which s.queues locks same (reserved_handles s.queues locks same kept.placed) (kept.armed which);
-      line = line_same s.queues.locks locks s.line same kept.line;
+      wait_list = wait_list_same s.queues.locks locks s.wait_list same kept.wait_list;
       linked = kept.linked;
       ordered = kept.ordered;
       locks = Indexes-same (handle_in s.lock_index) (handle_in index) (lkid_at s.queues) (lkid_at (record s.queues { locks = locks })) finds
@@ -167,7 +167,7 @@ resource_room_kept s kept resources index is finds =
       placed = resources_placed s.queues resources kept.placed lists;
       tallied = resources_tallied s.queues resources kept.placed lists (λ r. ap tally_in (same r)) kept.tallied;
       armed = λ which. armed_resources which s.queues resources (λ r. ap (armed_list_in which) (same r)) (resources_handles s.queues resources kept.placed lists) (kept.armed which);
-      line = kept.line;
+      wait_list = kept.wait_list;
       linked = same-linked order_links s.queues.resources resources s.order kept.linked (λ r _. same r);
       ordered = λ r there. rw (same-handles order_links s.queues.resources resources s.order kept.linked (λ x _. same x)) (kept.ordered r (rw (same r) at there));
       locks = kept.locks;

@@ -4,7 +4,7 @@ use Rattle.std.specs.Prelude.{◌==◌}
 use Rattle.std.proofs.lemmas.Bool.{cases_eq}
 use Rattle.vlm_collections.specs.Lists.{IsIn, without}
 use Rattle.vlm_collections.proofs.HandleLists.{without_absent as handle_absent, without_head, without_past}
-use Rattle.vlm_words.specs.declared.locks.Row.{Row}
+use Rattle.vlm_words.specs.declared.locks.LockRow.{LockRow}
 use Rattle.vlm_words.specs.declared.steps.Declaration.{Declaration}
 use Rattle.vlm_words.specs.declared.resources.Queue.TheVariants.{Granted, Conversion, Waiting}
 use Rattle.vlm_words.specs.declared.resources.Site.{Site}
@@ -13,7 +13,7 @@ use Rattle.vlm_records.specs.declared.handles.Place.TheVariants.{Queued}
 use Rattle.vlm_store.specs.Records.{HasProcess, HasResource, OwnLock, StoredProcess, Stores, new_own, new_stored_process, process_at, process_with_lock, process_without_lock, with_new_lock, with_sublock, without_process, without_stored_lock, without_sublock, IsSound, IsStored, Records, StoredLock, StoredResource, is_place, joining, leaving, new_stored_resource, resource_at, resource_with, without_lock, without_resource}
 use Rattle.vlm_store.proofs.Records.{queue_without}
 
-without_last : (at : ℕ) (row : Row) (locks : List StoredLock) → without_lock at (locks ++ record { at = at; row = row } ∷ []) ≡ without_lock at locks
+without_last : (at : ℕ) (row : LockRow) (locks : List StoredLock) → without_lock at (locks ++ record { at = at; row = row } ∷ []) ≡ without_lock at locks
 without_last at row [] = rw (eq-eqb at at refl) refl
 without_last at row (k ∷ rest) =
     elim (k.at == at) as (λ b. cond (not b) (k ∷ without_lock at (rest ++ record { at = at; row = row } ∷ [])) (without_lock at (rest ++ record { at = at; row = row } ∷ []))
@@ -86,7 +86,7 @@ module _ (s : Records) (at : ℕ) (sound : IsSound s) (absent : ¬ IsStored at s
         | false ↦ ap (λ xs. map (without_sublock at) (filter (λ (o : OwnLock). not (o.at == at)) xs)) (append-nil (map (with_sublock parent at) p.own)) ∙ own_same p among parent p.own (λ o here. here)
       ])
 
-  module _ (row : Row) (to : Place) where
+  module _ (row : LockRow) (to : Place) where
     -- no list shows it, once it has left
     left_joined : (place : Place) (locks : List StoredLock) → without_lock at (joining to (record { at = at; row = row }) place locks) ≡ without_lock at locks
     left_joined place locks =
@@ -109,7 +109,7 @@ module _ (s : Records) (at : ℕ) (sound : IsSound s) (absent : ¬ IsStored at s
         ap (λ x. x ∷ map (resource_with (leaving at)) (map (resource_with (joining to (record { at = at; row = row }))) rest)) (joined_same r (within r (inl refl)))
         ∙ ap (λ xs. r ∷ xs) (resources_same rest (λ x there. within x (inr there)))
 
-  pub lock_undone : (row : Row) (owner : ℕ) (parent : Option ℕ) (to : Place) → without_stored_lock at (with_new_lock at row owner parent to s) ≡ s
+  pub lock_undone : (row : LockRow) (owner : ℕ) (parent : Option ℕ) (to : Place) → without_stored_lock at (with_new_lock at row owner parent to s) ≡ s
   lock_undone row owner parent to =
       ap (λ x. record (without_stored_lock at (with_new_lock at row owner parent to s)) { resources = x }) (resources_same row to s.resources (λ r here. here))
       ∙ ap (λ x. record s { processes = x }) (each s.processes (λ p here. here))

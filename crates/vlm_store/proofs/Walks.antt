@@ -4,7 +4,7 @@ use Rattle.std.specs.Prelude.{◌==◌, if◌then◌else◌}
 use Rattle.std.specs.Option.{ForSome}
 use Rattle.std.proofs.lemmas.Bool.{cases_eq}
 use Rattle.std.proofs.lemmas.Option.{same_Some}
-use Rattle.vlm_words.specs.declared.locks.Row.{Row}
+use Rattle.vlm_words.specs.declared.locks.LockRow.{LockRow}
 use Rattle.vlm_collections.specs.Lists.{IsIn}
 use Rattle.vlm_store.specs.Records.{AreApart, AreResourcesApart, StoredLock, StoredResource, at_after, first_at, first_resource_at, resource_at, resource_at_after}
 
@@ -141,7 +141,7 @@ locks_from-first before (k ∷ rest) apart = locks_from-among k before rest apar
 
 -- a lock of this handle is one of these
 abbrev pub HasLock : ℕ → List StoredLock → Type 0
-HasLock at ks = (row : Row) × IsIn (record { at = at; row = row }) ks
+HasLock at ks = (row : LockRow) × IsIn (record { at = at; row = row }) ks
 
 -- the first of the last locks is there
 pub first-there : (before rest : List StoredLock) → ForSome (first_at rest) (λ at. HasLock at (before ++ rest))
@@ -150,7 +150,7 @@ first-there before (k ∷ rest) at is = subst (λ x. HasLock x (before ++ k ∷ 
 
 -- a walk stands at a lock: it is among the others, it is the first of what is left, and the next one is there
 pub record IsAtLock (at : ℕ) (ks : List StoredLock) : Type 0 where
-  pub row : Row
+  pub row : LockRow
   pub among : IsIn (record { at = at; row = row }) ks
   pub left : locks_from (Some at) ks ≡ record { at = at; row = row } ∷ locks_from (at_after at ks) ks
   pub next : ForSome (at_after at ks) (λ after. HasLock after ks)

@@ -1,6 +1,6 @@
 -- Indexes: they find each record by its label, and nothing else.
 use Rattle.std.specs.Prelude.{◌≡◌, ℕ, List, Option, Some}
-use Rattle.vlm_collections.specs.declared.hashing.HashKeys.{HashKeys}
+use Rattle.vlm_collections.specs.declared.hashers.HashKeys.{HashKeys}
 use Rattle.vlm_collections.specs.Hashing.{hash_of}
 use Rattle.vlm_collections.specs.Tables.{HasRoomFor, handle_of}
 use Rattle.vlm_words.specs.declared.resources.Key.{Key}

@@ -13,7 +13,7 @@ use Rattle.vlm_words.specs.declared.resources.Key.{Key}
 use Rattle.vlm_store.specs.Pending.{IsMarked, is_of_nodes, waits_in}
 use Rattle.vlm_store.specs.Records.{Records, Rooms, StoredProcess}
 use Rattle.vlm_records.specs.Kin.{IsBelow, IsNamed, IsOwned, pid_at, process_links}
-use Rattle.vlm_records.specs.Line.{IsLine}
+use Rattle.vlm_records.specs.WaitList.{IsWaitList}
 use Rattle.vlm_store.specs.Holdings.{holding, processes_of}
 use Rattle.vlm_records.specs.Shown.{IsPlaced, IsTallied, order_links}
 use Rattle.vlm_store.specs.Store.{Beside, lkid_at, records_of, room_of, tables}
@@ -49,7 +49,7 @@ pub record IsKept (s : Inside) : Type 0 where
   pub placed : IsPlaced s.queues None
   pub tallied : IsTallied s.queues None
   pub armed : (which : Armed) → IsArmed which s.queues None
-  pub line : IsLine s.queues.locks s.line None
+  pub wait_list : IsWaitList s.queues.locks s.wait_list None
   pub linked : IsLinked order_links s.queues.resources s.order
   pub ordered : (res : ℕ) → ContainsKey s.queues.resources res → IsIn res (handles_of order_links s.queues.resources s.order)
   pub locks : Indexes (handle_in s.lock_index) (lkid_at s.queues)

@@ -4,16 +4,16 @@ use Rattle.std.specs.Option.{ForSome}
 use Rattle.slab.specs.Slab.{Slab}
 use Rattle.vlm_collections.specs.declared.lists.LinkedList.{LinkedList}
 use Rattle.vlm_collections.specs.Lists.{IsIn, IsLinked}
-use Rattle.vlm_words.specs.declared.locks.Row.{Row}
+use Rattle.vlm_words.specs.declared.locks.LockRow.{LockRow}
 use Rattle.vlm_records.specs.declared.handles.Place.{Place}
-use Rattle.vlm_records.specs.declared.locks.InLine.{InLine}
+use Rattle.vlm_records.specs.declared.locks.InWaitList.{InWaitList}
 use Rattle.vlm_records.specs.declared.locks.Lock.{Lock}
-use Rattle.vlm_records.specs.Line.{is_queued, line_handles, line_links}
+use Rattle.vlm_records.specs.WaitList.{is_queued, wait_list_handles, wait_list_links}
 use Rattle.vlm_store.specs.Records.{Records, locks_at}
 
 -- the lock with this handle is in a conversion queue or a waiting queue
 abbrev pub IsQueued : ℕ → Records → Type 0
-IsQueued at s = (place : Place) × (row : Row) × ((is_queued place ≡ true) × IsIn (record { at = at; row = row }) (locks_at place s))
+IsQueued at s = (place : Place) × (row : LockRow) × ((is_queued place ≡ true) × IsIn (record { at = at; row = row }) (locks_at place s))
 
 -- each of these handles is a queued lock
 abbrev pub AreQueued : List ℕ → Records → Type 0
@@ -26,6 +26,6 @@ handles_on (Some at) [] = []
 handles_on (Some at) (first ∷ rest) = if first == at then first ∷ rest else handles_on (Some at) rest
 
 -- the list is linked, and the next lock of the walk is in it
-pub record IsOnLine (locks : Slab Lock) (line : LinkedList InLine) (next : Option ℕ) : Type 0 where
-  pub linked : IsLinked line_links locks line
-  pub listed : ForSome next (λ at. IsIn at (line_handles locks line))
+pub record IsOnWaitList (locks : Slab Lock) (wait_list : LinkedList InWaitList) (next : Option ℕ) : Type 0 where
+  pub linked : IsLinked wait_list_links locks wait_list
+  pub listed : ForSome next (λ at. IsIn at (wait_list_handles locks wait_list))

@@ -2,9 +2,9 @@
 -- with its handle.
 use Rattle.std.specs.Prelude.{◌≡◌, ◌<◌, ◌≤◌, ◌/◌, ℕ, Bool, true, false, not, ◌==◌, ◌&&◌, ◌+◌, ◌-◌, count_by, sum_by, List, [], ◌∷◌, ◌++◌, map, filter, find, flat_map, Option, None, Some, IsSome, if◌then◌else◌}
 use Rattle.std.specs.Option.{option_map_or}
-use Rattle.vlm_collections.specs.declared.hashing.HashKeys.{HashKeys}
+use Rattle.vlm_collections.specs.declared.hashers.HashKeys.{HashKeys}
 use Rattle.vlm_words.specs.declared.asts.Ast.{Ast}
-use Rattle.vlm_words.specs.declared.locks.Row.{Row}
+use Rattle.vlm_words.specs.declared.locks.LockRow.{LockRow}
 use Rattle.vlm_words.specs.declared.modes.Mode.{Mode}
 use Rattle.vlm_words.specs.declared.resources.Domain.{Domain}
 use Rattle.vlm_words.specs.declared.resources.Queue.{Queue}
@@ -27,7 +27,7 @@ use Rattle.vlm_words.specs.declared.resources.ValueBlock.{ValueBlock}
 -- a lock with its handle
 pub record StoredLock : Type 0 where
   pub at : ℕ
-  pub row : Row
+  pub row : LockRow
 
 -- a resource with its handle and its three queues
 pub record StoredResource : Type 0 where
@@ -119,27 +119,27 @@ abbrev pub locks_at : Place → Records → List StoredLock
 locks_at (Queued res queue) s = option_map_or (queued queue) (resource_at res s.resources) []
 
 -- a lock with this handle and row exists
-abbrev pub Stores : Records → ℕ → Row → Type 0
+abbrev pub Stores : Records → ℕ → LockRow → Type 0
 Stores s at row = (place : Place) × IsIn (record { at = at; row = row }) (locks_at place s)
 
 -- a lock with this handle exists
 abbrev pub IsStored : ℕ → Records → Type 0
-IsStored at s = (row : Row) × Stores s at row
+IsStored at s = (row : LockRow) × Stores s at row
 
 -- both rows are of one lock
-pub record IsSameLock (a b : Row) : Type 0 where
+pub record IsSameLock (a b : LockRow) : Type 0 where
   pub lkid : a.lkid ≡ b.lkid
   pub pid : a.pid ≡ b.pid
   pub parent : a.parent ≡ b.parent
 
 -- the handle is a lock, and the row is of the same lock
-abbrev pub IsRowOf : ℕ → Row → Records → Type 0
-IsRowOf at row s = (was : Row) × (Stores s at was × IsSameLock was row)
+abbrev pub IsRowOf : ℕ → LockRow → Records → Type 0
+IsRowOf at row s = (was : LockRow) × (Stores s at was × IsSameLock was row)
 
 -- the handle of the lock with this identification, or there is no such lock
 abbrev pub FindsLock : Records → ℕ → Option ℕ → Type 0
-FindsLock s lkid None = (at : ℕ) (row : Row) → Stores s at row → ¬ (row.lkid ≡ lkid)
-FindsLock s lkid (Some at) = (row : Row) × (Stores s at row × (row.lkid ≡ lkid))
+FindsLock s lkid None = (at : ℕ) (row : LockRow) → Stores s at row → ¬ (row.lkid ≡ lkid)
+FindsLock s lkid (Some at) = (row : LockRow) × (Stores s at row × (row.lkid ≡ lkid))
 
 -- no lock has this identification
 abbrev pub IsNewLock : ℕ → Records → Type 0
@@ -230,17 +230,17 @@ at_after at [] = None
 at_after at (k ∷ rest) = if k.at == at then first_at rest else at_after at rest
 
 -- the rows of the locks
-abbrev pub rows_of_locks : List StoredLock → List Row
+abbrev pub rows_of_locks : List StoredLock → List LockRow
 rows_of_locks locks = map (λ k. k.row) locks
 
 -- the locks except the asking one
 abbrev pub but_asking : Option ℕ → List StoredLock → List StoredLock
 but_asking None locks = locks
-but_asking (Some asking) locks = without_lock asking locks
+but_asking (Some except) locks = without_lock except locks
 
 -- the mode fits beside the locks of the resource, except the asking one
 abbrev pub fits_beside : Mode → Option ℕ → StoredResource → Bool
-fits_beside mode asking r = fits mode (rows_of_locks (but_asking asking r.granted)) (rows_of_locks (but_asking asking r.converting))
+fits_beside mode except r = fits mode (rows_of_locks (but_asking except r.granted)) (rows_of_locks (but_asking except r.converting))
 
 -- the handle of the first resource, if there is one
 abbrev pub first_resource_at : List StoredResource → Option ℕ
@@ -344,7 +344,7 @@ process_without_lock lock p = record p {
 }
 
 -- the records with a new lock at the end of a queue, of its owner's locks and of its parent's sublocks
-abbrev pub with_new_lock : ℕ → Row → ℕ → Option ℕ → Place → Records → Records
+abbrev pub with_new_lock : ℕ → LockRow → ℕ → Option ℕ → Place → Records → Records
 with_new_lock at row owner parent to s =
     record (with_lists (joining to (record { at = at; row = row })) s) {
       processes = map (process_with_lock owner parent at) s.processes;
@@ -363,9 +363,9 @@ HasNoSublocks at s = (p : StoredProcess) (own : OwnLock) → IsIn p s.processes 
     → own.at ≡ at → own.sublocks ≡ []
 
 -- the handle of the parent lock that the row names; without a handle the row names 0
-abbrev pub IsParentOf : Option ℕ → Row → Records → Type 0
+abbrev pub IsParentOf : Option ℕ → LockRow → Records → Type 0
 IsParentOf None row s = row.parent ≡ 0
-IsParentOf (Some parent) row s = (up : Row) × (Stores s parent up × (up.lkid ≡ row.parent))
+IsParentOf (Some parent) row s = (up : LockRow) × (Stores s parent up × (up.lkid ≡ row.parent))
 
 -- the locks of a process
 abbrev pub own_at : ℕ → Records → List OwnLock
@@ -498,7 +498,7 @@ with_process_room room s = record s { room = record s.room { processes = room } 
 -- no two locks have one handle
 abbrev pub AreApart : List StoredLock → Type 0
 AreApart [] = Unit {0}
-AreApart (k ∷ rest) = ((row : Row) → ¬ IsIn (record { at = k.at; row = row }) rest) × AreApart rest
+AreApart (k ∷ rest) = ((row : LockRow) → ¬ IsIn (record { at = k.at; row = row }) rest) × AreApart rest
 
 -- the relation holds between each item and every earlier one
 abbrev pub EachTwo : {A : Type 0} → (A → A → Type 0) → List A → Type 0
@@ -521,22 +521,22 @@ AreOwnApart = EachTwo (λ (other own : OwnLock). ¬ (other.at ≡ own.at))
 -- the locks of a process are those whose rows name it, and the sublocks of a lock are those whose rows name it as
 -- their parent
 pub record AreOwned (s : Records) : Type 0 where
-  pub owned : (at : ℕ) (row : Row) → Stores s at row
+  pub owned : (at : ℕ) (row : LockRow) → Stores s at row
       → (p : StoredProcess) × (own : OwnLock) × (IsIn p s.processes × (p.process.pid ≡ row.pid) × IsIn own p.own × (own.at ≡ at))
   pub owns : (p : StoredProcess) (own : OwnLock) → IsIn p s.processes → IsIn own p.own
-      → (row : Row) × (Stores s own.at row × (row.pid ≡ p.process.pid))
+      → (row : LockRow) × (Stores s own.at row × (row.pid ≡ p.process.pid))
   pub below : (p : StoredProcess) (own : OwnLock) (at : ℕ) → IsIn p s.processes → IsIn own p.own → IsIn at own.sublocks
-      → (up : Row) × (row : Row) × (Stores s own.at up × Stores s at row × (row.parent ≡ up.lkid))
-  pub named : (at : ℕ) (row : Row) → Stores s at row → ¬ (row.parent ≡ 0)
-      → (p : StoredProcess) × (own : OwnLock) × (up : Row) × (IsIn p s.processes × IsIn own p.own × IsIn at own.sublocks × Stores s own.at up × (up.lkid ≡ row.parent))
+      → (up : LockRow) × (row : LockRow) × (Stores s own.at up × Stores s at row × (row.parent ≡ up.lkid))
+  pub named : (at : ℕ) (row : LockRow) → Stores s at row → ¬ (row.parent ≡ 0)
+      → (p : StoredProcess) × (own : OwnLock) × (up : LockRow) × (IsIn p s.processes × IsIn own p.own × IsIn at own.sublocks × Stores s own.at up × (up.lkid ≡ row.parent))
 
 -- what holds in any state: each handle is one record, no lock is at two places, identifications and keys are unique,
 -- and the locks of a process are those that name it
 pub record IsSound (s : Records) : Type 0 where
   pub resources_apart : AreResourcesApart s.resources
   pub locks_apart : (place : Place) → AreApart (locks_at place s)
-  pub one_place : (at : ℕ) (a b : Row) (p q : Place) → IsIn (record { at = at; row = a }) (locks_at p s) → IsIn (record { at = at; row = b }) (locks_at q s) → p ≡ q
-  pub lkids_apart : (a b : ℕ) (x y : Row) → Stores s a x → Stores s b y → x.lkid ≡ y.lkid → a ≡ b
+  pub one_place : (at : ℕ) (a b : LockRow) (p q : Place) → IsIn (record { at = at; row = a }) (locks_at p s) → IsIn (record { at = at; row = b }) (locks_at q s) → p ≡ q
+  pub lkids_apart : (a b : ℕ) (x y : LockRow) → Stores s a x → Stores s b y → x.lkid ≡ y.lkid → a ≡ b
   pub keys_apart : (a b : StoredResource) → IsIn a s.resources → IsIn b s.resources → a.key ≡ b.key → a.at ≡ b.at
   pub processes_apart : AreProcessesApart s.processes
   pub owned : AreOwned s

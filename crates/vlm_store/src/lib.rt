@@ -19,15 +19,15 @@ mod hashed;
 mod key_index;
 pub mod laws;
 mod neighbours;
-mod owners;
-mod pending;
-mod queued;
+mod pending_processes;
+mod processes;
 mod store;
+mod wait_list;
 
-pub use queued::QueuedLocks;
 pub use store::Store;
 pub use vlm_collections::HashKeys;
 pub use vlm_records::{
     Armed, Authorization, Lock, LockAt, LockKind, Place, ProcAt, Process, ProcessKind, ResAt,
     Resource, ResourceKind, StoredRow,
 };
+pub use wait_list::QueuedLocks;

@@ -3,7 +3,7 @@
 ghost use Rattle.std.specs.Prelude.{◌≡◌, ◌||◌, [], ◌∷◌, ◌++◌, length, map, IfOk, IfSome, IsOk, OnErr, OnOk};
 ghost use Rattle.std.specs.List.{list_any};
 ghost use Rattle.std.specs.Option.{ForSome};
-ghost use Rattle.vlm_words.specs.declared.locks.Row.{Row};
+ghost use Rattle.vlm_words.specs.declared.locks.LockRow.{LockRow};
 ghost use Rattle.vlm_collections.specs.Lists.{IsIn, handle_before};
 ghost use Rattle.vlm_records.specs.declared.handles.Place.{Place};
 ghost use Rattle.vlm_words.specs.Rows.{keeps_out};
@@ -18,8 +18,9 @@ use std::alloc::{AllocError, Global};
 use std::marker::Model;
 use vlm_collections::{HandleTable, HashKeys, LinkedList, NodeMarks, PartedIndex, reserve_one};
 use vlm_records::{
-    InLine, InOrder, Lock, LockAt, LockKind, Place, ProcAt, Process, Queues, ResAt, Resource,
-    StoredRow, join_line, join_parent, join_process, leave_line, leave_parent, leave_process,
+    InOrder, InWaitList, Lock, LockAt, LockKind, Place, ProcAt, Process, Queues, ResAt, Resource,
+    StoredRow, join_parent, join_process, join_wait_list, leave_parent, leave_process,
+    leave_wait_list,
 };
 use vlm_words::modes::Mode;
 use vlm_words::resources::{Key, Queue, Site, ValueBlock};
@@ -32,7 +33,7 @@ pub struct Store {
     // the locks and the resources
     pub(crate) queues: Queues,
     // the locks whose requests are queued, on all resources
-    pub(crate) line: LinkedList<InLine>,
+    pub(crate) wait_list: LinkedList<InWaitList>,
     // the resources in the order of making
     order: LinkedList<InOrder>,
     // the living processes
@@ -59,7 +60,7 @@ impl Drop for Store {
         let Store {
             alloc: _,
             queues: _,
-            line: _,
+            wait_list: _,
             order: _,
             processes: _,
             process_order: _,
@@ -105,7 +106,7 @@ impl Store {
                 locks: Slab::new(alloc),
                 resources: Slab::new(alloc),
             },
-            line: LinkedList::new(),
+            wait_list: LinkedList::new(),
             order: LinkedList::new(),
             processes: Slab::new(alloc),
             process_order: LinkedList::new(),
@@ -148,7 +149,7 @@ impl Store {
     pub fn lock_record(&self, lock: LockAt) -> &Lock
         requires { IsStored lock self.now }
         ensures row { Stores self.now lock result.now.row }
-        ensures only { (row : Row) → Stores self.now lock row → row ≡ result.now.row }
+        ensures only { (row : LockRow) → Stores self.now lock row → row ≡ result.now.row }
         ensures stands { IsIn (record { at = lock; row = result.now.row })
             (locks_at result.now.place self.now) }
         ensures there { HasPlace result.now.place self.now }
@@ -193,7 +194,7 @@ impl Store {
             parent,
             ..
         } = self.queues.locks[slot];
-        join_line(&mut self.queues.locks, &mut self.line, slot, &place);
+        join_wait_list(&mut self.queues.locks, &mut self.wait_list, slot, &place);
         join_process(&mut self.processes, &mut self.queues.locks, slot, owner);
         join_parent(&mut self.queues.locks, slot, parent.get());
         let at = LockAt::of(slot);
@@ -209,9 +210,9 @@ impl Store {
     {
         let at = lock.slot();
         let from = self.queues.locks[at].place;
-        leave_line(&mut self.queues.locks, &mut self.line, at, &from);
+        leave_wait_list(&mut self.queues.locks, &mut self.wait_list, at, &from);
         self.queues.move_to(at, row, to);
-        join_line(&mut self.queues.locks, &mut self.line, at, &to);
+        join_wait_list(&mut self.queues.locks, &mut self.wait_list, at, &to);
     }
 
     /// Disarms a lock, which keeps its place.
@@ -241,7 +242,7 @@ impl Store {
         } = self.queues.locks[at];
         leave_parent(&mut self.queues.locks, at, parent.get());
         leave_process(&mut self.processes, &mut self.queues.locks, at, owner);
-        leave_line(&mut self.queues.locks, &mut self.line, at, &place);
+        leave_wait_list(&mut self.queues.locks, &mut self.wait_list, at, &place);
         self.queues.remove(at);
         self.lock_index.remove(row.lkid());
     }
@@ -289,7 +290,7 @@ impl Store {
     /// The next lock in the queue of this lock, if there is one.
     pub fn next(&self, lock: LockAt) -> Option<LockAt>
         requires { IsStored lock self.now }
-        ensures { (place : Place) (row : Row)
+        ensures { (place : Place) (row : LockRow)
             → IsIn (record { at = lock; row = row }) (locks_at place self.now)
             → result ≡ at_after lock (locks_at place self.now) }
     {
@@ -301,7 +302,7 @@ impl Store {
     /// The previous lock in the queue of this lock, if there is one.
     pub fn previous(&self, lock: LockAt) -> Option<LockAt>
         requires { IsStored lock self.now }
-        ensures { (place : Place) (row : Row)
+        ensures { (place : Place) (row : LockRow)
             → IsIn (record { at = lock; row = row }) (locks_at place self.now)
             → result ≡ handle_before lock (map (λ k. k.at) (locks_at place self.now)) }
     {
@@ -396,13 +397,13 @@ impl Store {
     /// Whether the mode fits: it is compatible with the held mode of every lock, granted or converting, except the
     /// asking lock. It reads counts, not locks.
     #[inline(always)]
-    pub fn can_hold(&self, res: ResAt, mode: Mode, asking: Option<LockAt>) -> bool
+    pub fn can_hold(&self, res: ResAt, mode: Mode, except: Option<LockAt>) -> bool
         requires there { HasResource res self.now }
-        requires asking { ForSome asking (λ lock. IsStored lock self.now) }
+        requires except { ForSome except (λ lock. IsStored lock self.now) }
         ensures { IfSome (resource_at res self.now.resources) (λ r. result
-            ≡ fits_beside mode asking r) }
+            ≡ fits_beside mode except r) }
     {
-        self.queues.fits(res, mode, asking)
+        self.queues.fits(res, mode, except)
     }
 
     /// Whether this held mode is incompatible with a queued request of the resource. It reads counts, not locks.

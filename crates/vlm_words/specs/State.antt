@@ -2,7 +2,7 @@
 use Rattle.std.specs.Prelude.{ℕ, Bool, false, List, [], Option, ◌==◌, ◌-◌, find, slice_index_or, replicate}
 use Rattle.vlm_words.specs.declared.asts.Ast.{Ast}
 use Rattle.vlm_words.specs.declared.blocks.Block.{Block}
-use Rattle.vlm_words.specs.declared.locks.Row.{Row}
+use Rattle.vlm_words.specs.declared.locks.LockRow.{LockRow}
 use Rattle.vlm_words.specs.declared.resources.Domain.{Domain}
 use Rattle.vlm_words.specs.declared.resources.ValueBlock.{ValueBlock}
 
@@ -15,9 +15,9 @@ pub record Resource : Type 0 where
   pub name : List ℕ
   pub level : ℕ
   pub value_block : ValueBlock
-  pub granted : List Row
-  pub converting : List Row
-  pub waiting : List Row
+  pub granted : List LockRow
+  pub converting : List LockRow
+  pub waiting : List LockRow
 
 -- a living process; its ASTs are those that are pending, oldest first
 pub record Process : Type 0 where

@@ -24,7 +24,7 @@ pub struct Request {
 
 /// The state of a lock. Each lock is in one queue of one resource.
 #[derive(Clone, Copy)]
-pub struct Row {
+pub struct LockRow {
     /// The identification of the lock.
     pub lkid: u32,
     /// The process that owns the lock.

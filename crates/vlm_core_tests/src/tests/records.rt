@@ -8,7 +8,7 @@ use std::mem::size_of;
 use std::process::Abort;
 use std::test::Fail;
 use vlm_store::{Lock, Resource, Store};
-use vlm_words::locks::Row;
+use vlm_words::locks::LockRow;
 use vlm_words::resources::Key;
 use vlm_words::steps::Declaration;
 
@@ -26,11 +26,11 @@ fn a_resource_takes_at_most_240_bytes(rt: HostRuntime) {
     assert!(rt; size <= 240, "a resource takes {size} bytes");
 }
 
-fn row(lkid: u32, parent: u32) -> Row
+fn row(lkid: u32, parent: u32) -> LockRow
     ensures lkid { result.lkid ≡ lkid }
     ensures parent { result.parent ≡ parent }
 {
-    Row {
+    LockRow {
         lkid,
         pid: PID,
         parent,

@@ -12,7 +12,7 @@ use std::test::Fail;
 use vlm_queue::{can_hold, head, is_idle, next};
 use vlm_store::{Armed, LockAt, Place, Store, StoredRow};
 use vlm_words::flags::EnqFlags;
-use vlm_words::locks::{Request, Row};
+use vlm_words::locks::{LockRow, Request};
 use vlm_words::modes::Mode;
 use vlm_words::resources::{Key, Queue};
 use vlm_words::steps::Declaration;
@@ -29,10 +29,10 @@ fn request(mode: Mode) -> Request {
     }
 }
 
-fn row(lkid: u32, held: Option<Mode>, want: Option<Mode>) -> Row
+fn row(lkid: u32, held: Option<Mode>, want: Option<Mode>) -> LockRow
     ensures { result.parent ≡ 0 }
 {
-    Row {
+    LockRow {
         lkid,
         pid: 1,
         parent: 0,
@@ -75,7 +75,7 @@ fn open(rt: &impl Abort, store: &mut Store, serial: u32, key: &Key) -> Result<()
 
 // Adds a lock at the end of its queue, unless it is there. Where memory was refused once it is not there, and
 // is added again.
-fn enter(rt: &impl Abort, store: &mut Store, key: &Key, row: Row) -> Result<(), AllocError>
+fn enter(rt: &impl Abort, store: &mut Store, key: &Key, row: LockRow) -> Result<(), AllocError>
     requires { row.parent ≡ 0 }
 {
     let owner = process(rt, store, row.pid);
@@ -116,7 +116,7 @@ fn serve(rt: &impl Abort, store: &mut Store, key: &Key, lkid: u32, mode: Mode) {
     let res = resource(rt, store, key);
     let lock = lock(rt, store, lkid);
     assert!(rt; head(store, res, Queue::Conversion) == Some(lock));
-    let row = Row {
+    let row = LockRow {
         held: Some(request(mode)),
         want: None,
         ..store.lock_record(lock).row.row()
@@ -229,7 +229,7 @@ fn a_served_lock_is_granted_and_holds_its_mode(rt: HostRuntime) -> Result<(), Fa
 fn arm(rt: &impl Abort, store: &mut Store, key: &Key, lkid: u32) {
     let res = resource(rt, store, key);
     let granted = lock(rt, store, lkid);
-    let row = Row {
+    let row = LockRow {
         armed: true,
         ..store.lock_record(granted).row.row()
     };

@@ -7,7 +7,7 @@ use std::alloc::AllocError;
 use std::process::Abort;
 use std::test::Fail;
 use vlm_store::{LockAt, Place, ProcAt, ResAt, Store, StoredRow};
-use vlm_words::locks::Row;
+use vlm_words::locks::LockRow;
 use vlm_words::names::Name;
 use vlm_words::resources::{Domain, Key, Queue, Site};
 use vlm_words::steps::Declaration;
@@ -80,7 +80,7 @@ pub fn open(store: &mut Store, serial: u32, key: &Key) -> Result<(), AllocError>
 }
 
 // The queue in which a lock stands that holds and wants this.
-fn queue_of(row: &Row) -> Queue {
+fn queue_of(row: &LockRow) -> Queue {
     match (row.held.is_some(), row.want.is_some()) {
         (_, false) => Queue::Granted,
         (true, true) => Queue::Conversion,
@@ -89,14 +89,14 @@ fn queue_of(row: &Row) -> Queue {
 }
 
 /// The queue of a resource in which such a lock stands. The resource has to be there.
-pub fn place(rt: &impl Abort, store: &Store, key: &Key, row: &Row) -> Place
+pub fn place(rt: &impl Abort, store: &Store, key: &Key, row: &LockRow) -> Place
     ensures { HasPlace result store.now }
 {
     Place::Queued(resource(rt, store, key), queue_of(row))
 }
 
 /// Adds a lock without a parent at the end of its queue of the resource, unless it is there.
-pub fn add(rt: &impl Abort, store: &mut Store, key: &Key, row: Row) -> Result<(), AllocError>
+pub fn add(rt: &impl Abort, store: &mut Store, key: &Key, row: LockRow) -> Result<(), AllocError>
     requires { row.parent ≡ 0 }
 {
     store.reserve_lock(row.lkid)?;
@@ -106,7 +106,7 @@ pub fn add(rt: &impl Abort, store: &mut Store, key: &Key, row: Row) -> Result<()
 }
 
 /// Adds a lock, unless it is there. There is room for it.
-pub fn add_reserved(rt: &impl Abort, store: &mut Store, row: Row, spot: Spot)
+pub fn add_reserved(rt: &impl Abort, store: &mut Store, row: LockRow, spot: Spot)
     requires room { HasRoomForLock row.lkid store.old }
     requires parent { IsParentOf spot.parent row store.old }
     requires there { HasPlace spot.to store.old }

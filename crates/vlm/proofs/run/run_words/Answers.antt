@@ -1,5 +1,5 @@
 use Rattle.std.proofs.Common.{◌∙◌, ap, inr, map, refl}
-use Rattle.vlm.specs.declared.words.Subject.{Subject}
+use Rattle.vlm.specs.declared.arguments.Subject.{Subject}
 use Rattle.vlm.specs.Ends.{output_of}
 use Rattle.vlm.proofs.Memory.{ends_by_memory}
 use Rattle.vlm.proofs.Numbered.{all_known, cluster_started}

@@ -2,7 +2,7 @@ use Rattle.std.proofs.Common.{◌∙◌, ap, sym, subst}
 use Rattle.std.specs.List.{All}
 use Rattle.std.specs.Prelude.{slice_set}
 use Rattle.std.proofs.lemmas.List.Elements.{All-set}
-use Rattle.vlm_cycle.specs.Notes.{IsNote}
+use Rattle.vlm_cycle.specs.Notes.{IsTarjanNode}
 use Rattle.vlm_cycle.proofs.Dated.{read_own}
 use Rattle.vlm_cycle.proofs.ranks.Ranks.put.Goals as goal
 
@@ -14,4 +14,4 @@ returns-then-slot-len-clause-noted c =
 
 pub returns-then-slot-len-clause-there : goal.returns-then-slot-len-clause-there
 returns-then-slot-len-clause-there c s are is =
-    subst (All (IsNote s)) (sym (returns-then-slot-len-clause-noted c)) (All-set (IsNote s) c.args.self.now c.args.process c.args.note is are)
+    subst (All (IsTarjanNode s)) (sym (returns-then-slot-len-clause-noted c)) (All-set (IsTarjanNode s) c.args.self.now c.args.process c.args.note is are)

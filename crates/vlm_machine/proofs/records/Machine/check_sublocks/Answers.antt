@@ -9,30 +9,30 @@ use Rattle.vlm_machine.proofs.records.Machine.check_sublocks.Goals.{else-not-can
 use Rattle.vlm_machine.proofs.records.Machine.check_sublocks.Goals as goal
 
 pub has_sublocks-requires : goal.has_sublocks-requires
-has_sublocks-requires c = rw c.standing-standing.ensures.lock (rw (← c.self.view_is) at c.requires.stored)
+has_sublocks-requires c = rw c.located-located.ensures.lock (rw (← c.self.view_is) at c.requires.stored)
 
 pub returns-then-has_sublocks-clause-refusal : goal.returns-then-has_sublocks-clause-refusal
 returns-then-has_sublocks-clause-refusal c pid lkid found =
     let m = c.args.self.now in
-    let f = c.standing-standing.result in
-    let stands = c.standing-standing.ensures.standing pid lkid found in
-    sublocks_refused m (rw (← c.self.view_is) c.law_records_are_sound.ensures) f stands.standing c.args.cancels c.if-not-cancels.true
+    let f = c.located-located.result in
+    let stands = c.located-located.ensures.located pid lkid found in
+    sublocks_refused m (rw (← c.self.view_is) c.law_records_are_sound.ensures) f stands.located c.args.cancels c.if-not-cancels.true
     (λ none. c.if-has_sublocks.ensures.some (subst (λ (k : MachineState). HasNoSublocks f.lock k.records) (sym c.self.view_is) none))
     ∙ ap (sublocks_refusal (plain_state m) c.args.cancels) stands.named
 
 pub returns-else-not-cancels-clause-refusal : goal.returns-else-not-cancels-clause-refusal
 returns-else-not-cancels-clause-refusal c pid lkid found =
     let m = c.args.self.now in
-    let f = c.standing-standing.result in
-    let stands = c.standing-standing.ensures.standing pid lkid found in
+    let f = c.located-located.result in
+    let stands = c.located-located.ensures.located pid lkid found in
     let sound : IsSound m.records = rw (← c.self.view_is) c.law_records_are_sound.ensures in
     elim c.else-not-cancels.branch [
       | else-not-cancels-via-then-not-cancels+else-has_sublocks w ↦
-          sublocks_pass m sound f stands.standing c.args.cancels c.requires.between.identifications.none_is_0
+          sublocks_pass m sound f stands.located c.args.cancels c.requires.between.identifications.none_is_0
           (subst (λ (k : MachineState). HasNoSublocks f.lock k.records) c.self.view_is w.if-has_sublocks.ensures.none)
           ∙ ap (sublocks_refusal (plain_state m) c.args.cancels) stands.named
       | else-not-cancels-via-else-not-cancels w ↦
-          cancel_passes_sublocks m sound f stands.standing c.args.cancels w.if-not-cancels.false
+          cancel_passes_sublocks m sound f stands.located c.args.cancels w.if-not-cancels.false
           ∙ ap (sublocks_refusal (plain_state m) c.args.cancels) stands.named
     ]
 
@@ -43,7 +43,7 @@ returns-else-not-cancels-clause-childless c f stands is =
     let sound : IsSound m.records = rw (← c.self.view_is) c.law_records_are_sound.ensures in
     elim c.else-not-cancels.branch [
       | else-not-cancels-via-then-not-cancels+else-has_sublocks w ↦
-          λ _. rw (is ∙ sym c.standing-standing.ensures.lock) (subst (λ (k : MachineState). HasNoSublocks c.standing-standing.result.lock k.records) c.self.view_is w.if-has_sublocks.ensures.none)
+          λ _. rw (is ∙ sym c.located-located.ensures.lock) (subst (λ (k : MachineState). HasNoSublocks c.located-located.result.lock k.records) c.self.view_is w.if-has_sublocks.ensures.none)
       | else-not-cancels-via-else-not-cancels w ↦
           λ takes.
           waiting_childless m.records sound f stands c.requires.between.identifications.none_is_0

@@ -9,7 +9,7 @@ use Rattle.vlm_store.specs.Plain.{plain_resource}
 use Rattle.vlm_machine.specs.Admissions.{IsAdmittedConversion}
 use Rattle.vlm_machine.specs.Between.{IsBetweenSteps}
 use Rattle.vlm_machine.specs.Machine.{MachineState, kept, plain_state}
-use Rattle.vlm_machine.proofs.Conversions.{state_converted}
+use Rattle.vlm_machine.proofs.ConversionsMade.{state_converted}
 use Rattle.vlm_machine.proofs.Wanting.{wants_nothing}
 use Rattle.vlm_machine.proofs.records.Machine.convert_change.Goals as goal
 
@@ -19,18 +19,18 @@ asked_as s e asked flags is told = told ∙ ap (λ bits. record (convert_request
 
 pub convert-requires-clause-at_once : goal.convert-requires-clause-at_once
 convert-requires-clause-at_once c =
-    let f = c.args.standing.now in
+    let f = c.args.located.now in
     let admitted = subst (λ (m : MachineState). IsAdmittedConversion m c.args.conversion.now f c.args.at_once) (sym c.self.view_is) c.requires.admitted in
     let asked = asked_as (plain_state (kept c.self.inside)) c.args.conversion.now c.request_of-asked.result c.args.flags c.requires.flags c.request_of-asked.ensures in
-    subst (λ o. IfSome o (λ r. c.args.at_once ≡ converts_at_once c.request_of-asked.result f.row.lkid (plain_resource r))) (sym admitted.standing.standing.found)
-    (admitted.at_once ∙ ap (λ q. converts_at_once q f.row.lkid (plain_resource admitted.standing.standing.resource)) (sym asked))
+    subst (λ o. IfSome o (λ r. c.args.at_once ≡ converts_at_once c.request_of-asked.result f.row.lkid (plain_resource r))) (sym admitted.located.located.found)
+    (admitted.at_once ∙ ap (λ q. converts_at_once q f.row.lkid (plain_resource admitted.located.located.resource)) (sym asked))
 
 -- the lock is granted, so it wants nothing
 pub convert-requires-clause-wants_nothing : goal.convert-requires-clause-wants_nothing
 convert-requires-clause-wants_nothing c =
     let between = subst (λ (m : MachineState). IsBetweenSteps (plain_state m)) (sym c.self.view_is) c.requires.between in
-    let admitted = subst (λ (m : MachineState). IsAdmittedConversion m c.args.conversion.now c.args.standing.now c.args.at_once) (sym c.self.view_is) c.requires.admitted in
-    wants_nothing c.self.inside.store between.rows_fit c.args.standing.now admitted.standing.standing admitted.granted
+    let admitted = subst (λ (m : MachineState). IsAdmittedConversion m c.args.conversion.now c.args.located.now c.args.at_once) (sym c.self.view_is) c.requires.admitted in
+    wants_nothing c.self.inside.store between.rows_fit c.args.located.now admitted.located.located admitted.granted
 
 -- the state is that of the plain machine
 pub returns-clause-change : goal.returns-clause-change
@@ -38,7 +38,7 @@ returns-clause-change c = λ there found.
     let asked = subst (λ (m : MachineState). c.request_of-asked.result ≡ convert_request (plain_state m) c.args.conversion.now) c.self.view_is
     (asked_as (plain_state (kept c.self.inside)) c.args.conversion.now c.request_of-asked.result c.args.flags c.requires.flags c.request_of-asked.ensures) in
     ap (λ (m : MachineState). plain_state (record m { records = c.convert.new.store; next_request = m.next_request + 1 })) c.self.view_is
-    ∙ state_converted c.args.self.now c.args.conversion.now c.args.standing.now c.args.at_once c.requires.admitted c.request_of-asked.result asked c.convert.new.store (rw (← c.self.view_is) c.in_ok-convert.ensures.converted) there found
+    ∙ state_converted c.args.self.now c.args.conversion.now c.args.located.now c.args.at_once c.requires.admitted c.request_of-asked.result asked c.convert.new.store (rw (← c.self.view_is) c.in_ok-convert.ensures.converted) there found
 
 -- the other resources stay
 pub returns-clause-others : goal.returns-clause-others

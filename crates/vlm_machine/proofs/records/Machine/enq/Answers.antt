@@ -5,7 +5,7 @@ use Rattle.vlm_machine.specs.Notes.{total_locks_on}
 use Rattle.vlm_machine.proofs.Noting.{as_many_stored, room_after}
 use Rattle.std.proofs.lemmas.Option.{same_Some}
 use Rattle.vlm_words.specs.declared.locks.Request.{Request}
-use Rattle.vlm_words.specs.declared.locks.Row.{Row}
+use Rattle.vlm_words.specs.declared.locks.LockRow.{LockRow}
 use Rattle.vlm_words.specs.declared.steps.Answer.TheVariants.{Lock}
 use Rattle.vlm_words.specs.declared.steps.Step.TheVariants.{Enq}
 use Rattle.vlm_model.specs.Checks.{acceptance}
@@ -30,9 +30,9 @@ unfolding enq_change enq_resource
 sweep_entered-requires-clause-at_once c at_once plain =
     let s = plain_state c.args.self.now in
     let e = c.args.request.now in
-    let entry = c.entry-entry.result in
-    let is = c.entry-entry.ensures.entered in
-    let asked : entry.asked ≡ enq_request s e = same_Some entry.asked (enq_request s e) (ap (λ (row : Row). row.want) is.row) in
+    let new_lock = c.new_lock-new_lock.result in
+    let is = c.new_lock-new_lock.ensures.entered in
+    let asked : new_lock.asked ≡ enq_request s e = same_Some new_lock.asked (enq_request s e) (ap (λ (row : LockRow). row.want) is.row) in
     let now : enq_at_once s e ≡ true = sym is.at_once ∙ at_once in
     let all = all_quiet (enq_request s e) s.next_serial (enq_site s e) (enq_row s e) s.resources c.requires.between.settled now (rw asked at plain) in
     subst (λ (t : State). AllByRecursion IsSettled t.resources) (sym c.in-Ok-enq_change.ensures.change)
@@ -43,17 +43,17 @@ unfolding enq_change
 returns-in-Ok-enq_change-clause-outcome c =
     let s = plain_state c.args.self.now in
     let e = c.args.request.now in
-    let entry = c.entry-entry.result in
-    let is = c.entry-entry.ensures.entered in
+    let new_lock = c.new_lock-new_lock.result in
+    let is = c.new_lock-new_lock.ensures.entered in
     let passed : None ≡ enq_refusal s e = search rules in
-    let wants = ap (λ (row : Row). row.want) is.row in
-    let asked : entry.asked ≡ enq_request s e = same_Some entry.asked (enq_request s e) wants in
-    made_swept s (plain_state c.sweep_entered.new.self) (Enq e) (Lock c.acceptance.result entry.lkid) refl passed
+    let wants = ap (λ (row : LockRow). row.want) is.row in
+    let asked : new_lock.asked ≡ enq_request s e = same_Some new_lock.asked (enq_request s e) wants in
+    made_swept s (plain_state c.sweep_entered.new.self) (Enq e) (Lock c.acceptance.result new_lock.lkid) refl passed
     (c.sweep_entered.ensures ∙ ap state_after_sweep c.in-Ok-enq_change.ensures.change)
-    (ap (λ answer. Lock answer entry.lkid) c.acceptance.ensures
-    ∙ ap (λ (q : Request). Lock (acceptance (flag_bits q.flags) entry.at_once) entry.lkid) asked
-    ∙ ap (λ at_once. Lock (acceptance e.flags at_once) entry.lkid) is.at_once
-    ∙ ap (λ (row : Row). Lock (acceptance e.flags (enq_at_once s e)) row.lkid) is.row)
+    (ap (λ answer. Lock answer new_lock.lkid) c.acceptance.ensures
+    ∙ ap (λ (q : Request). Lock (acceptance (flag_bits q.flags) new_lock.at_once) new_lock.lkid) asked
+    ∙ ap (λ at_once. Lock (acceptance e.flags at_once) new_lock.lkid) is.at_once
+    ∙ ap (λ (row : LockRow). Lock (acceptance e.flags (enq_at_once s e)) row.lkid) is.row)
 
 -- room to note its resource was made before the lock entered
 pub returns-in-Ok-enq_change-clause-notes : goal.returns-in-Ok-enq_change-clause-notes
@@ -61,6 +61,6 @@ returns-in-Ok-enq_change-clause-notes c =
     let stored = as_many_stored c.self.inside.store in
     let same : total_locks_on (plain_state c.args.self.now).resources ≡ total_locks_on (plain_resources c.self.inside.store) =
     ap (λ (m : MachineState). total_locks_on (plain_state m).resources) (sym c.self.view_is) in
-    room_after c.args.self.now c.sweep_entered.new.self c.make_room_beyond.new.self (Enq c.args.request.now) (Lock c.acceptance.result c.entry-entry.result.lkid)
+    room_after c.args.self.now c.sweep_entered.new.self c.make_room_beyond.new.self (Enq c.args.request.now) (Lock c.acceptance.result c.new_lock-new_lock.result.lkid)
     (returns-in-Ok-enq_change-clause-outcome c) c.make_room_beyond.ensures.none
     (omega (arith, stored, same, c.in-Ok-make_room_beyond.ensures.room, c.total_locks.ensures))

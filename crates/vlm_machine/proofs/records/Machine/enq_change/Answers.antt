@@ -1,5 +1,5 @@
 use Rattle.std.proofs.Common.{◌≡◌, ◌+◌, refl, ap, subst, sym, arith}
-use Rattle.vlm_words.specs.declared.locks.Row.{Row}
+use Rattle.vlm_words.specs.declared.locks.LockRow.{LockRow}
 use Rattle.vlm_store.specs.Records.{without_resource}
 use Rattle.vlm_machine.specs.Admissions.{IsAdmitted}
 use Rattle.vlm_machine.specs.Between.{IsBetweenSteps}
@@ -13,11 +13,11 @@ use Rattle.vlm_machine.proofs.records.Machine.enq_change.Goals as goal
 pub enter-requires-clause-may_enter : goal.enter-requires-clause-may_enter
 enter-requires-clause-may_enter c =
     let between = subst (λ (m : MachineState). IsBetweenSteps (plain_state m)) (sym c.self.view_is) c.requires.between in
-    let admitted = subst (λ (m : MachineState). IsAdmitted m c.args.request.now c.args.entry.now) (sym c.self.view_is) c.requires.admitted in
-    let lkid : c.args.entry.now.lkid ≡ c.self.inside.last_lkid + 1 = ap (λ (r : Row). r.lkid) admitted.entered.row in
+    let admitted = subst (λ (m : MachineState). IsAdmitted m c.args.request.now c.args.new_lock.now) (sym c.self.view_is) c.requires.admitted in
+    let lkid : c.args.new_lock.now.lkid ≡ c.self.inside.last_lkid + 1 = ap (λ (r : LockRow). r.lkid) admitted.entered.row in
     record {
       rest = c.self.invariant.rest;
-      rising = above_all c.self.inside.store c.args.entry.now.lkid (λ other from. between.identifications.none_to_come other (omega (arith, lkid, from)));
+      rising = above_all c.self.inside.store c.args.new_lock.now.lkid (λ other from. between.identifications.none_to_come other (omega (arith, lkid, from)));
       owner = admitted.entered.owner;
       parent = admitted.entered.parent;
       keyed = admitted.entered.keyed;
@@ -36,14 +36,14 @@ pub returns-clause-change : goal.returns-clause-change
 returns-clause-change c =
     let m = kept c.self.inside in
     let e = c.args.request.now in
-    let entry = c.args.entry.now in
-    let is = (subst (λ (m : MachineState). IsAdmitted m e c.args.entry.now) (sym c.self.view_is) c.requires.admitted).entered in
+    let new_lock = c.args.new_lock.now in
+    let is = (subst (λ (m : MachineState). IsAdmitted m e c.args.new_lock.now) (sym c.self.view_is) c.requires.admitted).entered in
     rw (← c.self.view_is)
-    (entered_state m e entry is c.enter.new.store (c.self.inside.last_lkid + 1 + 1) (c.self.inside.last_request + 1 + 1) (c.last_given-self-inside.result + 1)
-    (resources_are m e entry is c.enter.new.store c.in_ok-res.ensures.entered.taken.entered)
-    (processes_are m e entry is c.enter.new.store c.in_ok-res.ensures.entered.statuses)
+    (entered_state m e new_lock is c.enter.new.store (c.self.inside.last_lkid + 1 + 1) (c.self.inside.last_request + 1 + 1) (c.last_given-self-inside.result + 1)
+    (resources_are m e new_lock is c.enter.new.store c.in_ok-res.ensures.entered.taken.entered)
+    (processes_are m e new_lock is c.enter.new.store c.in_ok-res.ensures.entered.statuses)
     refl refl
-    (serial_is m e entry is c.self.invariant.rest c.last_given-self-inside.result c.self.inside.last_serial refl c.last_given-self-inside.ensures))
+    (serial_is m e new_lock is c.self.invariant.rest c.last_given-self-inside.result c.self.inside.last_serial refl c.last_given-self-inside.ensures))
 
 pub returns-clause-others : goal.returns-clause-others
 returns-clause-others c =

@@ -10,7 +10,7 @@ use Rattle.vlm_cycle.specs.Waiting.{IsRoomy}
 use Rattle.vlm_machine.specs.Machine.{MachineState, plain_state}
 use Rattle.vlm_machine.proofs.Made.{made_choosing}
 use Rattle.vlm_machine.proofs.Roomy.{roomy}
-use Rattle.vlm_machine.proofs.Searches.{no_victim}
+use Rattle.vlm_machine.proofs.SearchesMade.{no_victim}
 use Rattle.vlm_machine.proofs.Settling.{settled_but, unswept}
 use Rattle.vlm_machine.proofs.records.Machine.search.Goals as goal
 
@@ -22,13 +22,13 @@ victim-requires-clause-roomy c =
 -- only the resource of the lock may be swept
 pub sweep-requires-clause-settled : goal.sweep-requires-clause-settled
 sweep-requires-clause-settled c =
-    settled_but c.args.self.now.records c.end_victim.new.self.records c.in-Some.standing.res c.requires.between.settled c.end_victim.ensures.others
+    settled_but c.args.self.now.records c.end_victim.new.self.records c.in-Some.located.res c.requires.between.settled c.end_victim.ensures.others
 
 -- the victim is the choice
 pub returns-in-Some-clause-outcome : goal.returns-in-Some-clause-outcome
 returns-in-Some-clause-outcome c =
     let s : State = plain_state c.args.self.now in
-    let row = c.in-Some.standing.row in
+    let row = c.in-Some.located.row in
     let same : s.resources ≡ plain_resources c.self.inside.store = ap (λ (m : MachineState). plain_resources m.records) (sym c.self.view_is) in
     made_choosing s (plain_state c.sweep.new.self) (Search c.args.node) (Some row) (Victim (Some c.lkid.result))
     (subst (λ (refusal : Option Cond). IsSearchedFor refusal s (Some row)) c.in_default.ensures.refusal (c.in-Some.ensures.victim s same)) c.in_default.ensures.refusal

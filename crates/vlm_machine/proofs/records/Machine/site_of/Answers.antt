@@ -19,11 +19,11 @@ returns-in-Some-clause-site c =
     let lkid = c.args.form.now.parent in
     let is : IsParentLock pid lkid up m.records =
     subst (λ o. IsParent pid lkid o m.records) c.in-Some.is (subst (λ (k : MachineState). IsParent pid lkid c.args.parent.now k.records) (sym c.self.view_is) c.requires.parent) in
-    let r = is.standing.standing.resource in
-    let found : resource_at up.res m.records.resources ≡ Some r = subst (λ at. resource_at at m.records.resources ≡ Some r) is.resource is.standing.standing.found in
+    let r = is.located.located.resource in
+    let found : resource_at up.res m.records.resources ≡ Some r = subst (λ at. resource_at at m.records.resources ≡ Some r) is.resource is.located.located.found in
     let below : parent_resource (plain_state m) pid lkid ≡ Some (plain_resource r) =
-    ap (parent_resource (plain_state m) pid) (sym is.standing.named)
-    ∙ parent_found m c.resource_record-above.ensures.sound is.lock is.standing.standing pid is.standing.owned (λ zero. is.named (sym is.standing.named ∙ zero)) in
+    ap (parent_resource (plain_state m) pid) (sym is.located.named)
+    ∙ parent_found m c.resource_record-above.ensures.sound is.lock is.located.located pid is.located.owned (λ zero. is.named (sym is.located.named ∙ zero)) in
     rw (← c.self.view_is)
     (site_record (root_domain (plain_state m) pid (flag_bits c.args.form.now.flags)) c.checked-name.result c.resource_record-above.result.now.serial c.resource_record-above.result.now.domain c.resource_record-above.result.now.level r
     (of_some (λ (x : StoredResource). c.resource_record-above.result.now.serial ≡ x.serial) (resource_at up.res m.records.resources) r found c.resource_record-above.ensures.serial)
@@ -41,8 +41,8 @@ returns-in-Some-clause-keyed c =
     let lkid = c.args.form.now.parent in
     let is : IsParentLock pid lkid up m.records =
     subst (λ o. IsParent pid lkid o m.records) c.in-Some.is (subst (λ (k : MachineState). IsParent pid lkid c.args.parent.now k.records) (sym c.self.view_is) c.requires.parent) in
-    let r = is.standing.standing.resource in
-    let found : resource_at up.res m.records.resources ≡ Some r = subst (λ at. resource_at at m.records.resources ≡ Some r) is.resource is.standing.standing.found in
+    let r = is.located.located.resource in
+    let found : resource_at up.res m.records.resources ≡ Some r = subst (λ at. resource_at at m.records.resources ≡ Some r) is.resource is.located.located.found in
     let between = subst (λ (k : MachineState). IsBetweenSteps (plain_state k)) (sym c.self.view_is) c.requires.between in
     let serial : c.resource_record-above.result.now.serial ≡ r.serial = of_some (λ (x : StoredResource). c.resource_record-above.result.now.serial ≡ x.serial) (resource_at up.res m.records.resources) r found c.resource_record-above.ensures.serial in
     subst (λ n. 0 < n) (sym serial) (serial_from_1 m.records between.serials_from_1 r (resource_among up.res m.records.resources r found))

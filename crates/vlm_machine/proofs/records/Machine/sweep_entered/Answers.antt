@@ -5,4 +5,4 @@ use Rattle.vlm_machine.proofs.records.Machine.sweep_entered.Goals as goal
 
 -- all is settled already
 pub returns-then-not-has : goal.returns-then-not-has
-returns-then-not-has c = sym (unswept (plain_state c.args.self.now) (c.requires.at_once c.if-entry.true (sym c.has.ensures ∙ c.if-not-has.true)))
+returns-then-not-has c = sym (unswept (plain_state c.args.self.now) (c.requires.at_once c.if-new_lock.true (sym c.has.ensures ∙ c.if-not-has.true)))

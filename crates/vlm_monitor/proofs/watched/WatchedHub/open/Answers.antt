@@ -1,5 +1,5 @@
 use Rattle.std.proofs.Common.{◌≡◌, ◌∙◌, ◌∷◌, [], ◌<◌, ◌-◌, Some, Global, Vec, ap, arith, length, map, refl, rules, slice_index_or, subst, sym, vec_len}
-use Rattle.vlm_ports.specs.declared.line.Line.{Line}
+use Rattle.vlm_ports.specs.declared.node_rings.Line.{Line}
 use Rattle.vlm_ports.specs.Links.{line_identity}
 use Rattle.vlm_ports.specs.Watched.{board_name, watched_keys}
 use Rattle.vlm_watch.specs.declared.watcher.Watcher.{Watcher}

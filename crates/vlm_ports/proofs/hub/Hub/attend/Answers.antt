@@ -1,6 +1,6 @@
 use Rattle.vlm_ports.specs.Hubs.{journal, state}
 use Rattle.vlm_ports.proofs.Resting.{grew_add, grew_none}
-use Rattle.vlm_ports.proofs.Lasting.{lines_then}
+use Rattle.vlm_ports.proofs.Lasting.{all_node_rings_then}
 use Rattle.vlm_ports.proofs.hub.Hub.attend.Goals as goal
 
 pub returns-in-Err-clause-grew : goal.returns-in-Err-clause-grew
@@ -11,7 +11,7 @@ pub returns-in-Ok-serve-clause-grew : goal.returns-in-Ok-serve-clause-grew
 returns-in-Ok-serve-clause-grew c = grew_add c.in-Ok.ensures.grew.1 c.in-Ok-serve.ensures.grew.1
 
 pub returns-in-Err-serve-clause-known : goal.returns-in-Err-serve-clause-known
-returns-in-Err-serve-clause-known c = lines_then c.args.self.now.lines.items c.draw.new.self.lines.items c.serve.new.self.lines.items c.draw.ensures.known c.serve.ensures.known
+returns-in-Err-serve-clause-known c = all_node_rings_then c.args.self.now.all_node_rings.items c.draw.new.self.all_node_rings.items c.serve.new.self.all_node_rings.items c.draw.ensures.known c.serve.ensures.known
 
 pub returns-in-Ok-serve-clause-known : goal.returns-in-Ok-serve-clause-known
-returns-in-Ok-serve-clause-known c = lines_then c.args.self.now.lines.items c.draw.new.self.lines.items c.serve.new.self.lines.items c.draw.ensures.known c.serve.ensures.known
+returns-in-Ok-serve-clause-known c = all_node_rings_then c.args.self.now.all_node_rings.items c.draw.new.self.all_node_rings.items c.serve.new.self.all_node_rings.items c.draw.ensures.known c.serve.ensures.known

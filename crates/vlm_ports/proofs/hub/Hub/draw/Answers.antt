@@ -2,7 +2,7 @@ use Rattle.std.proofs.Common.{arith, ◌≡◌, ◌++◌, ◌∷◌, [], List, m
 use Rattle.vlm_journal.specs.declared.entries.Entry.{Entry}
 use Rattle.vlm_journal.specs.declared.entries.Item.TheVariants.{Ast as ast_item}
 use Rattle.vlm_journal.specs.declared.entries.Item.{Item}
-use Rattle.vlm_ports.specs.Links.{line_base}
+use Rattle.vlm_ports.specs.Links.{node_rings_base}
 use Rattle.vlm_ports.proofs.Asking.{hub_asks}
 use Rattle.vlm_ports.proofs.Lines.{drawing, drawn_follows, node_at, rings_set, set_same}
 use Rattle.vlm_ports.proofs.Resting.{grew_none, grew_one}
@@ -11,59 +11,59 @@ use Rattle.vlm_ports.proofs.hub.Hub.draw.Goals as goal
 
 pub returns-then-not-has_place-clause-rings : goal.returns-then-not-has_place-clause-rings
 returns-then-not-has_place-clause-rings c =
-    rings_set c.args.self.now.lines.items c.args.at c.has_place.new.self c.index_mut-line.result.now c.index_mut-line.ensures.value c.has_place.ensures.rings
+    rings_set c.args.self.now.all_node_rings.items c.args.at c.has_place.new.self c.index_mut-node_rings.result.now c.index_mut-node_rings.ensures.value c.has_place.ensures.rings
 
 pub returns-then-not-has_place-clause-base : goal.returns-then-not-has_place-clause-base
 returns-then-not-has_place-clause-base c =
-    let follows = set_same c.args.self.now.lines.items c.args.self.now.book.entries c.args.at c.has_place.new.self c.index_mut-line.result.now c.args.self.now.linked c.requires c.index_mut-line.ensures.value
+    let follows = set_same c.args.self.now.all_node_rings.items c.args.self.now.book.entries c.args.at c.has_place.new.self c.index_mut-node_rings.result.now c.args.self.now.linked c.requires c.index_mut-node_rings.ensures.value
     c.has_place.ensures.rings c.has_place.ensures.taken c.has_place.ensures.told in
     (refl, follows.bases)
 
 pub returns-in_default-clause-rings : goal.returns-in_default-clause-rings
 returns-in_default-clause-rings c =
-    rings_set c.args.self.now.lines.items c.args.at c.has_place.new.self c.index_mut-line.result.now c.index_mut-line.ensures.value c.has_place.ensures.rings
+    rings_set c.args.self.now.all_node_rings.items c.args.at c.has_place.new.self c.index_mut-node_rings.result.now c.index_mut-node_rings.ensures.value c.has_place.ensures.rings
 
 pub returns-in_default-clause-base : goal.returns-in_default-clause-base
 returns-in_default-clause-base c =
-    let follows = set_same c.args.self.now.lines.items c.args.self.now.book.entries c.args.at c.has_place.new.self c.index_mut-line.result.now c.args.self.now.linked c.requires c.index_mut-line.ensures.value
+    let follows = set_same c.args.self.now.all_node_rings.items c.args.self.now.book.entries c.args.at c.has_place.new.self c.index_mut-node_rings.result.now c.args.self.now.linked c.requires c.index_mut-node_rings.ensures.value
     c.has_place.ensures.rings c.has_place.ensures.taken c.has_place.ensures.told in
     (refl, follows.bases)
 
 pub returns-in_err-reserve-clause-rings : goal.returns-in_err-reserve-clause-rings
 returns-in_err-reserve-clause-rings c =
-    rings_set c.args.self.now.lines.items c.args.at c.has_place.new.self c.index_mut-line.result.now c.index_mut-line.ensures.value c.has_place.ensures.rings
+    rings_set c.args.self.now.all_node_rings.items c.args.at c.has_place.new.self c.index_mut-node_rings.result.now c.index_mut-node_rings.ensures.value c.has_place.ensures.rings
 
 pub returns-in_err-reserve-clause-base : goal.returns-in_err-reserve-clause-base
 returns-in_err-reserve-clause-base c =
-    let ls = c.args.self.now.lines.items in let js = c.args.self.now.book.entries in
-    let follows = set_same ls js c.args.at c.has_place.new.self c.index_mut-line.result.now c.args.self.now.linked c.requires c.index_mut-line.ensures.value
+    let ls = c.args.self.now.all_node_rings.items in let js = c.args.self.now.book.entries in
+    let follows = set_same ls js c.args.at c.has_place.new.self c.index_mut-node_rings.result.now c.args.self.now.linked c.requires c.index_mut-node_rings.ensures.value
     c.has_place.ensures.rings c.has_place.ensures.taken c.has_place.ensures.told in
-    let P : List Entry → Type 0 = λ es. map (line_base es) (set ls c.args.at c.has_place.new.self) ≡ map (line_base js) ls in
+    let P : List Entry → Type 0 = λ es. map (node_rings_base es) (set ls c.args.at c.has_place.new.self) ≡ map (node_rings_base js) ls in
     (c.reserve.ensures.base, subst P (sym c.reserve.ensures.entries) follows.bases)
 
 pub invariant_of-self-2-clause-linked : goal.invariant_of-self-2-clause-linked
 invariant_of-self-2-clause-linked c =
-    let ls = c.args.self.now.lines.items in let js = c.args.self.now.book.entries in let l = c.tell.new.self in let at = c.args.at in
-    let was = c.index_mut-line.result.now in let seen = c.has_place.new.self in
+    let ls = c.args.self.now.all_node_rings.items in let js = c.args.self.now.book.entries in let l = c.tell.new.self in let at = c.args.at in
+    let was = c.index_mut-node_rings.result.now in let seen = c.has_place.new.self in
     let pid = c.in-Some.pid in let ast = c.draw-ast.result in
-    let to = c.draw-ast.ensures.node ∙ node_at ls js at seen was c.args.self.now.linked c.requires c.index_mut-line.ensures.value c.has_place.ensures.rings in
-    (drawn_follows ls js c.reserve.new.self.entries c.draw-ast.new.self.entries at l was pid ast c.args.self.now.linked c.requires c.index_mut-line.ensures.value
+    let to = c.draw-ast.ensures.node ∙ node_at ls js at seen was c.args.self.now.linked c.requires c.index_mut-node_rings.ensures.value c.has_place.ensures.rings in
+    (drawn_follows ls js c.reserve.new.self.entries c.draw-ast.new.self.entries at l was pid ast c.args.self.now.linked c.requires c.index_mut-node_rings.ensures.value
     c.reserve.ensures.entries c.draw-ast.ensures.told c.draw-ast.ensures.entries to (c.tell.ensures.rings ∙ c.has_place.ensures.rings) (c.tell.ensures.taken ∙ c.has_place.ensures.taken)
     (c.tell.ensures.told ∙ ap (λ (xs : List Item). xs ++ ast_item pid ast ∷ []) c.has_place.ensures.told)).linked
 
 pub returns-clause-rings : goal.returns-clause-rings
 returns-clause-rings c =
-    rings_set c.args.self.now.lines.items c.args.at c.tell.new.self c.index_mut-line.result.now c.index_mut-line.ensures.value
+    rings_set c.args.self.now.all_node_rings.items c.args.at c.tell.new.self c.index_mut-node_rings.result.now c.index_mut-node_rings.ensures.value
     (c.tell.ensures.rings ∙ c.has_place.ensures.rings)
 
 pub returns-clause-base : goal.returns-clause-base
 returns-clause-base c =
-    let ls = c.args.self.now.lines.items in let js = c.args.self.now.book.entries in let l = c.tell.new.self in let at = c.args.at in
-    let was = c.index_mut-line.result.now in let seen = c.has_place.new.self in
+    let ls = c.args.self.now.all_node_rings.items in let js = c.args.self.now.book.entries in let l = c.tell.new.self in let at = c.args.at in
+    let was = c.index_mut-node_rings.result.now in let seen = c.has_place.new.self in
     let pid = c.in-Some.pid in let ast = c.draw-ast.result in
-    let to = c.draw-ast.ensures.node ∙ node_at ls js at seen was c.args.self.now.linked c.requires c.index_mut-line.ensures.value c.has_place.ensures.rings in (
+    let to = c.draw-ast.ensures.node ∙ node_at ls js at seen was c.args.self.now.linked c.requires c.index_mut-node_rings.ensures.value c.has_place.ensures.rings in (
       c.draw-ast.ensures.base ∙ c.reserve.ensures.base,
-      (drawn_follows ls js c.reserve.new.self.entries c.draw-ast.new.self.entries at l was pid ast c.args.self.now.linked c.requires c.index_mut-line.ensures.value
+      (drawn_follows ls js c.reserve.new.self.entries c.draw-ast.new.self.entries at l was pid ast c.args.self.now.linked c.requires c.index_mut-node_rings.ensures.value
           c.reserve.ensures.entries c.draw-ast.ensures.told c.draw-ast.ensures.entries to (c.tell.ensures.rings ∙ c.has_place.ensures.rings) (c.tell.ensures.taken ∙ c.has_place.ensures.taken)
           (c.tell.ensures.told ∙ ap (λ (xs : List Item). xs ++ ast_item pid ast ∷ []) c.has_place.ensures.told)).bases,
     )
@@ -88,20 +88,20 @@ returns-in_default-clause-grew c = (omega arith, grew_none c.args.self.now.book.
 
 pub returns-then-not-has_place-clause-known : goal.returns-then-not-has_place-clause-known
 returns-then-not-has_place-clause-known c =
-    lasts_at c.args.self.now.lines.items c.args.at c.has_place.new.self c.index_mut-line.result.now c.requires c.index_mut-line.ensures.value
+    lasts_at c.args.self.now.all_node_rings.items c.args.at c.has_place.new.self c.index_mut-node_rings.result.now c.requires c.index_mut-node_rings.ensures.value
     c.has_place.ensures.lasts
 
 pub returns-in_default-clause-known : goal.returns-in_default-clause-known
 returns-in_default-clause-known c =
-    lasts_at c.args.self.now.lines.items c.args.at c.has_place.new.self c.index_mut-line.result.now c.requires c.index_mut-line.ensures.value
+    lasts_at c.args.self.now.all_node_rings.items c.args.at c.has_place.new.self c.index_mut-node_rings.result.now c.requires c.index_mut-node_rings.ensures.value
     c.has_place.ensures.lasts
 
 pub returns-in_err-reserve-clause-known : goal.returns-in_err-reserve-clause-known
 returns-in_err-reserve-clause-known c =
-    lasts_at c.args.self.now.lines.items c.args.at c.has_place.new.self c.index_mut-line.result.now c.requires c.index_mut-line.ensures.value
+    lasts_at c.args.self.now.all_node_rings.items c.args.at c.has_place.new.self c.index_mut-node_rings.result.now c.requires c.index_mut-node_rings.ensures.value
     c.has_place.ensures.lasts
 
 pub returns-clause-known : goal.returns-clause-known
 returns-clause-known c =
-    lasts_at c.args.self.now.lines.items c.args.at c.tell.new.self c.index_mut-line.result.now c.requires c.index_mut-line.ensures.value
+    lasts_at c.args.self.now.all_node_rings.items c.args.at c.tell.new.self c.index_mut-node_rings.result.now c.requires c.index_mut-node_rings.ensures.value
     (lasts_then _ _ _ c.has_place.ensures.lasts c.tell.ensures.lasts)

@@ -3,7 +3,7 @@ use Rattle.vlm_words.specs.declared.steps.Step.{Step}
 use Rattle.vlm_journal.specs.declared.entries.Entry.{Entry}
 use Rattle.vlm_journal.specs.declared.entries.Item.TheVariants.{Answer as answer_item}
 use Rattle.vlm_journal.specs.declared.entries.Item.{Item}
-use Rattle.vlm_ports.specs.Links.{line_base}
+use Rattle.vlm_ports.specs.Links.{node_rings_base}
 use Rattle.vlm_ports.proofs.Asking.{node_asks}
 use Rattle.vlm_ports.proofs.Lines.{node_at, rings_set, served_follows, set_same}
 use Rattle.vlm_ports.proofs.Resting.{grew_none, grew_one}
@@ -12,54 +12,54 @@ use Rattle.vlm_ports.proofs.hub.Hub.serve.Goals as goal
 
 pub returns-then-not-has_request-clause-rings : goal.returns-then-not-has_request-clause-rings
 returns-then-not-has_request-clause-rings c =
-    rings_set c.args.self.now.lines.items c.args.at c.has_request.new.self c.index_mut-line.result.now c.index_mut-line.ensures.value c.has_request.ensures.rings
+    rings_set c.args.self.now.all_node_rings.items c.args.at c.has_request.new.self c.index_mut-node_rings.result.now c.index_mut-node_rings.ensures.value c.has_request.ensures.rings
 
 pub returns-then-not-has_request-clause-base : goal.returns-then-not-has_request-clause-base
 returns-then-not-has_request-clause-base c =
-    let follows = set_same c.args.self.now.lines.items c.args.self.now.book.entries c.args.at c.has_request.new.self c.index_mut-line.result.now c.args.self.now.linked c.requires c.index_mut-line.ensures.value
+    let follows = set_same c.args.self.now.all_node_rings.items c.args.self.now.book.entries c.args.at c.has_request.new.self c.index_mut-node_rings.result.now c.args.self.now.linked c.requires c.index_mut-node_rings.ensures.value
     c.has_request.ensures.rings c.has_request.ensures.taken c.has_request.ensures.told in
     (refl, follows.bases)
 
 pub returns-in_err-reserve-clause-rings : goal.returns-in_err-reserve-clause-rings
 returns-in_err-reserve-clause-rings c =
-    rings_set c.args.self.now.lines.items c.args.at c.has_request.new.self c.index_mut-line.result.now c.index_mut-line.ensures.value c.has_request.ensures.rings
+    rings_set c.args.self.now.all_node_rings.items c.args.at c.has_request.new.self c.index_mut-node_rings.result.now c.index_mut-node_rings.ensures.value c.has_request.ensures.rings
 
 pub returns-in_err-reserve-clause-base : goal.returns-in_err-reserve-clause-base
 returns-in_err-reserve-clause-base c =
-    let ls = c.args.self.now.lines.items in let js = c.args.self.now.book.entries in
-    let follows = set_same ls js c.args.at c.has_request.new.self c.index_mut-line.result.now c.args.self.now.linked c.requires c.index_mut-line.ensures.value
+    let ls = c.args.self.now.all_node_rings.items in let js = c.args.self.now.book.entries in
+    let follows = set_same ls js c.args.at c.has_request.new.self c.index_mut-node_rings.result.now c.args.self.now.linked c.requires c.index_mut-node_rings.ensures.value
     c.has_request.ensures.rings c.has_request.ensures.taken c.has_request.ensures.told in
-    let P : List Entry → Type 0 = λ es. map (line_base es) (set ls c.args.at c.has_request.new.self) ≡ map (line_base js) ls in
+    let P : List Entry → Type 0 = λ es. map (node_rings_base es) (set ls c.args.at c.has_request.new.self) ≡ map (node_rings_base js) ls in
     (c.reserve.ensures.base, subst P (sym c.reserve.ensures.entries) follows.bases)
 
 pub invariant_of-self-2-clause-linked : goal.invariant_of-self-2-clause-linked
 invariant_of-self-2-clause-linked c =
-    let ls = c.args.self.now.lines.items in let js = c.args.self.now.book.entries in let l = c.tell.new.self in let at = c.args.at in
-    let was = c.index_mut-line.result.now in let popped = c.request-step.new.self in
+    let ls = c.args.self.now.all_node_rings.items in let js = c.args.self.now.book.entries in let l = c.tell.new.self in let at = c.args.at in
+    let was = c.index_mut-node_rings.result.now in let popped = c.request-step.new.self in
     let step = c.request-step.result in let answer = c.serve-answer.result in
     let ring = c.request-step.ensures.rings ∙ c.has_request.ensures.rings in
-    let node = node_at ls js at popped was c.args.self.now.linked c.requires c.index_mut-line.ensures.value ring in
+    let node = node_at ls js at popped was c.args.self.now.linked c.requires c.index_mut-node_rings.ensures.value ring in
     let e : Entry = record { sender = popped.node; step = step; answer = answer } in
-    (served_follows ls js c.reserve.new.self.entries c.serve-answer.new.self.entries at l was e c.args.self.now.linked c.requires c.index_mut-line.ensures.value
+    (served_follows ls js c.reserve.new.self.entries c.serve-answer.new.self.entries at l was e c.args.self.now.linked c.requires c.index_mut-node_rings.ensures.value
     c.reserve.ensures.entries c.serve-answer.ensures.told c.serve-answer.ensures.entries node (c.tell.ensures.rings ∙ ring)
     (c.tell.ensures.taken ∙ c.request-step.ensures.taken ∙ ap (λ (xs : List Step). xs ++ step ∷ []) c.has_request.ensures.taken)
     (c.tell.ensures.told ∙ ap (λ (xs : List Item). xs ++ answer_item answer ∷ []) (c.request-step.ensures.told ∙ c.has_request.ensures.told))).linked
 
 pub returns-clause-rings : goal.returns-clause-rings
 returns-clause-rings c =
-    rings_set c.args.self.now.lines.items c.args.at c.tell.new.self c.index_mut-line.result.now c.index_mut-line.ensures.value
+    rings_set c.args.self.now.all_node_rings.items c.args.at c.tell.new.self c.index_mut-node_rings.result.now c.index_mut-node_rings.ensures.value
     (c.tell.ensures.rings ∙ (c.request-step.ensures.rings ∙ c.has_request.ensures.rings))
 
 pub returns-clause-base : goal.returns-clause-base
 returns-clause-base c =
-    let ls = c.args.self.now.lines.items in let js = c.args.self.now.book.entries in let l = c.tell.new.self in let at = c.args.at in
-    let was = c.index_mut-line.result.now in let popped = c.request-step.new.self in
+    let ls = c.args.self.now.all_node_rings.items in let js = c.args.self.now.book.entries in let l = c.tell.new.self in let at = c.args.at in
+    let was = c.index_mut-node_rings.result.now in let popped = c.request-step.new.self in
     let step = c.request-step.result in let answer = c.serve-answer.result in
     let ring = c.request-step.ensures.rings ∙ c.has_request.ensures.rings in
-    let node = node_at ls js at popped was c.args.self.now.linked c.requires c.index_mut-line.ensures.value ring in
+    let node = node_at ls js at popped was c.args.self.now.linked c.requires c.index_mut-node_rings.ensures.value ring in
     let e : Entry = record { sender = popped.node; step = step; answer = answer } in (
       c.serve-answer.ensures.base ∙ c.reserve.ensures.base,
-      (served_follows ls js c.reserve.new.self.entries c.serve-answer.new.self.entries at l was e c.args.self.now.linked c.requires c.index_mut-line.ensures.value
+      (served_follows ls js c.reserve.new.self.entries c.serve-answer.new.self.entries at l was e c.args.self.now.linked c.requires c.index_mut-node_rings.ensures.value
           c.reserve.ensures.entries c.serve-answer.ensures.told c.serve-answer.ensures.entries node (c.tell.ensures.rings ∙ ring)
           (c.tell.ensures.taken ∙ c.request-step.ensures.taken ∙ ap (λ (xs : List Step). xs ++ step ∷ []) c.has_request.ensures.taken)
           (c.tell.ensures.told ∙ ap (λ (xs : List Item). xs ++ answer_item answer ∷ []) (c.request-step.ensures.told ∙ c.has_request.ensures.told))).bases,
@@ -67,10 +67,10 @@ returns-clause-base c =
 
 pub returns-clause-once : goal.returns-clause-once
 returns-clause-once c =
-    let ls = c.args.self.now.lines.items in let js = c.args.self.now.book.entries in
+    let ls = c.args.self.now.all_node_rings.items in let js = c.args.self.now.book.entries in
     let popped = c.request-step.new.self in
     let ring = c.request-step.ensures.rings ∙ c.has_request.ensures.rings in
-    let node = node_at ls js c.args.at popped c.index_mut-line.result.now c.args.self.now.linked c.requires c.index_mut-line.ensures.value ring in
+    let node = node_at ls js c.args.at popped c.index_mut-node_rings.result.now c.args.self.now.linked c.requires c.index_mut-node_rings.ensures.value ring in
     let e : Entry = record { sender = popped.node; step = c.request-step.result; answer = c.serve-answer.result } in
     node_asks c.args.at js c.reserve.new.self.entries c.serve-answer.new.self.entries e c.reserve.ensures.entries c.serve-answer.ensures.told c.serve-answer.ensures.entries node
 
@@ -79,7 +79,7 @@ returns-clause-grew c =
     let popped = c.request-step.new.self in
     let ring = c.request-step.ensures.rings ∙ c.has_request.ensures.rings in
     let node =
-    node_at c.args.self.now.lines.items c.args.self.now.book.entries c.args.at popped c.index_mut-line.result.now c.args.self.now.linked c.requires c.index_mut-line.ensures.value ring in
+    node_at c.args.self.now.all_node_rings.items c.args.self.now.book.entries c.args.at popped c.index_mut-node_rings.result.now c.args.self.now.linked c.requires c.index_mut-node_rings.ensures.value ring in
     let e : Entry = record { sender = popped.node; step = c.request-step.result; answer = c.serve-answer.result } in (
       omega arith,
       grew_one c.args.self.now.book.entries c.reserve.new.self.entries c.serve-answer.new.self.entries c.args.self.now.book.state c.reserve.new.self.state c.serve-answer.new.self.state e
@@ -95,20 +95,20 @@ returns-then-not-has_request-clause-grew c = (omega arith, grew_none c.args.self
 
 pub returns-then-not-has_known_place-clause-known : goal.returns-then-not-has_known_place-clause-known
 returns-then-not-has_known_place-clause-known c =
-    lasts_at c.args.self.now.lines.items c.args.at c.index_mut-line.result.now c.index_mut-line.result.now c.requires c.index_mut-line.ensures.value
-    (lasts_still c.index_mut-line.result.now)
+    lasts_at c.args.self.now.all_node_rings.items c.args.at c.index_mut-node_rings.result.now c.index_mut-node_rings.result.now c.requires c.index_mut-node_rings.ensures.value
+    (lasts_still c.index_mut-node_rings.result.now)
 
 pub returns-then-not-has_request-clause-known : goal.returns-then-not-has_request-clause-known
 returns-then-not-has_request-clause-known c =
-    lasts_at c.args.self.now.lines.items c.args.at c.has_request.new.self c.index_mut-line.result.now c.requires c.index_mut-line.ensures.value
+    lasts_at c.args.self.now.all_node_rings.items c.args.at c.has_request.new.self c.index_mut-node_rings.result.now c.requires c.index_mut-node_rings.ensures.value
     c.has_request.ensures.lasts
 
 pub returns-in_err-reserve-clause-known : goal.returns-in_err-reserve-clause-known
 returns-in_err-reserve-clause-known c =
-    lasts_at c.args.self.now.lines.items c.args.at c.has_request.new.self c.index_mut-line.result.now c.requires c.index_mut-line.ensures.value
+    lasts_at c.args.self.now.all_node_rings.items c.args.at c.has_request.new.self c.index_mut-node_rings.result.now c.requires c.index_mut-node_rings.ensures.value
     c.has_request.ensures.lasts
 
 pub returns-clause-known : goal.returns-clause-known
 returns-clause-known c =
-    lasts_at c.args.self.now.lines.items c.args.at c.tell.new.self c.index_mut-line.result.now c.requires c.index_mut-line.ensures.value
+    lasts_at c.args.self.now.all_node_rings.items c.args.at c.tell.new.self c.index_mut-node_rings.result.now c.requires c.index_mut-node_rings.ensures.value
     (lasts_then _ _ _ c.has_request.ensures.lasts (lasts_then _ _ _ c.request-step.ensures.lasts c.tell.ensures.lasts))

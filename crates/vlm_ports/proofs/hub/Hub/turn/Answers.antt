@@ -2,7 +2,7 @@ use Rattle.std.proofs.Common.{refl, ◌+◌, ◌≡◌, ◌<◌, sym, ◌∙◌,
 use Rattle.vlm_ports.specs.Hubs.{journal, nodes, state}
 use Rattle.vlm_ports.proofs.Asking.{asked_each, asked_first, asked_more}
 use Rattle.vlm_ports.proofs.Resting.{grew_add, grew_none, may_idle, rest_more, within_rings}
-use Rattle.vlm_ports.proofs.Lasting.{known_kept, lines_still, lines_then}
+use Rattle.vlm_ports.proofs.Lasting.{known_kept, all_node_rings_still, all_node_rings_then}
 use Rattle.vlm_ports.proofs.hub.Hub.turn.Goals as goal
 
 pub attend-attended-requires : goal.attend-attended-requires
@@ -18,7 +18,7 @@ loop-at-preserved c = record {
   bases = c.attend-attended.ensures.base.1 ∙ c.loop-at.invariant.bases;
   grew = grew_add c.loop-at.invariant.grew c.attend-attended.ensures.grew;
   once = asked_more c.loop-at.at (journal c.args.self.now) (journal c.loop-at.self) (journal c.attend-attended.new.self) c.loop-at.invariant.once c.attend-attended.ensures.once;
-  known = lines_then c.args.self.now.lines.items c.loop-at.self.lines.items c.attend-attended.new.self.lines.items c.loop-at.invariant.known c.attend-attended.ensures.known;
+  known = all_node_rings_then c.args.self.now.all_node_rings.items c.loop-at.self.all_node_rings.items c.attend-attended.new.self.all_node_rings.items c.loop-at.invariant.known c.attend-attended.ensures.known;
   most = let most = c.attend-attended.ensures.most in let was = c.loop-at.invariant.most in omega arith;
   idle = λ none.
       let before : c.loop-at.made ≡ 0 = omega arith in
@@ -49,7 +49,7 @@ loop-at-init c = record {
   bases = refl;
   grew = grew_none (journal c.args.self.now) (journal c.args.self.now) (state c.args.self.now) (state c.args.self.now) refl refl;
   once = asked_first (journal c.args.self.now);
-  known = lines_still c.args.self.now.lines.items;
+  known = all_node_rings_still c.args.self.now.all_node_rings.items;
   most = omega arith;
   idle = λ none k below. absurd (omega (arith, below));
 }
@@ -58,10 +58,10 @@ pub returns-then-attended-clause-made : goal.returns-then-attended-clause-made
 returns-then-attended-clause-made c = grew_add c.loop-at.invariant.grew c.attend-attended.ensures.grew
 
 pub returns-then-attended-clause-known : goal.returns-then-attended-clause-known
-returns-then-attended-clause-known c = known_kept c.args.self.now.lines.items c.attend-attended.new.self.lines.items (journal c.args.self.now) (journal c.attend-attended.new.self) c.args.self.now.linked c.attend-attended.new.self.linked (c.attend-attended.ensures.rings ∙ c.loop-at.invariant.rings) (lines_then c.args.self.now.lines.items c.loop-at.self.lines.items c.attend-attended.new.self.lines.items c.loop-at.invariant.known c.attend-attended.ensures.known)
+returns-then-attended-clause-known c = known_kept c.args.self.now.all_node_rings.items c.attend-attended.new.self.all_node_rings.items (journal c.args.self.now) (journal c.attend-attended.new.self) c.args.self.now.linked c.attend-attended.new.self.linked (c.attend-attended.ensures.rings ∙ c.loop-at.invariant.rings) (all_node_rings_then c.args.self.now.all_node_rings.items c.loop-at.self.all_node_rings.items c.attend-attended.new.self.all_node_rings.items c.loop-at.invariant.known c.attend-attended.ensures.known)
 
 pub returns-then-made-eq0-clause-known : goal.returns-then-made-eq0-clause-known
-returns-then-made-eq0-clause-known c = known_kept c.args.self.now.lines.items c.loop-at.self.lines.items (journal c.args.self.now) (journal c.loop-at.self) c.args.self.now.linked c.loop-at.self.linked c.loop-at.invariant.rings c.loop-at.invariant.known
+returns-then-made-eq0-clause-known c = known_kept c.args.self.now.all_node_rings.items c.loop-at.self.all_node_rings.items (journal c.args.self.now) (journal c.loop-at.self) c.args.self.now.linked c.loop-at.self.linked c.loop-at.invariant.rings c.loop-at.invariant.known
 
 pub returns-else-made-eq0-clause-known : goal.returns-else-made-eq0-clause-known
-returns-else-made-eq0-clause-known c = known_kept c.args.self.now.lines.items c.loop-at.self.lines.items (journal c.args.self.now) (journal c.loop-at.self) c.args.self.now.linked c.loop-at.self.linked c.loop-at.invariant.rings c.loop-at.invariant.known
+returns-else-made-eq0-clause-known c = known_kept c.args.self.now.all_node_rings.items c.loop-at.self.all_node_rings.items (journal c.args.self.now) (journal c.loop-at.self) c.args.self.now.linked c.loop-at.self.linked c.loop-at.invariant.rings c.loop-at.invariant.known

@@ -3,7 +3,7 @@ use Rattle.vlm_store.specs.declared.store.Store.TheInside.{Inside}
 use Rattle.slab.specs.Slab.{HasRoomFor, get as slot_of}
 use Rattle.vlm_collections.specs.declared.link.TheConstants.{LAST_HANDLE}
 use Rattle.vlm_store.specs.Index.{hash_key}
-use Rattle.vlm_store.proofs.Lined.{line_added, line_below, line_kin, line_own, line_queued, line_same}
+use Rattle.vlm_store.proofs.WaitListed.{wait_list_added, wait_list_below, wait_list_kin, wait_list_own, wait_list_queued, wait_list_same}
 use Rattle.vlm_store.proofs.RoomShown.{room_shown, shown_room, is_taken, rooms_are, room_of_same, has_room}
 use Rattle.std.proofs.Common.{◌≡◌, ◌<◌, ◌≤◌, ◌≢◌, ◌∙◌, ◌++◌, ◌∷◌, [], ℕ, map, None, Some, IsSome, ap, sym, refl, arith, ◌+◌}
 use Rattle.std.specs.Option.{option_map}
@@ -16,7 +16,7 @@ use Rattle.vlm_records.specs.declared.locks.Lock.{Lock}
 use Rattle.vlm_records.specs.Kin.{owner_in, parent_in, pid_at, with_own_links}
 use Rattle.vlm_store.specs.Kept.{records_shown, beside_shown}
 use Rattle.vlm_store.specs.Records.{process_with_lock, HasRoom, IsTaken, joining, with_lists, with_new_lock}
-use Rattle.vlm_records.specs.Shown.{but_in_line, but_kin, but_queued, but_queues, handles_at, list_at, lkid_of, new_lock, queue_links, row_in, rows, noted_in}
+use Rattle.vlm_records.specs.Shown.{but_in_wait_list, but_kin, but_queued, but_queues, handles_at, list_at, lkid_of, new_lock, queue_links, row_in, rows, noted_in}
 use Rattle.vlm_store.specs.Store.{lkid_at, records_of, tables}
 use Rattle.vlm_records.proofs.Arming.{armed_kin, armed_reserved}
 use Rattle.vlm_records.proofs.Places.{same_then, there_by_part, there_through, through}
@@ -44,28 +44,28 @@ add-slot-requires-clause-there c =
     let s = c.self.inside in
     place_there s.queues s.order (beside_shown s) c.self.invariant.placed c.self.invariant.linked c.self.invariant.ordered c.args.to (rw (← c.self.view_is) at c.requires.there)
 
-pub join_line-requires-clause-line : goal.join_line-requires-clause-line
-join_line-requires-clause-line c =
+pub join_wait_list-requires-clause-wait_list : goal.join_wait_list-requires-clause-wait_list
+join_wait_list-requires-clause-wait_list c =
     let s = c.self.inside in
     let kept = c.self.invariant in
     let added = c.add-slot.ensures in
     let same : (k : ℕ) → slot_of s.queues.locks k ≡ slot_of s.queues.locks k = λ k. refl in
-    line_added (record s.queues { locks = c.self.inside.queues.locks }) c.add-slot.new.self s.line c.add-slot.result c.args.to (reserved_placed s.queues c.self.inside.queues.locks same kept.placed) added.laid_out.placed
-    added.fresh added.line added.here added.elsewhere (line_same s.queues.locks c.self.inside.queues.locks s.line same kept.line)
+    wait_list_added (record s.queues { locks = c.self.inside.queues.locks }) c.add-slot.new.self s.wait_list c.add-slot.result c.args.to (reserved_placed s.queues c.self.inside.queues.locks same kept.placed) added.laid_out.placed
+    added.fresh added.wait_list added.here added.elsewhere (wait_list_same s.queues.locks c.self.inside.queues.locks s.wait_list same kept.wait_list)
 
-pub join_line-requires-clause-noted : goal.join_line-requires-clause-noted
-join_line-requires-clause-noted c = ap noted_in c.index.ensures
+pub join_wait_list-requires-clause-noted : goal.join_wait_list-requires-clause-noted
+join_wait_list-requires-clause-noted c = ap noted_in c.index.ensures
 
 pub join_process-requires-clause-owner : goal.join_process-requires-clause-owner
 join_process-requires-clause-owner c =
     let locks = c.add-slot.new.self.locks in
-    through but_queued owner_in owner-queued locks c.join_line.new.locks (line_queued locks c.join_line.new.locks c.join_line.ensures.rest) c.add-slot.result ∙ ap owner_in c.index.ensures
+    through but_queued owner_in owner-queued locks c.join_wait_list.new.locks (wait_list_queued locks c.join_wait_list.new.locks c.join_wait_list.ensures.rest) c.add-slot.result ∙ ap owner_in c.index.ensures
 
 pub join_parent-requires-clause-parent : goal.join_parent-requires-clause-parent
 join_parent-requires-clause-parent c =
     let locks = c.add-slot.new.self.locks in
-    relinked_same with_own_links parent_in (λ l pair. refl) c.join_line.new.locks c.join_process.new.locks c.join_process.ensures.relinks c.add-slot.result
-    ∙ through but_queued parent_in parent-queued locks c.join_line.new.locks (line_queued locks c.join_line.new.locks c.join_line.ensures.rest) c.add-slot.result ∙ ap parent_in c.index.ensures ∙ sym c.get.ensures
+    relinked_same with_own_links parent_in (λ l pair. refl) c.join_wait_list.new.locks c.join_process.new.locks c.join_process.ensures.relinks c.add-slot.result
+    ∙ through but_queued parent_in parent-queued locks c.join_wait_list.new.locks (wait_list_queued locks c.join_wait_list.new.locks c.join_wait_list.ensures.rest) c.add-slot.result ∙ ap parent_in c.index.ensures ∙ sym c.get.ensures
 
 pub index-requires : goal.index-requires
 index-requires c =
@@ -75,7 +75,7 @@ pub join_process-requires-clause-present : goal.join_process-requires-clause-pre
 join_process-requires-clause-present c =
     let locks = c.add-slot.new.self.locks in
     let at = c.add-slot.result in
-    there_through but_in_line locks c.join_line.new.locks c.join_line.ensures.rest at
+    there_through but_in_wait_list locks c.join_wait_list.new.locks c.join_wait_list.ensures.rest at
     (there_by_part but_queued (slot_of locks at) (Some (new_lock c.args.row.now c.args.owner c.args.parent)) c.add-slot.ensures.lock refl)
 
 pub join_process-requires-clause-owned : goal.join_process-requires-clause-owned
@@ -85,10 +85,10 @@ join_process-requires-clause-owned c =
     let q' = c.add-slot.new.self in
     let at = c.add-slot.result in
     let added = c.add-slot.ensures in
-    let locks1 = c.join_line.new.locks in
-    let lined = line_queued q'.locks locks1 c.join_line.ensures.rest in
-    let lock = lined at ∙ added.lock in
-    let others : (k : ℕ) → k ≢ at → option_map but_queued (slot_of locks1 k) ≡ option_map but_queued (slot_of c.self.inside.queues.locks k) = λ k differs. lined k ∙ added.kin k differs in
+    let locks1 = c.join_wait_list.new.locks in
+    let wait_listed = wait_list_queued q'.locks locks1 c.join_wait_list.ensures.rest in
+    let lock = wait_listed at ∙ added.lock in
+    let others : (k : ℕ) → k ≢ at → option_map but_queued (slot_of locks1 k) ≡ option_map but_queued (slot_of c.self.inside.queues.locks k) = λ k differs. wait_listed k ∙ added.kin k differs in
     let same : (k : ℕ) → slot_of s.queues.locks k ≡ slot_of s.queues.locks k = λ k. refl in
     let owner = rw (← c.self.view_is) at c.requires.owner in
     let parent = rw (← c.self.view_is) at c.requires.parent in
@@ -101,10 +101,10 @@ join_process-requires-clause-there c =
     let q' = c.add-slot.new.self in
     let at = c.add-slot.result in
     let added = c.add-slot.ensures in
-    let locks1 = c.join_line.new.locks in
-    let lined = line_queued q'.locks locks1 c.join_line.ensures.rest in
-    let lock = lined at ∙ added.lock in
-    let others : (k : ℕ) → k ≢ at → option_map but_queued (slot_of locks1 k) ≡ option_map but_queued (slot_of c.self.inside.queues.locks k) = λ k differs. lined k ∙ added.kin k differs in
+    let locks1 = c.join_wait_list.new.locks in
+    let wait_listed = wait_list_queued q'.locks locks1 c.join_wait_list.ensures.rest in
+    let lock = wait_listed at ∙ added.lock in
+    let others : (k : ℕ) → k ≢ at → option_map but_queued (slot_of locks1 k) ≡ option_map but_queued (slot_of c.self.inside.queues.locks k) = λ k differs. wait_listed k ∙ added.kin k differs in
     let same : (k : ℕ) → slot_of s.queues.locks k ≡ slot_of s.queues.locks k = λ k. refl in
     let owner = rw (← c.self.view_is) at c.requires.owner in
     let parent = rw (← c.self.view_is) at c.requires.parent in
@@ -117,10 +117,10 @@ join_parent-requires-clause-below c =
     let q' = c.add-slot.new.self in
     let at = c.add-slot.result in
     let added = c.add-slot.ensures in
-    let locks1 = c.join_line.new.locks in
-    let lined = line_queued q'.locks locks1 c.join_line.ensures.rest in
-    let lock = lined at ∙ added.lock in
-    let others : (k : ℕ) → k ≢ at → option_map but_queued (slot_of locks1 k) ≡ option_map but_queued (slot_of c.self.inside.queues.locks k) = λ k differs. lined k ∙ added.kin k differs in
+    let locks1 = c.join_wait_list.new.locks in
+    let wait_listed = wait_list_queued q'.locks locks1 c.join_wait_list.ensures.rest in
+    let lock = wait_listed at ∙ added.lock in
+    let others : (k : ℕ) → k ≢ at → option_map but_queued (slot_of locks1 k) ≡ option_map but_queued (slot_of c.self.inside.queues.locks k) = λ k differs. wait_listed k ∙ added.kin k differs in
     let same : (k : ℕ) → slot_of s.queues.locks k ≡ slot_of s.queues.locks k = λ k. refl in
     let owner = rw (← c.self.view_is) at c.requires.owner in
     let parent = rw (← c.self.view_is) at c.requires.parent in
@@ -133,10 +133,10 @@ join_parent-requires-clause-there c =
     let q' = c.add-slot.new.self in
     let at = c.add-slot.result in
     let added = c.add-slot.ensures in
-    let locks1 = c.join_line.new.locks in
-    let lined = line_queued q'.locks locks1 c.join_line.ensures.rest in
-    let lock = lined at ∙ added.lock in
-    let others : (k : ℕ) → k ≢ at → option_map but_queued (slot_of locks1 k) ≡ option_map but_queued (slot_of c.self.inside.queues.locks k) = λ k differs. lined k ∙ added.kin k differs in
+    let locks1 = c.join_wait_list.new.locks in
+    let wait_listed = wait_list_queued q'.locks locks1 c.join_wait_list.ensures.rest in
+    let lock = wait_listed at ∙ added.lock in
+    let others : (k : ℕ) → k ≢ at → option_map but_queued (slot_of locks1 k) ≡ option_map but_queued (slot_of c.self.inside.queues.locks k) = λ k differs. wait_listed k ∙ added.kin k differs in
     let same : (k : ℕ) → slot_of s.queues.locks k ≡ slot_of s.queues.locks k = λ k. refl in
     let owner = rw (← c.self.view_is) at c.requires.owner in
     let parent = rw (← c.self.view_is) at c.requires.parent in
@@ -149,10 +149,10 @@ invariant_of-self c =
     let q' = c.add-slot.new.self in
     let at = c.add-slot.result in
     let added = c.add-slot.ensures in
-    let locks1 = c.join_line.new.locks in
-    let lined = line_queued q'.locks locks1 c.join_line.ensures.rest in
-    let lock = lined at ∙ added.lock in
-    let others : (k : ℕ) → k ≢ at → option_map but_queued (slot_of locks1 k) ≡ option_map but_queued (slot_of c.self.inside.queues.locks k) = λ k differs. lined k ∙ added.kin k differs in
+    let locks1 = c.join_wait_list.new.locks in
+    let wait_listed = wait_list_queued q'.locks locks1 c.join_wait_list.ensures.rest in
+    let lock = wait_listed at ∙ added.lock in
+    let others : (k : ℕ) → k ≢ at → option_map but_queued (slot_of locks1 k) ≡ option_map but_queued (slot_of c.self.inside.queues.locks k) = λ k differs. wait_listed k ∙ added.kin k differs in
     let same : (k : ℕ) → slot_of s.queues.locks k ≡ slot_of s.queues.locks k = λ k. refl in
     let owner = rw (← c.self.view_is) at c.requires.owner in
     let parent = rw (← c.self.view_is) at c.requires.parent in
@@ -160,7 +160,7 @@ invariant_of-self c =
     let below = c.join_parent.ensures in
     let rest = added.rest in
     let q'' = record q' { locks = c.join_parent.new.locks } in
-    let kin = same_then but_kin q'.locks locks1 c.join_parent.new.locks (line_kin q'.locks locks1 c.join_line.ensures.rest) (joined_kin s kept c.self.inside.queues.locks locks1 at c.args.row.now c.args.owner c.args.parent same added.fresh lock others owner parent c.join_process.new.processes c.join_process.new.locks c.join_parent.new.locks process.owned process.here process.elsewhere process.relinks process.rest below.here below.elsewhere below.rest) in
+    let kin = same_then but_kin q'.locks locks1 c.join_parent.new.locks (wait_list_kin q'.locks locks1 c.join_wait_list.ensures.rest) (joined_kin s kept c.self.inside.queues.locks locks1 at c.args.row.now c.args.owner c.args.parent same added.fresh lock others owner parent c.join_process.new.processes c.join_process.new.locks c.join_parent.new.locks process.owned process.here process.elsewhere process.relinks process.rest below.here below.elsewhere below.rest) in
     let lkids = joined_lkids s kept c.self.inside.queues.locks locks1 at c.args.row.now c.args.owner c.args.parent same added.fresh lock others owner parent c.join_process.new.processes c.join_process.new.locks c.join_parent.new.locks process.owned process.here process.elsewhere process.relinks process.rest below.here below.elsewhere below.rest in
     let indexes1 = Indexes-same (handle_in s.lock_index) (handle_in c.self.inside.lock_index) (lkid_at s.queues) (lkid_at (record s.queues { locks = c.self.inside.queues.locks }))
     (λ _. refl) (λ at. ap (option_map lkid_of) (same at)) kept.locks in
@@ -170,7 +170,7 @@ invariant_of-self c =
       placed = kin_placed q' c.join_parent.new.locks kin added.laid_out.placed;
       tallied = kin_tallied q' c.join_parent.new.locks kin added.laid_out.placed added.laid_out.tallied;
       armed = λ which. armed_kin which q' c.join_parent.new.locks kin (kin_handles q' c.join_parent.new.locks kin added.laid_out.placed) (kin_rows q' c.join_parent.new.locks kin) (added.laid_out.armed which);
-      line = line_below c.join_process.new.locks c.join_parent.new.locks c.join_line.new.line below.rest (line_own locks1 c.join_process.new.locks c.join_line.new.line process.relinks c.join_line.ensures.line);
+      wait_list = wait_list_below c.join_process.new.locks c.join_parent.new.locks c.join_wait_list.new.wait_list below.rest (wait_list_own locks1 c.join_process.new.locks c.join_wait_list.new.wait_list process.relinks c.join_wait_list.ensures.wait_list);
       linked = order_linked but_queues (λ r. refl) s.queues.resources q'.resources rest s.order kept.linked;
       ordered = order_whole but_queues (λ r. refl) s.queues.resources q'.resources rest s.order kept.linked kept.ordered;
       locks = Indexes-added c.self.inside.lock_index c.insert.new.self c.args.row.now.lkid (lkid_at (record s.queues { locks = c.self.inside.queues.locks })) (lkid_at q'') at
@@ -194,10 +194,10 @@ returns-clause-added c =
     let q' = c.add-slot.new.self in
     let at = c.add-slot.result in
     let added = c.add-slot.ensures in
-    let locks1 = c.join_line.new.locks in
-    let lined = line_queued q'.locks locks1 c.join_line.ensures.rest in
-    let lock = lined at ∙ added.lock in
-    let others : (k : ℕ) → k ≢ at → option_map but_queued (slot_of locks1 k) ≡ option_map but_queued (slot_of c.self.inside.queues.locks k) = λ k differs. lined k ∙ added.kin k differs in
+    let locks1 = c.join_wait_list.new.locks in
+    let wait_listed = wait_list_queued q'.locks locks1 c.join_wait_list.ensures.rest in
+    let lock = wait_listed at ∙ added.lock in
+    let others : (k : ℕ) → k ≢ at → option_map but_queued (slot_of locks1 k) ≡ option_map but_queued (slot_of c.self.inside.queues.locks k) = λ k differs. wait_listed k ∙ added.kin k differs in
     let same : (k : ℕ) → slot_of s.queues.locks k ≡ slot_of s.queues.locks k = λ k. refl in
     let owner = rw (← c.self.view_is) at c.requires.owner in
     let parent = rw (← c.self.view_is) at c.requires.parent in
@@ -205,13 +205,13 @@ returns-clause-added c =
     let below = c.join_parent.ensures in
     let rest = added.rest in
     let q'' = record q' { locks = c.join_parent.new.locks } in
-    let kin = same_then but_kin q'.locks locks1 c.join_parent.new.locks (line_kin q'.locks locks1 c.join_line.ensures.rest) (joined_kin s kept c.self.inside.queues.locks locks1 at c.args.row.now c.args.owner c.args.parent same added.fresh lock others owner parent c.join_process.new.processes c.join_process.new.locks c.join_parent.new.locks process.owned process.here process.elsewhere process.relinks process.rest below.here below.elsewhere below.rest) in
+    let kin = same_then but_kin q'.locks locks1 c.join_parent.new.locks (wait_list_kin q'.locks locks1 c.join_wait_list.ensures.rest) (joined_kin s kept c.self.inside.queues.locks locks1 at c.args.row.now c.args.owner c.args.parent same added.fresh lock others owner parent c.join_process.new.processes c.join_process.new.locks c.join_parent.new.locks process.owned process.here process.elsewhere process.relinks process.rest below.here below.elsewhere below.rest) in
     let handles1 = reserved_handles s.queues c.self.inside.queues.locks same kept.placed in
     let handles2 = kin_handles q' c.join_parent.new.locks kin added.laid_out.placed in
     let unlisted : (p : Place) → ¬ IsIn at (handles_at s.queues p) =
     λ p. vacant_unlisted queue_links s.queues.locks (list_at s.queues p) (kept.placed.linked p) at (sym (same at) ∙ added.fresh) in
     let old = tables s.queues s.order (beside_shown s) in
-    let s' = record s { queues = q''; line = c.join_line.new.line; processes = c.join_process.new.processes; lock_index = c.insert.new.self } in
+    let s' = record s { queues = q''; wait_list = c.join_wait_list.new.wait_list; processes = c.join_process.new.processes; lock_index = c.insert.new.self } in
     let new = tables q'' s.order (beside_shown s') in
     let rows2 = kin_rows q' c.join_parent.new.locks kin in
     let change = joining c.args.to (record { at = at; row = c.args.row.now }) in
@@ -239,11 +239,11 @@ pub returns-clause-taken : goal.returns-clause-taken
 returns-clause-taken c =
     let s = c.self.inside in
     let q'' = record c.add-slot.new.self { locks = c.join_parent.new.locks } in
-    let s' = record s { queues = q''; line = c.join_line.new.line; processes = c.join_process.new.processes; lock_index = c.insert.new.self } in
+    let s' = record s { queues = q''; wait_list = c.join_wait_list.new.wait_list; processes = c.join_process.new.processes; lock_index = c.insert.new.self } in
     rw (← c.self.view_is)
     (room_shown (λ a b. IsTaken a.locks b.locks) (tables s.queues s.order (beside_shown s)) (tables q'' s.order (beside_shown s'))
     (is_taken s.queues.locks c.self.inside.queues.locks q''.locks (spares_of s.lock_index) (spares_of c.insert.new.self) refl (omega arith)
-    (ap (λ (p : ℕ × ℕ). p.0 + 1) (c.join_parent.ensures.locks_room ∙ c.join_process.ensures.locks_room ∙ c.join_line.ensures.room) ∙ c.add-slot.ensures.taken) c.insert.ensures.taken))
+    (ap (λ (p : ℕ × ℕ). p.0 + 1) (c.join_parent.ensures.locks_room ∙ c.join_process.ensures.locks_room ∙ c.join_wait_list.ensures.room) ∙ c.add-slot.ensures.taken) c.insert.ensures.taken))
 
 pub add-slot-requires-clause-laid_out : goal.add-slot-requires-clause-laid_out
 add-slot-requires-clause-laid_out c = record {

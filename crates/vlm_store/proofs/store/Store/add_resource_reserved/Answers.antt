@@ -2,9 +2,9 @@ use Rattle.vlm_collections.specs.Parts.{handle_in, spare_for, spares_of}
 use Rattle.vlm_store.specs.declared.store.Store.TheInside.{Inside}
 use Rattle.slab.specs.Slab.{HasRoomFor, get as slot_of}
 use Rattle.vlm_collections.specs.declared.link.TheConstants.{LAST_HANDLE}
-use Rattle.vlm_collections.specs.declared.hashing.HashKeys.{HashKeys}
+use Rattle.vlm_collections.specs.declared.hashers.HashKeys.{HashKeys}
 use Rattle.vlm_store.specs.Index.{hash_key}
-use Rattle.vlm_store.proofs.Lined.{line_same}
+use Rattle.vlm_store.proofs.WaitListed.{wait_list_same}
 use Rattle.vlm_store.proofs.RoomShown.{room_shown, shown_room, is_taken, rooms_are, room_of_same, has_room}
 use Rattle.std.proofs.Common.{◌≡◌, ◌<◌, ◌≤◌, arith, ◌∙◌, ◌++◌, ◌∷◌, [], ℕ, None, Some, IsSome, ap, sym, refl, subst}
 use Rattle.std.specs.Option.{option_map}
@@ -62,7 +62,7 @@ invariant_of-self c =
       placed = added.laid_out.placed;
       tallied = added.laid_out.tallied;
       armed = added.laid_out.armed;
-      line = line_same s.queues.locks q'.locks s.line (λ k. ap (λ l. slot_of l k) added.locks) kept.line;
+      wait_list = wait_list_same s.queues.locks q'.locks s.wait_list (λ k. ap (λ l. slot_of l k) added.locks) kept.wait_list;
       linked = added.linked;
       ordered = whole_grown order_links c.self.inside.queues.resources q'.resources s.order c.add_resource.new.order at (λ r there. rw handles1 (kept.ordered r (rw (same r) at there))) added.order
           (λ r differs. there_by_face (slot_of q'.resources r) (slot_of c.self.inside.queues.resources r) (added.faces r differs));

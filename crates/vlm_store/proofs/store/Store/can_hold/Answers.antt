@@ -11,14 +11,14 @@ fits-requires-clause-there c =
     let s = c.self.inside in
     c.self.invariant.linked.present c.args.res (HasResource-order (tables s.queues s.order (beside_shown s)) c.args.res (rw (← c.self.view_is) at c.requires.there))
 
-pub fits-requires-clause-asking : goal.fits-requires-clause-asking
-fits-requires-clause-asking c lock is =
+pub fits-requires-clause-except : goal.fits-requires-clause-except
+fits-requires-clause-except c lock is =
     let s = c.self.inside in
-    let stored = rw (← c.self.view_is) at (c.requires.asking lock is) in
+    let stored = rw (← c.self.view_is) at (c.requires.except lock is) in
     (stored_there s.queues s.order (beside_shown s) c.self.invariant.placed lock stored.0 stored.1).0
 
 pub returns : goal.returns
 returns c =
     let s = c.self.inside in
     let found = resource_at-found (tables s.queues s.order (beside_shown s)) c.args.res (HasResource-order (tables s.queues s.order (beside_shown s)) c.args.res (rw (← c.self.view_is) at c.requires.there)) in
-    rw (← c.self.view_is, found) (c.fits.ensures ∙ fits_beside-handles s.queues (tables s.queues s.order (beside_shown s)) c.args.res c.args.mode c.args.asking refl refl)
+    rw (← c.self.view_is, found) (c.fits.ensures ∙ fits_beside-handles s.queues (tables s.queues s.order (beside_shown s)) c.args.res c.args.mode c.args.except refl refl)

@@ -1,6 +1,6 @@
 use Rattle.vlm_collections.specs.Parts.{handle_in}
 use Rattle.vlm_store.specs.Index.{hash_key}
-use Rattle.vlm_store.proofs.Lined.{line_disarmed}
+use Rattle.vlm_store.proofs.WaitListed.{wait_list_disarmed}
 use Rattle.std.proofs.Common.{None, ◌∙◌, ap, map, refl}
 use Rattle.vlm_store.specs.HashedKeys.{hashed_at}
 use Rattle.vlm_store.proofs.HashedKeys.{labels_same}
@@ -32,7 +32,7 @@ invariant_of-self c =
       placed = c.disarm.ensures.laid_out.placed;
       tallied = c.disarm.ensures.laid_out.tallied;
       armed = c.disarm.ensures.laid_out.armed;
-      line = line_disarmed s.queues q' s.line kept.placed c.disarm.ensures.laid_out.placed c.disarm.ensures.line c.disarm.ensures.handles kept.line;
+      wait_list = wait_list_disarmed s.queues q' s.wait_list kept.placed c.disarm.ensures.laid_out.placed c.disarm.ensures.wait_list c.disarm.ensures.handles kept.wait_list;
       linked = order_linked but_queues (λ r. refl) s.queues.resources q'.resources rest s.order kept.linked;
       ordered = order_whole but_queues (λ r. refl) s.queues.resources q'.resources rest s.order kept.linked kept.ordered;
       locks = Indexes-same (handle_in s.lock_index) (handle_in s.lock_index) (lkid_at s.queues) (lkid_at q') (λ k. refl) (queued_lkids s.processes s.queues.locks q'.locks c.disarm.ensures.kept.kin) kept.locks;

@@ -1,5 +1,5 @@
 use Rattle.std.proofs.Common.{take, ◌∙◌, ap, sym}
-use Rattle.vlm_collections.specs.declared.hashing.HashKeys.{HashKeys}
+use Rattle.vlm_collections.specs.declared.hashers.HashKeys.{HashKeys}
 use Rattle.vlm_store.specs.Index.{hash_key}
 use Rattle.vlm_store.specs.Kept.{beside_shown}
 use Rattle.vlm_store.specs.Store.{tables}

@@ -1,6 +1,6 @@
 use Rattle.std.proofs.Common.{◌≡◌, ◌∙◌, sym, ap, subst}
 use Rattle.std.proofs.lemmas.Option.{same_Some}
-use Rattle.vlm_words.specs.declared.locks.Row.{Row}
+use Rattle.vlm_words.specs.declared.locks.LockRow.{LockRow}
 use Rattle.vlm_collections.specs.Lists.{IsIn}
 use Rattle.vlm_store.specs.Kept.{beside_shown, records_shown}
 use Rattle.vlm_store.specs.Records.{IsProcess, Records, StoredLock, Stores, locks_at}
@@ -25,7 +25,7 @@ returns-clause-row c =
     let there = (stored_there s.queues s.order (beside_shown s) kept.placed c.args.lock stored.0 stored.1).0 in
     let is = ap row_in (rw c.slot.ensures at c.index.ensures) in
     subst (λ (x : Records). Stores x c.args.lock c.index.result.now.row) c.self.view_is
-    (subst (λ (row : Row). Stores (records_of (tables s.queues s.order (beside_shown s))) c.args.lock row) is (there_stored s.queues s.order (beside_shown s) kept.placed kept.linked kept.ordered c.args.lock there))
+    (subst (λ (row : LockRow). Stores (records_of (tables s.queues s.order (beside_shown s))) c.args.lock row) is (there_stored s.queues s.order (beside_shown s) kept.placed kept.linked kept.ordered c.args.lock there))
 
 pub returns-clause-only : goal.returns-clause-only
 returns-clause-only c row stored =
@@ -58,7 +58,7 @@ returns-clause-owner c =
     let there = lock_there c.self.inside c.self.invariant c.args.lock c.index.result.now.row (rw (← c.self.view_is) at stored) in
     let here = rw c.slot.ensures at c.index.ensures in
     rw (← c.self.view_is)
-    (subst (λ (r : Row). IsProcess c.index.result.now.owner r.pid (records_shown c.self.inside)) (sym (ap row_in here) ∙ there.2) (owner_is c.self.inside c.self.invariant c.args.lock c.index.result.now here))
+    (subst (λ (r : LockRow). IsProcess c.index.result.now.owner r.pid (records_shown c.self.inside)) (sym (ap row_in here) ∙ there.2) (owner_is c.self.inside c.self.invariant c.args.lock c.index.result.now here))
 
 pub returns-clause-sound : goal.returns-clause-sound
 returns-clause-sound c = rw (← c.self.view_is) (is_sound c.self.inside c.self.invariant)

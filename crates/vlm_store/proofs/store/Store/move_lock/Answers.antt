@@ -5,7 +5,7 @@ use Rattle.std.proofs.Common.{None, ◌∙◌, ◌++◌, ◌∷◌, [], ap, refl
 use Rattle.vlm_collections.specs.Lists.{without}
 use Rattle.vlm_store.specs.HashedKeys.{hashed_at}
 use Rattle.vlm_store.proofs.HashedKeys.{labels_same}
-use Rattle.vlm_records.specs.Shown.{but_in_line, but_queued, but_queues, handles_at, named_row, rows}
+use Rattle.vlm_records.specs.Shown.{but_in_wait_list, but_queued, but_queues, handles_at, named_row, rows}
 use Rattle.vlm_records.proofs.Arming.{armed_kin}
 use Rattle.vlm_records.proofs.Places.{last_noted, same_then, there_through}
 use Rattle.vlm_store.specs.Store.{lkid_at, tables}
@@ -13,7 +13,7 @@ use Rattle.vlm_store.specs.Records.{moving}
 use Rattle.vlm_store.proofs.Indexing.{Indexes-same}
 use Rattle.vlm_store.proofs.Kept.{faces_same, place_there, stored_there}
 use Rattle.vlm_store.proofs.Layouts.{lists_changed, moving-under_handle}
-use Rattle.vlm_store.proofs.Lined.{line_kin, line_moved, line_queued}
+use Rattle.vlm_store.proofs.WaitListed.{wait_list_kin, wait_list_moved, wait_list_queued}
 use Rattle.vlm_store.specs.Kept.{beside_shown}
 use Rattle.vlm_store.proofs.Kinship.{kin_handles, kin_placed, kin_rows, kin_tallied, named_same, queued_below, queued_lkids, queued_named, queued_owned, queued_processes}
 use Rattle.vlm_store.proofs.store.Store.move_lock.Goals as goal
@@ -29,7 +29,7 @@ pub move_to-requires-clause-present : goal.move_to-requires-clause-present
 move_to-requires-clause-present c =
     let s = c.self.inside in
     let is = rw (← c.self.view_is) at c.requires.lock in
-    there_through but_in_line s.queues.locks c.leave_line.new.locks c.leave_line.ensures.rest c.slot-at.result
+    there_through but_in_wait_list s.queues.locks c.leave_wait_list.new.locks c.leave_wait_list.ensures.rest c.slot-at.result
     (rw c.slot-at.ensures (stored_there s.queues s.order (beside_shown s) c.self.invariant.placed c.args.lock is.0 is.1.0).0)
 
 pub move_to-requires-clause-within : goal.move_to-requires-clause-within
@@ -47,30 +47,30 @@ pub move_to-requires-clause-named : goal.move_to-requires-clause-named
 move_to-requires-clause-named c =
     let s = c.self.inside in
     let is = rw (← c.self.view_is) at c.requires.lock in
-    ap named_row (kin_rows s.queues c.leave_line.new.locks (line_kin s.queues.locks c.leave_line.new.locks c.leave_line.ensures.rest) c.slot-at.result)
+    ap named_row (kin_rows s.queues c.leave_wait_list.new.locks (wait_list_kin s.queues.locks c.leave_wait_list.new.locks c.leave_wait_list.ensures.rest) c.slot-at.result)
     ∙ rw c.slot-at.ensures (ap named_row (stored_there s.queues s.order (beside_shown s) c.self.invariant.placed c.args.lock is.0 is.1.0).2 ∙ named_same is.0 c.args.row.now is.1.1)
 
-pub join_line-requires-clause-line : goal.join_line-requires-clause-line
-join_line-requires-clause-line c =
+pub join_wait_list-requires-clause-wait_list : goal.join_wait_list-requires-clause-wait_list
+join_wait_list-requires-clause-wait_list c =
     let s = c.self.inside in
-    let q1 = record s.queues { locks = c.leave_line.new.locks } in
+    let q1 = record s.queues { locks = c.leave_wait_list.new.locks } in
     let moved = c.move_to.ensures in
-    line_moved q1 c.move_to.new.self c.leave_line.new.line c.slot-at.result c.args.to (kin_placed s.queues c.leave_line.new.locks (line_kin s.queues.locks c.leave_line.new.locks c.leave_line.ensures.rest) c.self.invariant.placed)
-    moved.laid_out.placed moved.line moved.here moved.elsewhere c.leave_line.ensures.line
+    wait_list_moved q1 c.move_to.new.self c.leave_wait_list.new.wait_list c.slot-at.result c.args.to (kin_placed s.queues c.leave_wait_list.new.locks (wait_list_kin s.queues.locks c.leave_wait_list.new.locks c.leave_wait_list.ensures.rest) c.self.invariant.placed)
+    moved.laid_out.placed moved.wait_list moved.here moved.elsewhere c.leave_wait_list.ensures.wait_list
 
-pub join_line-requires-clause-noted : goal.join_line-requires-clause-noted
-join_line-requires-clause-noted c = last_noted c.move_to.new.self c.slot-at.result c.args.to _ c.move_to.ensures.laid_out.placed c.move_to.ensures.here
+pub join_wait_list-requires-clause-noted : goal.join_wait_list-requires-clause-noted
+join_wait_list-requires-clause-noted c = last_noted c.move_to.new.self c.slot-at.result c.args.to _ c.move_to.ensures.laid_out.placed c.move_to.ensures.here
 
-pub join_line-requires-clause-present : goal.join_line-requires-clause-present
-join_line-requires-clause-present c =
+pub join_wait_list-requires-clause-present : goal.join_wait_list-requires-clause-present
+join_wait_list-requires-clause-present c =
     let s = c.self.inside in
     let is = rw (← c.self.view_is) at c.requires.lock in
-    there_through but_queued c.leave_line.new.locks c.move_to.new.self.locks c.move_to.ensures.kept.kin c.slot-at.result
-    (there_through but_in_line s.queues.locks c.leave_line.new.locks c.leave_line.ensures.rest c.slot-at.result
+    there_through but_queued c.leave_wait_list.new.locks c.move_to.new.self.locks c.move_to.ensures.kept.kin c.slot-at.result
+    (there_through but_in_wait_list s.queues.locks c.leave_wait_list.new.locks c.leave_wait_list.ensures.rest c.slot-at.result
     (rw c.slot-at.ensures (stored_there s.queues s.order (beside_shown s) c.self.invariant.placed c.args.lock is.0 is.1.0).0))
 
-pub join_line-requires-clause-within : goal.join_line-requires-clause-within
-join_line-requires-clause-within c =
+pub join_wait_list-requires-clause-within : goal.join_wait_list-requires-clause-within
+join_wait_list-requires-clause-within c =
     let s = c.self.inside in
     let is = rw (← c.self.view_is) at c.requires.lock in
     rw c.slot-at.ensures (stored_there s.queues s.order (beside_shown s) c.self.invariant.placed c.args.lock is.0 is.1.0).1
@@ -80,20 +80,20 @@ invariant_of-self c =
     let s = c.self.inside in
     let kept = c.self.invariant in
     let q2 = c.move_to.new.self in
-    let locks1 = c.leave_line.new.locks in
-    let locks3 = c.join_line.new.locks in
+    let locks1 = c.leave_wait_list.new.locks in
+    let locks3 = c.join_wait_list.new.locks in
     let q3 = record q2 { locks = locks3 } in
     let moved = c.move_to.ensures in
     let rest = moved.kept.rest in
-    let kin3 = line_kin q2.locks locks3 c.join_line.ensures.rest in
+    let kin3 = wait_list_kin q2.locks locks3 c.join_wait_list.ensures.rest in
     let placed3 = kin_placed q2 locks3 kin3 moved.laid_out.placed in
-    let queued = same_then but_queued s.queues.locks q2.locks locks3 (same_then but_queued s.queues.locks locks1 q2.locks (line_queued s.queues.locks locks1 c.leave_line.ensures.rest) moved.kept.kin)
-    (line_queued q2.locks locks3 c.join_line.ensures.rest) in
+    let queued = same_then but_queued s.queues.locks q2.locks locks3 (same_then but_queued s.queues.locks locks1 q2.locks (wait_list_queued s.queues.locks locks1 c.leave_wait_list.ensures.rest) moved.kept.kin)
+    (wait_list_queued q2.locks locks3 c.join_wait_list.ensures.rest) in
     record {
       placed = placed3;
       tallied = kin_tallied q2 locks3 kin3 moved.laid_out.placed moved.laid_out.tallied;
       armed = λ which. armed_kin which q2 locks3 kin3 (kin_handles q2 locks3 kin3 moved.laid_out.placed) (kin_rows q2 locks3 kin3) (moved.laid_out.armed which);
-      line = c.join_line.ensures.line;
+      wait_list = c.join_wait_list.ensures.wait_list;
       linked = order_linked but_queues (λ r. refl) s.queues.resources q3.resources rest s.order kept.linked;
       ordered = order_whole but_queues (λ r. refl) s.queues.resources q3.resources rest s.order kept.linked kept.ordered;
       locks = Indexes-same (handle_in s.lock_index) (handle_in s.lock_index) (lkid_at s.queues) (lkid_at q3) (λ k. refl) (queued_lkids s.processes s.queues.locks locks3 queued) kept.locks;
@@ -113,38 +113,38 @@ returns c =
     let s = c.self.inside in
     let kept = c.self.invariant in
     let q2 = c.move_to.new.self in
-    let locks1 = c.leave_line.new.locks in
-    let locks3 = c.join_line.new.locks in
+    let locks1 = c.leave_wait_list.new.locks in
+    let locks3 = c.join_wait_list.new.locks in
     let q3 = record q2 { locks = locks3 } in
     let rest = c.move_to.ensures.kept.rest in
     let moved = rw c.slot-at.ensures at c.move_to.ensures in
-    let kin1 = line_kin s.queues.locks locks1 c.leave_line.ensures.rest in
-    let kin3 = line_kin q2.locks locks3 c.join_line.ensures.rest in
+    let kin1 = wait_list_kin s.queues.locks locks1 c.leave_wait_list.ensures.rest in
+    let kin3 = wait_list_kin q2.locks locks3 c.join_wait_list.ensures.rest in
     let handles1 = kin_handles s.queues locks1 kin1 kept.placed in
     let handles3 = kin_handles q2 locks3 kin3 moved.laid_out.placed in
     let rows1 = kin_rows s.queues locks1 kin1 in
     let rows3 = kin_rows q2 locks3 kin3 in
-    let queued = same_then but_queued s.queues.locks q2.locks locks3 (same_then but_queued s.queues.locks locks1 q2.locks (line_queued s.queues.locks locks1 c.leave_line.ensures.rest) moved.kept.kin)
-    (line_queued q2.locks locks3 c.join_line.ensures.rest) in
+    let queued = same_then but_queued s.queues.locks q2.locks locks3 (same_then but_queued s.queues.locks locks1 q2.locks (wait_list_queued s.queues.locks locks1 c.leave_wait_list.ensures.rest) moved.kept.kin)
+    (wait_list_queued q2.locks locks3 c.join_wait_list.ensures.rest) in
     rw (← c.self.view_is)
-    (lists_changed (tables s.queues s.order (beside_shown s)) (tables q3 s.order (beside_shown (record s { queues = q3; line = c.join_line.new.line }))) (moving c.args.to (record { at = c.args.lock; row = c.args.row.now }))
+    (lists_changed (tables s.queues s.order (beside_shown s)) (tables q3 s.order (beside_shown (record s { queues = q3; wait_list = c.join_wait_list.new.wait_list }))) (moving c.args.to (record { at = c.args.lock; row = c.args.row.now }))
     (faces_same s.queues.resources q3.resources rest)
     (moving-under_handle (rows s.queues) (rows q3) (handles_at s.queues) (handles_at q3) c.args.lock c.args.row.now c.args.to (rows3 c.args.lock ∙ moved.row) (λ k differs. rows3 k ∙ moved.rows k differs ∙ rows1 k)
     (handles3 c.args.to ∙ moved.here ∙ ap (λ ks. without c.args.lock ks ++ c.args.lock ∷ []) (handles1 c.args.to)) (λ p differs. handles3 p ∙ moved.elsewhere p differs ∙ ap (without c.args.lock) (handles1 p)))
     (order_handles but_queues (λ r. refl) s.queues.resources q3.resources rest s.order kept.linked)
     (queued_processes s.processes s.queues.locks locks3 queued s.process_order kept.owned kept.below)
-    (queues_room s q3 (c.join_line.ensures.room ∙ c.move_to.ensures.kept.locks_room ∙ c.leave_line.ensures.room) c.move_to.ensures.kept.resources_room) refl)
+    (queues_room s q3 (c.join_wait_list.ensures.room ∙ c.move_to.ensures.kept.locks_room ∙ c.leave_wait_list.ensures.room) c.move_to.ensures.kept.resources_room) refl)
 
 pub move_to-requires-clause-laid_out : goal.move_to-requires-clause-laid_out
 move_to-requires-clause-laid_out c = record {
   placed =
       let s = c.self.inside in
-      kin_placed s.queues c.leave_line.new.locks (line_kin s.queues.locks c.leave_line.new.locks c.leave_line.ensures.rest) c.self.invariant.placed;
+      kin_placed s.queues c.leave_wait_list.new.locks (wait_list_kin s.queues.locks c.leave_wait_list.new.locks c.leave_wait_list.ensures.rest) c.self.invariant.placed;
   tallied =
       let s = c.self.inside in
-      kin_tallied s.queues c.leave_line.new.locks (line_kin s.queues.locks c.leave_line.new.locks c.leave_line.ensures.rest) c.self.invariant.placed c.self.invariant.tallied;
+      kin_tallied s.queues c.leave_wait_list.new.locks (wait_list_kin s.queues.locks c.leave_wait_list.new.locks c.leave_wait_list.ensures.rest) c.self.invariant.placed c.self.invariant.tallied;
   armed = λ which.
       let s = c.self.inside in
-      let kin = line_kin s.queues.locks c.leave_line.new.locks c.leave_line.ensures.rest in
-      armed_kin which s.queues c.leave_line.new.locks kin (kin_handles s.queues c.leave_line.new.locks kin c.self.invariant.placed) (kin_rows s.queues c.leave_line.new.locks kin) (c.self.invariant.armed which);
+      let kin = wait_list_kin s.queues.locks c.leave_wait_list.new.locks c.leave_wait_list.ensures.rest in
+      armed_kin which s.queues c.leave_wait_list.new.locks kin (kin_handles s.queues c.leave_wait_list.new.locks kin c.self.invariant.placed) (kin_rows s.queues c.leave_wait_list.new.locks kin) (c.self.invariant.armed which);
 }

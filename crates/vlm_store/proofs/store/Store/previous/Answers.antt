@@ -4,7 +4,7 @@ use Rattle.vlm_collections.specs.Lists.{IsIn, handle_before}
 use Rattle.vlm_store.specs.Records.{Records, StoredLock, locks_at}
 use Rattle.vlm_records.specs.Shown.{handles_at, noted_in, rows}
 use Rattle.vlm_store.specs.Store.{tables, under_handle}
-use Rattle.vlm_words.specs.declared.locks.Row.{Row}
+use Rattle.vlm_words.specs.declared.locks.LockRow.{LockRow}
 use Rattle.vlm_store.proofs.Kept.{stored_there}
 use Rattle.vlm_collections.proofs.Walks.{handle_before-in}
 use Rattle.vlm_store.proofs.Layouts.{among-seen, locks_at-among, locks_at-seen}
@@ -12,7 +12,7 @@ use Rattle.vlm_store.specs.Kept.{beside_shown}
 use Rattle.vlm_store.proofs.store.Store.previous.Goals as goal
 
 -- the handles of the locks that a caller sees
-handles_seen : (rows : ℕ → Row) (ks : List ℕ) → map (λ (k : StoredLock). k.at) (map (under_handle rows) ks) ≡ ks
+handles_seen : (rows : ℕ → LockRow) (ks : List ℕ) → map (λ (k : StoredLock). k.at) (map (under_handle rows) ks) ≡ ks
 handles_seen rows [] = refl
 handles_seen rows (k ∷ ks) = ap (λ rest. k ∷ rest) (handles_seen rows ks)
 

@@ -1,6 +1,6 @@
 use Rattle.vlm_collections.specs.Parts.{spares_of}
 use Rattle.vlm_store.specs.Index.{hash_key}
-use Rattle.vlm_store.proofs.Lined.{line_below, line_kin, line_own, line_queued, line_removed}
+use Rattle.vlm_store.proofs.WaitListed.{wait_list_below, wait_list_kin, wait_list_own, wait_list_queued, wait_list_removed}
 use Rattle.vlm_store.proofs.RoomShown.{room_shown, is_given_back, rooms_are, room_of_same}
 use Rattle.std.proofs.Common.{◌≡◌, ◌≢◌, ◌∙◌, [], map, None, ap, sym, refl, ◌+◌, ℕ}
 use Rattle.std.specs.Option.{option_map}
@@ -36,8 +36,8 @@ pub leave_process-requires-clause-owner : goal.leave_process-requires-clause-own
 leave_process-requires-clause-owner c =
     through but_below owner_in owner-below c.self.inside.queues.locks c.leave_parent.new.locks c.leave_parent.ensures.rest c.slot-at.result ∙ ap owner_in c.index.ensures
 
-pub leave_line-requires-clause-noted : goal.leave_line-requires-clause-noted
-leave_line-requires-clause-noted c =
+pub leave_wait_list-requires-clause-noted : goal.leave_wait_list-requires-clause-noted
+leave_wait_list-requires-clause-noted c =
     let s = c.self.inside in
     let kin = same_then but_kin s.queues.locks c.leave_parent.new.locks c.leave_process.new.locks (below_kin s.processes s.queues.locks c.leave_parent.new.locks c.leave_parent.ensures.rest) (own_kin c.leave_parent.new.locks c.leave_process.new.locks c.leave_process.ensures.relinks) in
     kin_noted s.queues c.leave_process.new.locks kin c.slot-at.result ∙ ap noted_in c.index.ensures
@@ -47,10 +47,10 @@ leave_process-requires-clause-owned c =
     let s = c.self.inside in
     below_owned s.processes s.queues.locks c.leave_parent.new.locks c.leave_parent.ensures.rest None c.self.invariant.owned
 
-pub leave_line-requires-clause-line : goal.leave_line-requires-clause-line
-leave_line-requires-clause-line c =
+pub leave_wait_list-requires-clause-wait_list : goal.leave_wait_list-requires-clause-wait_list
+leave_wait_list-requires-clause-wait_list c =
     let s = c.self.inside in
-    line_own c.leave_parent.new.locks c.leave_process.new.locks s.line c.leave_process.ensures.relinks (line_below s.queues.locks c.leave_parent.new.locks s.line c.leave_parent.ensures.rest c.self.invariant.line)
+    wait_list_own c.leave_parent.new.locks c.leave_process.new.locks s.wait_list c.leave_process.ensures.relinks (wait_list_below s.queues.locks c.leave_parent.new.locks s.wait_list c.leave_parent.ensures.rest c.self.invariant.wait_list)
 
 pub invariant_of-self : goal.invariant_of-self
 invariant_of-self c =
@@ -58,21 +58,21 @@ invariant_of-self c =
     let kept = c.self.invariant in
     let parent = rw c.slot-at.ensures at c.leave_parent.ensures in
     let process = rw c.slot-at.ensures at c.leave_process.ensures in
-    let lined = rw c.slot-at.ensures at c.leave_line.ensures in
+    let wait_listed = rw c.slot-at.ensures at c.leave_wait_list.ensures in
     let removed = rw c.slot-at.ensures at c.remove.ensures in
     let q' = c.remove.new.self in
-    let gone_kin : (k : ℕ) → k ≢ c.args.lock → option_map but_queued (slot_of q'.locks k) ≡ option_map but_queued (slot_of c.leave_process.new.locks k) = λ k differs. removed.kin k differs ∙ line_queued c.leave_process.new.locks c.leave_line.new.locks lined.rest k in
+    let gone_kin : (k : ℕ) → k ≢ c.args.lock → option_map but_queued (slot_of q'.locks k) ≡ option_map but_queued (slot_of c.leave_process.new.locks k) = λ k differs. removed.kin k differs ∙ wait_list_queued c.leave_process.new.locks c.leave_wait_list.new.locks wait_listed.rest k in
     let stored = rw (← c.self.view_is) at c.requires.stored in
     let none : below_handles s.queues.locks c.args.lock ≡ [] = childless s kept c.args.lock stored.0 stored.1 (rw (← c.self.view_is) at c.requires.childless) in
     let kin =
-    same_then but_kin s.queues.locks c.leave_process.new.locks c.leave_line.new.locks
+    same_then but_kin s.queues.locks c.leave_process.new.locks c.leave_wait_list.new.locks
     (same_then but_kin s.queues.locks c.leave_parent.new.locks c.leave_process.new.locks (below_kin s.processes s.queues.locks c.leave_parent.new.locks parent.rest) (own_kin c.leave_parent.new.locks c.leave_process.new.locks process.relinks))
-    (line_kin c.leave_process.new.locks c.leave_line.new.locks lined.rest) in
+    (wait_list_kin c.leave_process.new.locks c.leave_wait_list.new.locks wait_listed.rest) in
     record {
       placed = removed.laid_out.placed;
       tallied = removed.laid_out.tallied;
       armed = removed.laid_out.armed;
-      line = line_removed (record s.queues { locks = c.leave_line.new.locks }) q' c.leave_line.new.line c.args.lock (kin_placed s.queues c.leave_line.new.locks kin kept.placed) removed.laid_out.placed removed.gone removed.line removed.handles lined.line;
+      wait_list = wait_list_removed (record s.queues { locks = c.leave_wait_list.new.locks }) q' c.leave_wait_list.new.wait_list c.args.lock (kin_placed s.queues c.leave_wait_list.new.locks kin kept.placed) removed.laid_out.placed removed.gone removed.wait_list removed.handles wait_listed.wait_list;
       linked = order_linked but_queues (λ r. refl) s.queues.resources q'.resources removed.rest s.order kept.linked;
       ordered = order_whole but_queues (λ r. refl) s.queues.resources q'.resources removed.rest s.order kept.linked kept.ordered;
       locks =
@@ -96,19 +96,19 @@ returns-clause-removed c =
     let kept = c.self.invariant in
     let parent = rw c.slot-at.ensures at c.leave_parent.ensures in
     let process = rw c.slot-at.ensures at c.leave_process.ensures in
-    let lined = rw c.slot-at.ensures at c.leave_line.ensures in
+    let wait_listed = rw c.slot-at.ensures at c.leave_wait_list.ensures in
     let removed = rw c.slot-at.ensures at c.remove.ensures in
     let q' = c.remove.new.self in
-    let gone_kin : (k : ℕ) → k ≢ c.args.lock → option_map but_queued (slot_of q'.locks k) ≡ option_map but_queued (slot_of c.leave_process.new.locks k) = λ k differs. removed.kin k differs ∙ line_queued c.leave_process.new.locks c.leave_line.new.locks lined.rest k in
+    let gone_kin : (k : ℕ) → k ≢ c.args.lock → option_map but_queued (slot_of q'.locks k) ≡ option_map but_queued (slot_of c.leave_process.new.locks k) = λ k differs. removed.kin k differs ∙ wait_list_queued c.leave_process.new.locks c.leave_wait_list.new.locks wait_listed.rest k in
     let stored = rw (← c.self.view_is) at c.requires.stored in
     let none : below_handles s.queues.locks c.args.lock ≡ [] = childless s kept c.args.lock stored.0 stored.1 (rw (← c.self.view_is) at c.requires.childless) in
-    let q2 = record s.queues { locks = c.leave_line.new.locks } in
+    let q2 = record s.queues { locks = c.leave_wait_list.new.locks } in
     let kin =
-    same_then but_kin s.queues.locks c.leave_process.new.locks c.leave_line.new.locks
+    same_then but_kin s.queues.locks c.leave_process.new.locks c.leave_wait_list.new.locks
     (left_kin s kept c.args.lock none c.leave_parent.new.locks c.leave_process.new.locks q'.locks c.leave_process.new.processes parent.below parent.handles parent.rest process.owned process.handles process.relinks process.rest removed.gone gone_kin)
-    (line_kin c.leave_process.new.locks c.leave_line.new.locks lined.rest) in
+    (wait_list_kin c.leave_process.new.locks c.leave_wait_list.new.locks wait_listed.rest) in
     let old = tables s.queues s.order (beside_shown s) in
-    let s' = record s { queues = q'; line = c.leave_line.new.line; processes = c.leave_process.new.processes; lock_index = c.remove-2.new.self } in
+    let s' = record s { queues = q'; wait_list = c.leave_wait_list.new.wait_list; processes = c.leave_process.new.processes; lock_index = c.remove-2.new.self } in
     let new = tables q' s.order (beside_shown s') in
     rw (← c.self.view_is)
     (lists_changed_beside old new (leaving c.args.lock) (faces_same s.queues.resources q'.resources removed.rest)
@@ -126,15 +126,15 @@ returns-clause-given_back c =
     let s = c.self.inside in
     let parent = rw c.slot-at.ensures at c.leave_parent.ensures in
     let process = rw c.slot-at.ensures at c.leave_process.ensures in
-    let lined = rw c.slot-at.ensures at c.leave_line.ensures in
+    let wait_listed = rw c.slot-at.ensures at c.leave_wait_list.ensures in
     let removed = rw c.slot-at.ensures at c.remove.ensures in
     let q' = c.remove.new.self in
-    let s' = record s { queues = q'; line = c.leave_line.new.line; processes = c.leave_process.new.processes; lock_index = c.remove-2.new.self } in
+    let s' = record s { queues = q'; wait_list = c.leave_wait_list.new.wait_list; processes = c.leave_process.new.processes; lock_index = c.remove-2.new.self } in
     let stored = rw (← c.self.view_is) at c.requires.stored in
     rw (← c.self.view_is)
     (room_shown (λ a b. IsGivenBack a.locks b.locks) (tables s.queues s.order (beside_shown s)) (tables q' s.order (beside_shown s'))
     (is_given_back s.queues.locks q'.locks c.args.lock (spares_of s.lock_index) (spares_of c.remove-2.new.self)
-    (removed.given_back ∙ ap (λ (p : ℕ × ℕ). (p.0 + 1, c.args.lock)) (lined.room ∙ process.locks_room ∙ parent.locks_room))
+    (removed.given_back ∙ ap (λ (p : ℕ × ℕ). (p.0 + 1, c.args.lock)) (wait_listed.room ∙ process.locks_room ∙ parent.locks_room))
     (lock_there s c.self.invariant c.args.lock stored.0 stored.1).1 c.remove-2.ensures.room))
 
 pub remove-requires-clause-laid_out : goal.remove-requires-clause-laid_out
@@ -144,31 +144,31 @@ remove-requires-clause-laid_out c = record {
       let kept = c.self.invariant in
       let parent = rw c.slot-at.ensures at c.leave_parent.ensures in
       let process = rw c.slot-at.ensures at c.leave_process.ensures in
-      let lined = rw c.slot-at.ensures at c.leave_line.ensures in
-      kin_placed s.queues c.leave_line.new.locks
-      (same_then but_kin s.queues.locks c.leave_process.new.locks c.leave_line.new.locks
+      let wait_listed = rw c.slot-at.ensures at c.leave_wait_list.ensures in
+      kin_placed s.queues c.leave_wait_list.new.locks
+      (same_then but_kin s.queues.locks c.leave_process.new.locks c.leave_wait_list.new.locks
       (same_then but_kin s.queues.locks c.leave_parent.new.locks c.leave_process.new.locks (below_kin s.processes s.queues.locks c.leave_parent.new.locks parent.rest) (own_kin c.leave_parent.new.locks c.leave_process.new.locks process.relinks))
-      (line_kin c.leave_process.new.locks c.leave_line.new.locks lined.rest))
+      (wait_list_kin c.leave_process.new.locks c.leave_wait_list.new.locks wait_listed.rest))
       kept.placed;
   tallied =
       let s = c.self.inside in
       let kept = c.self.invariant in
       let parent = rw c.slot-at.ensures at c.leave_parent.ensures in
       let process = rw c.slot-at.ensures at c.leave_process.ensures in
-      let lined = rw c.slot-at.ensures at c.leave_line.ensures in
-      kin_tallied s.queues c.leave_line.new.locks
-      (same_then but_kin s.queues.locks c.leave_process.new.locks c.leave_line.new.locks
+      let wait_listed = rw c.slot-at.ensures at c.leave_wait_list.ensures in
+      kin_tallied s.queues c.leave_wait_list.new.locks
+      (same_then but_kin s.queues.locks c.leave_process.new.locks c.leave_wait_list.new.locks
       (same_then but_kin s.queues.locks c.leave_parent.new.locks c.leave_process.new.locks (below_kin s.processes s.queues.locks c.leave_parent.new.locks parent.rest) (own_kin c.leave_parent.new.locks c.leave_process.new.locks process.relinks))
-      (line_kin c.leave_process.new.locks c.leave_line.new.locks lined.rest))
+      (wait_list_kin c.leave_process.new.locks c.leave_wait_list.new.locks wait_listed.rest))
       kept.placed kept.tallied;
   armed = λ which.
       let s = c.self.inside in
       let kept = c.self.invariant in
       let parent = rw c.slot-at.ensures at c.leave_parent.ensures in
       let process = rw c.slot-at.ensures at c.leave_process.ensures in
-      let lined = rw c.slot-at.ensures at c.leave_line.ensures in
-      let kin = same_then but_kin s.queues.locks c.leave_process.new.locks c.leave_line.new.locks
+      let wait_listed = rw c.slot-at.ensures at c.leave_wait_list.ensures in
+      let kin = same_then but_kin s.queues.locks c.leave_process.new.locks c.leave_wait_list.new.locks
       (same_then but_kin s.queues.locks c.leave_parent.new.locks c.leave_process.new.locks (below_kin s.processes s.queues.locks c.leave_parent.new.locks parent.rest) (own_kin c.leave_parent.new.locks c.leave_process.new.locks process.relinks))
-      (line_kin c.leave_process.new.locks c.leave_line.new.locks lined.rest) in
-      armed_kin which s.queues c.leave_line.new.locks kin (kin_handles s.queues c.leave_line.new.locks kin kept.placed) (kin_rows s.queues c.leave_line.new.locks kin) (kept.armed which);
+      (wait_list_kin c.leave_process.new.locks c.leave_wait_list.new.locks wait_listed.rest) in
+      armed_kin which s.queues c.leave_wait_list.new.locks kin (kin_handles s.queues c.leave_wait_list.new.locks kin kept.placed) (kin_rows s.queues c.leave_wait_list.new.locks kin) (kept.armed which);
 }

@@ -1,6 +1,6 @@
 use Rattle.vlm_collections.specs.Parts.{handle_in, spares_of}
 use Rattle.vlm_store.specs.Index.{hash_key}
-use Rattle.vlm_store.proofs.Lined.{line_same}
+use Rattle.vlm_store.proofs.WaitListed.{wait_list_same}
 use Rattle.vlm_store.specs.Records.{IsGivenBack, without_resource}
 use Rattle.vlm_store.proofs.RoomShown.{room_shown, is_given_back, rooms_are, room_of_same}
 use Rattle.std.proofs.Common.{None, ◌∙◌, ap, sym, refl, ◌≡◌}
@@ -43,7 +43,7 @@ invariant_of-self c =
       placed = gone.laid_out.placed;
       tallied = gone.laid_out.tallied;
       armed = gone.laid_out.armed;
-      line = line_same s.queues.locks q'.locks s.line (λ k. ap (λ l. slot_of l k) gone.locks) kept.line;
+      wait_list = wait_list_same s.queues.locks q'.locks s.wait_list (λ k. ap (λ l. slot_of l k) gone.locks) kept.wait_list;
       linked = gone.linked;
       ordered = whole_left order_links s.queues.resources q'.resources s.order c.remove_resource.new.order c.args.res kept.ordered gone.order gone.gone
           (λ r differs. there_by_face (slot_of q'.resources r) (slot_of s.queues.resources r) (gone.faces r differs));

@@ -1,4 +1,4 @@
-use Rattle.vlm_collections.specs.declared.hashing.HashKeys.{HashKeys}
+use Rattle.vlm_collections.specs.declared.hashers.HashKeys.{HashKeys}
 use Rattle.vlm_store.specs.Index.{hash_key}
 use Rattle.vlm_store.proofs.Living.{is_sound}
 use Rattle.std.proofs.Common.{◌≡◌, ◌∙◌, ap}

@@ -1,6 +1,6 @@
 use Rattle.vlm_collections.specs.Parts.{handle_in}
 use Rattle.vlm_store.specs.Index.{hash_key}
-use Rattle.vlm_store.proofs.Lined.{line_same}
+use Rattle.vlm_store.proofs.WaitListed.{wait_list_same}
 use Rattle.vlm_store.proofs.RoomShown.{queues_room}
 use Rattle.std.proofs.Common.{None, ap, refl}
 use Rattle.std.specs.Option.{option_map}
@@ -35,7 +35,7 @@ invariant_of-self c =
       placed = set.laid_out.placed;
       tallied = set.laid_out.tallied;
       armed = set.laid_out.armed;
-      line = line_same s.queues.locks q'.locks s.line (λ k. ap (λ l. slot_of l k) set.locks) kept.line;
+      wait_list = wait_list_same s.queues.locks q'.locks s.wait_list (λ k. ap (λ l. slot_of l k) set.locks) kept.wait_list;
       linked = order_linked but_value_block (λ r. refl) s.queues.resources q'.resources set.rest s.order kept.linked;
       ordered = order_whole but_value_block (λ r. refl) s.queues.resources q'.resources set.rest s.order kept.linked kept.ordered;
       locks = Indexes-same (handle_in s.lock_index) (handle_in s.lock_index) (lkid_at s.queues) (lkid_at q') (λ k. refl) (λ x. ap (λ l. option_map lkid_of (slot_of l x)) set.locks) kept.locks;

@@ -1,5 +1,5 @@
 use Rattle.vlm_store.specs.Index.{hash_key}
-use Rattle.vlm_store.proofs.Lined.{empty_line}
+use Rattle.vlm_store.proofs.WaitListed.{empty_wait_list}
 use Rattle.std.proofs.Common.{◌≡◌, ◌∙◌, ℕ, None, refl, sym, ap}
 use Rattle.std.proofs.lemmas.Option.{none-some}
 use Rattle.vlm_collections.specs.Tables.{handle_of}
@@ -29,7 +29,7 @@ invariant_of-result c =
       placed = empty_placed q no_locks no_resources;
       tallied = empty_tallied q no_locks no_resources;
       armed = λ which. empty_armed which q no_resources (empty_handles q no_locks no_resources);
-      line = empty_line q.locks c.new-3.result c.new-3.ensures no_locks;
+      wait_list = empty_wait_list q.locks c.new-3.result c.new-3.ensures no_locks;
       linked = empty_linked q no_locks no_resources c.new-4.result c.new-4.ensures;
       ordered = empty_ordered q no_locks no_resources c.new-4.result c.new-4.ensures;
       locks = Indexes-empty (handle_in c.new-7.result) (lkid_at q) c.new-7.ensures (λ at. ap (option_map lkid_of) (no_locks at));

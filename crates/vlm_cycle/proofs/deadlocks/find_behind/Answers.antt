@@ -1,0 +1,13 @@
+use Rattle.std.proofs.Common.{subst}
+use Rattle.vlm_store.specs.Records.{FindsProcess}
+use Rattle.vlm_cycle.specs.Waiting.{IsBehind}
+use Rattle.vlm_cycle.proofs.Marked.{marks_none}
+use Rattle.vlm_cycle.proofs.Owned.{none_behind}
+use Rattle.vlm_cycle.proofs.deadlocks.find_behind.Goals as goal
+
+-- one that does not live waits for nobody
+pub returns-in_default : goal.returns-in_default
+returns-in_default c =
+    let s = c.args.store.now in
+    marks_none (IsBehind s c.args.pid) c.args.scratch.now
+    (none_behind s c.law_records_are_sound.ensures c.args.pid (subst (FindsProcess s c.args.pid) c.in_default.is c.process.ensures.found))

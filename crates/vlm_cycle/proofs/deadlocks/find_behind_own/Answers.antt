@@ -1,0 +1,68 @@
+use Rattle.std.proofs.Common.{◌∷◌, ◌∙◌, sym, ap, subst}
+use Rattle.vlm_store.specs.Records.{own_handles_at}
+use Rattle.vlm_locks.proofs.Chosen.{on_from}
+use Rattle.vlm_locks.proofs.Found.{process_there}
+use Rattle.vlm_locks.proofs.RunsDown.{handles_apart, stored_here}
+use Rattle.vlm_cycle.specs.Marking.{Marks}
+use Rattle.vlm_cycle.specs.Waiting.{IsBehind}
+use Rattle.vlm_cycle.proofs.Marked.{marks_as, marks_none, roomy_still}
+use Rattle.vlm_cycle.proofs.Owned.{IsAtOwn, OwnWaitFor, begun, behind_own, fewer, none_own, own_behind, owns_on, passed}
+use Rattle.vlm_cycle.proofs.deadlocks.find_behind_own.Goals as goal
+
+pub first_own-at-requires : goal.first_own-at-requires
+first_own-at-requires c = process_there c.args.store.now c.args.owner c.args.pid c.requires.owner
+
+-- the walk begins at the first lock
+pub loop-at-init : goal.loop-at-init
+loop-at-init c =
+    let s = c.args.store.now in
+    let hs = own_handles_at c.args.owner s in
+    let first = begun hs (handles_apart c.args.owner c.args.pid s c.law_records_are_sound.ensures c.requires.owner) in
+    record {
+      there = subst (λ o. IsAtOwn o hs) (sym c.first_own-at.ensures) first.there;
+      roomy = c.requires.roomy;
+      goes_on = λ final marks.
+          subst (λ xs. Marks (OwnWaitFor s xs) c.args.scratch.now final) (ap (λ o. on_from o hs) c.first_own-at.ensures ∙ first.left) marks;
+    }
+
+pub located_lock-located-requires-clause-stored : goal.located_lock-located-requires-clause-stored
+located_lock-located-requires-clause-stored c =
+    let here = stored_here c.args.owner c.args.pid c.args.store.now c.law_records_are_sound.ensures c.requires.owner c.in-Some.lock (c.loop-at.invariant.there c.in-Some.lock c.in-Some.is) in
+    (here.0, here.1.0)
+
+pub loop-at-smaller : goal.loop-at-smaller
+loop-at-smaller c =
+    let s = c.args.store.now in
+    let hs = own_handles_at c.args.owner s in
+    let in_hs = c.loop-at.invariant.there c.in-Some.lock c.in-Some.is in
+    let one = passed c.in-Some.lock hs (handles_apart c.args.owner c.args.pid s c.law_records_are_sound.ensures c.requires.owner) in_hs in
+    let next = c.next_own-at.ensures c.args.owner in_hs in
+    fewer c.in-Some.lock (on_from c.next_own-at.result hs) (on_from c.loop-at.at hs)
+    (ap (λ o. on_from o hs) c.in-Some.is ∙ one.left ∙ ap (λ o. c.in-Some.lock ∷ on_from o hs) (sym next))
+
+pub loop-at-preserved : goal.loop-at-preserved
+loop-at-preserved c =
+    let s = c.args.store.now in
+    let hs = own_handles_at c.args.owner s in
+    let in_hs = c.loop-at.invariant.there c.in-Some.lock c.in-Some.is in
+    let one = passed c.in-Some.lock hs (handles_apart c.args.owner c.args.pid s c.law_records_are_sound.ensures c.requires.owner) in_hs in
+    let next = c.next_own-at.ensures c.args.owner in_hs in
+    record {
+      there = subst (λ o. IsAtOwn o hs) (sym next) one.there;
+      roomy = roomy_still s c.loop-at.scratch c.find_waited_for.new.scratch c.find_waited_for.ensures.room c.loop-at.invariant.roomy;
+      goes_on =
+          owns_on s c.law_records_are_sound.ensures c.in-Some.lock c.located_lock-located.result.row c.located_lock-located.ensures.row
+          (on_from c.loop-at.at hs) (on_from c.next_own-at.result hs) hs c.args.scratch.now c.loop-at.scratch c.find_waited_for.new.scratch
+          (ap (λ o. on_from o hs) c.in-Some.is ∙ one.left ∙ ap (λ o. c.in-Some.lock ∷ on_from o hs) (sym next))
+          c.find_waited_for.ensures c.loop-at.invariant.goes_on;
+    }
+
+pub returns : goal.returns
+returns c =
+    let s = c.args.store.now in
+    let hs = own_handles_at c.args.owner s in
+    let sound = c.law_records_are_sound.ensures in
+    let left = on_from c.loop-at.at hs in
+    marks_as (OwnWaitFor s hs) (IsBehind s c.args.pid) c.args.scratch.now c.loop-at.scratch
+    (own_behind s sound c.args.owner c.args.pid c.requires.owner) (behind_own s sound c.args.owner c.args.pid c.requires.owner)
+    (c.loop-at.invariant.goes_on c.loop-at.scratch (marks_none (OwnWaitFor s left) c.loop-at.scratch (none_own s left (ap (λ o. on_from o hs) c.in_default.is))))

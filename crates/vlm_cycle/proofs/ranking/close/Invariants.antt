@@ -1,8 +1,0 @@
-use Rattle.std.specs.Option.{ForSome}
-use Rattle.vlm_store.specs.Records.{Records}
-use Rattle.vlm_cycle.specs.Notes.{AreNotes, LivesAt}
-use Rattle.vlm_cycle.proofs.ranking.close.Given as goal
-
-abbrev pub invariant-loop : goal.invariant-loop
-invariant-loop l =
-    (s : Records) → AreNotes s l.initial.ranks → ForSome l.initial.opened (LivesAt s) → AreNotes s l.ranks × ForSome l.opened (LivesAt s)

@@ -1,4 +1,0 @@
-use Rattle.vlm_cycle.proofs.ranking.go_along.Goals as goal
-
-pub returns-then-note-eq0-2-clause-notes : goal.returns-then-note-eq0-2-clause-notes
-returns-then-note-eq0-2-clause-notes c = c.lower.ensures c.args.store.now c.requires.notes

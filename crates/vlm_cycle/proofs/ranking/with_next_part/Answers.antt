@@ -1,9 +1,0 @@
-use Rattle.vlm_store.specs.Records.{IsStored}
-use Rattle.vlm_cycle.proofs.Noted.{if_there, some_there}
-use Rattle.vlm_cycle.proofs.ranking.with_next_part.Goals as goal
-
-pub returns : goal.returns
-returns c =
-    let s = c.args.store.now in
-    c.standing.ensures s c.requires.note (some_there (λ at. IsStored at s) c.args.wanting.now.lock c.requires.wanting.lock)
-    (if_there (λ at. IsStored at s) c.head.result c.head.ensures.stored)

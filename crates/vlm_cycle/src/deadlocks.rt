@@ -1,0 +1,67 @@
+//! Finds out whether a request is deadlocked.
+
+ghost use Rattle.std.specs.Prelude.{◌≡◌};
+ghost use Rattle.std.specs.Bool.{OnFalse, OnTrue};
+ghost use Rattle.vlm_model.specs.Deadlocks.{IsDeadlocked};
+ghost use Rattle.vlm_store.specs.Records.{IsProcess};
+ghost use Rattle.vlm_locks.specs.Rest.{IsAtRest};
+ghost use Rattle.vlm_locks.specs.Standing.{IsLocated};
+ghost use Rattle.vlm_cycle.specs.Marking.{KeepsRoom, Marks};
+ghost use Rattle.vlm_cycle.specs.Waiting.{IsBehind, IsRoomy, searched};
+
+use crate::blockers::find_waited_for;
+use crate::scratch::Scratch;
+use vlm_locks::{LocatedLock, located_lock};
+use vlm_store::laws::law_records_are_sound;
+use vlm_store::{ProcAt, Store};
+
+// Finds the owners of the locks for which the requests of a process wait. The cost grows with its locks, and with the
+// locks of their resources.
+fn find_behind_own(store: &Store, scratch: &mut Scratch, owner: ProcAt, pid: u32)
+    requires rest { IsAtRest store.now }
+    requires owner { IsProcess owner pid store.now }
+    requires roomy { IsRoomy store.now scratch.old }
+    ensures { Marks (IsBehind store.now pid) scratch.old scratch.new }
+{
+    law_records_are_sound(store);
+    let mut at = store.first_own(owner);
+    while let Some(lock) = at {
+        let located = located_lock(store, lock);
+        find_waited_for(store, scratch, &located);
+        at = store.next_own(lock);
+    }
+}
+
+// The same for the process of this identification.
+fn find_behind(store: &Store, scratch: &mut Scratch, pid: u32)
+    requires rest { IsAtRest store.now }
+    requires roomy { IsRoomy store.now scratch.old }
+    ensures { Marks (IsBehind store.now pid) scratch.old scratch.new }
+{
+    law_records_are_sound(store);
+    if let Some(owner) = store.process(pid) {
+        find_behind_own(store, scratch, owner, pid);
+    }
+}
+
+/// Whether the request of a lock is deadlocked. The cost grows with the locks of the processes that are found.
+pub(crate) fn is_deadlocked(store: &Store, scratch: &mut Scratch, waiting: &LocatedLock) -> bool
+    requires rest { IsAtRest store.now }
+    requires located { IsLocated waiting.now store.now }
+    requires roomy { IsRoomy store.now scratch.old }
+    ensures yes { OnTrue result (IsDeadlocked (searched store.now) waiting.now.row) }
+    ensures no { OnFalse result (¬ IsDeadlocked (searched store.now) waiting.now.row) }
+    ensures room { KeepsRoom scratch.old scratch.new }
+    ensures ranks { scratch.new.ranks ≡ scratch.old.ranks }
+{
+    law_records_are_sound(store);
+    scratch.clear();
+    find_waited_for(store, scratch, waiting);
+    while let Some(pid) = scratch.take() {
+        find_behind(store, scratch, pid);
+        if scratch.seen.has(waiting.row.pid()) {
+            return true;
+        }
+    }
+    scratch.seen.has(waiting.row.pid())
+}

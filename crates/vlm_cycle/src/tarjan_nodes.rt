@@ -1,0 +1,92 @@
+//! The notes of Tarjan's walk, one for each process.
+
+ghost use Rattle.std.specs.Prelude.{◌≡◌};
+ghost use Rattle.std.specs.Option.{ForSome};
+ghost use Rattle.vlm_store.specs.Records.{IsStored, Records};
+ghost use Rattle.vlm_cycle.specs.Notes.{AreNotes, IsTarjanNode};
+ghost use Rattle.vlm_cycle.specs.Ranks.{blank_node};
+
+use crate::ranks::{Ranks, TarjanNode};
+use vlm_store::{LockAt, ProcAt};
+
+/// A part of the locks for which a queued request waits.
+#[derive(Clone, Copy)]
+pub(crate) enum BlockerKind {
+    /// The requests before it in its queue.
+    Before,
+    /// The granted locks.
+    Granted,
+    /// The converting locks: their held modes, and for a waiting request their requests too.
+    Converting,
+}
+
+impl TarjanNode {
+    /// The note of a process that the walk has not found.
+    pub(crate) fn blank() -> TarjanNode
+        ensures { result ≡ blank_node }
+    {
+        TarjanNode {
+            rank: 0,
+            index: 0,
+            low: 0,
+            tree_parent: None,
+            stack_next: None,
+            own: None,
+            part: BlockerKind::Before,
+            at: None,
+        }
+    }
+
+    /// The note with this position of the walk at the process.
+    pub(crate) fn located(
+        &self,
+        own: Option<LockAt>,
+        part: BlockerKind,
+        at: Option<LockAt>,
+    ) -> TarjanNode
+        ensures { (s : Records) → IsTarjanNode s self.now → ForSome own (λ lock. IsStored lock s)
+            → ForSome at (λ lock. IsStored lock s) → IsTarjanNode s result }
+    {
+        TarjanNode {
+            rank: self.rank,
+            index: self.index,
+            low: self.low,
+            tree_parent: self.tree_parent,
+            stack_next: self.stack_next,
+            own,
+            part,
+            at,
+        }
+    }
+
+    /// The note with this rank, and with the number of the process to which it leads back.
+    pub(crate) fn ranked(&self, rank: u32, low: u32) -> TarjanNode
+        ensures { (s : Records) → IsTarjanNode s self.now → IsTarjanNode s result }
+    {
+        TarjanNode {
+            rank,
+            index: self.index,
+            low,
+            tree_parent: self.tree_parent,
+            stack_next: self.stack_next,
+            own: self.own,
+            part: self.part,
+            at: self.at,
+        }
+    }
+}
+
+impl Ranks {
+    /// Notes that a process, if there is one, leads back to the process of this number.
+    pub(crate) fn lower(&mut self, process: Option<ProcAt>, low: u32)
+        ensures { (s : Records) → AreNotes s self.old → AreNotes s self.new }
+    {
+        let Some(process) = process else {
+            return;
+        };
+        let note = self.note(process);
+        if low < note.low {
+            self.put(process, note.ranked(note.rank, low));
+        }
+    }
+}

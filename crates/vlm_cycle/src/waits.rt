@@ -1,0 +1,88 @@
+//! The waits of a queued request, as the ranking follows them.
+
+ghost use Rattle.std.specs.Option.{ForSome};
+ghost use Rattle.vlm_store.specs.Records.{IsStored};
+ghost use Rattle.vlm_cycle.specs.Notes.{IsWanting};
+
+use crate::conflicts::{blocks_those_behind, holds_against};
+use crate::tarjan_nodes::BlockerKind;
+use vlm_store::{Lock, LockAt, ResAt, Store, StoredRow};
+use vlm_words::flags::EnqFlags;
+use vlm_words::modes::Mode;
+use vlm_words::resources::Queue;
+
+/// A queued request that waits for others.
+#[derive(Clone, Copy)]
+pub(crate) struct AwaitedModes {
+    /// Its lock.
+    pub(crate) lock: LockAt,
+    /// Its resource.
+    pub(crate) res: ResAt,
+    /// Whether it is after the conversions: it is in the waiting queue.
+    pub(crate) is_behind_conversions: bool,
+    /// The mode that it wants.
+    pub(crate) mode: Mode,
+}
+
+// The mode for which a row waits; none if it has no request, or with NODLCKWT.
+fn awaited_mode(row: &StoredRow) -> Option<Mode> {
+    let request = row.want()?;
+    if request.flags.has(EnqFlags::NODLCKWT) {
+        return None;
+    }
+    Some(request.mode)
+}
+
+/// The request of a lock, if it is queued and waits for others.
+pub(crate) fn awaited_modes(store: &Store, lock: LockAt) -> Option<AwaitedModes>
+    requires stored { IsStored lock store.now }
+    ensures there { ForSome result (λ w. IsWanting store.now w) }
+{
+    let record = store.lock_record(lock);
+    let mode = awaited_mode(&record.row)?;
+    let (res, queue) = record.place.parts();
+    let is_behind_conversions = match queue {
+        Queue::Granted => return None,
+        Queue::Conversion => false,
+        Queue::Waiting => true,
+    };
+    Some(AwaitedModes {
+        lock,
+        res,
+        is_behind_conversions,
+        mode,
+    })
+}
+
+impl AwaitedModes {
+    /// Whether it waits for a lock of this part.
+    pub(crate) fn waits_for(&self, part: BlockerKind, lock: LockAt, row: &StoredRow) -> bool {
+        if lock.slot() == self.lock.slot() {
+            return false;
+        }
+        let holds = holds_against(self.mode, &row.held());
+        let blocks = blocks_those_behind(&row.want());
+        match part {
+            BlockerKind::Before => blocks,
+            BlockerKind::Granted => holds,
+            BlockerKind::Converting => holds || (self.is_behind_conversions && blocks),
+        }
+    }
+
+    /// Whether the request of this row, earlier in its queue, waits for all holders for which this one waits.
+    pub(crate) fn is_like(&self, row: &StoredRow) -> bool {
+        match row.want() {
+            Some(request) => request.mode.rank() == self.mode.rank(),
+            None => false,
+        }
+    }
+}
+
+/// Whether later requests need not look at the locks before this queued lock. Its owner waits for these locks too, and
+/// later requests wait for its owner, or the owner's component is closed.
+pub(crate) fn covers_those_before(record: &Lock, is_closed: bool) -> bool {
+    match awaited_mode(&record.row) {
+        Some(_) => is_closed || blocks_those_behind(&record.row.want()),
+        None => false,
+    }
+}

@@ -1,4 +1,0 @@
-use Rattle.vlm_locks.proofs.finding.standing_of.Goals as goal
-
-pub returns-clause-only : goal.returns-clause-only
-returns-clause-only c row stored = c.lock_record-record.ensures.only row stored

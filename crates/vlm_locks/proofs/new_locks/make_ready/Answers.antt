@@ -1,0 +1,18 @@
+use Rattle.std.proofs.Common.{sym, subst}
+use Rattle.vlm_store.specs.Records.{IsProcess}
+use Rattle.vlm_locks.proofs.Found.{process_there}
+use Rattle.vlm_locks.proofs.Ready.{made_ready}
+use Rattle.vlm_locks.proofs.new_locks.make_ready.Goals as goal
+
+pub owe_routines-requires : goal.owe_routines-requires
+owe_routines-requires c =
+    let e = c.args.new_lock.now in
+    process_there c.reserve.new.store e.owner e.pid (subst (IsProcess e.owner e.pid) (sym c.reserve.ensures.unchanged.same) c.requires.owner)
+
+pub returns-clause-ready : goal.returns-clause-ready
+returns-clause-ready c =
+    let e = c.args.new_lock.now in
+    made_ready c.owe_routines.result e c.args.store.now c.reserve.new.store c.owe_routines.new.store
+    c.reserve.ensures.unchanged c.in_ok-reserve.ensures.lock c.in_ok-reserve.ensures.resource
+    (subst (IsProcess e.owner e.pid) (sym c.reserve.ensures.unchanged.same) c.requires.owner)
+    c.owe_routines.ensures.processes c.owe_routines.ensures.owed c.owe_routines.ensures.only_notices

@@ -1,0 +1,13 @@
+use Rattle.std.proofs.Common.{length}
+use Rattle.vlm_store.specs.Records.{own_handles_at}
+use Rattle.vlm_locks.proofs.Chosen.{on_from}
+use Rattle.vlm_locks.proofs.Noting.{AreNoted}
+use Rattle.vlm_locks.proofs.noted_locks.note_own.Given as goal
+
+-- the locks of the process before this one are noted
+abbrev pub invariant-loop-next : goal.invariant-loop-next
+invariant-loop-next l = AreNoted l.fn.store (own_handles_at l.fn.owner l.fn.store) l.initial.touched l.touched l.next
+
+-- each turn notes one
+abbrev pub decreases-loop-next : goal.decreases-loop-next
+decreases-loop-next l = length (on_from l.next (own_handles_at l.fn.owner l.fn.store))

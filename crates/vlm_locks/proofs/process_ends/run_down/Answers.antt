@@ -1,0 +1,121 @@
+use Rattle.std.proofs.Common.{◌≡◌, ℕ, [], ◌∷◌, ◌++◌, sym, ap, ◌∙◌, subst, arith, map, true, eq-eqb}
+use Rattle.vlm_collections.specs.Lists.{IsIn}
+use Rattle.vlm_records.specs.declared.handles.Place.TheVariants.{Queued}
+use Rattle.vlm_store.specs.Records.{locks_at, own_handles_at, but_notices}
+use Rattle.vlm_locks.specs.Withdrawals.{plain_withdrawal}
+use Rattle.vlm_locks.proofs.Found.{process_there}
+use Rattle.vlm_locks.proofs.RunsDown.{IsTurn, all_left, fewer_own, is_row_of, its_row, one_untold, last_is_childless, last_stored, last_there, next_turn, no_locks, none_at_all, one_at_least}
+use Rattle.vlm_locks.proofs.Stood.{stands}
+use Rattle.vlm_locks.proofs.process_ends.run_down.Goals as goal
+use Rattle.vlm_locks.specs.Withdrawing.{goes, owned_after}
+use Rattle.vlm_model.specs.Endings.How.{by_rundown}
+use Rattle.vlm_model.specs.Rundown.{rundown_of}
+use Rattle.vlm_model.specs.Withdrawals.{Withdrawal}
+
+pub last_own-requires : goal.last_own-requires
+last_own-requires c = process_there c.loop-lock.store c.args.owner c.args.pid c.loop-lock.invariant.so_far.lives
+
+pub located_lock-located-requires-clause-stored : goal.located_lock-located-requires-clause-stored
+located_lock-located-requires-clause-stored c =
+    last_stored c.args.owner c.args.pid c.loop-lock.store c.loop-lock.invariant.so_far.sound c.loop-lock.invariant.so_far.lives c.loop-lock.invariant.so_far.rest c.in-Some.lock
+    (sym c.last_own.ensures ∙ c.in-Some.is)
+
+pub withdraw-requires-clause-childless : goal.withdraw-requires-clause-childless
+withdraw-requires-clause-childless c goes p own among its same =
+    last_is_childless c.args.owner c.args.pid c.loop-lock.store c.loop-lock.invariant.so_far.sound c.loop-lock.invariant.so_far.lives c.loop-lock.invariant.so_far.rest c.in-Some.lock
+    (sym c.last_own.ensures ∙ c.in-Some.is) c.loop-lock.invariant.so_far.together p own among its (same ∙ c.located_lock-located.ensures.lock)
+
+pub withdraw-requires-clause-granted : goal.withdraw-requires-clause-granted
+withdraw-requires-clause-granted c is =
+    let f = c.located_lock-located.result in
+    c.loop-lock.invariant.so_far.granted f.res (record { at = f.lock; row = f.row })
+    (subst (λ queue. IsIn (record { at = f.lock; row = f.row }) (locks_at (Queued f.res queue) c.loop-lock.store)) is
+    (stands c.loop-lock.store f c.located_lock-located.ensures.located))
+
+pub note-requires : goal.note-requires
+note-requires c =
+    omega (
+      arith,
+      c.loop-lock.invariant.so_far.room,
+      one_at_least c.loop-lock.store c.loop-lock.invariant.so_far.sound c.located_lock-located.result c.located_lock-located.ensures.located,
+    )
+
+-- it is withdrawn as a rundown withdraws a lock with its identification
+abbrev pub rundown_is : (c : goal.After-note) → plain_withdrawal c.rundown.result ≡ rundown_of c.located_lock-located.result.row.lkid
+rundown_is c = c.rundown.ensures ∙ ap rundown_of c.lkid.ensures
+
+pub loop-lock-smaller : goal.loop-lock-smaller
+loop-lock-smaller c =
+    let f = c.located_lock-located.result in
+    let s = c.loop-lock.store in
+    let so_far = c.loop-lock.invariant.so_far in
+    let mine : IsIn f.lock (own_handles_at c.args.owner s) =
+    subst (λ at. IsIn at (own_handles_at c.args.owner s)) (sym c.located_lock-located.ensures.lock)
+    (last_there c.args.owner c.args.pid s so_far.sound so_far.lives so_far.rest c.in-Some.lock (sym c.last_own.ensures ∙ c.in-Some.is)) in
+    let turn : IsTurn (is_row_of c.args.pid) true c.args.owner s c.withdraw.new.store c.loop-lock.touched c.note.new.self f (plain_withdrawal c.rundown.result) = record {
+      sound = c.law_records_are_sound-in-Some-2.ensures;
+      located = c.located_lock-located.ensures.located;
+      mine = mine;
+      its = eq-eqb f.row.pid c.args.pid (its_row c.args.owner c.args.pid s so_far.sound so_far.lives f c.located_lock-located.ensures.located mine);
+      waiting = by_rundown;
+      converting = by_rundown;
+      withdrawal = rundown_is c;
+      resources = c.withdraw.ensures.resources;
+      statuses = one_untold c.withdraw.new.store s f.row.lkid (plain_withdrawal c.rundown.result) (rundown_is c) c.withdraw.ensures.statuses;
+      beside = c.withdraw.ensures.beside;
+      own_locks =
+          c.withdraw.ensures.own_locks
+          ∙ ap (λ stays. map but_notices (owned_after (goes stays f.queue) f.lock s.processes)) (ap (λ (w : Withdrawal). w.stays) (rundown_is c));
+      serial = c.of_resource.result.number;
+      its_serial = c.of_resource.ensures.serial;
+      notes =
+          c.note.ensures.noted
+          ∙ ap (λ (res : ℕ). c.loop-lock.touched.noted ++ record { number = c.of_resource.result.number; at = res } ∷ []) c.of_resource.ensures.res;
+      room = c.note.ensures.room;
+    } in
+    omega (arith, fewer_own (is_row_of c.args.pid) true c.args.owner c.args.pid c.args.store.now s c.withdraw.new.store c.args.touched.now c.loop-lock.touched c.note.new.self f (plain_withdrawal c.rundown.result) so_far turn)
+
+pub loop-lock-preserved : goal.loop-lock-preserved
+loop-lock-preserved c =
+    let f = c.located_lock-located.result in
+    let s = c.loop-lock.store in
+    let so_far = c.loop-lock.invariant.so_far in
+    let mine : IsIn f.lock (own_handles_at c.args.owner s) =
+    subst (λ at. IsIn at (own_handles_at c.args.owner s)) (sym c.located_lock-located.ensures.lock)
+    (last_there c.args.owner c.args.pid s so_far.sound so_far.lives so_far.rest c.in-Some.lock (sym c.last_own.ensures ∙ c.in-Some.is)) in
+    let turn : IsTurn (is_row_of c.args.pid) true c.args.owner s c.withdraw.new.store c.loop-lock.touched c.note.new.self f (plain_withdrawal c.rundown.result) = record {
+      sound = c.law_records_are_sound-in-Some-2.ensures;
+      located = c.located_lock-located.ensures.located;
+      mine = mine;
+      its = eq-eqb f.row.pid c.args.pid (its_row c.args.owner c.args.pid s so_far.sound so_far.lives f c.located_lock-located.ensures.located mine);
+      waiting = by_rundown;
+      converting = by_rundown;
+      withdrawal = rundown_is c;
+      resources = c.withdraw.ensures.resources;
+      statuses = one_untold c.withdraw.new.store s f.row.lkid (plain_withdrawal c.rundown.result) (rundown_is c) c.withdraw.ensures.statuses;
+      beside = c.withdraw.ensures.beside;
+      own_locks =
+          c.withdraw.ensures.own_locks
+          ∙ ap (λ stays. map but_notices (owned_after (goes stays f.queue) f.lock s.processes)) (ap (λ (w : Withdrawal). w.stays) (rundown_is c));
+      serial = c.of_resource.result.number;
+      its_serial = c.of_resource.ensures.serial;
+      notes =
+          c.note.ensures.noted
+          ∙ ap (λ (res : ℕ). c.loop-lock.touched.noted ++ record { number = c.of_resource.result.number; at = res } ∷ []) c.of_resource.ensures.res;
+      room = c.note.ensures.room;
+    } in
+    record {
+      so_far = next_turn (is_row_of c.args.pid) true c.args.owner c.args.pid c.args.store.now s c.withdraw.new.store c.args.touched.now c.loop-lock.touched c.note.new.self f (plain_withdrawal c.rundown.result) so_far turn;
+      paid = c.withdraw.ensures.paid;
+    }
+
+pub returns-clause-resources : goal.returns-clause-resources
+returns-clause-resources c =
+    sym (all_left c.args.owner c.args.pid c.loop-lock.store c.loop-lock.invariant.so_far.sound c.loop-lock.invariant.so_far.lives
+    (none_at_all (own_handles_at c.args.owner c.loop-lock.store) (sym c.last_own.ensures ∙ c.in_default.is)))
+    ∙ c.loop-lock.invariant.so_far.resources
+
+pub returns-clause-gone : goal.returns-clause-gone
+returns-clause-gone c =
+    no_locks c.args.owner c.args.pid c.loop-lock.store c.loop-lock.invariant.so_far.sound c.loop-lock.invariant.so_far.lives
+    (none_at_all (own_handles_at c.args.owner c.loop-lock.store) (sym c.last_own.ensures ∙ c.in_default.is))

@@ -1,0 +1,44 @@
+use Rattle.std.proofs.Common.{true, map, ap, ◌∙◌, subst, arith}
+use Rattle.vlm_collections.specs.Lists.{IsIn}
+use Rattle.vlm_model.specs.Withdrawals.{resource_without}
+use Rattle.vlm_store.specs.Plain.{plain_resources}
+use Rattle.vlm_locks.specs.Withdrawals.{plain_withdrawal}
+use Rattle.vlm_locks.specs.Withdrawing.{owned_after}
+use Rattle.vlm_locks.proofs.Changed.{stay_over}
+use Rattle.vlm_locks.proofs.OtherLocks.{locks_stay_over}
+use Rattle.vlm_locks.proofs.Withdrawn.{left_without}
+use Rattle.vlm_locks.proofs.releases.give_up.Goals as goal
+
+pub remove-requires-clause-childless : goal.remove-requires-clause-childless
+remove-requires-clause-childless c p own among here = c.requires.childless p own (subst (IsIn p) c.leave_value.ensures.left.own_locks among) here
+
+pub returns-clause-resources : goal.returns-clause-resources
+returns-clause-resources c =
+    let w = plain_withdrawal c.args.withdrawal.now in
+    let lkid = c.args.located.now.row.lkid in
+    c.remove.ensures.done.made.resources
+    ∙ ap (map (resource_without lkid)) c.leave_value.ensures.left.made.resources
+    ∙ left_without w lkid c.requires.named c.requires.goes (plain_resources c.args.store.now)
+
+pub returns-clause-statuses : goal.returns-clause-statuses
+returns-clause-statuses c = c.remove.ensures.done.made.statuses ∙ c.leave_value.ensures.left.made.statuses
+
+pub returns-clause-beside : goal.returns-clause-beside
+returns-clause-beside c =
+    let f = c.args.located.now in
+    let left = c.leave_value.ensures.left in
+    let made = c.remove.ensures.done.made in
+    record {
+      others = stay_over f.res c.args.store.now c.leave_value.new.store c.remove.new.store left.made.others made.others;
+      locks = locks_stay_over f.lock c.args.store.now c.leave_value.new.store c.remove.new.store left.locks c.remove.ensures.done.locks;
+      there = made.there;
+      rest = made.rest;
+    }
+
+pub returns-clause-own_locks : goal.returns-clause-own_locks
+returns-clause-own_locks c =
+    let f = c.args.located.now in
+    c.remove.ensures.done.own_locks ∙ ap (owned_after true f.lock) c.leave_value.ensures.left.own_locks
+
+pub returns-clause-loses : goal.returns-clause-loses
+returns-clause-loses c measure = omega (arith, c.remove.ensures.loses measure, c.leave_value.ensures.weighs measure)

@@ -1,0 +1,28 @@
+use Rattle.std.proofs.Common.{◌≤◌, ◌-◌, sym, ap, ◌∙◌, subst, arith}
+use Rattle.vlm_words.specs.Dues.{one_where}
+use Rattle.vlm_store.specs.Records.{DueChanges, due_of}
+use Rattle.vlm_locks.specs.Owing.{OwedMoves, left_row, row_after_end}
+use Rattle.vlm_locks.proofs.Found.{process_there}
+use Rattle.vlm_locks.proofs.Owing.{one_process, spared_owed}
+use Rattle.vlm_locks.proofs.releases.release_blocking_ast.Goals as goal
+
+pub forgive-requires-clause-there : goal.forgive-requires-clause-there
+forgive-requires-clause-there c =
+    process_there c.args.store.now c.args.located.now.owner c.args.located.now.row.pid
+    c.requires.located.owner
+
+pub forgive-requires-clause-owed : goal.forgive-requires-clause-owed
+forgive-requires-clause-owed c pid is =
+    subst (λ p. c.one_where.result ≤ due_of p c.args.store.now)
+    (one_process c.args.store.now c.law_records_are_sound.ensures c.args.located.now.owner c.args.located.now.row.pid pid
+    c.requires.located.owner is)
+    (omega (arith, c.one_where.ensures, ap one_where c.is_armed.ensures, c.requires.owed))
+
+pub returns-clause-owed : goal.returns-clause-owed
+returns-clause-owed c =
+    let f = c.args.located.now in
+    subst (λ gone. OwedMoves (row_after_end f.row) (left_row gone f.row) c.args.store.now c.forgive.new.store) (sym c.if-not-gone.false)
+    (spared_owed f.row c.args.store.now c.forgive.new.store c.requires.owed
+    (subst (λ n. DueChanges f.row.pid (λ due. due - n) c.args.store.now c.forgive.new.store) (c.one_where.ensures ∙ ap one_where c.is_armed.ensures)
+    (c.forgive.ensures.owed f.row.pid
+    c.requires.located.owner)))

@@ -1,5 +1,0 @@
-use Rattle.std.proofs.Common.{rules}
-use Rattle.vlm_locks.proofs.withdrawing.is_writer.Goals as goal
-
-pub returns-in-Pw : goal.returns-in-Pw
-returns-in-Pw c = search rules

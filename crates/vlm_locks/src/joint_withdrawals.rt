@@ -1,0 +1,120 @@
+//! Gives up several locks of a process together.
+
+ghost use Rattle.std.specs.Prelude.{◌≡◌, ◌≤◌, []};
+ghost use Rattle.vlm_store.specs.Records.{IsProcess};
+ghost use Rattle.vlm_store.specs.Total.{lock_total};
+ghost use Rattle.vlm_locks.specs.GivingUp.{AreChosen, AreGivenUp, AreGone, AreOfLocks, CanGo, HaveEnded, IsOwnScope, Rise, SublocksGoToo, noted_lkids};
+ghost use Rattle.vlm_locks.specs.Owing.{IsPaid};
+ghost use Rattle.vlm_locks.specs.Rest.{IsAtRest};
+ghost use Rattle.vlm_locks.specs.RunningDown.{CanEndProcesses, GrantedWantNothing, SublocksAreOwn};
+
+use crate::located_locks::located_lock;
+use crate::noted_locks::{note_below, note_own};
+use crate::releases::{end_notices, give_up};
+use crate::touched::{Note, Touched};
+use crate::withdrawals::Withdrawal;
+use vlm_store::laws::law_records_are_sound;
+use vlm_store::{ProcAt, Store};
+
+/// Which of the locks of a process are given up together.
+#[derive(Clone, Copy)]
+pub enum Scope {
+    /// All of them.
+    All,
+    /// Those below the lock of this identification: its sublocks, and those of sublocks, and not the lock itself.
+    Below(u32),
+}
+
+// Notes the chosen locks, by rising identification.
+fn note_scope(store: &Store, touched: &mut Touched, owner: ProcAt, pid: u32, scope: Scope)
+    requires rest { IsAtRest store.now }
+    requires owner { IsProcess owner pid store.now }
+    requires own { IsOwnScope scope pid store.now }
+    requires together { SublocksAreOwn store.now }
+    requires closed { SublocksGoToo scope store.now }
+    requires none { touched.old.noted ≡ [] }
+    requires room { lock_total store.now ≤ touched.old.room }
+    ensures chosen { AreChosen scope pid store.now (noted_lkids touched.new.noted) }
+    ensures locks { AreOfLocks touched.new.noted store.now }
+    ensures room { touched.new.room ≡ touched.old.room }
+{
+    law_records_are_sound(store);
+    match scope {
+        Scope::All => note_own(store, touched, owner, pid),
+        Scope::Below(top) => note_below(store, touched, pid, top),
+    }
+}
+
+// Ends the requests of the noted locks, from the first to the last. The locks stay where they are.
+fn end_noted(store: &mut Store, notes: &[Note], invalidates: bool)
+    requires rise { Rise (noted_lkids notes.now) }
+    requires locks { AreOfLocks notes.now store.old }
+    requires rest { IsAtRest store.old }
+    requires granted { GrantedWantNothing store.old }
+    requires paid { IsPaid store.old }
+    ensures ended { HaveEnded (noted_lkids notes.now) invalidates store.old store.new }
+{
+    law_records_are_sound(store);
+    for note in notes {
+        let located = located_lock(store, note.lock());
+        let withdrawal = Withdrawal::together(located.row.lkid(), invalidates);
+        end_notices(store, &located, &withdrawal);
+        law_records_are_sound(store);
+    }
+}
+
+// Removes the noted locks, from the last to the first, so that sublocks go before their parents. The note of each lock
+// becomes a note of its resource.
+fn remove_noted(
+    store: &mut Store,
+    touched: &mut Touched,
+    owner: ProcAt,
+    pid: u32,
+    invalidates: bool,
+)
+    requires owner { IsProcess owner pid store.old }
+    requires can_go { CanGo pid touched.old store.old }
+    ensures gone { AreGone (noted_lkids touched.old.noted) invalidates store.old store.new
+        (record { noted = []; room = touched.old.room }) touched.new }
+    ensures can_end { CanEndProcesses touched.new store.new }
+{
+    law_records_are_sound(store);
+    let mut left = touched.notes().len();
+    while left > 0 {
+        left -= 1;
+        let located = located_lock(store, touched.notes()[left].lock());
+        law_records_are_sound(store);
+        let withdrawal = Withdrawal::together(located.row.lkid(), invalidates);
+        give_up(store, &located, &withdrawal);
+        law_records_are_sound(store);
+        touched.replace(left, Note::of_resource(store, located.res));
+    }
+}
+
+/// Gives up the chosen locks of a process together. First their requests end with ABORT, and their completion ASTs are
+/// queued, by rising identification. Then all of them go. A resource on which one of them held PW or EX, granted or
+/// converting, may have its value block marked invalid. Their resources are noted, and nothing is granted. The cost
+/// grows with the locks that go, and their number times its logarithm for putting them in order.
+pub fn give_up_together(
+    store: &mut Store,
+    touched: &mut Touched,
+    owner: ProcAt,
+    pid: u32,
+    scope: Scope,
+    invalidates: bool,
+)
+    requires owner { IsProcess owner pid store.old }
+    requires own { IsOwnScope scope pid store.old }
+    requires can_end { CanEndProcesses touched.old store.old }
+    requires closed { SublocksGoToo scope store.old }
+    requires none { touched.old.noted ≡ [] }
+    ensures given_up { AreGivenUp scope invalidates pid store.old store.new
+        touched.old touched.new }
+    ensures can_end { CanEndProcesses touched.new store.new }
+{
+    law_records_are_sound(store);
+    note_scope(store, touched, owner, pid, scope);
+    end_noted(store, touched.notes(), invalidates);
+    law_records_are_sound(store);
+    remove_noted(store, touched, owner, pid, invalidates);
+}

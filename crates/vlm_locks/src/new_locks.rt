@@ -1,0 +1,262 @@
+//! The entry of a new lock.
+
+ghost use Rattle.std.specs.Prelude.{◌≡◌, ◌≤◌, true, None, Some, IfOk, IfSome, IsOk, OnErr, OnOk};
+ghost use Rattle.vlm_words.specs.declared.locks.Request.{Request};
+ghost use Rattle.vlm_words.specs.declared.locks.LockRow.{LockRow};
+ghost use Rattle.vlm_words.specs.Dues.{routines_of, row_due};
+ghost use Rattle.vlm_model.specs.Effects.{blocks_after, blocks_with};
+ghost use Rattle.vlm_model.specs.Grants.{grant_endings};
+ghost use Rattle.vlm_words.specs.Rows.{granted_row};
+ghost use Rattle.vlm_model.specs.Enqueue.{is_at_once};
+ghost use Rattle.vlm_store.specs.Plain.{plain_processes, plain_resource};
+ghost use Rattle.vlm_store.specs.Records.{DuesStay, FindsResource, HasResource, HasRoomForLock, HasRoomForResource, IsProcess, IsUnchanged, Records, SameButNotices, StoredResource, due_of, resource_at};
+ghost use Rattle.vlm_locks.specs.Entering.{HasRoomToEnter, HasEntered, IsDueMore, IsEntered, IsReady, MayEnter, entered_queue, new_row, processes_accepted, processes_entered};
+ghost use Rattle.vlm_locks.specs.Owing.{IsPaid, OwedMoves, OwesMore, granted_if_at_once};
+
+use crate::endings::{end_by_grant, grant_without_value_block};
+use crate::routines::owe_routines;
+use std::alloc::AllocError;
+use vlm_procs::accept;
+use vlm_queue::{can_hold, is_empty};
+use vlm_store::laws::law_records_are_sound;
+use vlm_store::{LockAt, Place, ProcAt, ResAt, Store, StoredRow};
+use vlm_words::flags::EnqFlags;
+use vlm_words::locks::{LockRow, Request};
+use vlm_words::modes::Mode;
+use vlm_words::resources::{Queue, Site};
+
+/// Whether a new request is granted at once on a resource: it is expedited, or it fits and nobody is queued.
+#[tactic(auto, unfolding(vlm_model::specs::Enqueue::is_at_once))]
+pub fn enters_at_once(store: &Store, res: ResAt, flags: EnqFlags, mode: Mode) -> bool
+    requires { HasResource res store.now }
+    ensures { (r : StoredResource) (asked : Request)
+        → resource_at res store.now.resources ≡ Some r
+        → asked.flags ≡ flags → asked.mode ≡ mode
+        → result ≡ is_at_once asked (plain_resource r) }
+{
+    flags.has(EnqFlags::EXPEDITE)
+        || (can_hold(store, res, mode, None)
+            && is_empty(store, res, Queue::Conversion)
+            && is_empty(store, res, Queue::Waiting))
+}
+
+/// A new lock before it enters its resource.
+#[derive(Clone, Copy)]
+pub struct NewLock {
+    /// Its request.
+    pub asked: Request,
+    /// Its identification.
+    pub lkid: u32,
+    /// The identification of its process.
+    pub pid: u32,
+    /// The identification of its parent lock, or 0.
+    pub parent_lkid: u32,
+    /// The handle of its process.
+    pub owner: ProcAt,
+    /// The handle of its parent lock, if it has one.
+    pub parent: Option<LockAt>,
+    /// The site of its resource.
+    pub site: Site,
+    /// The hash of the resource's key.
+    pub hash: u32,
+    /// The serial that its resource gets, if it has to be made.
+    pub serial: u32,
+    /// The handle of its resource, if it exists.
+    pub res: Option<ResAt>,
+    /// Whether the request is granted at once.
+    pub at_once: bool,
+}
+
+// The row of a new lock before its grant.
+fn new_row(new_lock: &NewLock) -> StoredRow
+    ensures { result ≡ new_row new_lock.now }
+{
+    StoredRow::of(&LockRow {
+        lkid: new_lock.lkid,
+        pid: new_lock.pid,
+        parent: new_lock.parent_lkid,
+        held: None,
+        want: Some(new_lock.asked),
+        armed: false,
+    })
+}
+
+// The row of a new lock as it enters. If it is granted at once, it holds the mode that it wants.
+fn granted_if_at_once(new_lock: &NewLock, row: &StoredRow) -> StoredRow
+    requires { row.now ≡ new_row new_lock.now }
+    ensures { result ≡ granted_if_at_once new_lock.now.at_once (new_row new_lock.now) }
+{
+    if new_lock.at_once {
+        row.granted()
+    } else {
+        *row
+    }
+}
+
+// The queue that a new lock enters.
+fn entered_queue(new_lock: &NewLock) -> Queue
+    ensures { result ≡ entered_queue new_lock.now.at_once }
+{
+    if new_lock.at_once {
+        Queue::Granted
+    } else {
+        Queue::Waiting
+    }
+}
+
+// Adds a new lock to a resource: to the end of the granted queue if it is granted at once, else to the end of the
+// waiting queue.
+fn enter_at(store: &mut Store, new_lock: &NewLock, row: &StoredRow, res: ResAt)
+    requires may_enter { MayEnter new_lock.now store.old }
+    requires row { row.now ≡ new_row new_lock.now }
+    requires found { FindsResource store.old new_lock.now.site.key (Some res) }
+    requires room { HasRoomForLock new_lock.now.lkid store.old }
+    ensures entered { IsEntered new_lock.now res store.old store.new }
+    ensures due { IsDueMore (granted_if_at_once new_lock.now.at_once (new_row new_lock.now))
+        store.old store.new }
+{
+    law_records_are_sound(store);
+    let queue = Place::Queued(res, entered_queue(new_lock));
+    store.add_lock_reserved(
+        &granted_if_at_once(new_lock, row),
+        new_lock.owner,
+        new_lock.parent,
+        queue,
+    );
+}
+
+// The resource of a new lock. It is made if it does not exist.
+fn resource_or_new(store: &mut Store, new_lock: &NewLock) -> ResAt
+    requires may_enter { MayEnter new_lock.now store.old }
+    requires found { FindsResource store.old new_lock.now.site.key new_lock.now.res }
+    requires room { new_lock.now.res ≡ None → HasRoomForResource new_lock.now.hash store.old }
+    ensures may_enter { MayEnter new_lock.now store.new }
+    ensures found { FindsResource store.new new_lock.now.site.key (Some result) }
+    ensures lock_room { HasRoomForLock new_lock.now.lkid store.old → HasRoomForLock new_lock.now.lkid store.new }
+    ensures entered { (then : Records) → IsEntered new_lock.now result store.new then
+        → IsEntered new_lock.now result store.old then }
+    ensures due { (row : LockRow) (then : Records) → IsDueMore row store.new then
+        → IsDueMore row store.old then }
+{
+    match new_lock.res {
+        Some(res) => res,
+        None => store.add_resource_reserved(new_lock.serial, &new_lock.site, new_lock.hash),
+    }
+}
+
+// Adds a new lock to its resource, which is made if it does not exist.
+fn take_in(store: &mut Store, new_lock: &NewLock, row: &StoredRow) -> ResAt
+    requires may_enter { MayEnter new_lock.now store.old }
+    requires row { row.now ≡ new_row new_lock.now }
+    requires found { FindsResource store.old new_lock.now.site.key new_lock.now.res }
+    requires room { HasRoomForLock new_lock.now.lkid store.old }
+    requires resource_room { new_lock.now.res ≡ None → HasRoomForResource new_lock.now.hash store.old }
+    ensures entered { IsEntered new_lock.now result store.old store.new }
+    ensures due { IsDueMore (granted_if_at_once new_lock.now.at_once (new_row new_lock.now))
+        store.old store.new }
+{
+    let res = resource_or_new(store, new_lock);
+    enter_at(store, new_lock, row, res);
+    res
+}
+
+// Accepts the request of a new lock and grants it at once. With VALBLK the grant returns the value block; a new request
+// never writes it.
+fn grant_entered(store: &mut Store, new_lock: &NewLock, row: &StoredRow, res: ResAt)
+    requires row { row.now ≡ new_row new_lock.now }
+    requires owner { IsProcess new_lock.now.owner new_lock.now.pid store.old }
+    requires there { HasResource res store.old }
+    requires owed { row_due (new_row new_lock.now) ≤ due_of new_lock.now.pid store.old }
+    ensures statuses { let accepted = processes_accepted new_lock.now (plain_processes store.old)
+        in IfSome (resource_at res store.old.resources) (λ r. plain_processes store.new
+        ≡ (blocks_after (grant_endings true (new_row new_lock.now))
+        (blocks_with r.value_block accepted)).processes) }
+    ensures owed { OwedMoves (new_row new_lock.now) (granted_row (new_row new_lock.now))
+        store.old store.new }
+    ensures only_notices { SameButNotices store.old store.new }
+{
+    if new_lock.asked.flags.has(EnqFlags::VALBLK) {
+        accept(store, new_lock.owner, new_lock.asked.block, new_lock.lkid);
+        let mut value_block = store.resource_record(res).value_block;
+        end_by_grant(&mut value_block, store, new_lock.owner, row, true);
+    } else {
+        grant_without_value_block(store, new_lock.owner, row, &new_lock.asked);
+    }
+}
+
+// Accepts the request of a lock that has entered, and ends it if it is granted at once.
+fn accept_entered(store: &mut Store, new_lock: &NewLock, row: &StoredRow, res: ResAt)
+    requires row { row.now ≡ new_row new_lock.now }
+    requires owner { IsProcess new_lock.now.owner new_lock.now.pid store.old }
+    requires there { HasResource res store.old }
+    requires owed { row_due (new_row new_lock.now) ≤ due_of new_lock.now.pid store.old }
+    ensures statuses { IfSome (resource_at res store.old.resources) (λ r. plain_processes store.new
+        ≡ processes_entered new_lock.now r.value_block (plain_processes store.old)) }
+    ensures owed { OwedMoves (new_row new_lock.now)
+        (granted_if_at_once new_lock.now.at_once (new_row new_lock.now)) store.old store.new }
+    ensures only_notices { SameButNotices store.old store.new }
+{
+    if new_lock.at_once {
+        grant_entered(store, new_lock, row, res);
+    } else {
+        accept(store, new_lock.owner, new_lock.asked.block, new_lock.lkid);
+    }
+}
+
+// Makes room for a new lock, and for its resource if it does not exist. If memory is refused, nothing is changed,
+// except that there may be more room.
+fn reserve(store: &mut Store, new_lock: &NewLock) -> Result<(), AllocError>
+    ensures unchanged { IsUnchanged store.old store.new }
+    ensures lock { OnOk result (HasRoomForLock new_lock.now.lkid store.new) }
+    ensures resource { OnOk result (new_lock.now.res ≡ None → HasRoomForResource new_lock.now.hash store.new) }
+    ensures succeeds { HasRoomForLock new_lock.now.lkid store.old
+        → (new_lock.now.res ≡ None → HasRoomForResource new_lock.now.hash store.old) → IsOk result }
+{
+    store.reserve_lock(new_lock.lkid)?;
+    match new_lock.res {
+        None => store.reserve_resource(new_lock.hash),
+        Some(_) => Ok(()),
+    }
+}
+
+// The growth: room for a new lock, for its resource if it does not exist, and for the ASTs of its routines. If memory
+// is refused, nothing is changed, except that there may be more room.
+fn make_ready(store: &mut Store, new_lock: &NewLock) -> Result<(), AllocError>
+    requires owner { IsProcess new_lock.now.owner new_lock.now.pid store.old }
+    ensures ready { OnOk result (IsReady new_lock.now store.old store.new) }
+    ensures succeeds { HasRoomToEnter new_lock.now store.old → IsOk result }
+    ensures err { OnErr result (IsUnchanged store.old store.new) }
+{
+    reserve(store, new_lock)?;
+    owe_routines(store, new_lock.owner, Some(new_lock.asked))
+}
+
+// The change: a new lock enters, after all room for it was made.
+fn enter_ready(store: &mut Store, new_lock: &NewLock) -> ResAt
+    requires may_enter { MayEnter new_lock.now store.old }
+    requires found { FindsResource store.old new_lock.now.site.key new_lock.now.res }
+    requires room { HasRoomForLock new_lock.now.lkid store.old }
+    requires resource_room { new_lock.now.res ≡ None → HasRoomForResource new_lock.now.hash store.old }
+    requires owed { OwesMore new_lock.now.pid (routines_of (Some new_lock.now.asked)) store.old }
+    ensures entered { HasEntered new_lock.now result store.old store.new }
+{
+    let row = new_row(new_lock);
+    let res = take_in(store, new_lock, &row);
+    accept_entered(store, new_lock, &row, res);
+    res
+}
+
+/// Adds a new lock to its resource, which is made if it does not exist. The lock is granted at once, or goes to the end
+/// of the waiting queue. Its process is owed the ASTs of its routines, and its status block is written. If memory is
+/// refused, nothing is changed, except that there may be more room.
+pub fn enter(store: &mut Store, new_lock: &NewLock) -> Result<ResAt, AllocError>
+    requires may_enter { MayEnter new_lock.now store.old }
+    requires found { FindsResource store.old new_lock.now.site.key new_lock.now.res }
+    requires paid { IsPaid store.old }
+    ensures entered { IfOk result (λ res. HasEntered new_lock.now res store.old store.new) }
+    ensures succeeds { HasRoomToEnter new_lock.now store.old → IsOk result }
+    ensures err { OnErr result (IsUnchanged store.old store.new) }
+{
+    make_ready(store, new_lock)?;
+    Ok(enter_ready(store, new_lock))
+}

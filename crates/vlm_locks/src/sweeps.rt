@@ -1,0 +1,81 @@
+//! The sweep of the resources that a step has touched.
+
+ghost use Rattle.std.specs.Prelude.{◌≡◌, [], ◌∷◌};
+ghost use Rattle.vlm_model.specs.Sweeps.{processes_after_service, resources_after_sweep};
+ghost use Rattle.vlm_store.specs.Plain.{plain_processes, plain_resources};
+ghost use Rattle.vlm_store.specs.Records.{HasResource};
+ghost use Rattle.vlm_locks.specs.Owing.{IsPaid};
+ghost use Rattle.vlm_locks.specs.Rest.{IsAtRest, OwnLocksStay};
+ghost use Rattle.vlm_locks.specs.Staying.{LocksStayAmong};
+ghost use Rattle.vlm_locks.specs.Sweeping.{AreSettledBut, IsSwept, Parted, StandInOrder, but_touched};
+ghost use Rattle.vlm_locks.specs.Touched.{touched_handles};
+
+use crate::services::serve;
+use crate::touched::Note;
+use vlm_model::laws::law_a_sweep_touches_only_what_is_not_settled;
+use vlm_queue::is_idle;
+use vlm_store::laws::law_records_are_sound;
+use vlm_store::{ResAt, Store};
+
+// Sweeps one resource: grants what can be granted, warns the locks in the way of the rest, and removes the resource if
+// it has no locks.
+fn sweep_one(store: &mut Store, res: ResAt)
+    requires there { HasResource res store.old }
+    requires paid { IsPaid store.old }
+    ensures swept { (was : Parted res store.old.resources)
+        → IsSwept res store.old store.new was }
+    ensures paid { IsPaid store.new }
+{
+    law_records_are_sound(store);
+    serve(store, res);
+    law_records_are_sound(store);
+    if is_idle(store, res) {
+        store.remove_resource(res);
+    }
+}
+
+/// Ends a step that touched one resource. It grants the queued requests that can be granted, warns the locks that block
+/// the others, and removes the resource if no lock is left on it.
+pub fn sweep_resource(store: &mut Store, res: ResAt)
+    requires rest { IsAtRest store.old }
+    requires there { HasResource res store.old }
+    requires settled { AreSettledBut (res ∷ []) store.old.resources }
+    requires paid { IsPaid store.old }
+    ensures resources { plain_resources store.new
+        ≡ resources_after_sweep (plain_processes store.old) (plain_resources store.old) }
+    ensures statuses { plain_processes store.new
+        ≡ processes_after_service (plain_processes store.old) (plain_resources store.old) }
+    ensures rest { IsAtRest store.new }
+    ensures paid { IsPaid store.new }
+{
+    law_a_sweep_touches_only_what_is_not_settled();
+    law_records_are_sound(store);
+    sweep_one(store, res);
+}
+
+/// Ends a step that touched these resources, in the order of their making. On each it grants what can be granted, warns
+/// the locks in the way of the rest, and removes the resource if it has no locks. No other resource needs this. The
+/// cost grows with the resources that are touched and the locks that are granted and warned.
+pub fn sweep(store: &mut Store, touches: &[Note])
+    requires rest { IsAtRest store.old }
+    requires in_order { StandInOrder (touched_handles touches.now) store.old.resources }
+    requires settled { AreSettledBut (touched_handles touches.now) store.old.resources }
+    requires paid { IsPaid store.old }
+    ensures resources { plain_resources store.new
+        ≡ resources_after_sweep (plain_processes store.old) (plain_resources store.old) }
+    ensures statuses { plain_processes store.new
+        ≡ processes_after_service (plain_processes store.old) (plain_resources store.old) }
+    ensures others { but_touched (touched_handles touches.now) store.new.resources
+        ≡ but_touched (touched_handles touches.now) store.old.resources }
+    ensures locks { LocksStayAmong store.old.resources store.new.resources }
+    ensures none_join { LocksStayAmong store.new.resources store.old.resources }
+    ensures own_locks { OwnLocksStay store.old store.new }
+    ensures rest { IsAtRest store.new }
+    ensures paid { IsPaid store.new }
+{
+    law_a_sweep_touches_only_what_is_not_settled();
+    law_records_are_sound(store);
+    for touch in touches {
+        sweep_one(store, touch.res());
+    }
+}

@@ -1,9 +1,0 @@
-use Rattle.std.proofs.Common.{arith}
-use Rattle.std.proofs.lemmas.Grind.{common_steps}
-use Rattle.vlm_script.proofs.Hexadecimal.{hex_text-encode}
-use Rattle.vlm_script.proofs.printing.texts.hexadecimal.Goals as goal
-
-pub returns : goal.returns
-returns c =
-    let same = hex_text-encode c.args.bytes.now (λ k. omega (arith, c.type_inv.bytes k)) in
-    grind (arith, common_steps, c.in_ok-digits.ensures)
