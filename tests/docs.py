@@ -83,7 +83,7 @@ def refusals(_program):
 def sizes(_program):
     """The sizes of records that a page names are those that tests hold."""
     held = set(re.findall(r"fn a_(lock|resource)_takes_at_most_(\d+)_bytes",
-                          text_of("crates/vlm_uses/src/tests/records.rt")))
+                          text_of("crates/vlm_core_tests/src/tests/records.rt")))
     if len(held) != 2:
         yield f"the tests hold {sorted(held)}"
     for page in PAGES:
@@ -94,7 +94,7 @@ def sizes(_program):
 
 def help_texts():
     """The constants of help texts in the program's source, by name."""
-    text = text_of("crates/vlm/src/words.rt")
+    text = text_of("crates/vlm/src/arguments.rt")
     return {name: value.replace("\\\n", "") for name, value in
             re.findall(r'const (\w+): &str =\s*"((?:[^"\\]|\\.|\\\n)*)";', text)}
 
@@ -117,7 +117,7 @@ def help_forms(_program):
     manual, page = plain(MANUAL.read_text()), text_of("docs/SCRIPT.md")
     if len(forms()) < 13:
         yield f"the help names {forms()}"
-    options = re.findall(r'Arg::new\(alloc, "(\w+)"', text_of("crates/vlm/src/words.rt")) or ["nodes", "name", "group"]
+    options = re.findall(r'Arg::new\(alloc, "(\w+)"', text_of("crates/vlm/src/arguments.rt")) or ["nodes", "name", "group"]
     for form in [*forms(), *(f"--{it}" for it in options)]:
         if form not in page:
             yield f"docs/SCRIPT.md has no {form}"

@@ -158,7 +158,7 @@ def proofs(tree):
     names = [line.split()[1] for line in tree.noted() if line.startswith("begun")]
     ends = [rf"^vlm: proved \w+, {done} of {len(names)}, \d+ seconds$" for done in range(1, len(names) + 1)]
     yield from unlike((status, printed, told), 0, b"", f"^vlm: proving {len(names)} crates, up to ", *ends)
-    if len(set(names)) != len(names) or names[-1] != "vlm" or "vlm_core" not in names or "vlm_uses" in names:
+    if len(set(names)) != len(names) or names[-1] != "vlm" or "vlm_core" not in names or "vlm_core_tests" in names:
         yield f"proved {names}"
     yield from out_of_order(tree)
     yield from unlike(tree.run("play", script=SCRIPT), 1, b"no resources\n", "^line 2: unknown command$")

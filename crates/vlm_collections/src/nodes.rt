@@ -6,15 +6,10 @@ ghost use Rattle.vlm_collections.specs.Nodes.{Grows, HasRoomFor, IsFirstMarked, 
 use crate::marks::Marks;
 use std::alloc::{AllocError, Global};
 use std::marker::Model;
+use vlm_words::ids::{NODES, process_id, process_node, process_ordinal};
 
-// The number of nodes. Their numbers begin at 1.
-const NODES: usize = 8;
-
-// How many identifications each node has.
-const ORDINALS: u32 = 65_536;
-
-/// Sets of processes of the nodes 1 to 8. The identification of a process is node x 65,536 + ordinal. A process of
-/// another node is never marked and needs no room.
+/// Sets of processes of the nodes 1 to 8. A process of another node is never marked and
+/// needs no room.
 #[derive(Drop)]
 pub struct NodeMarks {
     // the marked ordinals of node k, at index k - 1
@@ -40,7 +35,7 @@ fn place_of(pid: u32) -> Option<usize>
     ensures place { result ≡ place_of pid }
     ensures below { IfSome result (λ place. place < 8) }
 {
-    let node = (pid / ORDINALS) as usize;
+    let node = usize::from(process_node(pid));
     if 1 <= node && node <= NODES {
         Some(node - 1)
     } else {
@@ -76,7 +71,7 @@ impl NodeMarks {
         ensures refused { OnErr result (self.new ≡ self.old) }
     {
         match place_of(pid) {
-            Some(place) => self.nodes[place].make_room((pid % ORDINALS) as u16),
+            Some(place) => self.nodes[place].make_room(process_ordinal(pid)),
             None => Ok(()),
         }
     }
@@ -87,7 +82,7 @@ impl NodeMarks {
         ensures { Writes pid true self.old self.new }
     {
         if let Some(place) = place_of(pid) {
-            self.nodes[place].mark((pid % ORDINALS) as u16);
+            self.nodes[place].mark(process_ordinal(pid));
         }
     }
 
@@ -97,7 +92,7 @@ impl NodeMarks {
         ensures { Writes pid false self.old self.new }
     {
         if let Some(place) = place_of(pid) {
-            self.nodes[place].unmark((pid % ORDINALS) as u16);
+            self.nodes[place].unmark(process_ordinal(pid));
         }
     }
 
@@ -106,7 +101,7 @@ impl NodeMarks {
         ensures { result ≡ is_marked self.now pid }
     {
         match place_of(pid) {
-            Some(place) => self.nodes[place].has((pid % ORDINALS) as u16),
+            Some(place) => self.nodes[place].has(process_ordinal(pid)),
             None => false,
         }
     }
@@ -125,8 +120,8 @@ impl NodeMarks {
     pub fn first(&self, node: u8) -> Option<u32>
         ensures { IsFirstMarked self.now node result }
     {
-        let place = place_of(u32::from(node) * ORDINALS)?;
+        let place = place_of(process_id(node, 0))?;
         let ordinal = self.nodes[place].first()?;
-        Some(u32::from(node) * ORDINALS + u32::from(ordinal))
+        Some(process_id(node, ordinal))
     }
 }

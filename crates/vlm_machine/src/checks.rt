@@ -21,6 +21,7 @@ use vlm_store::LockAt;
 use vlm_words::blocks::Block;
 use vlm_words::conditions::Cond;
 use vlm_words::flags::EnqFlags;
+use vlm_words::ids::process_node;
 use vlm_words::steps::Which;
 
 impl Machine {
@@ -34,7 +35,7 @@ impl Machine {
         if node < 1 || 8 < node {
             return Err(Cond::Badparam);
         }
-        if has_departed(&self.nodes, u32::from(node)) {
+        if has_departed(&self.nodes, u16::from(node)) {
             return Err(Cond::Departed);
         }
         Ok(())
@@ -47,7 +48,7 @@ impl Machine {
         ensures caller { IfOk result (λ caller. IsCaller caller self.now.records) }
         ensures pid { IfOk result (λ caller. caller.pid ≡ pid) }
     {
-        if has_departed(&self.nodes, pid / 65536) {
+        if has_departed(&self.nodes, process_node(pid)) {
             return Err(Cond::Departed);
         }
         living(&self.store, pid).ok_or(Cond::Nonexpr)

@@ -14,10 +14,8 @@ use crate::records::Machine;
 use std::alloc::AllocError;
 use vlm_cycle::Scratch;
 use vlm_words::conditions::Cond;
+use vlm_words::ids::{LAST_ORDINAL, process_id};
 use vlm_words::steps::{Answer, Declaration, Step};
-
-// How many processes a node may declare, ended ones included.
-const ORDINALS: u16 = 65_535;
 
 impl Machine {
     /// Declares a process: its checks and its change. It touches no resource, so there is no sweep.
@@ -48,7 +46,7 @@ impl Machine {
     {
         let node = declaration.node;
         self.check_node(node)?;
-        if self.nodes[usize::from(node) - 1].declared() < ORDINALS {
+        if self.nodes[usize::from(node) - 1].declared() < LAST_ORDINAL {
             Ok(())
         } else {
             Err(Cond::Badparam)
@@ -63,7 +61,7 @@ impl Machine {
         ensures { result ≡ next_pid (plain_state self.now) node }
     {
         let ordinal = self.nodes[usize::from(node) - 1].declared() + 1;
-        u32::from(node) * 65_536 + u32::from(ordinal)
+        process_id(node, ordinal)
     }
 
     // The change: the process lives under the next ordinal of its node, and a search has room to mark it.

@@ -6,9 +6,7 @@ ghost use Rattle.vlm_model.specs.Rundown.{nodes_after_departure};
 ghost use Rattle.vlm_words.specs.State.{new_node};
 
 use std::marker::Model;
-
-/// How many nodes there are, numbered from 1.
-pub(crate) const NODES: usize = 8;
+use vlm_words::ids::NODES;
 
 /// A node.
 #[derive(Clone, Copy)]
@@ -74,10 +72,11 @@ impl Node {
 }
 
 /// Whether there is such a node, and it has departed.
-pub(crate) fn has_departed(nodes: &[Node; NODES], node: u32) -> bool
+pub(crate) fn has_departed(nodes: &[Node; NODES], node: u16) -> bool
     ensures { result ≡ has_departed nodes.now node }
 {
-    0 < node && node as usize <= NODES && nodes[node as usize - 1].departed()
+    let node = usize::from(node);
+    0 < node && node <= NODES && nodes[node - 1].departed()
 }
 
 /// Lets the node depart.

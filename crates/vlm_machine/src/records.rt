@@ -10,12 +10,13 @@ ghost use Rattle.vlm_machine.specs.Between.{IsBetweenSteps};
 ghost use Rattle.vlm_machine.specs.Machine.{plain_state};
 ghost use Rattle.vlm_machine.specs.Notes.{HasRoomToMark, HasRoomToNote, IsToSweep};
 
-use crate::nodes::{NODES, Node};
+use crate::nodes::Node;
 use std::alloc::Global;
 use std::marker::Model;
 use vlm_cycle::Scratch;
 use vlm_locks::{Touched, sweep, sweep_resource};
 use vlm_store::{HashKeys, ResAt, Store};
+use vlm_words::ids::NODES;
 use vlm_words::steps::{Answer, Step};
 
 /// The machine, with its records under their handles.

@@ -5,7 +5,7 @@ ghost use Rattle.vlm_script.specs.Plays.{ConsumesAtMost};
 ghost use Rattle.vlm_monitor.specs.Watches.{EndsWatched, PrintsWatch};
 
 use crate::ends::WatchFault;
-use crate::watched::{NODES, WatchedHub};
+use crate::watched::{ALL_NODES, WatchedHub};
 use std::alloc::Global;
 use std::io::{Read, Write};
 use std::sync::Wait;
@@ -26,7 +26,7 @@ pub fn watch_script<R: Read, W: Write>(
     ensures reads { ConsumesAtMost 16777217 (R.remaining reader.old) (R.remaining reader.new) }
 {
     let alloc = rt.alloc();
-    let steps = read_steps(alloc, keys, NODES, reader)?;
+    let steps = read_steps(alloc, keys, ALL_NODES, reader)?;
     let mut text = Vec::new(alloc);
     let end = watch_steps(rt, keys, key, &steps, &mut text);
     write_whole(writer, &text)?;

@@ -15,10 +15,11 @@ use vlm_core::Core;
 use vlm_journal::entries::{Entry, Item};
 use vlm_ports::{Hub, Port, RootKey, Row, Turn, Watcher};
 use vlm_script::{HashKeys, PlayFault, ScriptStep, WatchedRow, watch_line};
+use vlm_words::ids::NODES;
 use vlm_words::steps::Step;
 
-/// How many nodes the hub serves.
-pub(crate) const NODES: u8 = 8;
+/// The hub serves all nodes.
+pub(crate) const ALL_NODES: u8 = NODES as u8;
 
 // A port waits for at most so many turns in a row that bring it nothing.
 const TURNS: usize = 10;

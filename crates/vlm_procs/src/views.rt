@@ -7,6 +7,7 @@ ghost use Rattle.vlm_store.specs.Plain.{plain_processes};
 ghost use Rattle.vlm_procs.specs.Views.{process_view};
 
 use vlm_store::{Process, Store};
+use vlm_words::ids::process_node;
 
 /// A process as it was declared, and how many ASTs are pending for it. Its locks are left out.
 #[derive(Clone, Copy)]
@@ -34,7 +35,7 @@ impl ProcessView {
     {
         ProcessView {
             pid: process.pid,
-            node: (process.pid / 65_536) as u16,
+            node: process_node(process.pid),
             group: process.authorization.group,
             syslck: process.authorization.syslck,
             quota: process.authorization.quota,

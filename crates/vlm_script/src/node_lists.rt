@@ -12,10 +12,8 @@ use std::alloc::{AllocError, Global};
 use std::marker::Model;
 use vlm_core::HashKeys;
 use vlm_lines::{Line, LineFault, NO_PROCESS, ProcessName, read_line};
+use vlm_words::ids::{process_id, process_node};
 use vlm_words::steps::{Declaration, Step};
-
-// How many processes each node can have.
-const PROCESSES: u32 = 65_536;
 
 /// The names and the steps of the lines so far.
 #[derive(Drop)]
@@ -154,7 +152,7 @@ impl Sharing {
         ensures count { length self.new.lists ≡ length self.old.lists }
     {
         let pid = process_of(&self.names, &name)?;
-        let node = (pid / PROCESSES) as usize;
+        let node = usize::from(process_node(pid));
         let step = of_process(pid, step);
         add_step(&mut self.lists, node, &step)?;
         Ok(Some(step))
@@ -233,5 +231,5 @@ fn next_process(declared: &mut Vec<u16>, node: u8) -> u32
 {
     let count = &mut declared[usize::from(node) - 1];
     *count += 1;
-    u32::from(node) * PROCESSES + u32::from(*count)
+    process_id(node, *count)
 }

@@ -8,6 +8,7 @@ pub mod asts;
 pub mod blocks;
 pub mod conditions;
 pub mod flags;
+pub mod ids;
 pub mod locks;
 pub mod modes;
 pub mod names;

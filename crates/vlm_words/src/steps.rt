@@ -1,10 +1,11 @@
 //! The steps of the machine and their answers.
 
-ghost use Rattle.std.specs.Prelude.{◌≡◌, ◌/◌};
+ghost use Rattle.std.specs.Prelude.{◌≡◌};
 ghost use Rattle.vlm_words.specs.Steps.{node_of};
 
 use crate::asts::Ast;
 use crate::conditions::Cond;
+use crate::ids::process_node;
 use crate::modes::Mode;
 use crate::names::NameArg;
 
@@ -135,20 +136,14 @@ impl Step {
     {
         match self {
             Step::Declare(declaration) => u16::from(declaration.node),
-            Step::SetValue(setting) => node_of_pid(setting.pid),
-            Step::Enq(request) => node_of_pid(request.pid),
-            Step::Convert(conversion) => node_of_pid(conversion.pid),
-            Step::Deq(dequeue) => node_of_pid(dequeue.pid),
-            Step::Rundown(pid) | Step::Take(pid) => node_of_pid(*pid),
+            Step::SetValue(setting) => process_node(setting.pid),
+            Step::Enq(request) => process_node(request.pid),
+            Step::Convert(conversion) => process_node(conversion.pid),
+            Step::Deq(dequeue) => process_node(dequeue.pid),
+            Step::Rundown(pid) | Step::Take(pid) => process_node(*pid),
             Step::Leave(node) | Step::Search(node) => u16::from(*node),
         }
     }
-}
-
-fn node_of_pid(pid: u32) -> u16
-    ensures { result ≡ pid / 65536 }
-{
-    (pid / 65536) as u16
 }
 
 /// The answer to a step.

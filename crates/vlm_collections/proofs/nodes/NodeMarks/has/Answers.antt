@@ -10,7 +10,7 @@ pub returns-in-Some : goal.returns-in-Some
 returns-in-Some c =
     let nodes = c.self.inside.nodes in
     let here = get_or_default nodes c.in-Some.place c.index-self-place.result [] (omega (arith, c.self.invariant, c.in-Some.ensures.below)) in
-    c.has.ensures ∙ ap (λ (m : List Bool). slice_index_or m (c.args.pid % 65536) false) here
+    (rw c.process_ordinal.ensures at c.has.ensures) ∙ ap (λ (m : List Bool). slice_index_or m (c.args.pid % 65536) false) here
     ∙ sym (marked_at nodes c.args.pid c.in-Some.place (sym c.place_of.ensures.place ∙ c.in-Some.is))
     ∙ ap (λ (n : List (List Bool)). is_marked n c.args.pid) c.self.view_is
 
