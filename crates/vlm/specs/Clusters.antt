@@ -29,12 +29,12 @@ nodes_text count [] = []
 nodes_text count (items ∷ nodes) =
     items_text (count + 1) 0 items.items ++ nodes_text (count + 1) nodes
 
--- the printed text of a report: what each node was told, node 1 first, and how many entries the journal has
+-- the printed text of a report: the items of each node, node 1 first, and how many entries the journal has
 abbrev pub report_text : Report → List ℕ
 report_text r = nodes_text 0 r.items.items ++ journal_line (length (entries_of r))
 
--- all of each list is served: each node was told what the journal tells it of its list and its departure, and the journal
--- keeps the laws at each of its places
+-- each list is served whole: each node got the items that the journal has for its list and its departure, and the laws
+-- hold at each place of the journal
 pub record IsServedText (lists : List StepList) (r : Report) : Type 0 where
   pub served : AreServed lists r
   pub posted : AreAllPosted lists r
@@ -42,7 +42,7 @@ pub record IsServedText (lists : List StepList) (r : Report) : Type 0 where
   pub once : RequestsEndOnce (entries_of r) r.core
   pub order : GrantsKeepOrder (entries_of r) r.core
 
--- the text of a script that so many nodes have served: its steps were shared out to their lists, and all of these are served
+-- the text of a script that this many nodes served: its steps were shared out to their lists, and all lists are served
 pub record IsClusterText (nodes : ℕ) (script : Option (List ℕ)) (text : List ℕ) : Type 0 where
   pub lists : List StepList
   pub report : Report
@@ -52,7 +52,7 @@ pub record IsClusterText (nodes : ℕ) (script : Option (List ℕ)) (text : List
   pub served : IsServedText lists report
   pub printed : text ≡ report_text report
 
--- why a script was not served by so many nodes, before anything was written
+-- why a script was not served by this many nodes; nothing was written
 pub record StopsCluster (nodes : ℕ) (script : Option (List ℕ)) (fault : PlayFault) : Type 0 where
   pub stopped : IfSome script
       (λ input. StopsShares input (shared_out nodes (no_shares nodes) 0 (lines_of input)) fault)
@@ -63,8 +63,8 @@ abbrev pub PrintsNothing : ℕ → Option (List ℕ) → PlayFault → Option (L
     → Type 0
 PrintsNothing nodes script fault old new = StopsCluster nodes script fault × (new ≡ old)
 
--- what a script that so many nodes are to serve puts on standard output: its text, only a first part of it where a write
--- fails, and nothing for any other fault
+-- the standard output of a script that nodes serve: its text, only a first part of it if a write fails, and nothing for
+-- any other fault
 abbrev pub PrintsCluster : ℕ → Option (List ℕ) → Result (Unit {0}) PlayFault
     → Option (List ℕ) → Option (List ℕ) → Type 0
 PrintsCluster nodes script (Ok done) old new = Wrote old new (IsClusterText nodes script)

@@ -77,7 +77,7 @@ abbrev pub StartsRun : Option (List ℕ) → Option (List ℕ) → Output → Ou
 StartsRun script left old new status =
     RunsScript script left old new status ⊎ ((left ≡ script) × WantsRandomBytes old new status)
 
--- a script was served by so many nodes: the status and the line on standard error are those of its end
+-- a script was served by this many nodes: the status and the line on standard error are those of its end
 pub record RunsCluster (nodes : ℕ) (script left : Option (List ℕ)) (old new : Output) (status : ℕ)
     : Type 0 where
   pub end : Result (Unit {0}) PlayFault
@@ -86,7 +86,7 @@ pub record RunsCluster (nodes : ℕ) (script left : Option (List ℕ)) (old new 
   pub ended : status ≡ status_of end
   pub faults : PrintsEnd end old.faults new.faults
 
--- a script was served by so many nodes, or the system gave no random bytes, and nothing was read
+-- a script was served by this many nodes; or the system gave no random bytes, and nothing was read
 abbrev pub StartsCluster : ℕ → Option (List ℕ) → Option (List ℕ) → Output → Output → ℕ → Type 0
 StartsCluster nodes script left old new status =
     RunsCluster nodes script left old new status
@@ -98,7 +98,7 @@ watch_fault_line (Play fault) = fault_line fault
 watch_fault_line NoSeat = codes "no seat\n"
 watch_fault_line NoAnswer = codes "no answer\n"
 
--- the exit status of a watch: that of a run if it ended as a run does, else 3
+-- the exit status of a watch: the status of a run with the same fault, else 3
 abbrev pub watch_status_of : Result (Unit {0}) WatchFault → ℕ
 watch_status_of (Ok done) = 0
 watch_status_of (Err (Play fault)) = status_of (Err fault)
@@ -138,7 +138,7 @@ StartsWatch domain None script left old new status = (left ≡ script) × Refuse
 StartsWatch domain (Some name) script left old new status =
     StartsNamedWatch (record { domain = domain; name = name }) script left old new status
 
--- what the words ask for was started: a cluster or a watch where they name it, and else a run
+-- the words start a cluster or a watch if they name it, else a run
 abbrev pub StartsTask : List Text → Option (List ℕ) → Option (List ℕ)
     → Output → Output → ℕ → Type 0
 StartsTask words script left old new status =
@@ -174,14 +174,14 @@ pub record FailsHelp (old new : Output) (status : ℕ) : Type 0 where
   pub faults : PrintsFault Write old.faults new.faults
   pub ended : status ≡ 3
 
--- what a call comes to whose words get an error of this kind: help that is asked for is never refused
+-- the end of a call whose words have an error of this kind; help is never refused
 abbrev pub EndsByError : ErrorKind → Output → Output → ℕ → Type 0
 EndsByError kind old new status =
     WantsMemory old new status
     ⊎ (IsHelp kind × (GivesHelp old new status ⊎ FailsHelp old new status))
     ⊎ ((kind ≢ OutOfMemory) × (IsHelp kind → ⊥) × RefusesWords old new status)
 
--- the words get no error, and what they ask for was started; or they get one, and nothing was read
+-- the words have no error, and their task was started; or they have an error, and nothing was read
 abbrev pub EndsByWords : List Text → Option (List ℕ) → Option (List ℕ)
     → Output → Output → ℕ → Type 0
 EndsByWords words script left old new status =
@@ -194,7 +194,7 @@ abbrev pub RunsOrWantsMemory : Option (List ℕ) → Option (List ℕ) → Outpu
 RunsOrWantsMemory script left old new status =
     StartsRun script left old new status ⊎ ((left ≡ script) × WantsMemory old new status)
 
--- a cluster of so many nodes was started, or memory ran out before
+-- a cluster of this many nodes was started, or memory ran out before
 abbrev pub ClustersOrWantsMemory : ℕ → Option (List ℕ) → Option (List ℕ) → Output → Output → ℕ → Type 0
 ClustersOrWantsMemory nodes script left old new status =
     StartsCluster nodes script left old new status ⊎ ((left ≡ script) × WantsMemory old new status)

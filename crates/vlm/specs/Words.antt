@@ -1,4 +1,4 @@
--- The words that the program takes, what they ask for, and the kinds of error that others get.
+-- The command line: its words, the task that they name, and the kinds of error.
 use Rattle.std.specs.Prelude.{◌≡◌, ◌≤◌, ◌⊎◌, ℕ, List, [], ◌∷◌, ◌++◌, Option, None, Some, true, codes, decimal, option_and_then, option_map, pos}
 use Rattle.std.specs.Result.{result_ok}
 use Rattle.std.specs.Str.Parse.{IsNumeral, digits_value, without_leading_plus}
@@ -13,11 +13,11 @@ use Rattle.vlm.specs.declared.arguments.Subject.{Subject}
 use Rattle.vlm.specs.declared.arguments.Task.{Task}
 use Rattle.vlm.specs.declared.arguments.Task.TheVariants.{Cluster, Play, Watch}
 
--- a command that needs one of its subcommands, or is asked for its version
+-- a command that needs one of its subcommands, except for its version
 abbrev pub with_needed_subcommand : App → App
 with_needed_subcommand app = record app { top = record app.top { has_version = true; subcommand_required = true } }
 
--- the option of a number of nodes, from 1 to 8: two, where it is not given
+-- the option for the number of nodes, from 1 to 8; the default is 2
 abbrev pub nodes_rule : Rule
 nodes_rule = record (new_rule (codes "nodes")) {
   long = Some (codes "nodes");
@@ -57,11 +57,11 @@ play_or_cluster =
     (with_subcommand (with_needed_subcommand (new_app (codes "vlm"))) (new_app (codes "play")).top)
     cluster_command.top
 
--- the program's commands, `play`, `cluster` and `watch`, of which one is needed
+-- the program's commands `play`, `cluster` and `watch`; one of them is needed
 abbrev pub program_commands : App
 program_commands = with_subcommand play_or_cluster watch_command.top
 
--- the kinds of error that the words may get: none where they ask for a run
+-- the kinds of error that the words may have: no error if they name a run
 abbrev pub word_errors : List Text → Kinds
 word_errors words = fault_of program_commands words
 
@@ -69,7 +69,7 @@ word_errors words = fault_of program_commands words
 abbrev pub IsErrorOf : List Text → ErrorKind → Type 0
 IsErrorOf words kind = (kind ≡ OutOfMemory) ⊎ IsAmong kind (word_errors words)
 
--- what was asked for is a text about the program
+-- the error is a wanted text: help or the version
 abbrev pub IsHelp : ErrorKind → Type 0
 IsHelp kind = (kind ≡ DisplayHelp) ⊎ (kind ≡ DisplayVersion)
 
@@ -82,12 +82,12 @@ abbrev pub named_nodes : List Text → Option Text
 named_nodes words =
     option_and_then (λ s. one_of (codes "nodes") s.1) (subcommand_of program_commands words)
 
--- the text spells the number in decimal digits: zeros may stand before them, and a plus before all
+-- the text is the number in decimal digits, perhaps after zeros, and those perhaps after a plus
 pub record Spells (text : Text) (n : ℕ) : Type 0 where
   pub numeral : IsNumeral 10 (without_leading_plus text)
   pub value : digits_value 10 (without_leading_plus text) ≡ n
 
--- the words ask for a cluster of so many nodes, however they spell the number
+-- the words name a cluster of this many nodes, in any spelling of the number
 pub record AskForCluster (words : List Text) (nodes : ℕ) : Type 0 where
   pub command : named_command words ≡ Some (codes "cluster")
   pub least : 1 ≤ nodes
@@ -113,8 +113,8 @@ abbrev pub named_group : List Text → Option Text
 named_group words =
     option_and_then (λ s. one_of (codes "group") s.1) (subcommand_of program_commands words)
 
--- the words ask that this be watched: the resource of the name that they give, in the group that they give, however
--- they spell its number, or in the system's domain where they give none
+-- the words name this resource to watch: its name, and its group in any spelling of the number, or the system's domain
+-- if they give no group
 pub record AskForWatch (words : List Text) (subject : Subject) : Type 0 where
   pub command : named_command words ≡ Some (codes "watch")
   pub name : subject.name ≡ watched_name words
@@ -134,7 +134,7 @@ AskFor words Play = AskForPlay words
 AskFor words (Cluster nodes) = AskForCluster words nodes
 AskFor words (Watch subject) = AskForWatch words subject
 
--- the words `NAME cluster --nodes N`, or `NAME cluster` where it is two nodes
+-- the words `NAME cluster --nodes N`, or `NAME cluster` for two nodes
 abbrev pub AreClusterWords : Text → ℕ → List Text → Type 0
 AreClusterWords name nodes words =
     (words ≡ name ∷ codes "cluster" ∷ codes "--nodes" ∷ decimal nodes ∷ [])

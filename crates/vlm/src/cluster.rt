@@ -14,9 +14,8 @@ use std::random::RandomSource;
 use std::sync::Wait;
 use std::thread::Threads;
 use std::time::Clock;
-use vlm_cluster::{Gate, Go, Report, serve_lists_over};
+use vlm_cluster::{OpenGate, Report, serve_lists_over};
 use vlm_core::Core;
-use vlm_journal::entries::Item;
 use vlm_script::{HashKeys, PlayFault, read_lists, write_whole};
 use vlm_words::steps::Step;
 
@@ -116,20 +115,4 @@ fn serve_lists(
         Ok(report) => Ok(report),
         Err(_) => Err(AllocError),
     }
-}
-
-// Lets each step be posted at once.
-#[derive(Clone, Copy, Drop)]
-struct OpenGate;
-
-impl Gate for OpenGate {
-    ghost use Rattle.std.specs.Prelude.{true};
-
-    ghost never_stops = { true };
-
-    fn before(&mut self, _n: usize) -> Go {
-        Go::Post
-    }
-
-    fn after(&mut self, _item: &Item) {}
 }

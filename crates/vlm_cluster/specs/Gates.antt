@@ -18,7 +18,7 @@ abbrev pub moves : {G : Type 0} → (G → ℕ → Go → G → Type 0) → (G �
 moves answers hears old (asks n go) new = answers old n go new
 moves answers hears old (tells item) new = hears old item new
 
--- each event starts in the state that the one before it led to
+-- each event starts in the state to which the event before it led
 abbrev pub Chain : {G : Type 0} → Moves G → G → List Event → G → Type 0
 Chain moves old [] new = new ≡ old
 Chain {G} moves old (event ∷ events) new = (next : G) × moves old event next × Chain moves next events new

@@ -43,3 +43,17 @@ pub trait Gate: Drop {
     fn after(&mut self, item: &Item)
         ensures { Self.hears self.old item.now self.new };
 }
+
+/// A gate that lets each step be posted at once.
+#[derive(Clone, Copy, Drop)]
+pub struct OpenGate;
+
+impl Gate for OpenGate {
+    ghost never_stops = { true };
+
+    fn before(&mut self, _n: usize) -> Go {
+        Go::Post
+    }
+
+    fn after(&mut self, _item: &Item) {}
+}

@@ -22,7 +22,7 @@ mod signals;
 mod threads;
 mod worker;
 
-pub use gate::{Gate, Go};
+pub use gate::{Gate, Go, OpenGate};
 pub use lists::{serve_lists, serve_lists_over};
 pub use posts::posts_of;
 pub use report::{Fault, Report};

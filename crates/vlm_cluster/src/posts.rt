@@ -1,9 +1,9 @@
 //! Which steps a node may post.
 
 ghost use Rattle.std.specs.Prelude.{◌↔◌, IsTrue};
-ghost use Rattle.vlm_journal.specs.Journals.{IsPostOf};
 ghost use Rattle.vlm_cluster.specs.Posts.{ArePostsOf};
 
+use vlm_journal::posts::is_post_of;
 use vlm_words::steps::Step;
 
 /// Returns whether the node may post each step of the list: each is a step of that node, and none is
@@ -12,13 +12,4 @@ pub fn posts_of(node: u8, list: &[Step]) -> bool
     ensures { IsTrue result ↔ ArePostsOf node list.now }
 {
     list.iter().all(|step| is_post_of(node, step))
-}
-
-fn is_post_of(node: u8, step: &Step) -> bool
-    ensures { IsTrue result ↔ IsPostOf node step.now }
-{
-    match step {
-        Step::Take(_) => false,
-        _ => step.node() == u16::from(node),
-    }
 }

@@ -11,12 +11,12 @@ use Rattle.vlm_locks.specs.declared.located_locks.LocatedLock.{LocatedLock}
 use Rattle.vlm_locks.specs.Standing.{IsLocated}
 use Rattle.vlm_cycle.specs.Waiting.{searched}
 
--- the request of the row is not deadlocked, or was not made after that of the best
+-- the row's request is not deadlocked, or is not more recent than the best one
 abbrev pub IsCovered : Records → Option LocatedLock → LockRow → Type 0
 IsCovered s None row = IsDeadlocked (searched s) row → ⊥
 IsCovered s (Some best) row = IsDeadlocked (searched s) row → wanted_number row ≤ wanted_number best.row
 
--- the request of the row was made after that of the best, if there is one
+-- the row's request is more recent than the best one, if there is a best one
 abbrev pub IsLater : LockRow → Option LocatedLock → Type 0
 IsLater row None = ⊤
 IsLater row (Some best) = wanted_number best.row < wanted_number row
@@ -26,11 +26,11 @@ abbrev pub IsNotLater : LockRow → Option LocatedLock → Type 0
 IsNotLater row None = ⊥
 IsNotLater row (Some best) = wanted_number row ≤ wanted_number best.row
 
--- the best, if there is one, stands as it says, and its request is deadlocked
+-- the best lock, if there is one, is where it says, and its request is deadlocked
 abbrev pub IsFit : Records → Option LocatedLock → Type 0
 IsFit s best = ForSome best (λ f. IsLocated f s × IsDeadlocked (searched s) f.row)
 
--- the lock, if there is one, stands as it says
+-- the lock, if there is one, is where it says
 abbrev pub IsLocatedIfAny : Records → Option LocatedLock → Type 0
 IsLocatedIfAny s found = ForSome found (λ f. IsLocated f s)
 
@@ -40,7 +40,7 @@ pub record Improves (s : Records) (rows : List LockRow) (old new : Option Locate
   pub kept : (row : LockRow) → IsCovered s old row → IsCovered s new row
   pub covered : (row : LockRow) → IsIn row rows → IsCovered s new row
 
--- the row of a lock that stands somewhere, if there is one
+-- the row of a located lock, if there is one
 abbrev pub row_located : Option LocatedLock → Option LockRow
 row_located found = option_map (λ f. f.row) found
 

@@ -11,8 +11,8 @@ use Rattle.vlm_queue.specs.Walks.{rows_queued}
 abbrev pub rows_queued_on : ℕ → Records → List LockRow
 rows_queued_on res s = rows_queued res Conversion s ++ rows_queued res Waiting s
 
--- the lock of this handle is the first in line on the resource: the first that converts, or the first that waits where
--- none converts
+-- the lock is the first with a queued request on the resource: the first that converts, or the first that waits if no
+-- lock converts
 abbrev pub IsFirstOn : Records → ℕ → ℕ → Type 0
 IsFirstOn s at res = first_at (locks_at (Queued res Conversion) s ++ locks_at (Queued res Waiting) s) ≡ Some at
 

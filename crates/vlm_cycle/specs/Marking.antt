@@ -21,7 +21,7 @@ pub record IsClear (marks : Scratch) : Type 0 where
 abbrev pub IsFound : Scratch → ℕ → Type 0
 IsFound marks pid = (is_marked marks.seen pid ≡ true) × (is_marked marks.todo pid ≡ true)
 
--- the process is not found, and of whether the search has to go to it is what was
+-- the process is not found; whether the search has to visit it is unchanged
 abbrev pub IsNotFound : Scratch → Scratch → ℕ → Type 0
 IsNotFound old new pid = (is_marked new.seen pid ≡ false) × (is_marked new.todo pid ≡ is_marked old.todo pid)
 

@@ -20,15 +20,15 @@ use Rattle.vlm_cycle.specs.Waiting.{OwnsBefore, OwnsBlocker, rows_before, search
 
 -- ---- ranks
 
--- the rank that is noted of the process of this handle, 0 where none is
+-- the noted rank of the process with this handle, or 0
 abbrev pub rank_at : Ranks → ℕ → ℕ
 rank_at ranks process = option_map_or (λ note. note.rank) (slice_get ranks process) 0
 
--- the rank of the living process with this identification, 0 where there is none
+-- the rank of the living process with this identification, or 0
 unfoldable pub rank_of : Records → Ranks → ℕ → ℕ
 rank_of s ranks pid = option_map_or (λ p. rank_at ranks p.at) (find (λ p. p.process.pid == pid) s.processes) 0
 
--- the requests of these rows wait for no process of a higher rank than that of their own
+-- no request of these rows waits for a process of a higher rank than its own process
 abbrev pub FallsOn : Records → Ranks → List LockRow → Type 0
 FallsOn s ranks rows =
     (row lock : LockRow) → IsIn row rows → WaitsFor (searched s) row lock → rank_of s ranks lock.pid ≤ rank_of s ranks row.pid
@@ -37,7 +37,7 @@ FallsOn s ranks rows =
 abbrev pub Falls : Records → Ranks → Type 0
 Falls s ranks = (row lock : LockRow) → WaitsFor (searched s) row lock → rank_of s ranks lock.pid ≤ rank_of s ranks row.pid
 
--- ---- what is counted
+-- ---- counts
 
 -- a lock of this identification and rank is counted: the peak is above it, and above it too without the lock that has
 -- the peak, if that is another one
@@ -59,7 +59,7 @@ CountsHeld peaks None lkid rank = Unit {0}
 CountsHeld peaks (Some held) lkid rank =
     has_flag (flag_bits held.flags) nodlckblk ≡ false → IsCounted (highest_of peaks held.mode) lkid rank
 
--- what these locks hold is counted with the ranks of their owners
+-- the held modes of these locks are counted with the ranks of their owners
 abbrev pub CountsHolders : Records → Ranks → List HighestRank → List LockRow → Type 0
 CountsHolders s ranks peaks rows =
     (row : LockRow) → IsIn row rows → CountsHeld peaks row.held row.lkid (rank_of s ranks row.pid)
@@ -75,7 +75,7 @@ IsAboveAll peaks mode lkid top = (held : Mode) → is_compatible mode held ≡ f
 
 -- ---- the gauge of a resource
 
--- the owners of the requests of a queue that those behind wait for are below what is before
+-- the ranks of the owners whose requests block later ones are below the bound for earlier requests
 abbrev pub HasPassedAll : Records → Ranks → ℕ → List LockRow → Type 0
 HasPassedAll s ranks before rows =
     (lkid pid : ℕ) → OwnsBlocker (rows_before lkid rows) pid → rank_of s ranks pid < before
@@ -92,7 +92,7 @@ pub record AreBlockerRanksOf (s : Records) (ranks : Ranks) (blocker_ranks : Bloc
   pub converting : CountsHolders s ranks blocker_ranks.held (rows_queued res Conversion s)
   pub passed : HasPassed s ranks blocker_ranks.before res queue
 
--- the gauge of a resource, at a lock: it has passed the requests before that of the lock
+-- the blocker ranks of a resource at a lock: the requests before that lock are passed
 pub record AreBlockerRanksAt (s : Records) (ranks : Ranks) (blocker_ranks : BlockerRanks) (f : LocatedLock) : Type 0 where
   pub granted : CountsHolders s ranks blocker_ranks.held (rows_queued f.res Granted s)
   pub converting : CountsHolders s ranks blocker_ranks.held (rows_queued f.res Conversion s)

@@ -6,7 +6,7 @@ use Rattle.vlm_cycle.specs.declared.ranks.DatedNode.{DatedNode}
 use Rattle.vlm_cycle.specs.declared.ranks.TarjanNode.{TarjanNode}
 use Rattle.vlm_cycle.specs.declared.ranks.Ranks.TheInside.{Inside}
 
--- what is noted of each process, by its slot
+-- the note of each process, by its slot
 abbrev pub Ranks : Type 0
 Ranks = List TarjanNode
 

@@ -29,7 +29,7 @@ OwnsWaitedFor s row pid = (lock : LockRow) × (WaitsFor (searched s) row lock ×
 abbrev pub IsBehind : Records → ℕ → ℕ → Type 0
 IsBehind s pid other = ProcessWaitsFor (searched s) pid other
 
--- it is another lock, and what it holds is against the mode
+-- it is another lock, and its held mode is incompatible with the mode
 abbrev pub IsHolder : ℕ → Mode → LockRow → Type 0
 IsHolder lkid mode row = (row.lkid ≢ lkid) × HoldsAgainst mode row.held
 
@@ -37,17 +37,17 @@ IsHolder lkid mode row = (row.lkid ≢ lkid) × HoldsAgainst mode row.held
 abbrev pub OwnsHolder : ℕ → Mode → List LockRow → ℕ → Type 0
 OwnsHolder lkid mode rows pid = (row : LockRow) × (IsIn row rows × IsHolder lkid mode row × (row.pid ≡ pid))
 
--- the rows before that of the lock of this identification, or all where it is not there
+-- the rows before the lock with this identification, or all rows if it is not among them
 abbrev pub rows_before : ℕ → List LockRow → List LockRow
 rows_before lkid [] = []
 rows_before lkid (row ∷ rows) = if row.lkid == lkid then [] else row ∷ rows_before lkid rows
 
--- the process owns one of the locks, and those behind that wait for it
+-- the process owns one of these locks for which later requests wait
 abbrev pub OwnsBlocker : List LockRow → ℕ → Type 0
 OwnsBlocker rows pid = (row : LockRow) × (IsIn row rows × BlocksThoseBehind row.want × (row.pid ≡ pid))
 
--- the process owns a lock before the one of this identification, in its queue or in one that is before it, that those
--- behind wait for
+-- the process owns a lock before the lock with this identification, in its queue or the queue before that, for which
+-- later requests wait
 abbrev pub OwnsBefore : ℕ → Queue → List LockRow → List LockRow → ℕ → Type 0
 OwnsBefore lkid Granted converting waiting pid = ⊥
 OwnsBefore lkid Conversion converting waiting pid = OwnsBlocker (rows_before lkid converting) pid

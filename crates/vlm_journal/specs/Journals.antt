@@ -1,5 +1,5 @@
 -- The lists of entries that a hub may write.
-use Rattle.std.specs.Prelude.{◌≡◌, ◌⊎◌, ◌<◌, ◌≤◌, ℕ, List, [], ◌∷◌, ◌++◌, Option, None, Some, map}
+use Rattle.std.specs.Prelude.{◌≡◌, ◌⊎◌, ◌<◌, ◌≤◌, ℕ, List, [], ◌∷◌, ◌++◌, Option, None, Some, map, ◌==◌, ◌&&◌, Bool, not, is_some}
 use Rattle.vlm_words.specs.declared.asts.Ast.{Ast}
 use Rattle.vlm_words.specs.declared.steps.Answer.TheVariants.{Taken}
 use Rattle.vlm_words.specs.declared.steps.Answer.{Answer}
@@ -18,6 +18,10 @@ taker step = None
 -- a node may post the step: it is a step of that node, and not a take
 abbrev pub IsPostOf : ℕ → Step → Type 0
 IsPostOf node step = (node_of step ≡ node) × (taker step ≡ None)
+
+-- whether a node may post the step
+abbrev pub is_post_of : ℕ → Step → Bool
+is_post_of node step = not (is_some (taker step)) && (node_of step == node)
 
 -- the hub itself may make the step, if this is its answer: the departure of a node, or a take that gets an AST
 pub data IsHubs : Step → Answer → Type 0 where

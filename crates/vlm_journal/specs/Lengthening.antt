@@ -12,9 +12,8 @@ use Rattle.vlm_journal.specs.Told.{asked, told}
 abbrev pub IsSilent : List Entry → Type 0
 IsSilent entries = (node : ℕ) → (asked node entries ≡ []) × (told node entries ≡ [])
 
--- the entry at the end lengthens what its sender asked for, by its step, and what nobody else asked for; and what one
--- node is told, by one item at most, and no other: a sender by its answer, the node of a process by the AST that the hub
--- takes of it; a departure that the hub makes by itself tells nobody anything
+-- one more entry adds its step to the steps of its sender and of nobody else; it sends at most one item: the answer to its
+-- sender, or a taken AST to the node of its process; a departure that the hub makes by itself sends nothing
 pub record LengthensLittle (entries : List Entry) (entry : Entry) : Type 0 where
   pub asks : asked entry.sender (entries ++ entry ∷ []) ≡ asked entry.sender entries ++ entry.step ∷ []
   pub asks_none : (other : ℕ) → other ≢ entry.sender → asked other (entries ++ entry ∷ []) ≡ asked other entries

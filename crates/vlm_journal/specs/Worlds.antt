@@ -59,7 +59,7 @@ pub data Event : Type 0 where
 abbrev pub IsNext : {X : Type 0} → X → List X → List X → Type 0
 IsNext {X} x come all = (rest : List X) × (all ≡ come ++ x ∷ rest)
 
--- the node is among so many, from 1
+-- the node's number is from 1 to this number
 abbrev pub IsNode : ℕ → ℕ → Type 0
 IsNode nodes node = (0 < node) × (node ≤ nodes)
 
@@ -133,14 +133,15 @@ abbrev pub own_steps : List Event → List Step
 own_steps [] = []
 own_steps (event ∷ events) = own_step event ++ own_steps events
 
--- the events of so many nodes and their hub lead to the world
+-- the events of this many nodes and their hub lead to the world
 pub data Reached (nodes : ℕ) : List Event → World → Type 0 where
   begin : Reached nodes [] first_world
   next : {events : List Event} {old new : World} (event : Event)
       → Reached nodes events old → Happens nodes old event new → Reached nodes (events ++ event ∷ []) new
 
--- what is served is what the node asked for, and begins what it posted; what is sent begins what it is told, and what
--- it has received begins that; no more than 64 posts are not served, and no more than 64 items are on their way
+-- the served steps are those that the journal has of the node, and a prefix of its posts; the sent items are a prefix of
+-- those that the journal has for it, and the received items a prefix of the sent; at most 64 posts are not served, and at
+-- most 64 items are on their way
 pub record IsInOrder (node : ℕ) (journal : List Entry) (own : Lists) : Type 0 where
   pub served : own.served ≡ asked node journal
   pub posted : IsPrefix own.served own.posted

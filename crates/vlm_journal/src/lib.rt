@@ -6,3 +6,4 @@
 pub mod book;
 pub mod entries;
 pub mod laws;
+pub mod posts;

@@ -1,4 +1,4 @@
--- The conversion of a lock that stands in the granted queue.
+-- The conversion of a granted lock.
 use Rattle.std.specs.Prelude.{◌≡◌, true, List, map}
 use Rattle.vlm_words.specs.declared.locks.Request.{Request}
 use Rattle.vlm_words.specs.declared.locks.LockRow.{LockRow}
@@ -25,7 +25,7 @@ admission_on f asked r = record {
   at_once = converts_at_once asked f.row.lkid (plain_resource r);
 }
 
--- the processes once the request of the lock is accepted: its status block is that of a pending request
+-- the processes after the request is accepted: its status block says that it is pending
 abbrev pub processes_converting : LocatedLock → Request → Records → List Process
 processes_converting f asked s = processes_after_acceptance f.row.pid asked.block f.row.lkid (plain_processes s)
 
@@ -41,7 +41,7 @@ pub record IsConverted (f : LocatedLock) (asked : Request) (accepted : List Proc
 abbrev pub moved_in : LocatedLock → LockRow → Queue → StoredResource → StoredResource
 moved_in f row queue r = resource_with (moving (Queued f.res queue) (record { at = f.lock; row = row })) r
 
--- what the grant of the row writes on the resource, and to these processes
+-- the value block and the processes after the grant of the row
 abbrev pub blocks_granted : LockRow → StoredResource → List Process → Blocks
 blocks_granted row r accepted = blocks_after (grant_endings true row) (blocks_with r.value_block accepted)
 

@@ -19,7 +19,7 @@ use Rattle.vlm_locks.specs.Owing.{IsPaid, due_for}
 use Rattle.vlm_locks.specs.Rest.{IsAtRest, OtherLocksStay, OthersStay}
 use Rattle.vlm_locks.specs.Rising.{IsAboveEachLock}
 
--- the row of the new lock: it wants what it asks for, and holds nothing
+-- the row of the new lock: it wants the requested mode and holds none
 abbrev pub new_row : NewLock → LockRow
 new_row e = record {
   lkid = e.lkid;
@@ -30,11 +30,11 @@ new_row e = record {
   armed = false;
 }
 
--- the resource that the lock finds under its key: a new one where none is there
+-- the resource under the lock's key, or a new one if there is no such resource
 abbrev pub resource_for : NewLock → List Resource → Resource
 resource_for e resources = unwrap_or (find (is_at e.site.key) resources) (new_resource e.serial e.site)
 
--- the queue that a new lock enters: that of the granted locks at once, or that in which it waits
+-- the queue that a new lock enters: the granted queue if it is granted at once, else the waiting queue
 abbrev pub entered_queue : Bool → Queue
 entered_queue at_once = if at_once then Granted else Waiting
 
@@ -48,14 +48,14 @@ pub record MayEnter (e : NewLock) (s : Records) : Type 0 where
   pub keyed : IsKeyed e.site.domain e.site.key
   pub hash : e.hash ≡ hash_key s.keys e.site.key
 
--- there is room for the lock, and for its resource where none is there, and its request names no routine
+-- there is room for the lock and for its resource if that is new, and the request names no routine
 pub record HasRoomToEnter (e : NewLock) (s : Records) : Type 0 where
   pub lock : HasRoomForLock e.lkid s
   pub resource : e.res ≡ None → HasRoomForResource e.hash s
   pub asts : routines_of (Some e.asked) ≡ 0
 
--- there is room for the lock, and for its resource where none is there, and its process is owed the ASTs of the routines
--- that its request names; nothing else is changed
+-- there is room for the lock and for its resource if that is new, and its process is owed the ASTs of the routines that
+-- the request names; nothing else is changed
 pub record IsReady (e : NewLock) (old new : Records) : Type 0 where
   pub resources : new.resources ≡ old.resources
   pub processes : map but_notices new.processes ≡ map but_notices old.processes
@@ -65,7 +65,7 @@ pub record IsReady (e : NewLock) (old new : Records) : Type 0 where
   pub resource : e.res ≡ None → HasRoomForResource e.hash new
   pub owed : DueChanges e.pid (λ due. due + routines_of (Some e.asked)) old new
 
--- more is due, by what is due for a new lock with this row, and what is owed stays
+-- the ASTs for a new lock with this row are due too, and the ASTs owed stay the same
 pub record IsDueMore (row : LockRow) (old new : Records) : Type 0 where
   pub due : (pid : ℕ) → due_for pid new ≡ due_for pid old + due_to pid row
   pub dues : DuesStay old new
@@ -80,8 +80,8 @@ processes_entered e block processes =
     (blocks_after (if e.at_once then grant_endings true (new_row e) else [])
     (blocks_with block (processes_accepted e processes))).processes
 
--- one lock is added, that of the entry, under a handle that no lock had: it is the last of its process, and of those below
--- its parent; each other lock stands where it stood
+-- the new lock is added under a handle that no lock had: it is the last lock of its process and the last sublock of its
+-- parent; each other lock stays where it was
 pub record IsAdded (e : NewLock) (old new : Records) : Type 0 where
   pub lock : ℕ
   pub fresh : ¬ IsStored lock old
@@ -91,8 +91,7 @@ pub record IsAdded (e : NewLock) (old new : Records) : Type 0 where
   pub own_locks : map but_notices new.processes ≡ map but_notices (map (process_with_lock e.owner e.parent lock) old.processes)
   pub others : OtherLocksStay lock old new
 
--- the lock stands on the resource of this handle, in the queue where its request puts it, and no other lock and no other
--- resource changed
+-- the lock is on the resource with this handle, in the queue that it enters; no other lock and no other resource changed
 pub record IsTakenIn (e : NewLock) (res : ℕ) (old new : Records) : Type 0 where
   pub entered : plain_resources new ≡ resources_after_entry e.serial e.site (new_row e) e.at_once (plain_resources old)
   pub added : IsAdded e old new
@@ -107,8 +106,8 @@ pub record IsEntered (e : NewLock) (res : ℕ) (old new : Records) : Type 0 wher
   pub owner : IsProcess e.owner e.pid new
   pub value_block : IfSome (resource_at res new.resources) (λ r. r.value_block ≡ (resource_for e (plain_resources old)).value_block)
 
--- the lock is taken in on the resource of this handle, its status block is that of a pending request or tells of its grant,
--- and each process is owed what is due to it
+-- the lock is on the resource with this handle, its status block says pending or tells of the grant, and each process is
+-- owed the ASTs that are due to it
 pub record HasEntered (e : NewLock) (res : ℕ) (old new : Records) : Type 0 where
   pub taken : IsTakenIn e res old new
   pub statuses : plain_processes new ≡ processes_entered e (resource_for e (plain_resources old)).value_block (plain_processes old)

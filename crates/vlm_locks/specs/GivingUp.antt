@@ -27,7 +27,7 @@ abbrev pub is_chosen : Scope → List Resource → ℕ → Bool
 is_chosen All resources lkid = true
 is_chosen (Below top) resources lkid = is_below 15 top resources lkid
 
--- each stands before greater ones alone
+-- the numbers rise
 abbrev pub Rise : List ℕ → Type 0
 Rise [] = ⊤
 Rise (lkid ∷ lkids) = AllByRecursion (λ later. lkid < later) lkids × Rise lkids
@@ -39,8 +39,8 @@ pub record AreChosen (scope : Scope) (pid : ℕ) (s : Records) (lkids : List ℕ
       → (at : ℕ) × (row : LockRow) × (Stores s at row × (row.lkid ≡ lkid) × (row.pid ≡ pid) × (is_chosen scope (plain_resources s) lkid ≡ true))
   pub all : (at : ℕ) (row : LockRow) → Stores s at row → row.pid ≡ pid → is_chosen scope (plain_resources s) row.lkid ≡ true → IsIn row.lkid lkids
 
--- where locks below one are chosen, that one is a stored lock of the process; and none has the identification 0, which
--- the row of a lock without a parent names
+-- the lock whose sublocks are given up is a stored lock of the process; no lock has identification 0, which the row of a
+-- lock without a parent names
 abbrev pub IsOwnScope : Scope → ℕ → Records → Type 0
 IsOwnScope All pid s = ⊤
 IsOwnScope (Below top) pid s = (top ≢ 0) × (at : ℕ) × (row : LockRow) × (Stores s at row × (row.lkid ≡ top) × (row.pid ≡ pid))
@@ -60,13 +60,13 @@ noted_lkids notes = map (λ t. t.number) notes
 abbrev pub AreOfLocks : List Note → Records → Type 0
 AreOfLocks notes s = (t : Note) → IsIn t notes → (row : LockRow) × (Stores s t.at row × (row.lkid ≡ t.number))
 
--- ---- what is owed on the way
+-- ---- ASTs that are owed on the way
 
--- what is due to a process for a lock that is none of these
+-- the ASTs due to a process for a lock that is not one of these
 abbrev pub due_but : List ℕ → ℕ → StoredLock → ℕ
 due_but lkids pid k = if is_among lkids k.row then 0 else due_to pid k.row
 
--- each process is owed what is due to it for its locks but for these, and no more
+-- each process is owed exactly the ASTs due for its locks except these
 abbrev pub IsPaidBut : List ℕ → Records → Type 0
 IsPaidBut lkids s = (pid : ℕ) → due_of pid s ≡ total_weight (due_but lkids pid) s
 
@@ -98,7 +98,7 @@ pub record CanGo (pid : ℕ) (touched : Touches) (s : Records) : Type 0 where
   pub granted : GrantedWantNothing s
   pub room : lock_total s ≤ touched.room
 
--- these locks have left their resources, and each resource that is not as it was is noted
+-- these locks have left their resources, and each resource that changed is noted
 pub record HaveLeft (lkids : List ℕ) (invalidates : Bool) (old new : Records) (before after : Touches) : Type 0 where
   pub resources : plain_resources new ≡ map (resource_left (is_among lkids) invalidates) (plain_resources old)
   pub kept : AreStillNoted before.noted after.noted

@@ -7,8 +7,8 @@ use Rattle.vlm_words.specs.State.{Resource}
 use Rattle.vlm_words.specs.ValueBlocks.{invalid_value_block}
 use Rattle.vlm_model.specs.Withdrawals.{Withdrawal, is_writer}
 
--- a lock is given up: its request ends so where it waits and so where it converts, and it writes no value, but may
--- mark all of the value block invalid
+-- the withdrawal of a lock that is given up: how its request ends if it waits and if it converts; it writes no value, and
+-- may mark the value block invalid
 abbrev pub giving_up : How → How → Bool → ℕ → Withdrawal
 giving_up waiting converting invalidates lkid = record {
   lkid = lkid;
@@ -24,7 +24,7 @@ giving_up waiting converting invalidates lkid = record {
 abbrev pub is_among : List ℕ → LockRow → Bool
 is_among lkids row = list_any (λ lkid. row.lkid == lkid) lkids
 
--- the rows but for those that go
+-- the rows that stay
 abbrev pub rows_left : (LockRow → Bool) → List LockRow → List LockRow
 rows_left goes rows = filter (λ row. not (goes row)) rows
 

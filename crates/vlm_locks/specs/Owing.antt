@@ -1,4 +1,4 @@
--- What a process is owed, and what is due to it for its locks.
+-- The ASTs that a process is owed, and those that are due to it for its locks.
 use Rattle.std.specs.Prelude.{◌≡◌, ◌==◌, ◌+◌, ℕ, Bool, false, List, sum_by, None, Some, is_some, if◌then◌else◌}
 use Rattle.vlm_words.specs.declared.locks.Request.{Request}
 use Rattle.vlm_words.specs.declared.locks.LockRow.{LockRow}
@@ -10,7 +10,7 @@ use Rattle.vlm_model.specs.Grants.{grant_act}
 use Rattle.vlm_words.specs.Rows.{granted_row}
 use Rattle.vlm_store.specs.Records.{Records, StoredLock, StoredResource, due_of}
 
--- how many ASTs are due to a process for those of these locks that are its own
+-- how many ASTs are due to a process for its own locks among these
 abbrev pub due_among : ℕ → List StoredLock → ℕ
 due_among pid locks = sum_by (λ k. due_to pid k.row) locks
 
@@ -22,19 +22,19 @@ due_on pid r = due_among pid r.granted + due_among pid r.converting + due_among 
 abbrev pub due_for : ℕ → Records → ℕ
 due_for pid s = sum_by (due_on pid) s.resources
 
--- what the locks of a resource come to, by a measure of each
+-- the sum of a measure over the locks of a resource
 abbrev pub weight_on : (StoredLock → ℕ) → StoredResource → ℕ
 weight_on measure r = sum_by measure r.granted + sum_by measure r.converting + sum_by measure r.waiting
 
--- what all locks come to
+-- the sum of a measure over all locks
 abbrev pub total_weight : (StoredLock → ℕ) → Records → ℕ
 total_weight measure s = sum_by (weight_on measure) s.resources
 
--- by whichever measure, all locks come to less by this one, which is gone
+-- this lock is gone: every measure's sum is less by this lock
 abbrev pub LosesOne : StoredLock → Records → Records → Type 0
 LosesOne lock old new = (measure : StoredLock → ℕ) → total_weight measure new + measure lock ≡ total_weight measure old
 
--- by whichever measure, all locks come to the same
+-- every measure's sum over all locks is the same
 abbrev pub WeighsTheSame : Records → Records → Type 0
 WeighsTheSame old new = (measure : StoredLock → ℕ) → total_weight measure new ≡ total_weight measure old
 
@@ -42,19 +42,19 @@ WeighsTheSame old new = (measure : StoredLock → ℕ) → total_weight measure 
 abbrev pub IsPaid : Records → Type 0
 IsPaid s = (pid : ℕ) → due_of pid s ≡ due_for pid s
 
--- each process is owed the ASTs that are due to it, and this one so many more
+-- each process is owed the ASTs that are due to it, and this process this many more
 abbrev pub OwesMore : ℕ → ℕ → Records → Type 0
 OwesMore owner more s = (pid : ℕ) → due_of pid s ≡ due_for pid s + (if pid == owner then more else 0)
 
--- what is due changes as that of one lock, which had this row and has that one
+-- the ASTs due change by those of one lock, which had the first row and has the second
 abbrev pub DueMoves : LockRow → LockRow → Records → Records → Type 0
 DueMoves was now old new = (pid : ℕ) → due_for pid new + due_to pid was ≡ due_for pid old + due_to pid now
 
--- what is owed changes as what is due for one lock, which had this row and has that one
+-- the ASTs owed change by those due for one lock, which had the first row and has the second
 abbrev pub OwedMoves : LockRow → LockRow → Records → Records → Type 0
 OwedMoves was now old new = (pid : ℕ) → due_of pid new + due_to pid was ≡ due_of pid old + due_to pid now
 
--- the row once what it wants has ended
+-- the row after its queued request has ended
 abbrev pub row_after_end : LockRow → LockRow
 row_after_end row = record row { want = None }
 
@@ -62,16 +62,16 @@ row_after_end row = record row { want = None }
 abbrev pub row_at_end : LockRow → LockRow
 row_at_end row = record row { want = None; armed = false }
 
--- the row of a withdrawn lock: gone, or with what it wants ended
+-- the row of a withdrawn lock: gone, or without its queued request
 abbrev pub left_row : Bool → LockRow → LockRow
 left_row gone row = if gone then row_at_end row else row_after_end row
 
--- how many completions a request queues as it ends at once or later
+-- how many completion ASTs a request queues when it ends, at once or later
 abbrev pub completions_queued : Bool → Request → ℕ
 completions_queued at_once request =
     if is_synchronous at_once request then 0 else one_where (is_some request.completion)
 
--- what the grant of a lock's request writes, its completion apart
+-- the value block and the processes after a grant, without the completion AST
 abbrev pub blocks_written : LockRow → Request → Blocks → Blocks
 blocks_written row request b =
     blocks_after_grant (grant_act row.held (Some request))
@@ -89,6 +89,6 @@ abbrev pub suppressed_completions : Bool → Request → ℕ
 suppressed_completions at_once request =
     if is_synchronous at_once request then one_where (is_some request.completion) else 0
 
--- the row of a lock as it has entered: granted at once, or as it waits
+-- the row of a lock that has entered: granted at once, or waiting
 abbrev pub granted_if_at_once : Bool → LockRow → LockRow
 granted_if_at_once at_once row = if at_once then granted_row row else row

@@ -7,13 +7,13 @@ use Rattle.vlm_records.specs.declared.handles.Place.{Place}
 use Rattle.vlm_store.specs.Records.{HasResource, Records, StoredProcess, StoredResource, but_notices, locks_at, on_resource, resource_at, without_lock, without_resource}
 use Rattle.vlm_locks.specs.Rising.{HasRisingLocks}
 
--- between two steps each resource is in the domain of its key, and the locks of a process and a lock with the locks below
--- it stand by rising identification
+-- between two steps each resource is in the domain of its key; the locks of a process, and each lock with its sublocks,
+-- are in the order of identifications
 pub record IsAtRest (s : Records) : Type 0 where
   pub keyed : (r : StoredResource) → IsIn r s.resources → IsKeyed r.domain r.key
   pub rising : (p : StoredProcess) → IsIn p s.processes → HasRisingLocks s p
 
--- all resources but the one of this handle are as they were, each under its handle with its locks, and in their order
+-- all resources except this one are unchanged, with their handles, their locks and their order
 abbrev pub OthersStay : ℕ → Records → Records → Type 0
 OthersStay res old new = without_resource res new.resources ≡ without_resource res old.resources
 
@@ -25,15 +25,15 @@ OtherLocksStay lock old new = (place : Place) → without_lock lock (locks_at pl
 abbrev pub OwnLocksStay : Records → Records → Type 0
 OwnLocksStay old new = map but_notices new.processes ≡ map but_notices old.processes
 
--- a change of one lock on its resource leaves the others: every other resource and every other lock is as it was, the
--- resource is there still, and all is as it is between two steps
+-- a change of one lock on its resource leaves the others: every other resource and lock is unchanged, the resource still
+-- exists, and what holds between two steps holds
 pub record LeavesOthers (res lock : ℕ) (old new : Records) : Type 0 where
   pub others : OthersStay res old new
   pub locks : OtherLocksStay lock old new
   pub there : HasResource res new
   pub rest : IsAtRest new
 
--- a resource but for its queues and its value block
+-- a resource without its queues and its value block
 abbrev pub but_service : StoredResource → StoredResource
 but_service r = record r {
   value_block = new_value_block;
@@ -42,8 +42,8 @@ but_service r = record r {
   waiting = [];
 }
 
--- the resource of this handle was this one, and that one is in its place now, the same but for its value block and its
--- queues; all else stays, but for status blocks
+-- the resource with this handle was the first and is the second; only its value block and its queues differ, and beside
+-- them only status blocks may change
 pub record IsReplaced (res : ℕ) (had left : StoredResource) (old new : Records) : Type 0 where
   pub was : resource_at res old.resources ≡ Some had
   pub same : but_service left ≡ but_service had

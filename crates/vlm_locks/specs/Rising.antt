@@ -1,14 +1,14 @@
--- The order in which the locks of a process stand, and the locks below a lock.
+-- The order of the locks of a process, and of the sublocks of a lock.
 use Rattle.std.specs.Prelude.{◌<◌, ⊤, ℕ, List, [], ◌∷◌, map}
 use Rattle.vlm_words.specs.declared.locks.LockRow.{LockRow}
 use Rattle.vlm_collections.specs.Lists.{IsIn}
 use Rattle.vlm_store.specs.Records.{OwnLock, Records, StoredProcess, Stores}
 
--- the lock of the one handle has a lower identification than that of the other
+-- the first lock has a lower identification than the second
 abbrev pub IsOlder : Records → ℕ → ℕ → Type 0
 IsOlder s first second = (a b : LockRow) → Stores s first a → Stores s second b → a.lkid < b.lkid
 
--- the locks of these handles stand by rising identification
+-- the locks with these handles are in the order of identifications
 abbrev pub StandByIdentification : Records → List ℕ → Type 0
 StandByIdentification s [] = ⊤
 StandByIdentification s (at ∷ rest) = ((later : ℕ) → IsIn later rest → IsOlder s at later) × StandByIdentification s rest
@@ -17,7 +17,7 @@ StandByIdentification s (at ∷ rest) = ((later : ℕ) → IsIn later rest → I
 abbrev pub handles_of_own : List OwnLock → List ℕ
 handles_of_own locks = map (λ own. own.at) locks
 
--- the locks of the process stand by rising identification, and so does each of these with the locks below it
+-- the locks of the process are in the order of identifications, and so is each of them with its sublocks
 pub record HasRisingLocks (s : Records) (p : StoredProcess) : Type 0 where
   pub own : StandByIdentification s (handles_of_own p.own)
   pub sublocks : (own : OwnLock) → IsIn own p.own → StandByIdentification s (own.at ∷ own.sublocks)

@@ -31,8 +31,8 @@ GrantedWantNothing s = (res : ℕ) (lock : StoredLock) → IsIn lock (locks_at (
 abbrev pub WereThere : Records → Records → Type 0
 WereThere old new = (place : Place) (lock : StoredLock) → IsIn lock (locks_at place new) → IsIn lock (locks_at place old)
 
--- processes can be ended: sublocks are of their parents' processes, granted locks want nothing, each process is owed what is
--- due to it, what is noted is there, and there is room to note the resource of each lock
+-- processes can be ended: sublocks are of their parents' processes, granted locks want nothing, each process is owed the
+-- ASTs due to it, every noted resource exists, and there is room to note the resource of each lock
 pub record CanEndProcesses (touched : Touches) (s : Records) : Type 0 where
   pub rest : IsAtRest s
   pub together : SublocksAreOwn s
@@ -41,7 +41,7 @@ pub record CanEndProcesses (touched : Touches) (s : Records) : Type 0 where
   pub noted : AreThere touched.noted s
   pub room : length touched.noted + lock_total s ≤ touched.room
 
--- these processes are gone with their locks, and each resource that is not as it was is noted
+-- these processes are gone with their locks, and each resource that changed is noted
 pub record AreEnded (is_one : ℕ → Bool) (old new : Records) (before after : Touches) : Type 0 where
   pub resources : plain_resources new ≡ map (resource_after_rundown is_one) (plain_resources old)
   pub processes : plain_processes new ≡ processes_but is_one (plain_processes old)

@@ -14,11 +14,11 @@ use Rattle.vlm_store.specs.Records.{Records, StoredResource, fits_beside, resour
 use Rattle.vlm_locks.specs.Rest.{IsReplaced}
 use Rattle.vlm_locks.specs.Staying.{LocksStay}
 
--- what the grants of a service write and queue, its warnings apart
+-- the value block and the processes after the grants of a service, without its blocking ASTs
 abbrev pub blocks_granted_from : List Process → Resource → Blocks
 blocks_granted_from processes r = blocks_after (service r).endings (blocks_with r.value_block processes)
 
--- a resource but for its queues
+-- a resource without its queues
 abbrev pub but_stored_queues : StoredResource → StoredResource
 but_stored_queues r = record r { granted = []; converting = []; waiting = [] }
 
@@ -55,21 +55,21 @@ abbrev pub wanted_fits_beside : Option Request → ℕ → StoredResource → Bo
 wanted_fits_beside None lock r = false
 wanted_fits_beside (Some request) lock r = fits_beside request.mode (Some lock) r
 
--- what is granted from one queue
+-- the grants from one queue
 abbrev pub service_from : Queue → Resource → Service
 service_from Granted r = no_service r
 service_from Conversion r = service_of_conversions r r.converting
 service_from Waiting r = service_of_waiting r r.waiting
 
--- the resource of this handle was this one, and that one is in its place now, the same but for its queues; all else stays,
--- but for status blocks
+-- the resource with this handle was the first and is the second; only its queues differ, and beside them only status
+-- blocks may change
 pub record IsLeft (res : ℕ) (had left : StoredResource) (old new : Records) : Type 0 where
   pub replaced : IsReplaced res had left old new
   pub now : resource_at res new.resources ≡ Some left
   pub rest : but_stored_queues left ≡ but_stored_queues had
 
--- a service of the resource of this handle is done, but for its value block, which is kept beside the records: its ends took
--- effect, from this value block and these records to those
+-- a service of this resource is done: its endings took effect on the records and on the value block, which is kept beside
+-- the records meanwhile
 pub record IsServiceOf (done : Resource → Service) (res : ℕ) (old_block : ValueBlock) (old : Records)
     (new_block : ValueBlock) (new : Records) : Type 0 where
   pub had : StoredResource

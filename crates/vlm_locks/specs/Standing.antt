@@ -5,7 +5,7 @@ use Rattle.vlm_words.specs.declared.locks.LockRow.{LockRow}
 use Rattle.vlm_store.specs.Records.{IsProcess, Records, StoredResource, Stores, queued, resource_at}
 use Rattle.vlm_locks.specs.declared.located_locks.LocatedLock.{LocatedLock}
 
--- the lock stands so: with this row, in this queue of the resource of this handle, and owned by the process of this handle
+-- the lock exists with this row, in this queue of this resource, and this process owns it
 pub record IsLocated (f : LocatedLock) (s : Records) : Type 0 where
   pub resource : StoredResource
   pub found : resource_at f.res s.resources ≡ Some resource
@@ -18,7 +18,7 @@ pub record IsLocatedLockOf (pid lkid : ℕ) (f : LocatedLock) (s : Records) : Ty
   pub named : f.row.lkid ≡ lkid
   pub owned : f.row.pid ≡ pid
 
--- the handle is that of the lock of this process with this identification
+-- the lock with this handle is the process's lock with this identification
 pub record IsLockOf (pid lkid at : ℕ) (s : Records) : Type 0 where
   pub row : LockRow
   pub stored : Stores s at row

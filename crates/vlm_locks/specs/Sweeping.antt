@@ -17,7 +17,7 @@ pub record Parted (res : ℕ) (resources : List StoredResource) : Type 0 where
   pub keyed : own.at ≡ res
   pub parted : resources ≡ before ++ own ∷ after
 
--- the touched resources stand among these, in the order of their making
+-- the touched resources are among these, in the order of making
 abbrev pub StandInOrder : List ℕ → List StoredResource → Type 0
 StandInOrder [] resources = ⊤
 StandInOrder (res ∷ touched) resources = (here : Parted res resources) × StandInOrder touched here.after
@@ -30,7 +30,7 @@ AreSettledBut touched resources = (r : StoredResource) → IsIn r resources → 
 abbrev pub but_touched : List ℕ → List StoredResource → List StoredResource
 but_touched touched resources = filter (λ r. not (list_any (λ res. r.at == res) touched)) resources
 
--- one resource is swept: it is served, and goes if no lock is left on it; all else stays but for status blocks
+-- one resource is swept: it is served, and goes if no lock is left on it; beside it only status blocks may change
 pub record IsSwept (res : ℕ) (old new : Records) (was : Parted res old.resources) : Type 0 where
   pub left : List StoredResource
   pub resources : new.resources ≡ was.before ++ (left ++ was.after)

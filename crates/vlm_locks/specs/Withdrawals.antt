@@ -14,7 +14,7 @@ how_ended Cancelled = by_cancel
 how_ended Deadlocked = by_deadlock
 how_ended RunDown = by_rundown
 
--- the withdrawal that is asked for
+-- the withdrawal of the plain machine
 abbrev pub plain_withdrawal : Withdrawal → PlainWithdrawal
 plain_withdrawal w = record {
   lkid = w.lkid;

@@ -10,21 +10,20 @@ use Rattle.vlm_store.specs.Records.{HasResource, Records, StoredProcess, process
 use Rattle.vlm_locks.specs.declared.located_locks.LocatedLock.{LocatedLock}
 use Rattle.vlm_locks.specs.Rest.{IsAtRest, OtherLocksStay, OthersStay}
 
--- a lock of this queue may write the value block as it goes: it holds PW or EX, granted or converting
+-- a lock in this queue may write the value block when it goes: it holds PW or EX, granted or converting
 abbrev pub may_write : Queue → LockRow → Bool
 may_write Granted row = is_writer row.held
 may_write Conversion row = is_writer row.held
 may_write Waiting row = false
 
--- a lock of this queue goes as it is withdrawn: always, but for a cancel of one that holds a mode
+-- whether a withdrawn lock of this queue goes: always, except when a converting request is cancelled
 abbrev pub goes : Bool → Queue → Bool
 goes false queue = true
 goes true Granted = false
 goes true Conversion = false
 goes true Waiting = true
 
--- a change of the resource of this handle: of all resources it makes what the plain machine makes of them, and it writes
--- no status block
+-- a change of this resource: on all resources it does what the plain machine does, and it writes no status block
 pub record IsChange (res : ℕ) (change : Resource → Resource) (old new : Records) : Type 0 where
   pub resources : plain_resources new ≡ map change (plain_resources old)
   pub statuses : plain_processes new ≡ plain_processes old
@@ -32,14 +31,13 @@ pub record IsChange (res : ℕ) (change : Resource → Resource) (old new : Reco
   pub there : HasResource res new
   pub rest : IsAtRest new
 
--- the processes with their own locks, after a lock that goes or stays: one that goes is no lock of its process, and none
--- below its parent
+-- the processes with their own locks, after a withdrawal: a lock that goes leaves its process and its parent's sublocks
 abbrev pub owned_after : Bool → ℕ → List StoredProcess → List StoredProcess
 owned_after false lock processes = processes
 owned_after true lock processes = map (process_without_lock lock) processes
 
--- a part of a withdrawal is done: the lock's resource is changed, each other lock stays, and the lock is gone from those of
--- its process, or stays too
+-- a part of a withdrawal is done: the lock's resource is changed, each other lock stays, and the lock has left its process
+-- or stays too
 pub record IsPartDone (f : LocatedLock) (change : Resource → Resource) (gone : Bool) (old new : Records) : Type 0 where
   pub made : IsChange f.res change old new
   pub locks : OtherLocksStay f.lock old new

@@ -42,16 +42,15 @@ pub record IsRequestForm (s : State) (e : NewRequest) (form : RequestForm) : Typ
   pub parent : form.parent ≡ parent_lkid s e
   pub name : is_name e.name ≡ true
 
--- a new request is asked by this caller, says this of itself, and its parent lock stands so, if it names one
+-- this caller makes the new request; its flags and its parent lock are these
 pub record IsAskedBy (m : MachineState) (e : NewRequest) (caller : Caller) (form : RequestForm) (parent : Option Parent) : Type 0 where
   pub living : IsCaller caller m.records
   pub pid : caller.pid ≡ e.pid
   pub says : IsRequestForm (plain_state m) e form
   pub stands : IsParent caller.pid form.parent parent m.records
 
--- the result of a new request's checks: its process, flags and parent lock, where its resource stands, the hash of the
--- key, the handle of the resource, if it is there, and whether the request is granted at once; the numbers are not used
--- up
+-- the result of a new request's checks: its process, flags and parent lock, the site of its resource, the hash of the
+-- key, the handle of the resource if it exists, and whether the request is granted at once; numbers are left
 pub record IsChecked (m : MachineState) (e : NewRequest) (c : CheckedRequest) : Type 0 where
   pub owner : IsProcess c.owner e.pid m.records
   pub flags : flag_bits c.flags ≡ e.flags
@@ -65,8 +64,8 @@ pub record IsChecked (m : MachineState) (e : NewRequest) (c : CheckedRequest) : 
   pub lkid : m.next_lkid < 2 ^ 32
   pub number : m.next_request < 2 ^ 64
 
--- the entry of a new request's lock: its row and who owns it, its parent lock, where its resource stands, how its key is
--- hashed, under which serial that is made if it is not there, and whether the request is granted at once
+-- the new lock of a request: its row and its owner, its parent lock, the site of its resource, the hash of the key, the
+-- serial that the resource gets if it is made, and whether the request is granted at once
 pub record IsEntry (m : MachineState) (e : NewRequest) (new_lock : NewLock) : Type 0 where
   pub row : new_row new_lock ≡ enq_row (plain_state m) e
   pub owner : IsProcess new_lock.owner new_lock.pid m.records
@@ -84,8 +83,7 @@ pub record IsAdmitted (m : MachineState) (e : NewRequest) (new_lock : NewLock) :
   pub lkid : m.next_lkid < 2 ^ 32
   pub number : m.next_request < 2 ^ 64
 
--- an admitted conversion: its lock as it is granted, and whether the request is granted at once; the request numbers
--- are not used up
+-- an admitted conversion: its granted lock, and whether the request is granted at once; request numbers are left
 pub record IsAdmittedConversion (m : MachineState) (c : Conversion) (f : LocatedLock) (now : Bool) : Type 0 where
   pub located : IsLocatedLockOf c.pid (convert_lkid (plain_state m) c) f m.records
   pub granted : f.queue ≡ Granted
@@ -93,7 +91,7 @@ pub record IsAdmittedConversion (m : MachineState) (c : Conversion) (f : Located
   pub found : convert_admission (plain_state m) c ≡ Some (admission_on f (convert_request (plain_state m) c) located.located.resource)
   pub number : m.next_request < 2 ^ 64
 
--- the dequeue is admitted so: it is of one lock, and this is its lock as it stands
+-- the dequeue is admitted: it gives one lock up, and this is that lock
 pub record IsAdmittedDequeue (m : MachineState) (d : Dequeue) (f : LocatedLock) : Type 0 where
   pub located : IsLocatedLockOf d.pid (dequeue_lkid (plain_state m) d) f m.records
   pub alone : has_flag d.flags deqall ≡ false
@@ -115,6 +113,6 @@ pub record IsAdmittedDequeueOfAll (m : MachineState) (d : Dequeue) (a : Admitted
   pub plain : d.value ≡ None
   pub short : d.tail ≡ None
 
--- the lock has no sublocks where the dequeue gives it up as it stands
+-- the lock has no sublocks if the dequeue gives it up
 abbrev pub IsChildless : MachineState → Dequeue → ℕ → Type 0
 IsChildless m d lock = (f : LocatedLock) → IsLocated f m.records → f.lock ≡ lock → goes (has_flag d.flags cancel) f.queue ≡ true → HasNoSublocks f.lock m.records

@@ -7,10 +7,10 @@ use Rattle.vlm_model.specs.Declare.{is_node}
 use Rattle.vlm_words.specs.State.{State}
 use Rattle.vlm_words.specs.Steps.{node_of_pid}
 
--- nothing is to be swept, no two locks have one identification and none has one that is to come, or 0, serials rise from
--- 1, no more of them than identifications were given, a declaration gives an identification that no living process has,
--- each of these is of one of the eight nodes, each parent lock holds a mode, no lock is more than 15 levels below another, and each lock stands in the queue that fits
--- what it holds and wants
+-- the laws that a step relies on: no resource needs a sweep; identifications of locks differ, are not 0 and were given;
+-- serials rise from 1, and are no more than the identifications given; a declaration gives an identification that no
+-- living process has; each process is of one of the eight nodes; each parent lock holds a mode; no lock is more than 15
+-- levels below another; and each lock is in the queue that fits its held and its wanted mode
 pub record IsBetweenSteps (s : State) : Type 0 where
   pub settled : AllByRecursion IsSettled s.resources
   pub identifications : IdentificationsAreApart s

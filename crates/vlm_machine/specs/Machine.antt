@@ -1,4 +1,4 @@
--- What the machine of records keeps, and what it is in the plain machine.
+-- The state of the machine of records, and the plain machine's state that it stands for.
 use Rattle.std.specs.Prelude.{ℕ, List, ◌+◌}
 use Rattle.vlm_words.specs.State.{Node, State}
 use Rattle.vlm_store.specs.Plain.{plain_processes, plain_resources}

@@ -8,7 +8,7 @@ use Rattle.vlm_cycle.specs.declared.scratch.Scratch.{Scratch}
 use Rattle.vlm_cycle.specs.Marking.{HasRoomInBoth}
 use Rattle.vlm_machine.specs.Machine.{MachineState, plain_state}
 
--- how many locks stand on the resources
+-- how many locks the resources have
 abbrev pub total_locks_on : List Resource → ℕ
 total_locks_on resources = sum_by (λ r. length r.granted + length r.converting + length r.waiting) resources
 

@@ -1,11 +1,11 @@
--- The parent of a new request, as it stands in the records.
+-- The parent lock of a new request, in the records.
 use Rattle.std.specs.Prelude.{◌≡◌, ◌≢◌, ◌<◌, ℕ, Option, None, Some}
 use Rattle.vlm_store.specs.Records.{Records}
 use Rattle.vlm_locks.specs.declared.located_locks.LocatedLock.{LocatedLock}
 use Rattle.vlm_locks.specs.Standing.{IsLocatedLockOf}
 use Rattle.vlm_machine.specs.declared.parents.Parent.{Parent}
 
--- the lock is that of the process with this identification, and its resource is this one, not on the lowest level
+-- the lock is the process's lock with this identification; its resource is this one, not on the lowest level
 pub record IsParentLock (pid lkid : ℕ) (parent : Parent) (s : Records) : Type 0 where
   pub lock : LocatedLock
   pub located : IsLocatedLockOf pid lkid lock s

@@ -25,8 +25,8 @@ use Rattle.vlm_watch.specs.declared.rows.Row.{Row}
 use Rattle.vlm_watch.specs.Rows.{IsChangeOf, row_of, row_with}
 use Rattle.vlm_watch.specs.Sheets.{no_row, row_in, row_shown}
 use Rattle.vlm_watch.proofs.Sheets.{last-of-sheet}
-use Rattle.vlm_monitor.specs.declared.watched.WatchedHub.{WatchedHub}
-use Rattle.vlm_monitor.specs.WatchedHubs.{HasLeftAt, standing}
+use Rattle.vlm_monitor.specs.declared.watched.MonitoredHub.{MonitoredHub}
+use Rattle.vlm_monitor.specs.MonitoredHubs.{HasLeftAt, standing}
 use Rattle.vlm_monitor.specs.WatchedPorts.{HasGrown, Name, Posts, posts_of}
 use Rattle.vlm_monitor.specs.Watches.{Makes, printed_row, row_at, steps_asked}
 
@@ -89,7 +89,7 @@ element (x ∷ xs) (suc k) lt = element xs k (omega (arith, lt))
 as_many : (xs ys : List Port) → map posts_of ys ≡ map posts_of xs → length ys ≡ length xs
 as_many xs ys same = sym (length-map ys posts_of) ∙ ap (λ (ps : List Posts). length ps) same ∙ length-map xs posts_of
 
-pub within_still : (old new : WatchedHub) → standing new ≡ standing old → (place : ℕ) → place < length old.ports.items → place < length new.ports.items
+pub within_still : (old new : MonitoredHub) → standing new ≡ standing old → (place : ℕ) → place < length old.ports.items → place < length new.ports.items
 within_still old new same place within =
     let n = as_many old.ports.items new.ports.items (ap (λ s. s.1) same) in
     omega (arith, n, within)
@@ -121,7 +121,7 @@ ports_stay h i xs ys same_rings same are k d lt =
     subst (λ rs. P rs (identity (get_or ys k d))) (sym same_rings) (subst (λ p. P (rings h) p) (sym port) (are k d (omega (arith, n, lt))))
 
 -- a step that was posted, and is left no more, was asked for
-asked_then : (step : Step) (place : ℕ) (old new : WatchedHub) → standing new ≡ standing old → journal old.hub ≡ [] → HasLeftAt old place (step ∷ []) → HasLeftAt new place [] → (d : Port)
+asked_then : (step : Step) (place : ℕ) (old new : MonitoredHub) → standing new ≡ standing old → journal old.hub ≡ [] → HasLeftAt old place (step ∷ []) → HasLeftAt new place [] → (d : Port)
     → place < length new.ports.items → asked (get_or new.ports.items place d).node (journal new.hub) ≡ step ∷ []
 asked_then step place old new same quiet posted_before made d within =
     let was : Port = get_or old.ports.items place d in let is : Port = get_or new.ports.items place d in
@@ -136,7 +136,7 @@ asked_then step place old new same quiet posted_before made d within =
     ∙ ap (λ (ss : List Step). ss ++ step ∷ []) (append-nil (asked_before old.hub was.node) ∙ first))
 
 -- where a hub has nothing in its journal, and makes what was posted at a place, it makes that step alone
-pub makes : (step : Step) (place : ℕ) (first : Hub) (old new : WatchedHub) → journal first ≡ [] → IsAsWritten first old.hub → standing new ≡ standing old
+pub makes : (step : Step) (place : ℕ) (first : Hub) (old new : MonitoredHub) → journal first ≡ [] → IsAsWritten first old.hub → standing new ≡ standing old
     → HasGrown old.hub new.hub → HasLeftAt old place (step ∷ []) → HasLeftAt new place [] → place < length old.ports.items → length (steps_asked (journal new.hub)) ≡ 1
     → Makes step (state first) (state new.hub)
 makes step place first old new quiet same still grown posted_before made low one =

@@ -1,3 +1,3 @@
 pub mod Watches
 pub mod WatchedPorts
-pub mod WatchedHubs
+pub mod MonitoredHubs

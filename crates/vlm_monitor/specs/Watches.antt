@@ -66,8 +66,8 @@ pub data AreSeen (key : RootKey) : List ScriptStep → List WatchedRow → State
       → (step : ScriptStep) (new : State) → Makes step.step old new
       → AreSeen key (steps ++ step ∷ []) (rows ++ row_at new key ∷ []) new
 
--- the lines of the steps, in order, except the last so many: each with the row of the resource under the key in the state
--- to which its step led
+-- the lines of the steps in order, without this many last ones: each with the row of the watched resource in the state to
+-- which its step led
 pub record AreWatched (key : RootKey) (steps : List ScriptStep) (left : ℕ) (text : List ℕ) : Type 0 where
   pub rows : List WatchedRow
   pub state : State
@@ -75,7 +75,7 @@ pub record AreWatched (key : RootKey) (steps : List ScriptStep) (left : ℕ) (te
   pub seen : AreSeen key (take (length rows) steps) rows state
   pub printed : text ≡ watch_text steps rows
 
--- the text of a script during which a resource is watched: the lines of its steps, except the last so many
+-- the text of a script during which a resource is watched: the lines of its steps, without this many last ones
 pub record IsWatchText (key : RootKey) (script : Option (List ℕ)) (left : ℕ) (text : List ℕ) : Type 0 where
   pub steps : List ScriptStep
   pub read : IfSome script (λ input. steps_of input ≡ Ok steps)
@@ -110,8 +110,8 @@ abbrev pub PrintsPart : RootKey → Option (List ℕ) → Option (List ℕ) → 
 PrintsPart key script old new =
     (left : ℕ) × (text : List ℕ) × IsWatchText key script left text × PassesPart old new text
 
--- what a script by which a resource is watched puts on standard output: the lines of all its steps; of the first where it
--- ends before the last, and only a part of these where a write fails; and nothing where it has a fault or is not read
+-- the standard output of a watch: the lines of all steps; the lines of the first steps if the watch ends early; only a
+-- part of these if a write fails; nothing if the script has a fault or is not read
 abbrev pub PrintsWatch : RootKey → Option (List ℕ) → Result (Unit {0}) WatchFault
     → Option (List ℕ) → Option (List ℕ) → Type 0
 PrintsWatch key script (Ok done) old new = Wrote old new (IsWatchText key script 0)

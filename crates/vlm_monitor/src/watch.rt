@@ -5,7 +5,7 @@ ghost use Rattle.vlm_script.specs.Plays.{ConsumesAtMost};
 ghost use Rattle.vlm_monitor.specs.Watches.{EndsWatched, PrintsWatch};
 
 use crate::ends::WatchFault;
-use crate::watched::{ALL_NODES, WatchedHub};
+use crate::watched::{ALL_NODES, MonitoredHub};
 use std::alloc::Global;
 use std::io::{Read, Write};
 use std::sync::Wait;
@@ -44,7 +44,7 @@ fn watch_steps(
     requires { text.old.items ≡ [] }
     ensures { EndsWatched key steps.now result text.new.items }
 {
-    let mut watched = match WatchedHub::open(rt, rt.alloc(), keys, &key) {
+    let mut watched = match MonitoredHub::open(rt, rt.alloc(), keys, &key) {
         Ok(watched) => watched,
         Err(fault) => return Err(fault),
     };

@@ -24,8 +24,8 @@ pub(crate) const ALL_NODES: u8 = NODES as u8;
 // A port waits for at most so many turns in a row that bring it nothing.
 const TURNS: usize = 10;
 
-/// A watched hub of eight nodes, with their ports and a watcher of one resource. End it by [`WatchedHub::finish`].
-pub(crate) struct WatchedHub {
+/// A watched hub of eight nodes, with their ports and a watcher of one resource. End it by [`MonitoredHub::finish`].
+pub(crate) struct MonitoredHub {
     hub: Hub,
     ports: Vec<Port>,
     watcher: Watcher,
@@ -47,8 +47,8 @@ enum Came {
     Answer,
 }
 
-impl WatchedHub {
-    ghost use Rattle.vlm_monitor.specs.WatchedHubs.{HasLeftAt, standing};
+impl MonitoredHub {
+    ghost use Rattle.vlm_monitor.specs.MonitoredHubs.{HasLeftAt, standing};
 
     /// A hub with nothing posted, and a watcher of the resource under this key. If it is refused, there is neither.
     pub(crate) fn open<R: Wait>(
@@ -56,7 +56,7 @@ impl WatchedHub {
         alloc: Global,
         keys: HashKeys,
         key: &RootKey,
-    ) -> Result<WatchedHub, WatchFault>
+    ) -> Result<MonitoredHub, WatchFault>
         ensures faults { IfErr result EndsSteps }
         ensures made { IfOk result (λ w.
             (w.key ≡ key.now) × (state w.hub ≡ start) × (journal w.hub ≡ [])) }
@@ -75,7 +75,7 @@ impl WatchedHub {
             return Err(WatchFault::NoSeat);
         };
         let key = *key;
-        Ok(WatchedHub {
+        Ok(MonitoredHub {
             hub,
             ports,
             watcher,
@@ -253,7 +253,7 @@ impl WatchedHub {
 
     /// Ends the hub.
     pub(crate) fn finish<R: Wait>(self, rt: &R) {
-        let WatchedHub {
+        let MonitoredHub {
             hub,
             ports: _,
             watcher: _,

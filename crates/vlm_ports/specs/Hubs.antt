@@ -60,7 +60,7 @@ free_for h node = slice_index_or (map places h.all_node_rings.items) (node - 1) 
 abbrev pub known_posts : Hub → ℕ → List Step
 known_posts h node = (asked_before h node ++ asked node (journal h)) ++ waiting h node
 
--- how many places for items the hub knows of: those of the items that it has sent to a node, and the free ones
+-- how many places for items the hub knows of: one for each item that it has sent to the node, and the free places
 abbrev pub known_places : Hub → ℕ → ℕ
 known_places h node = length (told_before h node ++ told node (journal h)) + free_for h node
 
@@ -115,7 +115,7 @@ pub record TakesAst (entry : Entry) : Type 0 where
 abbrev pub HubTakesAlone : List Entry → Type 0
 HubTakesAlone entries = All (λ entry. entry.sender ≡ 0 → TakesAst entry) entries
 
--- so many entries were appended: they are legal from the state before them and lead to the state after them; the hub
+-- this many entries were appended: they are legal from the state before them and lead to the state after them; the hub
 -- itself makes only takes, and a node that had departed is always answered DEPARTED
 pub record Grew (n : ℕ) (before : List Entry) (old : State) (now : List Entry) (new : State) : Type 0 where
   pub more : List Entry
@@ -125,7 +125,7 @@ pub record Grew (n : ℕ) (before : List Entry) (old : State) (now : List Entry)
   pub takes : HubTakesAlone more
   pub departed : (node : ℕ) → HasDeparted old node → StaysDeparted node more new
 
--- the hub has appended so many entries
+-- the hub has appended this many entries
 abbrev pub HubGrew : ℕ → Hub → Hub → Type 0
 HubGrew n old new = Grew n (journal old) (state old) (journal new) (state new)
 
@@ -146,7 +146,7 @@ pub record OneAsks (at : ℕ) (old new : List Entry) : Type 0 where
 abbrev pub EachAsksOnce : List Entry → List Entry → Type 0
 EachAsksOnce old new = (node : ℕ) → 0 < node → length (asked node new) ≤ length (asked node old) + 1
 
--- a new hub of so many nodes: it has no entries, no requests, no items and no watchers
+-- a new hub of this many nodes: it has no entries, no requests, no items and no watchers
 pub record IsNewHub (count : ℕ) (h : Hub) : Type 0 where
   pub journal : journal h ≡ []
   pub state : state h ≡ start

@@ -38,7 +38,7 @@ pub record Lasts (was l : NodeRings) : Type 0 where
 abbrev pub node_rings_identity : NodeRings → ℕ × RingName × RingName
 node_rings_identity l = (l.node, pop_ring l.requests, push_ring l.items)
 
--- a list without so many of its last elements
+-- a list without its last elements, one for each element of the other list
 abbrev pub front : {X : Type 0} → List X → List X → List X
 front all last = take (length all - length last) all
 
@@ -63,11 +63,11 @@ pub record IsLinked (k : ℕ) (l : NodeRings) (journal : List Entry) : Type 0 wh
   pub taken : has_taken l ≡ front (has_taken l) (asked (k + 1) journal) ++ asked (k + 1) journal
   pub told : has_told l ≡ front (has_told l) (told (k + 1) journal) ++ told (k + 1) journal
 
--- the lines are those of the nodes from 1 on, and each is linked to the journal
+-- the rings are those of the nodes from 1 on, and each is linked to the journal
 abbrev pub AreLinked : List NodeRings → List Entry → Type 0
 AreLinked all_node_rings journal = (k : ℕ) (d : NodeRings) → k < length all_node_rings → IsLinked k (slice_index_or all_node_rings k d) journal
 
--- the lines are those of the nodes from 1 on, and nothing was taken from or sent to any of them
+-- the rings are those of the nodes from 1 on, and nothing was taken from or sent to any of them
 abbrev pub AreFresh : List NodeRings → Type 0
 AreFresh all_node_rings = (k : ℕ) (d : NodeRings) → k < length all_node_rings
     → ((slice_index_or all_node_rings k d).node ≡ k + 1) × (has_taken (slice_index_or all_node_rings k d) ≡ [])

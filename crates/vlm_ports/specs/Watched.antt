@@ -56,7 +56,7 @@ published h = published_in (board h)
 abbrev pub IsSameHub : Hub → Hub → Type 0
 IsSameHub old new = (new.book ≡ old.book) × (new.all_node_rings ≡ old.all_node_rings)
 
--- it is watched as it was: by the same watchers, under the same keys
+-- it has the same watchers and the same keys as before
 abbrev pub IsWatchedAsBefore : Hub → Hub → Type 0
 IsWatchedAsBefore old new =
     IsWatched new × (board_name new ≡ board_name old) × (watched_keys new ≡ watched_keys old)

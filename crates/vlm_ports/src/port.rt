@@ -6,9 +6,9 @@ ghost use mathlib.Core.List.{IsPrefix};
 ghost use Rattle.rtrb.specs.Ring.{producer_capacity};
 ghost use Rattle.vlm_journal.specs.Journals.{IsPostOf};
 
-use crate::posts::is_post_of;
 use rtrb::{Consumer, Producer, PushError};
 use vlm_journal::entries::Item;
+use vlm_journal::posts::is_post_of;
 use vlm_words::steps::Step;
 
 /// The port knows no free place, and has posted nothing. This is the step.

@@ -141,7 +141,7 @@ fault_among names (Ok line) = name_fault names line
 abbrev pub fault_of : List Binding → List ℕ → Option LineFault
 fault_of names bytes = fault_among names (line_read bytes)
 
--- the lines run in order from a new session, none has a fault, and they print this text
+-- the lines run in order from a new session, without a fault, and print this text
 pub data Played : List (List ℕ) → List ℕ → Session → Type 0 where
   opened : Played [] [] opening
   more : {lines : List (List ℕ)} {text : List ℕ} {old : Session} (bytes : List ℕ) (line : Line) (printed : List ℕ) {new : Session}

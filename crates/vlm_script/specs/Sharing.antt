@@ -12,7 +12,7 @@ use Rattle.vlm_script.specs.declared.faults.PlayFault.TheVariants.{Line as line_
 use Rattle.vlm_script.specs.declared.stops.Stop.{Stop}
 use Rattle.vlm_script.specs.declared.stops.Stop.TheVariants.{Fault, Memory}
 
--- there is a node of this number among so many nodes
+-- the number is that of one of this many nodes
 pub record IsOneOfNodes (nodes node : ℕ) : Type 0 where
   pub above : 0 < node
   pub within : node ≤ nodes

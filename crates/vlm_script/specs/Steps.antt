@@ -56,7 +56,7 @@ steps_out nodes s count (bytes ∷ lines) =
     then_shares (line_shared nodes s (line_read bytes)) (count + 1)
     (λ more. in_front (numbered (count + 1) (read_step s (line_read bytes))) (steps_out nodes more (count + 1) lines))
 
--- the step may be posted by its node: it takes no AST, and the node is among so many
+-- the step may be posted by its node: it takes no AST, and its node is one of this many nodes
 pub record IsPostable (nodes : ℕ) (step : Step) : Type 0 where
   pub listed : IsListed (node_of step) step
   pub of_nodes : IsOneOfNodes nodes (node_of step)

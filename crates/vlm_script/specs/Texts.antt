@@ -176,7 +176,7 @@ part_text Tail r = tail_line (resource_view r)
 abbrev pub no_resources_line : List ℕ
 no_resources_line = codes "no resources" ++ line_feed
 
--- this part of all resources by rising serial, or that there is none
+-- this part of all resources by rising serial, or the line that says that there are no resources
 unfoldable pub parts_text : Part → List Resource → List ℕ
 parts_text part [] = no_resources_line
 parts_text part (r ∷ rest) = part_text part r ++ flat_map (part_text part) rest

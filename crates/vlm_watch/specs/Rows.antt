@@ -13,7 +13,7 @@ use Rattle.vlm_watch.specs.declared.rows.Row.{Row}
 abbrev pub absent : Row
 absent = record { held = replicate 6 0; conversions = 0; waiters = 0; value = replicate 16 0; valid = true; journal = 0 }
 
--- the row of a resource that is used so, or does not exist, after so many entries
+-- the row of a resource with this usage, or of one that does not exist, after this many entries
 abbrev pub row_with : Option Usage → ℕ → Row
 row_with None journal = record absent { journal = journal }
 row_with (Some u) journal = record {

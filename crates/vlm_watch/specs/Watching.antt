@@ -45,7 +45,7 @@ learnt w = w.learnt.history.log
 abbrev pub IsAsBefore : Watcher → Watcher → Type 0
 IsAsBefore old new = (board_of new ≡ board_of old) × (new.keys ≡ old.keys)
 
--- a watcher of this board and of so many keys, before it has seen or was told anything
+-- a watcher of this board with this many keys, before it has seen or learned anything
 pub record IsNew (board : Book) (keys : ℕ) (w : Watcher) : Type 0 where
   pub board_is : board_of w ≡ board
   pub keys_are : w.keys ≡ keys

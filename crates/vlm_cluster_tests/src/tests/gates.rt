@@ -11,20 +11,6 @@ use vlm_journal::entries::Item;
 // How often a gate looks for the others.
 const LOOKS: u32 = 200_000_000;
 
-/// Lets every post through.
-#[derive(Drop)]
-pub struct Open;
-
-impl Gate for Open {
-    ghost never_stops = { true };
-
-    fn before(&mut self, _n: usize) -> Go {
-        Go::Post
-    }
-
-    fn after(&mut self, _item: &Item) {}
-}
-
 /// Stops before a post.
 #[derive(Drop)]
 pub struct Closing {

@@ -1,12 +1,11 @@
 //! Lists that the tests serve, and what they look for.
 
 use crate::serve;
-use crate::tests::gates::Open;
 use std::alloc::{AllocError, Global};
 use std::sync::Wait;
 use std::thread::Threads;
 use std::time::Clock;
-use vlm_cluster::{Gate, Report};
+use vlm_cluster::{Gate, OpenGate, Report};
 use vlm_journal::entries::Item;
 use vlm_words::conditions::Cond;
 use vlm_words::modes::Mode;
@@ -59,7 +58,7 @@ pub fn three_lists(alloc: Global) -> Result<Vec<Vec<Step>>, AllocError> {
     Ok(lists)
 }
 
-// For each of so many nodes a list of so many searches.
+// For each node a list of this many searches.
 pub fn searches(alloc: Global, nodes: u8, count: usize) -> Result<Vec<Vec<Step>>, AllocError> {
     let mut lists = Vec::new(alloc);
     for at in 0..nodes {
@@ -72,11 +71,11 @@ pub fn searches(alloc: Global, nodes: u8, count: usize) -> Result<Vec<Vec<Step>>
     Ok(lists)
 }
 
-// So many gates that are open.
-pub fn open_gates(alloc: Global, count: usize) -> Result<Vec<Open>, AllocError> {
+// This many open gates.
+pub fn open_gates(alloc: Global, count: usize) -> Result<Vec<OpenGate>, AllocError> {
     let mut gates = Vec::new(alloc);
     for _ in 0..count {
-        gates.push(Open)?;
+        gates.push(OpenGate)?;
     }
     Ok(gates)
 }

@@ -1,7 +1,7 @@
 use Rattle.std.proofs.Common.{◌≡◌, []}
 use Rattle.vlm_ports.specs.Hubs.{journal, state}
 use Rattle.vlm_monitor.proofs.WatchedSteps.{AreMade}
-use Rattle.vlm_monitor.proofs.watched.WatchedHub.make_all.Given as goal
+use Rattle.vlm_monitor.proofs.watched.MonitoredHub.make_all.Given as goal
 
 -- the steps so far have their lines
 abbrev pub invariant-loop-step : goal.invariant-loop-step

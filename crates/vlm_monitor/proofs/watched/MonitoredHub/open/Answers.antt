@@ -5,7 +5,7 @@ use Rattle.vlm_ports.specs.Watched.{board_name, watched_keys}
 use Rattle.vlm_watch.specs.declared.watcher.Watcher.{Watcher}
 use Rattle.vlm_watch.specs.Watching.{IsNew}
 use Rattle.vlm_monitor.proofs.Going.{ports_stay}
-use Rattle.vlm_monitor.proofs.watched.WatchedHub.open.Goals as goal
+use Rattle.vlm_monitor.proofs.watched.MonitoredHub.open.Goals as goal
 
 -- the last of the watchers that were made
 last_is : (w x : Watcher) → Some w ≡ Some x → x ≡ w

@@ -8,7 +8,7 @@ use Rattle.vlm_watch.specs.Rows.{row_of}
 use Rattle.vlm_watch.specs.Sheets.{row_shown}
 use Rattle.vlm_monitor.specs.Watches.{printed_row, row_at}
 use Rattle.vlm_monitor.proofs.Going.{printed_at, shown_last}
-use Rattle.vlm_monitor.proofs.watched.WatchedHub.publish.Goals as goal
+use Rattle.vlm_monitor.proofs.watched.MonitoredHub.publish.Goals as goal
 
 -- what is seen is what was published, and its last change is that of the book
 pub returns-in-Some-clause-row : goal.returns-in-Some-clause-row

@@ -5,13 +5,13 @@ use Rattle.vlm_words.specs.declared.steps.Step.{Step}
 use Rattle.vlm_ports.specs.Hubs.{bases}
 use Rattle.vlm_ports.specs.Links.{Base}
 use Rattle.vlm_watch.specs.declared.rows.RootKey.{RootKey}
-use Rattle.vlm_monitor.specs.declared.watched.WatchedHub.{WatchedHub}
+use Rattle.vlm_monitor.specs.declared.watched.MonitoredHub.{MonitoredHub}
 use Rattle.vlm_monitor.specs.WatchedPorts.{HasLeft, Posts, posts_of}
 
 -- turns and settlings change neither the key, nor the posts of each port, nor the steps of each node before the last cut
-abbrev pub standing : WatchedHub → RootKey × List Posts × List Base
+abbrev pub standing : MonitoredHub → RootKey × List Posts × List Base
 standing w = (w.key, map posts_of w.ports.items, bases w.hub)
 
 -- the hub has made all posts of the port at a place, except these last ones
-abbrev pub HasLeftAt : WatchedHub → ℕ → List Step → Type 0
+abbrev pub HasLeftAt : MonitoredHub → ℕ → List Step → Type 0
 HasLeftAt w place steps = HoldsAt (HasLeft w.hub steps) w.ports.items place

@@ -1,6 +1,6 @@
 use Rattle.std.proofs.Common.{refl, ◌∙◌}
 use Rattle.vlm_monitor.proofs.Going.{grown_then, written}
-use Rattle.vlm_monitor.proofs.watched.WatchedHub.turn_until_answered.Goals as goal
+use Rattle.vlm_monitor.proofs.watched.MonitoredHub.turn_until_answered.Goals as goal
 
 pub loop-init : goal.loop-init
 loop-init c = (refl, written c.args.self.now.hub c.args.self.now.hub (refl, refl))

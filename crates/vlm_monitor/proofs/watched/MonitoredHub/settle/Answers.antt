@@ -1,6 +1,6 @@
 use Rattle.vlm_ports.specs.Hubs.{bases}
 use Rattle.vlm_monitor.proofs.Going.{settled}
-use Rattle.vlm_monitor.proofs.watched.WatchedHub.settle.Goals as goal
+use Rattle.vlm_monitor.proofs.watched.MonitoredHub.settle.Goals as goal
 
 pub returns-then-settled-eq0-clause-standing : goal.returns-then-settled-eq0-clause-standing
 returns-then-settled-eq0-clause-standing c =

@@ -2,7 +2,7 @@ use Rattle.std.proofs.Common.{◌≡◌, ◌∙◌, length, rules}
 use Rattle.vlm_ports.specs.Hubs.{journal}
 use Rattle.vlm_monitor.specs.Watches.{steps_asked}
 use Rattle.vlm_monitor.proofs.Going.{grown_then, makes, within_still, written}
-use Rattle.vlm_monitor.proofs.watched.WatchedHub.make.Goals as goal
+use Rattle.vlm_monitor.proofs.watched.MonitoredHub.make.Goals as goal
 
 pub settle-requires : goal.settle-requires
 settle-requires c =

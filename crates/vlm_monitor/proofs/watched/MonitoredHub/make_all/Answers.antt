@@ -3,7 +3,7 @@ use Rattle.vlm_ports.specs.Hubs.{state}
 use Rattle.vlm_script.specs.Texts.{watch_line}
 use Rattle.vlm_monitor.specs.Watches.{row_at}
 use Rattle.vlm_monitor.proofs.WatchedSteps.{ended_behind, none_made, one_made}
-use Rattle.vlm_monitor.proofs.watched.WatchedHub.make_all.Goals as goal
+use Rattle.vlm_monitor.proofs.watched.MonitoredHub.make_all.Goals as goal
 
 pub loop-step-init : goal.loop-step-init
 loop-step-init g c = record { key = refl; quiet = c.requires.quiet; made = none_made c.args.self.now.key _ _ _ c.requires.empty c.requires.start }

@@ -2,7 +2,7 @@ use Rattle.std.proofs.Common.{◌∙◌, ap, map}
 use Rattle.std.specs.Vec.{with_items}
 use Rattle.vlm_monitor.specs.WatchedPorts.{posts_of}
 use Rattle.vlm_monitor.proofs.Going.{lent, ports_stay}
-use Rattle.vlm_monitor.proofs.watched.WatchedHub.turn.Goals as goal
+use Rattle.vlm_monitor.proofs.watched.MonitoredHub.turn.Goals as goal
 
 pub invariant_of-self-in-Served-clause-linked : goal.invariant_of-self-in-Served-clause-linked
 invariant_of-self-in-Served-clause-linked c =
