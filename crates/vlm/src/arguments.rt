@@ -134,7 +134,7 @@ pub(crate) struct Subject {
 pub(crate) enum Task {
     /// Run a script.
     Play,
-    /// Serve a script by so many nodes.
+    /// Serve a script by this many nodes.
     Cluster(u8),
     /// Watch a resource while a script runs.
     Watch(Subject),

@@ -19,10 +19,10 @@ use vlm_core::Core;
 use vlm_script::{HashKeys, PlayFault, read_lists, write_whole};
 use vlm_words::steps::Step;
 
-// The journal is cut once it has so many entries.
+// The journal is cut when it has this many entries.
 const PART: usize = 65_536;
 
-/// Serves the script by so many nodes, if the system gives the bytes by which the indexes hash.
+/// Serves the script by this many nodes, if the system gives the random keys of the indexes.
 pub(crate) fn start_cluster<R: Read, W: Write, F: Write>(
     rt: &(impl AllocGlobal + RandomSource + Threads + Wait + Clock + Copy + Send + 'static),
     nodes: u8,
@@ -41,7 +41,7 @@ pub(crate) fn start_cluster<R: Read, W: Write, F: Write>(
     }
 }
 
-// Serves the script by so many nodes, and prints the fault that ended it.
+// Serves the script by this many nodes, and prints the fault that ended it.
 fn run_cluster<R: Read, W: Write, F: Write>(
     rt: &(impl AllocGlobal + Threads + Wait + Clock + Copy + Send + 'static),
     keys: HashKeys,
@@ -61,7 +61,7 @@ fn run_cluster<R: Read, W: Write, F: Write>(
     }
 }
 
-// Serves the script, and then writes what each node was told. Memory grows with the script and with the state of the
+// Serves the script, and then writes the items of each node. Memory grows with the script and with the state of the
 // machine.
 fn serve_script<R: Read, W: Write>(
     rt: &(impl AllocGlobal + Threads + Wait + Clock + Copy + Send + 'static),
@@ -79,7 +79,7 @@ fn serve_script<R: Read, W: Write>(
     write_whole(writer, &text)
 }
 
-// The text of what each node of a script was told.
+// The text of the items of each node.
 fn cluster_text<R: Read>(
     rt: &(impl AllocGlobal + Threads + Wait + Clock + Copy + Send + 'static),
     keys: HashKeys,

@@ -1,4 +1,4 @@
-//! Prints what each node was told, line by line.
+//! Prints the items of each node, line by line.
 
 ghost use Rattle.std.specs.Prelude.{◌≡◌, ◌≤◌, ◌++◌, IfOk, IfSome, OnOk, length, vec_len};
 ghost use Rattle.vlm_cluster.specs.Reports.{entries_of};

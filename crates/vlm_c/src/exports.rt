@@ -140,7 +140,7 @@ pub extern "C" fn vlm_deq(handle: &mut Vlm, dequeue: &VlmDequeue) -> u32
     status_reply(handle, step)
 }
 
-/// Takes the oldest pending AST of a process and writes it, or that none is pending. A refusal writes nothing.
+/// Takes the oldest pending AST of a process and writes it; without one it writes that no AST is pending. A refusal writes nothing.
 #[unsafe(no_mangle)]
 pub extern "C" fn vlm_take(handle: &mut Vlm, pid: u32, out: &mut VlmAst) -> u32
     ensures { AstReplied handle.old.slot.core (option_map Take (take_of pid out.old.size))

@@ -88,7 +88,7 @@ fn no_ast() -> VlmAst
     }
 }
 
-/// Writes the taken AST, or that none is pending. A refusal writes nothing.
+/// Writes the taken AST; without one it writes that no AST is pending. A refusal writes nothing.
 pub(crate) fn write_ast(answer: &Answer, out: &mut VlmAst)
     ensures { out.new ≡ ast_written answer.now out.old }
 {

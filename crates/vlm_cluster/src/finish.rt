@@ -76,7 +76,7 @@ pub(crate) fn finish<G: Gate>(
 }
 
 /// Makes the report if a worker after the first could not be started. The hub has made no turn, so
-/// no node was told anything.
+/// no node got an item.
 #[inline(never)]
 pub(crate) fn give_up<G: Gate>(
     rt: &impl Wait,

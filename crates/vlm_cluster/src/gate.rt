@@ -29,7 +29,7 @@ pub trait Gate: Drop {
     /// leaves it in state `new`. The default says nothing.
     ghost answers: { Self → ℕ → Go → Self → Type 0 } = { λ _ _ _ _. ⊤ };
 
-    /// `hears old item new`: told `item` in state `old`, the gate may come to state `new`. The default
+    /// `hears old item new`: the gate hears `item` in state `old` and may come to state `new`. The default
     /// says nothing.
     ghost hears: { Self → Item → Self → Type 0 } = { λ _ _ _. ⊤ };
 

@@ -20,7 +20,7 @@ pub struct Report {
     pub parts: Vec<Part>,
     /// The rest of the journal, after all parts.
     pub rest: Part,
-    /// For each list, the items that its worker was told, in order.
+    /// For each list, the items that its worker took, in order.
     pub items: Vec<Vec<Item>>,
     /// For each list, the number of its steps that were posted. The departure is not counted.
     pub posted: Vec<usize>,

@@ -89,7 +89,7 @@ impl AstQueue {
         }
     }
 
-    /// Makes room for this many more ASTs, and counts them as due. A full buffer at least doubles, so many requests
+    /// Makes room for this many more ASTs, and counts them as due. A full buffer at least doubles, this many requests
     /// seldom move the ASTs. If memory is refused, nothing is changed.
     pub fn owe(&mut self, alloc: Global, count: usize) -> Result<(), AllocError>
         ensures due { OnOk result (self.new.due ≡ self.old.due + count) }

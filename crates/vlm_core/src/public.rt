@@ -143,7 +143,7 @@ impl Core {
         self.step(Step::SetValue(setting))
     }
 
-    /// Takes the oldest pending AST of the process (this project's own), and answers it, or none if none is pending. It
+    /// Takes the oldest pending AST of the process (this project's own), and answers it if there is one. It
     /// queues none, and takes no memory. Refusals, in this order: DEPARTED, NONEXPR.
     pub fn take(&mut self, pid: u32) -> Answer
         ensures state { self.new ≡ (stepped self.old (Step.Take pid) None).state }
@@ -249,12 +249,12 @@ impl Core {
     /// Searches for a deadlock: processes that wait for each other in a circle ($ENQ, lock conversion deadlocks and
     /// multiple resource deadlocks). A queued request waits for each other lock of its resource that is held in an
     /// incompatible mode, unless that mode was asked for with NODLCKBLK. It waits for each request before it,
-    /// conversions first, unless that request has NODLCKBLK. With NODLCKWT it waits for none. A request that leads back
+    /// conversions first, unless that request has NODLCKBLK. With NODLCKWT it waits for no lock. A request that leads back
     /// to its own process is deadlocked.
     ///
     /// The most recent deadlocked request is the victim. It ends with DEADLOCK, and its completion AST is queued. A
     /// lock that waited goes, and one that converts stays as it was granted. Then the requests that it blocked are
-    /// granted. The answer is the identification of the victim's lock, or that there is none, and then nothing is
+    /// granted. The answer is the identification of the victim's lock; without a victim it says so, and nothing is
     /// changed. It takes no memory. Refusals, in this order: BADPARAM if the node is not 1 to 8; DEPARTED.
     pub fn search(&mut self, node: u8) -> Answer
         ensures { IsMade self.old (Step.Search node) self.new result }

@@ -143,7 +143,7 @@ impl Ranks {
         }
     }
 
-    /// Makes room for the notes of one process more than so many. The memory grows to twice its size, so most calls move
+    /// Makes room for the notes of this many processes and one more. The memory grows to twice its size, so most calls move
     /// nothing.
     pub(crate) fn make_room(&mut self, living: usize) -> Result<(), AllocError> {
         if self.notes.len() <= living {

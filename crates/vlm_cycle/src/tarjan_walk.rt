@@ -35,7 +35,7 @@ pub(crate) struct TarjanWalk {
 }
 
 impl TarjanWalk {
-    // The walk after so many components are closed; this process is the last one that is not.
+    // The walk after this many components are closed; this process is the last one that is not.
     fn with_closed(&self, stack_next: Option<ProcAt>, closed: u32) -> TarjanWalk
         ensures { (s : Records) → IsWalk s self.now → ForSome stack_next (LivesAt s) → IsWalk s result }
     {
@@ -161,7 +161,7 @@ fn go_down(store: &Store, ranks: &mut Ranks, walk: TarjanWalk, process: ProcAt) 
     }
 }
 
-// The walk goes along a wait of the process at which it stands.
+// The walk goes along a wait of its present process.
 fn go_along(
     store: &Store,
     ranks: &mut Ranks,

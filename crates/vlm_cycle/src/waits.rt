@@ -24,7 +24,7 @@ pub(crate) struct AwaitedModes {
     pub(crate) mode: Mode,
 }
 
-// The mode for which a row waits; none if it has no request, or with NODLCKWT.
+// The mode for which a row waits; no mode if it has no request, or with NODLCKWT.
 fn awaited_mode(row: &StoredRow) -> Option<Mode> {
     let request = row.want()?;
     if request.flags.has(EnqFlags::NODLCKWT) {

@@ -1,17 +1,17 @@
-//! A watcher that keeps what it has seen.
+//! A watcher that keeps the rows that it has seen.
 
 ghost use Rattle.std.specs.Prelude.{◌≡◌, ◌<◌};
 ghost use Rattle.vlm_watch.specs.Watching.{IsAsBefore, board_of, told_board};
 
 use vlm_ports::{Row, Told, Watcher};
 
-/// A watcher, and what it has seen of the first resource.
+/// A watcher, and the rows that it has seen of the first resource.
 #[derive(Drop)]
 pub struct Onlooker {
     pub(crate) watcher: Watcher,
     /// The row that it saw last.
     pub last: Option<Row>,
-    /// Whether a row ever told of fewer entries than one before it.
+    /// Whether a row ever had fewer entries than an earlier row.
     pub fell: bool,
 }
 
@@ -27,7 +27,7 @@ impl Onlooker {
         }
     }
 
-    /// Takes in what it is told.
+    /// Learns a told value.
     pub(crate) fn learn(&mut self, told: Told)
         requires { told_board told ≡ board_of self.old.watcher }
         ensures { IsAsBefore self.old.watcher self.new.watcher }
@@ -43,7 +43,7 @@ impl Onlooker {
         self.watcher.see(place)
     }
 
-    // Looks at the first resource, and keeps what it sees.
+    // Looks at the first resource, and keeps the row.
     fn look(&mut self)
         requires { 0 < self.old.watcher.keys }
         ensures { IsAsBefore self.old.watcher self.new.watcher }
@@ -57,7 +57,7 @@ impl Onlooker {
         self.last = Some(row);
     }
 
-    /// Looks so many times.
+    /// Looks this many times.
     pub(crate) fn look_often(&mut self, times: usize)
         requires { 0 < self.old.watcher.keys }
         ensures { IsAsBefore self.old.watcher self.new.watcher }

@@ -26,8 +26,8 @@ impl Promise<Port> for Given {
 }
 
 impl Pair {
-    /// Has each port post so many searches, and take as many items, in a thread of its own, while the hub makes turns in
-    /// this one; then the threads give the ports back. Refused, a thread could not be started, none is left, and
+    /// Has each port post this many searches, and take as many items, in a thread of its own, while the hub makes turns in
+    /// this one; then the threads give the ports back. If it is refused, a thread could not be started, none is left, and
     /// the pair is gone.
     pub fn search_in_threads<R: Threads + Wait + Copy + Send + 'static>(
         self,
@@ -99,7 +99,7 @@ fn search(rt: &impl Wait, port: Port, times: usize) -> Port
     unreachable!()
 }
 
-// Has the hub make so many entries.
+// Has the hub make this many entries.
 fn serve(rt: &impl Wait, hub: &mut Hub, entries: usize)
     ensures rings { rings hub.new ≡ rings hub.old }
     ensures board { board hub.new ≡ board hub.old }

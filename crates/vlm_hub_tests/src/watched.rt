@@ -28,7 +28,7 @@ pub struct WatchedHub {
 }
 
 impl WatchedHub {
-    /// A hub, and so many watchers of the resources under these keys. Refused, there is neither.
+    /// A hub, and this many watchers of the resources under these keys. If it is refused, there is neither.
     pub fn open<R: Wait>(
         rt: &R,
         alloc: Global,
@@ -95,8 +95,8 @@ impl WatchedHub {
         self.onlookers[watcher].see(place)
     }
 
-    /// Has each watcher look so many times in a thread of its own, while the hub makes the step so many times and
-    /// publishes behind each.
+    /// Has each watcher look this many times in a thread of its own, while the hub makes the step that often and
+    /// publishes after each.
     pub fn look_in_threads<R: Threads + Wait + Sync>(
         &mut self,
         rt: &R,
@@ -165,7 +165,7 @@ fn make(hub: &mut Hub, port: &mut Port, step: &Step) -> Option<Item>
     port.take()
 }
 
-// Makes the step so many times, and publishes behind each.
+// Makes the step this many times, and publishes after each.
 fn serve<R: Wait>(rt: &R, hub: &mut Hub, port: &mut Port, step: &Step, times: usize)
     requires ours { IsPortOf hub.old port.old }
     requires watched { IsWatched hub.old }
@@ -178,7 +178,7 @@ fn serve<R: Wait>(rt: &R, hub: &mut Hub, port: &mut Port, step: &Step, times: us
     }
 }
 
-// Has each watcher look so many times, in a thread of its own.
+// Has each watcher look this many times, in a thread of its own.
 fn look_all<R: Threads + Sync>(rt: &R, onlookers: &mut Vec<Onlooker>, times: usize)
     requires { All (λ o. 0 < o.watcher.keys) onlookers.old.items }
     ensures { LookedOn (λ o. o.watcher) onlookers.old.items onlookers.new.items }

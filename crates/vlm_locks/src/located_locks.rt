@@ -1,4 +1,4 @@
-//! Finds locks, and where they stand.
+//! Finds locks, with their resource and their queue.
 
 ghost use Rattle.std.specs.Prelude.{◌≡◌, ◌≢◌, IfSome, is_some};
 ghost use Rattle.std.specs.Bool.{OnFalse, OnTrue};

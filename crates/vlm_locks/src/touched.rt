@@ -93,7 +93,7 @@ impl Touched {
         }
     }
 
-    /// Makes room for one note more than so many. If memory is refused, nothing is changed. The memory grows to twice
+    /// Makes room for this many notes and one more. If memory is refused, nothing is changed. The memory grows to twice
     /// its size, so most calls move nothing.
     pub fn make_room_beyond(&mut self, count: usize) -> Result<(), AllocError>
         requires { self.old.noted ≡ [] }

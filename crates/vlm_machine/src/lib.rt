@@ -6,15 +6,15 @@
 //!
 //! | Step | File | Checks | Growth | Change | Sweep |
 //! |---|---|---|---|---|---|
-//! | Declare | `declaring` | `check_declaration` | with the change | `declare_change` | none |
-//! | SetValue | `setting` | `checked_setting` | none | `set_change` | none |
-//! | Take | `taking` | `checked_caller` | none | `take_change` | none |
-//! | Enq | `enqueuing` | `checked_request` | in `enter` | `enq_change` | its resource |
-//! | Convert | `converting` | `checked_names`, `checked_admission` | in `convert` | `convert_change` | its resource |
-//! | Deq | `dequeuing` | `checked_dequeue` | none | `deq_change` | its resource |
-//! | Deq with DEQALL | `dequeuing` | `checked_dequeue_of_all` | none | `deq_all_change` | all touched |
-//! | Rundown, Leave | `ending` | `checked_caller`, `check_node` | none | `rundown_change`, `leave_change` | all touched |
-//! | Search | `searching` | `check_node` | none | `end_victim` | the victim's resource |
+//! | Declare | `declarations` | `check_declaration` | with the change | `declare_change` | none |
+//! | SetValue | `value_settings` | `checked_setting` | none | `set_change` | none |
+//! | Take | `ast_takes` | `checked_caller` | none | `take_change` | none |
+//! | Enq | `new_requests` | `checked_request` | in `enter` | `enq_change` | its resource |
+//! | Convert | `conversions` | `checked_names`, `checked_admission` | in `convert` | `convert_change` | its resource |
+//! | Deq | `dequeues` | `checked_dequeue` | none | `deq_change` | its resource |
+//! | Deq with DEQALL | `dequeues` | `checked_dequeue_of_all` | none | `deq_all_change` | all touched |
+//! | Rundown, Leave | `rundowns` | `checked_caller`, `check_node` | none | `rundown_change`, `leave_change` | all touched |
+//! | Search | `searches` | `check_node` | none | `end_victim` | the victim's resource |
 //!
 //! A [`Machine`] has the records, the nodes and the next numbers. `checks` and `parents` have the checks that several
 //! steps share. A step needs some facts of the state in which it begins (`IsBetweenSteps`). They hold after every run, by

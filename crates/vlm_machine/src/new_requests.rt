@@ -166,7 +166,7 @@ impl Machine {
         Ok(RequestForm { flags, parent })
     }
 
-    // The checks of quotas and numbers, and of what is in the way.
+    // The checks of quotas, of numbers, and of blocking locks.
     #[tactic(auto, unfolding(vlm_model::specs::Enqueue::enq_limit_refusal))]
     fn checked_limits(
         &self,

@@ -22,7 +22,7 @@ use vlm_words::steps::{Answer, Step};
 /// The machine, with its records under their handles.
 #[derive(Drop)]
 pub struct Machine {
-    // node k stands at k - 1
+    // node k is at index k - 1
     pub(crate) nodes: [Node; NODES],
     /// The processes, the resources and their locks.
     pub store: Store,

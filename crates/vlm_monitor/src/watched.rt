@@ -21,7 +21,7 @@ use vlm_words::steps::Step;
 /// The hub serves all nodes.
 pub(crate) const ALL_NODES: u8 = NODES as u8;
 
-// A port waits for at most so many turns in a row that bring it nothing.
+// A port waits for at most this many turns in a row that bring it nothing.
 const TURNS: usize = 10;
 
 /// A watched hub of eight nodes, with their ports and a watcher of one resource. End it by [`MonitoredHub::finish`].

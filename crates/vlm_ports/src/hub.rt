@@ -30,11 +30,11 @@ pub struct Hub {
 /// The result of a turn.
 #[derive(Clone, Copy, Debug, PartialEq, Eq)]
 pub enum Turn {
-    /// It made so many entries, at least one.
+    /// It made this many entries, at least one.
     Served(usize),
     /// It made no entry, and could make none.
     Idle,
-    /// It made so many entries, and then more room for the journal was refused. No post is lost.
+    /// It made this many entries, and then more room for the journal was refused. No post is lost.
     NoMemory(usize),
 }
 
@@ -74,7 +74,7 @@ impl Hub {
         self.book.entries()
     }
 
-    /// A hub of so many nodes with a new core, and a port for each node, node 1 first. If it is refused, there is no
+    /// A hub of this many nodes with a new core, and a port for each node, node 1 first. If it is refused, there is no
     /// hub and no port.
     pub fn make(alloc: Global, count: usize) -> Result<(Hub, Vec<Port>), AllocError>
         requires count { (0 < count) × (count ≤ 8) }
@@ -330,7 +330,7 @@ impl Hub {
     }
 }
 
-// The hub's and the nodes' ends of the rings of so many nodes.
+// The hub's and the nodes' ends of the rings of this many nodes.
 fn ring_ends(alloc: Global, count: usize) -> Result<(Vec<NodeRings>, Vec<Port>), AllocError>
     requires count { count ≤ 8 }
     ensures all_node_rings { IfOk result (λ r. (length r.0.items ≡ count) × AreFresh r.0.items) }

@@ -79,7 +79,7 @@ impl Port {
         self.post(Step::Leave(self.node))
     }
 
-    /// Takes the next item. `None` if the port knows of none that has come.
+    /// Takes the next item. `None` if the port knows of no item that has come.
     pub fn take(&mut self) -> Option<Item>
         ensures same { identity self.new ≡ identity self.old }
         ensures posted { posted self.new ≡ posted self.old }

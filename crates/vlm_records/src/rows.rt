@@ -307,7 +307,7 @@ impl StoredRow {
         )
     }
 
-    /// The row after its grant: it holds what it wanted, and is armed if that names a blocking routine.
+    /// The row after its grant: it holds the wanted request, and is armed if that names a blocking routine.
     pub fn granted(&self) -> Self
         ensures { result ≡ granted_row self.now }
     {
@@ -321,7 +321,7 @@ impl StoredRow {
         }
     }
 
-    /// The row with this wanted request. It holds what it held.
+    /// The row with this wanted request. Its held request stays.
     pub fn wanting(&self, request: &Request) -> Self
         ensures { result ≡ wanting_row self.now request.now }
     {
@@ -335,7 +335,7 @@ impl StoredRow {
         }
     }
 
-    /// The row without its wanted request. It holds what it held.
+    /// The row without its wanted request. Its held request stays.
     pub fn without_want(&self) -> Self
         ensures { result ≡ record self.now { want = None } }
     {

@@ -14,7 +14,7 @@ use std::alloc::Global;
 use std::io::{Read, Write};
 use vlm_core::HashKeys;
 
-// Once so many printed bytes wait, they are written. One line may add to them before that.
+// When this many printed bytes wait, they are written. One line may add to them before that.
 const WAITING: usize = 65_536;
 
 /// Reads a script whole, runs its lines in order, and writes what they print.

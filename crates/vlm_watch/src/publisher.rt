@@ -36,7 +36,7 @@ pub(crate) struct Publisher {
 impl Publisher {
     ghost use Rattle.vlm_watch.specs.Watching.{IsNew, told_board, told_changes};
 
-    /// A publisher for so many readers, with nothing published. If it is refused, no memory stays taken.
+    /// A publisher for this many readers, with nothing published. If it is refused, no memory stays taken.
     pub(crate) fn open<R: Wait>(
         rt: &R,
         alloc: Global,
@@ -57,7 +57,7 @@ impl Publisher {
         })
     }
 
-    // A watcher of so many keys, before anything is published. Refused if there is no place for one.
+    // A watcher of this many keys, before anything is published. Refused if there is no place for one.
     fn watcher(&mut self, keys: usize) -> Result<Watcher, AllocError>
         requires keys { keys ≤ 16 }
         requires first { self.old.history.log ≡ [] }
@@ -76,7 +76,7 @@ impl Publisher {
         })
     }
 
-    /// So many watchers of so many keys, before anything is published.
+    /// Watchers of this many keys, before anything is published.
     pub(crate) fn watchers(
         &mut self,
         alloc: Global,

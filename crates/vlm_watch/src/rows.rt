@@ -56,7 +56,7 @@ impl Row {
         }
     }
 
-    // The row of a resource that is used so, or does not exist, after so many entries.
+    // The row of a resource with this usage, or of one that does not exist, after this many entries.
     fn of(usage: Option<Usage>, journal: u64) -> Row
         ensures { result ≡ row_with usage journal }
     {

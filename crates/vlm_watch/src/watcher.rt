@@ -18,7 +18,7 @@ pub struct Watcher {
     pub(crate) reader: SheetReader,
     // how many keys its board has
     pub(crate) keys: usize,
-    // the longest list that it was told
+    // the longest list that it has learned
     pub(crate) learnt: Told,
     // the last sheet that it showed
     pub(crate) shown: Sheet,

@@ -27,7 +27,7 @@ impl Gate for Closing {
     fn after(&mut self, _item: &Item) {}
 }
 
-/// Before the second post it waits until so many gates have come there, and stops if they do not.
+/// Before the second post it waits until this many gates have come there, and stops if they do not.
 #[derive(Drop)]
 pub struct Meeting {
     pub arrived: Arc<AtomicU64>,
@@ -82,7 +82,7 @@ impl Gate for Following {
     }
 }
 
-/// What a gate was asked and told.
+/// The questions to a gate, and the items that it heard.
 #[derive(Drop)]
 pub struct Heard {
     pub first: AtomicU64,
@@ -106,13 +106,13 @@ impl Heard {
             .wrapping_add(self.second.load(Ordering::SeqCst))
     }
 
-    /// How many items it was told.
+    /// How many items it heard.
     pub fn told(&self) -> u64 {
         self.items.load(Ordering::SeqCst)
     }
 }
 
-/// Lets each post through where it is asked for it the third time.
+/// Lets each post through when it is asked the third time.
 #[derive(Drop)]
 pub struct Slow {
     pub heard: Arc<Heard>,

@@ -114,7 +114,7 @@ struct Made {
 }
 
 impl Made {
-    // Puts the entries of a part behind the others.
+    // Appends the entries of a part.
     fn add(&mut self, part: &Part) -> Result<(), AllocError> {
         for entry in part.entries.iter() {
             self.steps.push(entry.step)?;

@@ -31,7 +31,7 @@ fn lists_are_served_without_memory(rt: HostRuntime) -> Result<(), Fail> {
     Ok(())
 }
 
-// The gate let no post through but where it was asked for it the third time, and was told no item that did not come.
+// The gate let each post through only when asked the third time, and heard no item that did not come.
 fn is_as_heard(heard: &Heard, posted: usize, items: usize) -> bool {
     let asked = heard.asked();
     (posted as u64).saturating_mul(3) <= asked
@@ -46,7 +46,7 @@ fn are_as_heard(report: &Report, all: &[Arc<Heard>]) -> bool {
 }
 
 // Serves two lists by gates that count what they hear. Says whether the outcome is as they heard: without a report no worker was
-// started, so no gate was asked or told anything.
+// started, so no gate was asked and none heard an item.
 fn is_told_truly<R: Threads + Wait + Clock + Copy + Send + 'static>(
     rt: &R,
     alloc: Global,

@@ -91,7 +91,7 @@ pub fn report_of<R: Threads + Wait + Clock + Copy + Send + 'static, G: Gate + Se
     serve(rt, alloc, gates, lists, every)?.ok()
 }
 
-// How many entries a journal has, if the base of each part says how many stand before it.
+// How many entries a journal has, if the base of each part says how many come before it.
 pub fn entries_of(report: &Report) -> Option<u64> {
     let mut before = 0u64;
     for part in report.parts.iter() {
@@ -141,7 +141,7 @@ fn are_locks(items: &[Item]) -> bool {
         ))
 }
 
-// Three lists were served whole, and in parts of so many entries at least.
+// Three lists were served whole, in parts of at least this many entries.
 pub fn are_three_served(report: &Report, every: usize) -> bool {
     let [first, second, third] = report.items.as_slice() else {
         return false;

@@ -1,4 +1,4 @@
-//! Worked runs: who is posted and told what, in which parts, and that each list has a thread of its own.
+//! Worked runs: the posts and items of each node, the parts of the journal, and a thread for each list.
 
 use crate::tests::gates::{Closing, Following, Meeting, slow_gates};
 use crate::tests::steps::{
@@ -41,7 +41,7 @@ fn a_node_departs_first(rt: HostRuntime) -> Result<(), Fail> {
     Ok(())
 }
 
-// The only node was told that it departs, and twice that it has departed.
+// The only node gets one answer to its departure, and DEPARTED twice.
 fn is_departure_first(report: &Report) -> bool {
     let conditions = [Cond::Normal, Cond::Departed, Cond::Departed];
     let [items] = report.items.as_slice() else {
@@ -71,7 +71,7 @@ fn a_gate_stops(rt: HostRuntime) -> Result<(), Fail> {
     Ok(())
 }
 
-// The second node was told of one search, and of its departure.
+// The second node gets the answers to one search and to its departure.
 fn is_told_of_search(report: &Report) -> bool {
     let [_, items] = report.items.as_slice() else {
         return false;
@@ -106,7 +106,7 @@ fn lists_run_beside_each_other(rt: HostRuntime) -> Result<(), Fail> {
     Ok(())
 }
 
-// A gate is asked again until it lets a post through, and is told each item.
+// A gate is asked again until it lets a post through, and hears each item.
 #[test]
 fn gates_are_asked_again(rt: HostRuntime) -> Result<(), Fail> {
     let (gates, all) = slow_gates(rt.alloc(), 2)?;

@@ -3,7 +3,7 @@
 use std::process::Abort;
 use vlm_words::modes::{Act, Mode, compatible, quecvt_legal, value_action};
 
-// In each table the rows are the mode that is held, the columns the one that is asked for.
+// In each table the rows are the held mode, the columns the requested mode.
 const MODES: [Mode; 6] = [Mode::Nl, Mode::Cr, Mode::Cw, Mode::Pr, Mode::Pw, Mode::Ex];
 
 const COMPATIBLE: [[u8; 6]; 6] = [
@@ -30,7 +30,7 @@ fn action(act: Act) -> u8 {
     }
 }
 
-// Compares a table with what is answered for each pair of modes.
+// Compares a table with the answers for each pair of modes.
 fn compare<R: Abort, F: Fn(Mode, Mode) -> u8>(rt: &R, table: &[[u8; 6]; 6], answered: F)
     requires { F.IsAlwaysCallable answered }
 {

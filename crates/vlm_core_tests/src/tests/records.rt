@@ -53,14 +53,14 @@ fn begin(store: &mut Store, key: &Key) -> Result<(), AllocError> {
     stores::open(store, 1, key)
 }
 
-// The process has two locks, of which none stands below the other.
+// The process has two locks, neither of them below the other.
 fn make_two(rt: &impl Abort, store: &mut Store, key: &Key) -> Result<(), AllocError> {
     begin(store, key)?;
     stores::add(rt, store, key, row(1, 0))?;
     stores::add(rt, store, key, row(2, 0))
 }
 
-// The process has so many locks, of which the second is one.
+// The process has this many locks, and the second is one of them.
 fn check_locks(rt: &impl Abort, store: &Store, count: usize) {
     let owner = stores::process(rt, store, PID);
     let second = stores::lock(rt, store, 2);

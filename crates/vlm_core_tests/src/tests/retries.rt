@@ -106,7 +106,7 @@ fn fill(rt: &impl Abort, store: &mut Store, key: &Key) -> Result<(), AllocError>
     enter(rt, store, key, next_waiting)
 }
 
-// Removes a lock, below which none stands.
+// Removes a lock that has no sublocks.
 fn leave(rt: &impl Abort, store: &mut Store, lkid: u32) {
     assert!(rt; stores::leave(rt, store, lkid));
 }
@@ -309,7 +309,7 @@ fn what_has_room_is_added(rt: HostRuntime) -> Result<(), Fail> {
     Ok(())
 }
 
-// Owes a process so many ASTs more. Where memory was refused once they are owed again.
+// Owes a process this many more ASTs, and again if memory was refused once.
 fn owe(rt: &impl Abort, store: &mut Store, pid: u32, count: usize) -> Result<(), AllocError> {
     let owner = process(rt, store, pid);
     if store.owe(owner, count).is_err() {

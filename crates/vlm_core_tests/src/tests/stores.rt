@@ -12,7 +12,7 @@ use vlm_words::names::Name;
 use vlm_words::resources::{Domain, Key, Queue, Site};
 use vlm_words::steps::Declaration;
 
-/// Where a new lock goes: below another or below none, and to the end of a queue.
+/// The place of a new lock: below another lock or not, and at the end of a queue.
 #[derive(Clone, Copy)]
 pub struct Spot {
     pub parent: Option<LockAt>,
@@ -79,7 +79,7 @@ pub fn open(store: &mut Store, serial: u32, key: &Key) -> Result<(), AllocError>
     }
 }
 
-// The queue in which a lock stands that holds and wants this.
+// The queue of a lock with these held and wanted modes.
 fn queue_of(row: &LockRow) -> Queue {
     match (row.held.is_some(), row.want.is_some()) {
         (_, false) => Queue::Granted,
@@ -88,7 +88,7 @@ fn queue_of(row: &LockRow) -> Queue {
     }
 }
 
-/// The queue of a resource in which such a lock stands. The resource has to be there.
+/// The queue of a resource for such a lock. The resource has to exist.
 pub fn place(rt: &impl Abort, store: &Store, key: &Key, row: &LockRow) -> Place
     ensures { HasPlace result store.now }
 {
@@ -120,7 +120,7 @@ pub fn add_reserved(rt: &impl Abort, store: &mut Store, row: LockRow, spot: Spot
     }
 }
 
-/// Removes a lock, unless another stands below it. Says whether it is gone.
+/// Removes a lock, unless it has sublocks. Says whether it is gone.
 pub fn leave(rt: &impl Abort, store: &mut Store, lkid: u32) -> bool {
     let lock = lock(rt, store, lkid);
     if store.has_sublocks(lock) {

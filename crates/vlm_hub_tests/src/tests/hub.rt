@@ -43,7 +43,7 @@ fn hub_alone(rt: HostRuntime) -> Result<(), Fail> {
     Ok(())
 }
 
-// The ring of posts holds 64: the post behind them is given back, and there is a place again once the hub has taken one.
+// The ring of posts holds 64: the next post is given back, and there is a place again when the hub has taken one.
 #[test]
 fn posts_fill_a_ring(rt: HostRuntime) -> Result<(), Fail> {
     let mut single = Single::new(rt.alloc())?;
@@ -122,7 +122,7 @@ fn rings_fill(rt: HostRuntime) -> Result<(), Fail> {
     Ok(())
 }
 
-// A node's post is answered in the turn behind it, whatever the other has posted.
+// A node's post is answered in the next turn, whatever the other node has posted.
 #[test]
 fn a_greedy_node_keeps_nobody(rt: HostRuntime) -> Result<(), Fail> {
     let mut pair = Pair::new(rt.alloc())?;

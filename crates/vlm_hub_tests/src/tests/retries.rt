@@ -24,7 +24,7 @@ fn pair_of(alloc: Global) -> Result<Pair, AllocError> {
     }
 }
 
-// Has the hub make so many entries, in a second turn if the journal could not grow.
+// Has the hub make this many entries, in a second turn if the journal could not grow.
 fn turn(rt: &impl Abort, pair: &mut Pair, entries: usize) {
     let wanted = pair.entries().saturating_add(entries);
     if let Turn::NoMemory(_) = pair.turn() {
@@ -155,7 +155,7 @@ fn make_watched(rt: &impl Abort, hub: &mut WatchedHub, step: &Step, want: Answer
     assert!(rt; false);
 }
 
-// Publishes, and once more where that was refused; then each watcher still sees what it saw.
+// Publishes, and once more if that was refused; a refused publish changes no watcher's row.
 fn publish<R: Abort + Wait>(rt: &R, hub: &mut WatchedHub, before: u32, after: u32) {
     if hub.publish(rt).is_err() {
         assert!(rt; shows(hub.see(0, 0), before) && shows(hub.see(7, 0), before));

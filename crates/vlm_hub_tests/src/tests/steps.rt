@@ -57,7 +57,7 @@ pub fn exclusive(pid: u32) -> Step {
     request(pid, Some(COMPLETION), Some(BLOCKING))
 }
 
-// The same with none.
+// The same without watchers.
 pub fn quiet(pid: u32) -> Step {
     request(pid, None, None)
 }

@@ -1,4 +1,4 @@
-//! Watchers: what they are shown where there is memory, one after another and in threads of their own.
+//! Watchers: their rows where memory is ample, one after another and in threads of their own.
 
 use crate::WatchedHub;
 use crate::tests::steps::{P, declaration, give_up, is_answer, quiet};
@@ -25,7 +25,7 @@ pub fn roots(alloc: Global, count: u8) -> Result<Vec<RootKey>, AllocError> {
     Ok(keys)
 }
 
-// The row shows so many locks that hold EX, and nothing else.
+// The row shows this many locks that hold EX, and nothing else.
 pub fn shows(row: Option<Row>, exclusive: u32) -> bool {
     let Some(row) = row else {
         return false;
@@ -39,7 +39,7 @@ fn entries(row: Option<Row>) -> Option<u64> {
     row.map(|row| row.journal)
 }
 
-// A hub, and so many watchers of so many resources.
+// A hub, and this many watchers of this many resources.
 fn watched<R: Abort + AllocGlobal + Wait>(
     rt: &R,
     keys: u8,
@@ -55,7 +55,7 @@ fn watched<R: Abort + AllocGlobal + Wait>(
     }
 }
 
-// A resource comes, goes and comes again. A watcher that was told sees it so, with the entries made.
+// A resource comes, goes and comes again. A watcher that has learned of it sees that, with the number of entries.
 #[test]
 fn a_resource_comes_and_goes(rt: HostRuntime) -> Result<(), Fail> {
     let mut hub = watched(&rt, 1, 2)?;
@@ -93,7 +93,7 @@ fn sixteen_resources_are_told_apart(rt: HostRuntime) -> Result<(), Fail> {
 }
 
 // Watchers look in threads of their own while the hub makes steps and publishes: none sees fewer entries than before, and
-// once it is told each sees the last publish.
+// after it learns of it, each sees the last publish.
 fn look_on<R: Abort + AllocGlobal + Threads + Wait + Sync>(
     rt: &R,
     watchers: usize,

@@ -26,7 +26,7 @@ fn may_want_memory(step: &Step) -> bool {
     }
 }
 
-// What a process is told: how many of its ASTs are pending, and its first status block.
+// The pending ASTs of a process, and its first status block.
 fn told(core: &Core, pid: u32) -> (Option<usize>, Option<Block>) {
     (core.pending(pid), core.block(pid, 1))
 }
