@@ -319,7 +319,7 @@ mapped_in f x (y ∷ ps) there = elim there [
   | inr later ↦ inr (mapped_in f x ps later)
 ]
 
-module _ (s new : Records) (sound : IsSound s) (sound_new : IsSound new) (f : LocatedLock) (standing : IsLocated f s) (beside : LeavesOthers f.res f.lock s new)
+module _ (s new : Records) (sound : IsSound s) (sound_new : IsSound new) (f : LocatedLock) (located : IsLocated f s) (beside : LeavesOthers f.res f.lock s new)
     (own_locks : map but_notices new.processes ≡ map but_notices (map (process_without_lock f.lock) s.processes)) where
   -- the lock is gone
   pub gone : (row : LockRow) → Stores new f.lock row → ⊥
@@ -385,12 +385,12 @@ module _ (s new : Records) (sound : IsSound s) (sound_new : IsSound new) (f : Lo
 -- ---- what the plain machine makes of it
 
 -- all rows of the lock go
-module _ (s : Records) (sound : IsSound s) (f : LocatedLock) (standing : IsLocated f s) (goes : LockRow → Bool) (invalidates : Bool) (its : goes f.row ≡ true) where
+module _ (s : Records) (sound : IsSound s) (f : LocatedLock) (located : IsLocated f s) (goes : LockRow → Bool) (invalidates : Bool) (its : goes f.row ≡ true) where
   each_own : (r : StoredResource) → IsIn r s.resources → (queue : Queue) → (locks : List StoredLock) → ((k : StoredLock) → IsIn k locks → IsIn k (queued queue r))
       → AllByRecursion (IsOwnRow goes f.row.lkid) (rows_of_locks locks)
   each_own r among queue [] there = tt
   each_own r among queue (k ∷ locks) there = (
-    λ same. ap (λ (x : StoredLock). goes x.row) ((only s sound f standing r among queue k (there k (inl refl))).0 same) ∙ its,
+    λ same. ap (λ (x : StoredLock). goes x.row) ((only s sound f located r among queue k (there k (inl refl))).0 same) ∙ its,
     each_own r among queue locks (λ x behind. there x (inr behind)),
   )
 
@@ -525,17 +525,17 @@ counted_among k r queue there (x ∷ rs) among = elim among [
 ]
 
 -- there is one lock less
-pub one_less : (s new : Records) (sound : IsSound s) (f : LocatedLock) (standing : IsLocated f s) → IsAtRest s → IsAtRest new
+pub one_less : (s new : Records) (sound : IsSound s) (f : LocatedLock) (located : IsLocated f s) → IsAtRest s → IsAtRest new
     → (waiting converting : How) (invalidates : Bool) (w : Withdrawal) → w ≡ giving_up waiting converting invalidates f.row.lkid
     → plain_resources new ≡ map (resource_after_withdrawals (w ∷ [])) (plain_resources s) → lock_total new + 1 ≤ lock_total s
-one_less s new sound f standing rest rest_new waiting converting invalidates w is after =
+one_less s new sound f located rest rest_new waiting converting invalidates w is after =
     omega (
       arith,
       total_is s.resources,
       total_is new.resources,
       ap (sum_by (weigh (λ row. 1))) (after ∙ ap (λ (v : Withdrawal). map (resource_after_withdrawals (v ∷ [])) (plain_resources s)) is),
       all_parted waiting converting invalidates f.row.lkid (plain_resources s),
-      counted_among (record { at = f.lock; row = f.row }) standing.resource f.queue standing.among s.resources (own_among s sound f standing),
+      counted_among (record { at = f.lock; row = f.row }) located.resource f.queue located.among s.resources (own_among s sound f located),
     )
 
 -- ---- the touched resources
@@ -589,15 +589,15 @@ serials_kept w (r ∷ rs) =
       sum_by-cons (λ (x : Resource). x.serial) (resource_after_withdrawals (w ∷ []) r) (map (resource_after_withdrawals (w ∷ [])) rs),
     )
 
-module _ (s new : Records) (sound : IsSound s) (sound_new : IsSound new) (f : LocatedLock) (standing : IsLocated f s) (beside : LeavesOthers f.res f.lock s new)
+module _ (s new : Records) (sound : IsSound s) (sound_new : IsSound new) (f : LocatedLock) (located : IsLocated f s) (beside : LeavesOthers f.res f.lock s new)
     (w : Withdrawal) (after : plain_resources new ≡ map (resource_after_withdrawals (w ∷ [])) (plain_resources s)) where
   -- the lock's resource has its serial still
-  same_serial : (r : StoredResource) → IsIn r new.resources → r.at ≡ f.res → r.serial ≡ standing.resource.serial
+  same_serial : (r : StoredResource) → IsIn r new.resources → r.at ≡ f.res → r.serial ≡ located.resource.serial
   same_serial r there named =
       omega (
         arith,
         serials_but f.res r new.resources sound_new.resources_apart there named,
-        serials_but f.res standing.resource s.resources sound.resources_apart (own_among s sound f standing) (resource_at-at f.res s.resources standing.resource standing.found),
+        serials_but f.res located.resource s.resources sound.resources_apart (own_among s sound f located) (resource_at-at f.res s.resources located.resource located.found),
         ap (sum_by (λ (x : StoredResource). x.serial)) beside.others,
         serials_plain s.resources,
         serials_plain new.resources,
@@ -631,7 +631,7 @@ module _ (s new : Records) (sound : IsSound s) (sound_new : IsSound new) (f : Lo
                 r.1.0,
                 r.1.1 ∙ sym same ∙ old.1.1,
                 same_serial r.0 r.1.0 r.1.1
-                    ∙ sym (ap (λ (y : StoredResource). y.serial) (resource_alone f.res s.resources standing.resource old.0 sound.resources_apart standing.found old.1.0 same)) ∙ old.1.2,
+                    ∙ sym (ap (λ (y : StoredResource). y.serial) (resource_alone f.res s.resources located.resource old.0 sound.resources_apart located.found old.1.0 same)) ∙ old.1.2,
               ),
             ))
         | inr differs ↦
@@ -661,7 +661,7 @@ noted_before t (x ∷ touches) last there = elim there [
 -- what a turn has, which withdraws a lock of the process that goes, and notes its resource
 pub record IsTurn (goes : LockRow → Bool) (invalidates : Bool) (owner : ℕ) (s new : Records) (touched noted : Touches) (f : LocatedLock) (w : Withdrawal) : Type 0 where
   pub sound : IsSound new
-  pub standing : IsLocated f s
+  pub located : IsLocated f s
   pub mine : IsIn f.lock (own_handles_at owner s)
   pub its : goes f.row ≡ true
   pub waiting : How
@@ -679,14 +679,14 @@ pub record IsTurn (goes : LockRow → Bool) (invalidates : Bool) (owner : ℕ) (
 -- a lock of the process is a row of it
 pub its_row : (owner pid : ℕ) (s : Records) (sound : IsSound s) (lives : IsProcess owner pid s) (f : LocatedLock) → IsLocated f s → IsIn f.lock (own_handles_at owner s)
     → f.row.pid ≡ pid
-its_row owner pid s sound lives f standing there =
+its_row owner pid s sound lives f located there =
     let here = stored_here owner pid s sound lives f.lock there in
-    ap (λ (row : LockRow). row.pid) (one_lock s sound f.lock f.row here.0 (stored s f standing) here.1.0) ∙ here.1.1
+    ap (λ (row : LockRow). row.pid) (one_lock s sound f.lock f.row here.0 (stored s f located) here.1.0) ∙ here.1.1
 
 module _ (goes : LockRow → Bool) (invalidates : Bool) (owner pid : ℕ) (old s new : Records) (before touched noted : Touches) (f : LocatedLock) (w : Withdrawal)
     (so_far : AreGoing goes invalidates owner pid old s before touched) (turn : IsTurn goes invalidates owner s new touched noted f w) where
   own_left : own_handles_at owner new ≡ without f.lock (own_handles_at owner s)
-  own_left = handles_left s new so_far.sound turn.sound f turn.standing turn.beside turn.own_locks owner pid so_far.lives
+  own_left = handles_left s new so_far.sound turn.sound f turn.located turn.beside turn.own_locks owner pid so_far.lives
 
   pub own_apart : IsApart (own_handles_at owner s)
   own_apart = handles_apart owner pid s so_far.sound so_far.lives
@@ -697,26 +697,26 @@ module _ (goes : LockRow → Bool) (invalidates : Bool) (owner pid : ℕ) (old s
   pub next_turn : AreGoing goes invalidates owner pid old new before noted
   next_turn = record {
     resources =
-        one_left s so_far.sound f turn.standing goes invalidates turn.its turn.waiting turn.converting new w turn.withdrawal turn.resources ∙ so_far.resources;
+        one_left s so_far.sound f turn.located goes invalidates turn.its turn.waiting turn.converting new w turn.withdrawal turn.resources ∙ so_far.resources;
     statuses = turn.statuses ∙ so_far.statuses;
-    lives = lives_on s new so_far.sound turn.sound f turn.standing turn.beside turn.own_locks owner pid so_far.lives;
+    lives = lives_on s new so_far.sound turn.sound f turn.located turn.beside turn.own_locks owner pid so_far.lives;
     sound = turn.sound;
-    together = still_together s new so_far.sound turn.sound f turn.standing turn.beside turn.own_locks so_far.together;
-    granted = still_want_nothing s new so_far.sound turn.sound f turn.standing turn.beside turn.own_locks so_far.granted;
+    together = still_together s new so_far.sound turn.sound f turn.located turn.beside turn.own_locks so_far.together;
+    granted = still_want_nothing s new so_far.sound turn.sound f turn.located turn.beside turn.own_locks so_far.granted;
     were_there = λ place k there.
-        so_far.were_there place k (one_were_there s new so_far.sound turn.sound f turn.standing turn.beside turn.own_locks place k there);
+        so_far.were_there place k (one_were_there s new so_far.sound turn.sound f turn.located turn.beside turn.own_locks place k there);
     rest = turn.beside.rest;
     noted =
         subst (λ (touches : List Note). AreThere touches new) (sym turn.notes)
-        (still_there s new so_far.sound turn.sound f turn.standing turn.beside w turn.resources touched.noted turn.serial so_far.noted turn.its_serial);
+        (still_there s new so_far.sound turn.sound f turn.located turn.beside w turn.resources touched.noted turn.serial so_far.noted turn.its_serial);
     only_touched =
         subst (λ (touches : List Note). OnlyTouched touches old new) (sym turn.notes)
-        (one_only_touched s new so_far.sound turn.sound f turn.standing turn.beside turn.own_locks touched.noted turn.serial old so_far.only_touched);
+        (one_only_touched s new so_far.sound turn.sound f turn.located turn.beside turn.own_locks touched.noted turn.serial old so_far.only_touched);
     room =
         omega (
           arith,
           so_far.room,
-          one_less s new so_far.sound f turn.standing so_far.rest turn.beside.rest turn.waiting turn.converting invalidates w turn.withdrawal turn.resources,
+          one_less s new so_far.sound f turn.located so_far.rest turn.beside.rest turn.waiting turn.converting invalidates w turn.withdrawal turn.resources,
           ap (λ (touches : List Note). length touches) turn.notes,
           length-append touched.noted (record { number = turn.serial; at = f.res } ∷ []),
           turn.room,
@@ -728,11 +728,11 @@ module _ (goes : LockRow → Bool) (invalidates : Bool) (owner pid : ℕ) (old s
   }
 
 -- a lock that stands is counted: there is room to note its resource
-pub one_at_least : (s : Records) (sound : IsSound s) (f : LocatedLock) (standing : IsLocated f s) → 1 ≤ lock_total s
-one_at_least s sound f standing =
+pub one_at_least : (s : Records) (sound : IsSound s) (f : LocatedLock) (located : IsLocated f s) → 1 ≤ lock_total s
+one_at_least s sound f located =
     omega (
       arith,
       total_is s.resources,
       all_parted by_rundown by_rundown true f.row.lkid (plain_resources s),
-      counted_among (record { at = f.lock; row = f.row }) standing.resource f.queue standing.among s.resources (own_among s sound f standing),
+      counted_among (record { at = f.lock; row = f.row }) located.resource f.queue located.among s.resources (own_among s sound f located),
     )
