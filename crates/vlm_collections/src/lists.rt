@@ -4,7 +4,7 @@ ghost use Rattle.std.specs.Prelude.{◌≡◌, ◌≢◌, ◌≤◌, ℕ, Some, 
 ghost use Rattle.std.specs.Option.{ForSome};
 ghost use Rattle.slab.specs.Slab.{get, ContainsKey};
 ghost use Rattle.vlm_collections.specs.declared.link.Links.{Links};
-ghost use Rattle.vlm_collections.specs.Lists.{IsIn, IsLinked, IsNoList, LinksOn, Lists, Relinks, first_handle, handle_after, handle_before, handles_of, last_handle, next_in, next_of, prev_in, prev_of, without, written_links};
+ghost use Rattle.vlm_collections.specs.Lists.{IsIn, IsLinked, IsNoList, LinksOn, Lists, Relinks, first_handle, handle_after, handle_before, handles_of, last_handle, next_of, prev_of, without, written_links};
 
 use crate::link::{LAST_HANDLE, Link, Links};
 use slab::Slab;
@@ -166,30 +166,6 @@ fn write_links<Kind, T: Linked<Kind>>(nodes: &mut Slab<T>, handle: usize, pair: 
     nodes[handle].set_links(pair);
 }
 
-fn write_next<Kind, T: Linked<Kind>>(nodes: &mut Slab<T>, handle: usize, to: Link)
-    requires { ContainsKey nodes.old handle }
-    ensures next { next_in T.links (get nodes.new handle) ≡ to }
-    ensures prev { prev_in T.links (get nodes.new handle) ≡ prev_in T.links (get nodes.old handle) }
-    ensures others { (other : ℕ) → other ≢ handle → get nodes.new other ≡ get nodes.old other }
-    ensures relinks { Relinks T.with_links nodes.old nodes.new }
-{
-    let node = &mut nodes[handle];
-    let pair = node.links();
-    node.set_links(Links { next: to, ..pair });
-}
-
-fn write_prev<Kind, T: Linked<Kind>>(nodes: &mut Slab<T>, handle: usize, to: Link)
-    requires { ContainsKey nodes.old handle }
-    ensures prev { prev_in T.links (get nodes.new handle) ≡ to }
-    ensures next { next_in T.links (get nodes.new handle) ≡ next_in T.links (get nodes.old handle) }
-    ensures others { (other : ℕ) → other ≢ handle → get nodes.new other ≡ get nodes.old other }
-    ensures relinks { Relinks T.with_links nodes.old nodes.new }
-{
-    let node = &mut nodes[handle];
-    let pair = node.links();
-    node.set_links(Links { prev: to, ..pair });
-}
-
 // Links a spot to the spot after it. A spot is a record or an end of the list.
 fn link_forward<Kind, T: Linked<Kind>>(
     nodes: &mut Slab<T>,
@@ -204,7 +180,10 @@ fn link_forward<Kind, T: Linked<Kind>>(
 {
     match from.handle() {
         None => list.first = to,
-        Some(handle) => write_next::<Kind, T>(nodes, handle, to),
+        Some(handle) => {
+            let pair = nodes[handle].links();
+            write_links::<Kind, T>(nodes, handle, Links { next: to, ..pair });
+        }
     }
 }
 
@@ -221,6 +200,9 @@ fn link_back<Kind, T: Linked<Kind>>(
 {
     match from.handle() {
         None => list.last = to,
-        Some(handle) => write_prev::<Kind, T>(nodes, handle, to),
+        Some(handle) => {
+            let pair = nodes[handle].links();
+            write_links::<Kind, T>(nodes, handle, Links { prev: to, ..pair });
+        }
     }
 }

@@ -295,6 +295,7 @@ fn walk_from(store: &Store, ranks: &mut Ranks, walk: TarjanWalk, root: ProcAt) -
         return walk;
     }
     let mut walk = go_down(store, ranks, walk, root);
+    // It never ends early: this many turns would take centuries.
     for _ in 0..u64::MAX {
         let Some(process) = walk.process else {
             break;

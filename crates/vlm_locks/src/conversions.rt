@@ -18,7 +18,7 @@ use crate::located_locks::LocatedLock;
 use crate::routines::owe_routines;
 use std::alloc::AllocError;
 use vlm_procs::accept;
-use vlm_queue::{can_hold, is_empty};
+use vlm_queue::is_empty;
 use vlm_store::laws::law_records_are_sound;
 use vlm_store::{Place, Store, StoredRow};
 use vlm_words::flags::EnqFlags;
@@ -35,7 +35,7 @@ fn fits_others(store: &Store, located: &LocatedLock, mode: Mode) -> bool
         (rows_of_locks r.converting) }
 {
     law_records_are_sound(store);
-    can_hold(store, located.res, mode, Some(located.lock))
+    store.can_hold(located.res, mode, Some(located.lock))
 }
 
 /// Whether a conversion of a granted lock is granted at once: the mode fits beside all other locks of the resource, and

@@ -112,19 +112,12 @@ pub(crate) fn complete(
     }
 }
 
-/// 1 for true, 0 for false.
-pub(crate) fn one_where(so: bool) -> usize
-    ensures { result ≡ one_where so }
-{
-    if so { 1 } else { 0 }
-}
-
 // How many completion ASTs of a request never come: one after a grant at once with SYNCSTS.
 fn suppressed_completions(request: &Request, at_once: bool) -> usize
     ensures { result ≡ suppressed_completions at_once request.now }
 {
     if at_once && request.flags.has(EnqFlags::SYNCSTS) {
-        one_where(request.completion.is_some())
+        usize::from(request.completion.is_some())
     } else {
         0
     }
@@ -143,7 +136,7 @@ fn tell_grant(store: &mut Store, at: ProcAt, row: &StoredRow, request: &Request,
 {
     law_records_are_sound(store);
     complete(store, at, row, request, at_once);
-    let spared = one_where(row.is_armed()) + suppressed_completions(request, at_once);
+    let spared = usize::from(row.is_armed()) + suppressed_completions(request, at_once);
     if spared > 0 {
         forgive(store, at, spared);
     }
@@ -195,7 +188,7 @@ pub(crate) fn end_by_grant(
 {
     law_records_are_sound(store);
     let Some(request) = row.want() else {
-        forgive(store, at, one_where(row.is_armed()));
+        forgive(store, at, usize::from(row.is_armed()));
         return;
     };
     write_grant(value_block, store, at, row, &request);

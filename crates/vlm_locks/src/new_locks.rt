@@ -3,7 +3,7 @@
 ghost use Rattle.std.specs.Prelude.{◌≡◌, ◌≤◌, true, None, Some, IfOk, IfSome, IsOk, OnErr, OnOk};
 ghost use Rattle.vlm_words.specs.declared.locks.Request.{Request};
 ghost use Rattle.vlm_words.specs.declared.locks.LockRow.{LockRow};
-ghost use Rattle.vlm_words.specs.Dues.{routines_of, row_due};
+ghost use Rattle.vlm_words.specs.Dues.{row_due};
 ghost use Rattle.vlm_model.specs.Effects.{blocks_after, blocks_with};
 ghost use Rattle.vlm_model.specs.Grants.{grant_endings};
 ghost use Rattle.vlm_words.specs.Rows.{granted_row};
@@ -11,13 +11,13 @@ ghost use Rattle.vlm_model.specs.Enqueue.{is_at_once};
 ghost use Rattle.vlm_store.specs.Plain.{plain_processes, plain_resource};
 ghost use Rattle.vlm_store.specs.Records.{DuesStay, FindsResource, HasResource, HasRoomForLock, HasRoomForResource, IsProcess, IsUnchanged, Records, SameButNotices, StoredResource, due_of, resource_at};
 ghost use Rattle.vlm_locks.specs.Entering.{HasRoomToEnter, HasEntered, IsDueMore, IsEntered, IsReady, MayEnter, entered_queue, new_row, processes_accepted, processes_entered};
-ghost use Rattle.vlm_locks.specs.Owing.{IsPaid, OwedMoves, OwesMore, granted_if_at_once};
+ghost use Rattle.vlm_locks.specs.Owing.{IsPaid, OwedMoves, granted_if_at_once};
 
 use crate::endings::{end_by_grant, grant_without_value_block};
 use crate::routines::owe_routines;
 use std::alloc::AllocError;
 use vlm_procs::accept;
-use vlm_queue::{can_hold, is_empty};
+use vlm_queue::is_empty;
 use vlm_store::laws::law_records_are_sound;
 use vlm_store::{LockAt, Place, ProcAt, ResAt, Store, StoredRow};
 use vlm_words::flags::EnqFlags;
@@ -35,7 +35,7 @@ pub fn enters_at_once(store: &Store, res: ResAt, flags: EnqFlags, mode: Mode) ->
         → result ≡ is_at_once asked (plain_resource r) }
 {
     flags.has(EnqFlags::EXPEDITE)
-        || (can_hold(store, res, mode, None)
+        || (store.can_hold(res, mode, None)
             && is_empty(store, res, Queue::Conversion)
             && is_empty(store, res, Queue::Waiting))
 }
@@ -144,22 +144,6 @@ fn resource_or_new(store: &mut Store, new_lock: &NewLock) -> ResAt
     }
 }
 
-// Adds a new lock to its resource, which is made if it does not exist.
-fn take_in(store: &mut Store, new_lock: &NewLock, row: &StoredRow) -> ResAt
-    requires may_enter { MayEnter new_lock.now store.old }
-    requires row { row.now ≡ new_row new_lock.now }
-    requires found { FindsResource store.old new_lock.now.site.key new_lock.now.res }
-    requires room { HasRoomForLock new_lock.now.lkid store.old }
-    requires resource_room { new_lock.now.res ≡ None → HasRoomForResource new_lock.now.hash store.old }
-    ensures entered { IsEntered new_lock.now result store.old store.new }
-    ensures due { IsDueMore (granted_if_at_once new_lock.now.at_once (new_row new_lock.now))
-        store.old store.new }
-{
-    let res = resource_or_new(store, new_lock);
-    enter_at(store, new_lock, row, res);
-    res
-}
-
 // Accepts the request of a new lock and grants it at once. With VALBLK the grant returns the value block; a new request
 // never writes it.
 fn grant_entered(store: &mut Store, new_lock: &NewLock, row: &StoredRow, res: ResAt)
@@ -231,21 +215,6 @@ fn make_ready(store: &mut Store, new_lock: &NewLock) -> Result<(), AllocError>
     owe_routines(store, new_lock.owner, Some(new_lock.asked))
 }
 
-// The change: a new lock enters, after all room for it was made.
-fn enter_ready(store: &mut Store, new_lock: &NewLock) -> ResAt
-    requires may_enter { MayEnter new_lock.now store.old }
-    requires found { FindsResource store.old new_lock.now.site.key new_lock.now.res }
-    requires room { HasRoomForLock new_lock.now.lkid store.old }
-    requires resource_room { new_lock.now.res ≡ None → HasRoomForResource new_lock.now.hash store.old }
-    requires owed { OwesMore new_lock.now.pid (routines_of (Some new_lock.now.asked)) store.old }
-    ensures entered { HasEntered new_lock.now result store.old store.new }
-{
-    let row = new_row(new_lock);
-    let res = take_in(store, new_lock, &row);
-    accept_entered(store, new_lock, &row, res);
-    res
-}
-
 /// Adds a new lock to its resource, which is made if it does not exist. The lock is granted at once, or goes to the end
 /// of the waiting queue. Its process is owed the ASTs of its routines, and its status block is written. If memory is
 /// refused, nothing is changed, except that there may be more room.
@@ -258,5 +227,9 @@ pub fn enter(store: &mut Store, new_lock: &NewLock) -> Result<ResAt, AllocError>
     ensures err { OnErr result (IsUnchanged store.old store.new) }
 {
     make_ready(store, new_lock)?;
-    Ok(enter_ready(store, new_lock))
+    let row = new_row(new_lock);
+    let res = resource_or_new(store, new_lock);
+    enter_at(store, new_lock, &row, res);
+    accept_entered(store, new_lock, &row, res);
+    Ok(res)
 }

@@ -15,7 +15,7 @@ ghost use Rattle.vlm_locks.specs.Standing.{IsLocated};
 ghost use Rattle.vlm_locks.specs.Withdrawals.{how_ended, plain_withdrawal};
 ghost use Rattle.vlm_locks.specs.Withdrawing.{IsPartDone, goes, may_write, owned_after};
 
-use crate::endings::{complete, one_where};
+use crate::endings::complete;
 use crate::located_locks::LocatedLock;
 use crate::withdrawals::{EndReason, Withdrawal};
 use vlm_procs::{end, forgive};
@@ -41,7 +41,11 @@ fn end_with_status(store: &mut Store, located: &LocatedLock, request: &Request, 
     law_records_are_sound(store);
     end(store, located.owner, request.block, status);
     complete(store, located.owner, &located.row, request, false);
-    forgive(store, located.owner, one_where(request.blocking.is_some()));
+    forgive(
+        store,
+        located.owner,
+        usize::from(request.blocking.is_some()),
+    );
 }
 
 // Ends the queued request of a lock with its process. None of its ASTs come.
@@ -112,7 +116,7 @@ fn release_blocking_ast(store: &mut Store, located: &LocatedLock, gone: bool)
     if !gone {
         return;
     }
-    forgive(store, located.owner, one_where(located.row.is_armed()));
+    forgive(store, located.owner, usize::from(located.row.is_armed()));
 }
 
 // Whether a withdrawn lock of this queue goes. It does not if it is to stay and holds a mode.

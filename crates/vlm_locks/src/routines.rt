@@ -5,7 +5,6 @@ ghost use Rattle.vlm_words.specs.Dues.{routines_of};
 ghost use Rattle.vlm_store.specs.Plain.{plain_processes};
 ghost use Rattle.vlm_store.specs.Records.{DueChanges, IsProcess, SameButNotices, HasProcess};
 
-use crate::endings::one_where;
 use std::alloc::AllocError;
 use vlm_procs::owe;
 use vlm_store::{ProcAt, Store};
@@ -18,7 +17,7 @@ fn routines_of(want: Option<Request>) -> usize
     match want {
         None => 0,
         Some(request) => {
-            one_where(request.completion.is_some()) + one_where(request.blocking.is_some())
+            usize::from(request.completion.is_some()) + usize::from(request.blocking.is_some())
         }
     }
 }

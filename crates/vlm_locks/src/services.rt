@@ -14,7 +14,7 @@ ghost use Rattle.vlm_locks.specs.Serving.{HasGranted, IsServed, IsServiceOf, not
 
 use crate::endings::end_by_grant;
 use crate::warnings::warn;
-use vlm_queue::{can_hold, head, is_empty};
+use vlm_queue::{head, is_empty};
 use vlm_store::laws::law_records_are_sound;
 use vlm_store::{LockAt, Place, ResAt, Store, StoredRow};
 use vlm_words::locks::Request;
@@ -29,7 +29,7 @@ fn wanted_fits(store: &Store, res: ResAt, lock: LockAt, want: Option<Request>) -
 {
     match want {
         None => false,
-        Some(request) => can_hold(store, res, request.mode, Some(lock)),
+        Some(request) => store.can_hold(res, request.mode, Some(lock)),
     }
 }
 

@@ -1,5 +1,5 @@
 -- Conversions and dequeues as they are admitted.
-use Rattle.std.proofs.Common.{◌≡◌, ◌≢◌, Bool, true, false, not, ◌||◌, ◌&&◌, cond, List, [], ◌∷◌, map, find, Option, None, Some, refl, sym, ap, ◌∙◌, subst, inl, inr}
+use Rattle.std.proofs.Common.{◌≡◌, ◌≢◌, ℕ, Bool, true, false, not, ◌||◌, ◌&&◌, cond, List, [], ◌∷◌, map, find, Option, None, Some, refl, sym, ap, ◌∙◌, subst, inl, inr}
 use Rattle.std.specs.List.{list_any}
 use Rattle.std.proofs.lemmas.Bool.{cases_eq, or_right}
 use Rattle.std.specs.Prelude.{◌==◌, is_some}
@@ -12,8 +12,8 @@ use Rattle.vlm_words.specs.declared.resources.Queue.TheVariants.{Granted}
 use Rattle.vlm_words.specs.declared.steps.Conversion.{Conversion}
 use Rattle.vlm_words.specs.declared.steps.Dequeue.{Dequeue}
 use Rattle.vlm_model.specs.Convert.{ConversionAdmission, admission_among, admission_or, convert_admission, convert_lkid, convert_request}
-use Rattle.vlm_model.specs.Checks.{caller_refusal, lock_refusal, or_else, which_refusal}
-use Rattle.vlm_model.specs.Dequeue.{cancel_refusal, deq_flags_refusal, deq_refusal, dequeue_lkid, dequeued_lock_refusal, is_granted, is_mixed, sublocks_refusal}
+use Rattle.vlm_model.specs.Checks.{lock_refusal, or_else}
+use Rattle.vlm_model.specs.Dequeue.{cancel_refusal, dequeue_lkid, dequeued_lock_refusal, is_granted, is_mixed, sublocks_refusal}
 use Rattle.vlm_words.specs.Flags.{cancel, deqall, has_flag}
 use Rattle.vlm_words.specs.State.{State}
 use Rattle.vlm_words.specs.Rows.{is_lock_of}
@@ -26,7 +26,7 @@ use Rattle.vlm_locks.specs.Converting.{admission_on}
 use Rattle.vlm_locks.specs.Standing.{IsLocated, IsLocatedLockOf}
 use Rattle.vlm_locks.proofs.Named.{IsAbsent, any-absent, any-among, find-absent, find-only}
 use Rattle.vlm_locks.proofs.Stood.{absent, only, own_among}
-use Rattle.vlm_machine.specs.Admissions.{IsAdmittedDequeue}
+use Rattle.vlm_machine.specs.Admissions.{IsAdmittedDequeue, later_refusal, refusal_alone}
 use Rattle.vlm_machine.specs.Machine.{MachineState, plain_state}
 
 module _ (s : Records) (sound : IsSound s) (f : LocatedLock) (located : IsLocated f s) where
@@ -159,13 +159,11 @@ pub dequeue_passes : (s : State) (d : Dequeue) → has_flag d.flags cancel ≡ f
 unfolding cancel_refusal
 dequeue_passes s d keeps = rw keeps refl
 
--- the checks of a dequeue of one lock, in their order
-pub refusal_alone : (s : State) (d : Dequeue) → has_flag d.flags deqall ≡ false
-    → deq_refusal s d
-    ≡ or_else (caller_refusal s d.pid) (or_else (deq_flags_refusal d) (or_else (which_refusal s d.pid d.lock) (or_else (lock_refusal s d.pid (dequeue_lkid s d))
-    (or_else (cancel_refusal s d) (sublocks_refusal s (has_flag d.flags cancel) (dequeue_lkid s d))))))
-unfolding deq_refusal dequeued_lock_refusal
-refusal_alone s d alone =
+-- the later checks of a dequeue of one lock
+pub later_alone : (s : State) (d : Dequeue) → has_flag d.flags deqall ≡ false
+    → later_refusal s d ≡ or_else (lock_refusal s d.pid (dequeue_lkid s d)) (refusal_alone s d)
+unfolding dequeued_lock_refusal
+later_alone s d alone =
     let one : (has_flag d.flags cancel || has_flag d.flags deqall) ≡ has_flag d.flags cancel = rw alone (or_false (has_flag d.flags cancel)) in
     rw (one, alone) refl
   where
@@ -173,23 +171,15 @@ refusal_alone s d alone =
     or_false true = refl
     or_false false = refl
 
--- the checks of a dequeue with DEQALL that cancels nothing, in their order
-pub refusal_of_all : (s : State) (d : Dequeue) → has_flag d.flags deqall ≡ true → has_flag d.flags cancel ≡ false
-    → deq_refusal s d
-    ≡ or_else (caller_refusal s d.pid) (or_else (deq_flags_refusal d) (or_else (which_refusal s d.pid d.lock)
-    (cond (dequeue_lkid s d == 0) None (lock_refusal s d.pid (dequeue_lkid s d)))))
-unfolding deq_refusal dequeued_lock_refusal cancel_refusal sublocks_refusal
-refusal_of_all s d all goes = rw (all, goes) (last (caller_refusal s d.pid) (deq_flags_refusal d) (which_refusal s d.pid d.lock))
+-- the later checks of a dequeue with DEQALL that cancels nothing
+pub later_of_all : (s : State) (d : Dequeue) → has_flag d.flags deqall ≡ true → has_flag d.flags cancel ≡ false
+    → later_refusal s d ≡ cond (dequeue_lkid s d == 0) None (lock_refusal s d.pid (dequeue_lkid s d))
+unfolding dequeued_lock_refusal cancel_refusal sublocks_refusal
+later_of_all s d all goes = rw (all, goes) (nothing_more (cond (dequeue_lkid s d == 0) None (lock_refusal s d.pid (dequeue_lkid s d))))
   where
     nothing_more : (o : Option Cond) → or_else o None ≡ o
     nothing_more None = refl
     nothing_more (Some refusal) = refl
-
-    chosen : Option Cond
-    chosen = cond (dequeue_lkid s d == 0) None (lock_refusal s d.pid (dequeue_lkid s d))
-
-    last : (a b c : Option Cond) → or_else a (or_else b (or_else c (or_else chosen None))) ≡ or_else a (or_else b (or_else c chosen))
-    last a b c = ap (λ (o : Option Cond). or_else a (or_else b (or_else c o))) (nothing_more chosen)
 
 -- where DEQALL comes with what it goes with, it cancels nothing
 pub cancels_nothing : (d : Dequeue) → has_flag d.flags deqall ≡ true → is_mixed d ≡ false → has_flag d.flags cancel ≡ false
@@ -199,3 +189,15 @@ cancels_nothing d all fitting = of_tests (has_flag d.flags deqall) (has_flag d.f
     of_tests true true c t is none = cc
     of_tests true false c t is none = refl
     of_tests false b c t is none = cc
+
+-- and it gives no value and no tail
+pub gives_nothing : (d : Dequeue) → has_flag d.flags deqall ≡ true → is_mixed d ≡ false → (d.value ≡ None) × (d.tail ≡ None)
+gives_nothing d all fitting = of_tests (has_flag d.flags deqall) (has_flag d.flags cancel) d.value d.tail all fitting
+  where
+    of_tests : (a b : Bool) (value tail : Option (List ℕ)) → a ≡ true → ((a && (b || is_some value)) || (is_some tail && not (is_some value))) ≡ false
+        → (value ≡ None) × (tail ≡ None)
+    of_tests true true value tail is none = cc
+    of_tests true false None None is none = (refl, refl)
+    of_tests true false None (Some tail) is none = cc
+    of_tests true false (Some value) tail is none = cc
+    of_tests false b value tail is none = cc

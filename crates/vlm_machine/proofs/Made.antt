@@ -1,9 +1,10 @@
 -- A step that no check refuses comes to its change, swept.
-use Rattle.std.proofs.Common.{◌≡◌, Option, None, sym, ap, ◌∙◌, inl}
+use Rattle.std.proofs.Common.{◌≡◌, Option, None, Some, sym, ap, ◌∙◌, inl}
 use Rattle.std.specs.List.{AllByRecursion}
 use Rattle.vlm_words.specs.declared.conditions.Cond.{Cond}
 use Rattle.vlm_words.specs.declared.locks.LockRow.{LockRow}
 use Rattle.vlm_words.specs.declared.steps.Answer.{Answer}
+use Rattle.vlm_words.specs.declared.steps.Answer.TheVariants.{Plain}
 use Rattle.vlm_words.specs.declared.steps.Step.{Step}
 use Rattle.vlm_model.specs.Settled.{IsSettled}
 use Rattle.vlm_words.specs.State.{State}
@@ -22,6 +23,12 @@ made_choosing s new step choice answer chosen passed state answered =
 pub made_swept : (s new : State) (step : Step) (answer : Answer) → IsChoice s step None → None ≡ step_refusal s step → new ≡ state_after_sweep (step_change s step None).state
     → answer ≡ (step_change s step None).answer → Outcome s step new answer
 made_swept s new step answer = made_choosing s new step None answer
+
+-- a refused step changes nothing
+pub made_refused : (s : State) (step : Step) (refusal : Cond) → IsChoice s step None → step_refusal s step ≡ Some refusal → Outcome s step s (Plain refusal)
+made_refused s step refusal chosen refused =
+    let made : stepped s step None ≡ refused_or (Some refusal) s (step_change s step None) = ap (λ (o : Option Cond). refused_or o s (step_change s step None)) refused in
+    inl (record { choice = None; chosen = chosen; state = sym (ap (λ (t : Stepped). t.state) made); answered = sym (ap (λ (t : Stepped). t.answer) made) })
 
 -- a change that leaves nothing to sweep is the whole step
 pub made_unswept : (s new : State) (step : Step) (answer : Answer) → IsChoice s step None → None ≡ step_refusal s step → AllByRecursion IsSettled (step_change s step None).state.resources

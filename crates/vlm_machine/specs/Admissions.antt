@@ -1,14 +1,16 @@
 -- What the checks of a step decide, for the change that follows.
-use Rattle.std.specs.Prelude.{◌≡◌, ◌<◌, ◌^◌, ℕ, zero, suc, Bool, true, false, Option, None, Some}
+use Rattle.std.specs.Prelude.{◌≡◌, ◌<◌, ◌^◌, ℕ, zero, suc, Bool, true, false, Option, Some}
 use Rattle.vlm_store.specs.Index.{hash_key}
 use Rattle.vlm_words.specs.declared.resources.Queue.TheVariants.{Granted}
 use Rattle.vlm_words.specs.declared.steps.Conversion.{Conversion}
 use Rattle.vlm_words.specs.declared.steps.Dequeue.{Dequeue}
 use Rattle.vlm_words.specs.declared.steps.NewRequest.{NewRequest}
+use Rattle.vlm_words.specs.declared.conditions.Cond.{Cond}
+use Rattle.vlm_model.specs.Checks.{or_else}
 use Rattle.vlm_model.specs.Convert.{convert_admission, convert_lkid, convert_request}
-use Rattle.vlm_model.specs.Dequeue.{dequeue_lkid}
+use Rattle.vlm_model.specs.Dequeue.{cancel_refusal, deq_refusal, dequeue_lkid, dequeued_lock_refusal, is_mixed, leaves_none, sublocks_refusal}
 use Rattle.vlm_model.specs.Enqueue.{enq_at_once, enq_row}
-use Rattle.vlm_words.specs.Flags.{cancel, deqall, flag_bits, has_flag, invvalblk}
+use Rattle.vlm_words.specs.Flags.{cancel, deq_flag_bits, deqall, flag_bits, has_flag}
 use Rattle.vlm_words.specs.Names.{is_name}
 use Rattle.vlm_words.specs.Resources.{IsKeyed}
 use Rattle.vlm_words.specs.State.{State}
@@ -20,10 +22,9 @@ use Rattle.vlm_locks.specs.declared.joint_withdrawals.Scope.{Scope}
 use Rattle.vlm_locks.specs.declared.joint_withdrawals.Scope.TheVariants.{All, Below}
 use Rattle.vlm_locks.specs.Converting.{admission_on}
 use Rattle.vlm_locks.specs.Entering.{new_row}
-use Rattle.vlm_locks.specs.GivingUp.{IsOwnScope}
-use Rattle.vlm_locks.specs.Standing.{IsLocated, IsLocatedLockOf}
+use Rattle.vlm_locks.specs.Standing.{IsLocatedLockOf}
 use Rattle.vlm_locks.specs.Withdrawing.{goes}
-use Rattle.vlm_machine.specs.declared.dequeues.AdmittedDequeueOfAll.{AdmittedDequeueOfAll}
+use Rattle.vlm_machine.specs.declared.dequeues.CheckedDequeue.{CheckedDequeue}
 use Rattle.vlm_machine.specs.declared.new_requests.CheckedRequest.{CheckedRequest}
 use Rattle.vlm_machine.specs.declared.new_requests.RequestForm.{RequestForm}
 use Rattle.vlm_machine.specs.declared.parents.Parent.{Parent}
@@ -101,18 +102,27 @@ abbrev pub scope_of : ℕ → Scope
 scope_of zero = All
 scope_of (suc n) = Below (suc n)
 
--- the dequeue with DEQALL is admitted so: it is this caller's, and which of the caller's locks go, and whether they
--- invalidate; the lock that it names is one of the caller's; it cancels nothing and gives no value and no tail
-pub record IsAdmittedDequeueOfAll (m : MachineState) (d : Dequeue) (a : AdmittedDequeueOfAll) : Type 0 where
-  pub caller : IsCaller a.caller m.records
-  pub pid : a.caller.pid ≡ d.pid
-  pub choice : a.choice ≡ scope_of (dequeue_lkid (plain_state m) d)
-  pub own : IsOwnScope a.choice a.caller.pid m.records
-  pub invalidates : a.invalidates ≡ has_flag d.flags invvalblk
-  pub goes : has_flag d.flags cancel ≡ false
-  pub plain : d.value ≡ None
-  pub short : d.tail ≡ None
-
 -- the lock has no sublocks if the dequeue gives it up
-abbrev pub IsChildless : MachineState → Dequeue → ℕ → Type 0
-IsChildless m d lock = (f : LocatedLock) → IsLocated f m.records → f.lock ≡ lock → goes (has_flag d.flags cancel) f.queue ≡ true → HasNoSublocks f.lock m.records
+abbrev pub IsChildless : MachineState → Dequeue → LocatedLock → Type 0
+IsChildless m d f = goes (has_flag d.flags cancel) f.queue ≡ true → HasNoSublocks f.lock m.records
+
+-- the checks of a dequeue that come after those of its caller, its flags and its name of a lock
+abbrev pub later_refusal : State → Dequeue → Option Cond
+later_refusal s d =
+    or_else (dequeued_lock_refusal s d)
+    (or_else (cancel_refusal s d) (sublocks_refusal s (leaves_none d) (dequeue_lkid s d)))
+
+-- the checks of a dequeue of one lock that come after that of the lock
+abbrev pub refusal_alone : State → Dequeue → Option Cond
+refusal_alone s d =
+    or_else (cancel_refusal s d) (sublocks_refusal s (has_flag d.flags cancel) (dequeue_lkid s d))
+
+-- a dequeue that has passed its first checks: its caller, its flags, which fit its value and tail, and the identification
+-- that it names; the later checks decide
+pub record IsCheckedDequeue (m : MachineState) (d : Dequeue) (c : CheckedDequeue) : Type 0 where
+  pub caller : IsCaller c.caller m.records
+  pub pid : c.caller.pid ≡ d.pid
+  pub flags : deq_flag_bits c.flags ≡ d.flags
+  pub fitting : is_mixed d ≡ false
+  pub lkid : c.lkid ≡ dequeue_lkid (plain_state m) d
+  pub later : deq_refusal (plain_state m) d ≡ later_refusal (plain_state m) d

@@ -16,7 +16,7 @@ use crate::nodes::has_departed;
 use crate::processes::{Caller, living};
 use crate::records::Machine;
 use vlm_locks::{LocatedLock, find_lock, located_lock};
-use vlm_procs::{has_room, status_block};
+use vlm_procs::{has_room, has_status_block, status_block};
 use vlm_store::LockAt;
 use vlm_words::blocks::Block;
 use vlm_words::conditions::Cond;
@@ -107,13 +107,17 @@ impl Machine {
     }
 
     /// ACCVIO if the caller has no status block of this number.
+    #[tactic(auto, unfolding(vlm_model::specs::Checks::status_block_refusal))]
     pub(crate) fn check_status_block(&self, caller: &Caller, number: u8) -> Result<(), Cond>
         requires { IsCaller caller.now self.now.records }
         ensures { result_err result
             ≡ status_block_refusal (plain_state self.now) caller.now.pid number }
     {
-        self.checked_status_block(caller, number)?;
-        Ok(())
+        if has_status_block(&self.store, caller.at, number) {
+            Ok(())
+        } else {
+            Err(Cond::Accvio)
+        }
     }
 
     /// The named identification: given by itself, or by a status block of the caller. ACCVIO if the caller has no such
@@ -134,7 +138,7 @@ impl Machine {
 
     /// The lock of the caller with this identification. IVLOCKID if the caller has no such lock.
     #[tactic(auto, unfolding(vlm_model::specs::Checks::lock_refusal))]
-    // Inlined, as `check_cancel` is: each step finds one lock.
+    // Inlined: each step finds one lock.
     #[inline(always)]
     pub(crate) fn checked_lock(&self, caller: &Caller, lkid: u32) -> Result<LockAt, Cond>
         ensures refusal { result_err result

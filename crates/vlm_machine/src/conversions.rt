@@ -2,7 +2,7 @@
 
 ghost use Rattle.std.specs.Prelude.{◌≡◌, Some, IfErr, IfOk, OnErr, OnOk};
 ghost use Rattle.std.specs.Result.{result_err};
-ghost use Rattle.vlm_model.specs.Convert.{ConversionAdmission, admission_refusal, convert_admission, convert_change, convert_flags_refusal, convert_lkid, convert_refusal, is_queued_legally_from, pair_refusal};
+ghost use Rattle.vlm_model.specs.Convert.{ConversionAdmission, admission_refusal, convert_admission, convert_change, convert_lkid, convert_refusal, is_queued_legally_from, pair_refusal};
 ghost use Rattle.vlm_words.specs.Flags.{flag_bits};
 ghost use Rattle.vlm_model.specs.Stepped.{NamesRoutine, Outcome};
 ghost use Rattle.vlm_store.specs.Records.{HasResource};
@@ -13,7 +13,7 @@ ghost use Rattle.vlm_machine.specs.Between.{IsBetweenSteps};
 ghost use Rattle.vlm_machine.specs.Machine.{plain_state};
 
 use crate::checks::{acceptance, check_queue};
-use crate::flags::enq_flags;
+use crate::flags::checked_request_flags;
 use crate::records::Machine;
 use std::alloc::AllocError;
 use vlm_locks::{LocatedLock, convert, converts_at_once};
@@ -61,7 +61,7 @@ impl Machine {
             (convert_lkid (plain_state self.now) conversion.now) named.lock self.now.records) }
     {
         let caller = self.checked_caller(conversion.pid)?;
-        let flags = checked_flags(conversion)?;
+        let flags = checked_request_flags(conversion.flags)?;
         self.check_status_block(&caller, conversion.block)?;
         let lkid = self.checked_lkid(&caller, conversion.lock)?;
         let lock = self.checked_lock(&caller, lkid)?;
@@ -146,20 +146,19 @@ impl Machine {
         ensures unchanged { OnErr result (self.new ≡ self.old) }
         ensures named { OnErr result (NamesRoutine conversion.now) }
     {
-        let asked = request_of(self.last_request + 1, flags, conversion);
+        let asked = Request {
+            number: self.last_request + 1,
+            mode: conversion.mode,
+            flags,
+            block: conversion.block,
+            completion: conversion.ast,
+            blocking: conversion.bast,
+            param: conversion.param,
+        };
         convert(&mut self.store, located, &asked, at_once)?;
         self.last_request += 1;
         Ok(())
     }
-}
-
-// The flags, or BADPARAM if one of them is unknown.
-#[tactic(auto, unfolding(vlm_model::specs::Convert::convert_flags_refusal))]
-fn checked_flags(conversion: &Conversion) -> Result<EnqFlags, Cond>
-    ensures refusal { result_err result ≡ convert_flags_refusal conversion.now }
-    ensures flags { IfOk result (λ flags. flag_bits flags ≡ conversion.now.flags) }
-{
-    enq_flags(conversion.flags).ok_or(Cond::Badparam)
 }
 
 // BADPARAM if QUECVT does not go with a conversion from the held mode.
@@ -182,27 +181,5 @@ fn is_legal_from(held: Option<Request>, mode: Mode) -> bool
     match held {
         Some(held) => quecvt_legal(held.mode, mode),
         None => false,
-    }
-}
-
-fn request_of(number: u64, flags: EnqFlags, conversion: &Conversion) -> Request
-    ensures { result ≡ record {
-      number = number;
-      mode = conversion.now.mode;
-      flags = flags;
-      block = conversion.now.block;
-      completion = conversion.now.ast;
-      blocking = conversion.now.bast;
-      param = conversion.now.param;
-    } }
-{
-    Request {
-        number,
-        mode: conversion.mode,
-        flags,
-        block: conversion.block,
-        completion: conversion.ast,
-        blocking: conversion.bast,
-        param: conversion.param,
     }
 }

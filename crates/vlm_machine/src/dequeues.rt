@@ -1,20 +1,19 @@
 //! The step that gives locks up, or cancels a request.
 
-ghost use Rattle.std.specs.Prelude.{◌≡◌, ◌==◌, ◌&&◌, ℕ, None, [], true, false, not, IfOk, OnOk, if◌then◌else◌};
+ghost use Rattle.std.specs.Prelude.{◌≡◌, ◌==◌, ◌&&◌, None, Some, [], true, false, not, IfErr, IfOk, OnOk, if◌then◌else◌};
 ghost use Rattle.std.specs.Result.{result_err};
-ghost use Rattle.vlm_model.specs.Dequeue.{cancel_refusal, conversion_ending, deq_change, deq_flags_refusal, deq_refusal, dequeue_lkid, is_mixed, leaves_none, sublocks_refusal, withdrawal_of};
+ghost use Rattle.vlm_model.specs.Dequeue.{cancel_refusal, conversion_ending, deq_change, deq_flags_refusal, deq_refusal, is_mixed, sublocks_refusal, withdrawal_of};
 ghost use Rattle.vlm_model.specs.Checks.{lock_refusal};
 ghost use Rattle.vlm_words.specs.Flags.{cancel, deq_flag_bits, deqall, has_flag, invvalblk};
 ghost use Rattle.vlm_model.specs.Endings.How.{by_abort};
 ghost use Rattle.vlm_model.specs.Stepped.{Outcome};
-ghost use Rattle.vlm_store.specs.Records.{HasNoSublocks, HasResource, IsStored};
+ghost use Rattle.vlm_store.specs.Records.{HasNoSublocks, HasResource};
 ghost use Rattle.vlm_locks.specs.GivingUp.{IsOwnScope};
 ghost use Rattle.vlm_locks.specs.Rest.{OthersStay};
-ghost use Rattle.vlm_locks.specs.declared.located_locks.LocatedLock.{LocatedLock};
-ghost use Rattle.vlm_locks.specs.Standing.{IsLockOf, IsLocated};
+ghost use Rattle.vlm_locks.specs.Standing.{IsLocated};
 ghost use Rattle.vlm_locks.specs.Withdrawals.{plain_withdrawal};
 ghost use Rattle.vlm_locks.specs.Withdrawing.{goes};
-ghost use Rattle.vlm_machine.specs.Admissions.{IsAdmittedDequeue, IsAdmittedDequeueOfAll, IsChildless, scope_of};
+ghost use Rattle.vlm_machine.specs.Admissions.{IsAdmittedDequeue, IsCheckedDequeue, IsChildless, scope_of, refusal_alone};
 ghost use Rattle.vlm_machine.specs.Between.{IsBetweenSteps};
 ghost use Rattle.vlm_machine.specs.Machine.{plain_state};
 ghost use Rattle.vlm_machine.specs.Notes.{HasRoomToNote, IsToSweep};
@@ -22,22 +21,19 @@ ghost use Rattle.vlm_machine.specs.Notes.{HasRoomToNote, IsToSweep};
 use crate::flags::deq_flags;
 use crate::processes::Caller;
 use crate::records::Machine;
-use bitflags::Flags;
 use vlm_locks::{EndReason, LocatedLock, Scope, Touched, Withdrawal, give_up_together, withdraw};
-use vlm_store::LockAt;
 use vlm_store::laws::law_records_are_sound;
 use vlm_words::conditions::Cond;
 use vlm_words::flags::DeqFlags;
 use vlm_words::steps::{Answer, Dequeue, Step};
 
-/// A dequeue with DEQALL that has passed its checks.
+/// A dequeue that has passed the checks of its caller, its flags and its name of a lock.
 #[derive(Clone, Copy)]
-pub(crate) struct AdmittedDequeueOfAll {
+pub(crate) struct CheckedDequeue {
     caller: Caller,
-    // the locks of the caller that go
-    choice: Scope,
-    // whether it has INVVALBLK
-    invalidates: bool,
+    flags: DeqFlags,
+    // the identification that it names, 0 for none
+    lkid: u32,
 }
 
 impl Machine {
@@ -50,24 +46,52 @@ impl Machine {
         ensures none { touched.new.noted ≡ [] }
         ensures room { touched.new.room ≡ touched.old.room }
     {
-        if asks_for_all(dequeue) {
-            self.deq_all(touched, dequeue)
-        } else {
-            self.deq_one(dequeue)
+        match self.checked_dequeue(dequeue) {
+            Ok(checked) => {
+                if checked.flags.has(DeqFlags::DEQALL) {
+                    self.deq_all(touched, dequeue, &checked)
+                } else {
+                    self.deq_one(dequeue, &checked)
+                }
+            }
+            Err(refusal) => Answer::Plain(refusal),
         }
     }
 
+    // The checks of the caller, the flags and the name of a lock, in this order.
+    #[tactic(auto, unfolding(vlm_model::specs::Dequeue::deq_refusal))]
+    fn checked_dequeue(&self, dequeue: &Dequeue) -> Result<CheckedDequeue, Cond>
+        ensures refused { IfErr result
+            (λ refusal. deq_refusal (plain_state self.now) dequeue.now ≡ Some refusal) }
+        ensures checked { IfOk result
+            (λ checked. IsCheckedDequeue self.now dequeue.now checked) }
+    {
+        let caller = self.checked_caller(dequeue.pid)?;
+        let flags = checked_flags(dequeue)?;
+        let lkid = self.checked_lkid(&caller, dequeue.lock)?;
+        Ok(CheckedDequeue {
+            caller,
+            flags,
+            lkid,
+        })
+    }
+
     // One lock: its checks, its change, and the sweep of its resource.
-    fn deq_one(&mut self, dequeue: &Dequeue) -> Answer
+    fn deq_one(&mut self, dequeue: &Dequeue, checked: &CheckedDequeue) -> Answer
         requires between { IsBetweenSteps (plain_state self.old) }
+        requires checked { IsCheckedDequeue self.old dequeue.now checked.now }
         requires alone { has_flag dequeue.now.flags deqall ≡ false }
-        ensures outcome { Outcome (plain_state self.old) (Step.Deq dequeue.now)
+        ensures { Outcome (plain_state self.old) (Step.Deq dequeue.now)
             (plain_state self.new) result }
     {
-        match self.checked_dequeue(dequeue) {
-            Ok(lock) => {
-                let located = self.located(lock);
-                self.deq_change(dequeue, &located);
+        let lock = match self.checked_lock(&checked.caller, checked.lkid) {
+            Ok(lock) => lock,
+            Err(refusal) => return Answer::Plain(refusal),
+        };
+        let located = self.located(lock);
+        match self.check_alone(dequeue, checked.flags, &located) {
+            Ok(()) => {
+                self.deq_change(dequeue, checked.flags, &located);
                 self.sweep(located.res);
                 Answer::Plain(Cond::Normal)
             }
@@ -75,62 +99,31 @@ impl Machine {
         }
     }
 
-    // With DEQALL: its checks, its change, and one sweep of all touched resources.
-    fn deq_all(&mut self, touched: &mut Touched, dequeue: &Dequeue) -> Answer
+    // With DEQALL: the check of the lock, the change, and one sweep of all touched resources. It never answers
+    // CANCELGRANT or SUBLOCKS.
+    fn deq_all(
+        &mut self,
+        touched: &mut Touched,
+        dequeue: &Dequeue,
+        checked: &CheckedDequeue,
+    ) -> Answer
         requires between { IsBetweenSteps (plain_state self.old) }
         requires notes { HasRoomToNote touched.old self.old }
+        requires checked { IsCheckedDequeue self.old dequeue.now checked.now }
         requires all { has_flag dequeue.now.flags deqall ≡ true }
         ensures outcome { Outcome (plain_state self.old) (Step.Deq dequeue.now)
             (plain_state self.new) result }
         ensures none { touched.new.noted ≡ [] }
         ensures room { touched.new.room ≡ touched.old.room }
     {
-        match self.checked_dequeue_of_all(dequeue) {
-            Ok(admitted) => {
-                self.deq_all_change(touched, dequeue, &admitted);
+        match self.checked_scope(&checked.caller, checked.lkid) {
+            Ok(choice) => {
+                self.deq_all_change(touched, dequeue, checked, choice);
                 self.sweep_touched(touched);
                 Answer::Plain(Cond::Normal)
             }
             Err(refusal) => Answer::Plain(refusal),
         }
-    }
-
-    // The checks of one lock, in their order.
-    #[tactic(auto, unfolding(vlm_model::specs::Dequeue::deq_refusal))]
-    fn checked_dequeue(&self, dequeue: &Dequeue) -> Result<LockAt, Cond>
-        requires between { IsBetweenSteps (plain_state self.now) }
-        requires alone { has_flag dequeue.now.flags deqall ≡ false }
-        ensures refusal { result_err result ≡ deq_refusal (plain_state self.now) dequeue.now }
-        ensures lock { IfOk result (λ lock. IsLockOf dequeue.now.pid
-            (dequeue_lkid (plain_state self.now) dequeue.now) lock self.now.records) }
-        ensures childless { IfOk result (λ lock. IsChildless self.now dequeue.now lock) }
-    {
-        let caller = self.checked_caller(dequeue.pid)?;
-        let flags = checked_flags(dequeue)?;
-        let lkid = self.checked_lkid(&caller, dequeue.lock)?;
-        let lock = self.checked_lock(&caller, lkid)?;
-        let cancels = flags.has(DeqFlags::CANCEL);
-        self.check_cancel(dequeue, lock, cancels)?;
-        self.check_sublocks(lock, cancels)?;
-        Ok(lock)
-    }
-
-    // The checks with DEQALL, in their order. They never answer CANCELGRANT or SUBLOCKS.
-    #[tactic(auto, unfolding(vlm_model::specs::Dequeue::deq_refusal))]
-    fn checked_dequeue_of_all(&self, dequeue: &Dequeue) -> Result<AdmittedDequeueOfAll, Cond>
-        requires { has_flag dequeue.now.flags deqall ≡ true }
-        ensures refusal { result_err result ≡ deq_refusal (plain_state self.now) dequeue.now }
-        ensures admitted { IfOk result (λ a. IsAdmittedDequeueOfAll self.now dequeue.now a) }
-    {
-        let caller = self.checked_caller(dequeue.pid)?;
-        let flags = checked_flags(dequeue)?;
-        let lkid = self.checked_lkid(&caller, dequeue.lock)?;
-        let choice = self.checked_scope(&caller, lkid)?;
-        Ok(AdmittedDequeueOfAll {
-            caller,
-            choice,
-            invalidates: flags.has(DeqFlags::INVVALBLK),
-        })
     }
 
     // All locks of the caller if none is named, else those below the named one. IVLOCKID if the caller has no such lock.
@@ -147,18 +140,38 @@ impl Machine {
         Ok(Scope::Below(lkid))
     }
 
+    // The checks of one lock, in their order.
+    fn check_alone(
+        &self,
+        dequeue: &Dequeue,
+        flags: DeqFlags,
+        located: &LocatedLock,
+    ) -> Result<(), Cond>
+        requires between { IsBetweenSteps (plain_state self.now) }
+        requires flags { deq_flag_bits flags ≡ dequeue.now.flags }
+        requires admitted { IsAdmittedDequeue self.now dequeue.now located.now }
+        ensures refusal { result_err result ≡ refusal_alone (plain_state self.now) dequeue.now }
+        ensures childless { OnOk result (IsChildless self.now dequeue.now located.now) }
+    {
+        let cancels = flags.has(DeqFlags::CANCEL);
+        self.check_cancel(dequeue, cancels, located)?;
+        self.check_sublocks(cancels, located)
+    }
+
     // CANCELGRANT if a granted lock is to be cancelled.
     #[tactic(auto, unfolding(vlm_model::specs::Dequeue::cancel_refusal))]
-    #[inline(always)]
-    fn check_cancel(&self, dequeue: &Dequeue, lock: LockAt, cancels: bool) -> Result<(), Cond>
-        requires alone { has_flag dequeue.now.flags deqall ≡ false }
-        requires lock { IsLockOf dequeue.now.pid (dequeue_lkid (plain_state self.now) dequeue.now)
-            lock self.now.records }
+    fn check_cancel(
+        &self,
+        dequeue: &Dequeue,
+        cancels: bool,
+        located: &LocatedLock,
+    ) -> Result<(), Cond>
         requires cancels { cancels ≡ has_flag dequeue.now.flags cancel }
+        requires admitted { IsAdmittedDequeue self.now dequeue.now located.now }
         ensures { result_err result ≡ cancel_refusal (plain_state self.now) dequeue.now }
     {
         law_records_are_sound(&self.store);
-        if cancels && self.located(lock).is_granted() {
+        if cancels && located.is_granted() {
             Err(Cond::Cancelgrant)
         } else {
             Ok(())
@@ -167,17 +180,15 @@ impl Machine {
 
     // SUBLOCKS if a lock with sublocks is to be given up. A waiting lock has none.
     #[tactic(auto, unfolding(vlm_model::specs::Dequeue::sublocks_refusal))]
-    fn check_sublocks(&self, lock: LockAt, cancels: bool) -> Result<(), Cond>
-        requires stored { IsStored lock self.now.records }
+    fn check_sublocks(&self, cancels: bool, located: &LocatedLock) -> Result<(), Cond>
         requires between { IsBetweenSteps (plain_state self.now) }
-        ensures refusal { (pid lkid : ℕ) → IsLockOf pid lkid lock self.now.records
-            → result_err result ≡ sublocks_refusal (plain_state self.now) cancels lkid }
-        ensures childless { OnOk result ((f : LocatedLock) → IsLocated f self.now.records
-            → f.lock ≡ lock → goes cancels f.queue ≡ true
-            → HasNoSublocks f.lock self.now.records) }
+        requires located { IsLocated located.now self.now.records }
+        ensures refusal { result_err result
+            ≡ sublocks_refusal (plain_state self.now) cancels located.now.row.lkid }
+        ensures childless { OnOk result (goes cancels located.now.queue ≡ true
+            → HasNoSublocks located.now.lock self.now.records) }
     {
         law_records_are_sound(&self.store);
-        let located = self.located(lock);
         if !cancels && self.store.has_sublocks(located.lock) {
             Err(Cond::Sublocks)
         } else {
@@ -187,15 +198,16 @@ impl Machine {
 
     // The change: the lock's request ends, and the lock goes or stays.
     #[tactic(auto, unfolding(vlm_model::specs::Dequeue::deq_change))]
-    fn deq_change(&mut self, dequeue: &Dequeue, located: &LocatedLock)
+    fn deq_change(&mut self, dequeue: &Dequeue, flags: DeqFlags, located: &LocatedLock)
+        requires flags { deq_flag_bits flags ≡ dequeue.now.flags }
         requires admitted { IsAdmittedDequeue self.old dequeue.now located.now }
-        requires childless { IsChildless self.old dequeue.now located.now.lock }
+        requires childless { IsChildless self.old dequeue.now located.now }
         requires between { IsBetweenSteps (plain_state self.old) }
         ensures change { plain_state self.new ≡ deq_change (plain_state self.old) dequeue.now }
         ensures others { OthersStay located.now.res self.old.records self.new.records }
         ensures there { HasResource located.now.res self.new.records }
     {
-        let withdrawal = withdrawal_of(located.row.lkid(), dequeue);
+        let withdrawal = withdrawal_of(located.row.lkid(), flags, dequeue);
         withdraw(&mut self.store, located, &withdrawal);
     }
 
@@ -204,9 +216,12 @@ impl Machine {
         &mut self,
         touched: &mut Touched,
         dequeue: &Dequeue,
-        admitted: &AdmittedDequeueOfAll,
+        checked: &CheckedDequeue,
+        choice: Scope,
     )
-        requires admitted { IsAdmittedDequeueOfAll self.old dequeue.now admitted.now }
+        requires checked { IsCheckedDequeue self.old dequeue.now checked.now }
+        requires choice { choice ≡ scope_of checked.now.lkid }
+        requires own { IsOwnScope choice checked.now.caller.pid self.old.records }
         requires between { IsBetweenSteps (plain_state self.old) }
         requires notes { HasRoomToNote touched.old self.old }
         requires all { has_flag dequeue.now.flags deqall ≡ true }
@@ -215,27 +230,10 @@ impl Machine {
         ensures room { touched.new.room ≡ touched.old.room }
     {
         law_records_are_sound(&self.store);
-        let AdmittedDequeueOfAll {
-            caller,
-            choice,
-            invalidates,
-        } = *admitted;
-        give_up_together(
-            &mut self.store,
-            touched,
-            caller.at,
-            caller.pid,
-            choice,
-            invalidates,
-        );
+        let invalidates = checked.flags.has(DeqFlags::INVVALBLK);
+        let Caller { at, pid } = checked.caller;
+        give_up_together(&mut self.store, touched, at, pid, choice, invalidates);
     }
-}
-
-// Whether the dequeue has DEQALL, whatever its other flags are.
-fn asks_for_all(dequeue: &Dequeue) -> bool
-    ensures { result ≡ has_flag dequeue.now.flags deqall }
-{
-    DeqFlags::from_bits_retain(dequeue.flags).has(DeqFlags::DEQALL)
 }
 
 // The flags. BADPARAM if one of them is unknown, if DEQALL comes with CANCEL or a value, or if a tail comes without a
@@ -257,7 +255,8 @@ fn checked_flags(dequeue: &Dequeue) -> Result<DeqFlags, Cond>
 }
 
 // The withdrawal that the dequeue asks for: the lock goes, or only its request. A cancel leaves the value block alone.
-fn withdrawal_of(lkid: u32, dequeue: &Dequeue) -> Withdrawal
+fn withdrawal_of(lkid: u32, flags: DeqFlags, dequeue: &Dequeue) -> Withdrawal
+    requires { deq_flag_bits flags ≡ dequeue.now.flags }
     ensures { plain_withdrawal result ≡ record {
       lkid = lkid;
       waiting = by_abort;
@@ -268,7 +267,6 @@ fn withdrawal_of(lkid: u32, dequeue: &Dequeue) -> Withdrawal
       invalidates = has_flag dequeue.now.flags invvalblk && not (has_flag dequeue.now.flags cancel);
     } }
 {
-    let flags = DeqFlags::from_bits_retain(dequeue.flags);
     let cancels = flags.has(DeqFlags::CANCEL);
     Withdrawal {
         lkid,

@@ -1,18 +1,21 @@
 //! Reads flags from bits.
 
-ghost use Rattle.std.specs.Prelude.{◌≡◌, true, false, MatchOption};
-ghost use Rattle.vlm_words.specs.Flags.{deq_bits, deq_flag_bits, enq_bits, flag_bits, is_known};
+ghost use Rattle.std.specs.Prelude.{◌≡◌, true, false, IfOk, MatchOption};
+ghost use Rattle.std.specs.Result.{result_err};
+ghost use Rattle.vlm_model.specs.Checks.{request_flags_refusal};
+ghost use Rattle.vlm_words.specs.Flags.{deq_bits, deq_flag_bits, flag_bits, is_known};
 
 use bitflags::Flags;
+use vlm_words::conditions::Cond;
 use vlm_words::flags::{DeqFlags, EnqFlags};
 
-/// The flags of a request, if all bits are known.
-#[tactic(auto, unfolding(vlm_words::specs::Flags::is_known, bitflags::proofs::OnLiterals::bitflags_on_literals))]
-pub(crate) fn enq_flags(bits: u16) -> Option<EnqFlags>
-    ensures { MatchOption result (is_known enq_bits bits ≡ false)
-        (λ flags. (is_known enq_bits bits ≡ true) × (flag_bits flags ≡ bits)) }
+/// The flags of a request, or BADPARAM if one of them is unknown.
+#[tactic(auto, unfolding(vlm_model::specs::Checks::request_flags_refusal, vlm_words::specs::Flags::is_known, bitflags::proofs::OnLiterals::bitflags_on_literals))]
+pub(crate) fn checked_request_flags(bits: u16) -> Result<EnqFlags, Cond>
+    ensures refusal { result_err result ≡ request_flags_refusal bits }
+    ensures flags { IfOk result (λ flags. flag_bits flags ≡ bits) }
 {
-    EnqFlags::from_bits(bits)
+    EnqFlags::from_bits(bits).ok_or(Cond::Badparam)
 }
 
 /// The flags of a dequeue, if all bits are known.

@@ -6,7 +6,7 @@ ghost use Rattle.std.specs.Result.{result_err};
 ghost use Rattle.vlm_words.specs.declared.locks.Request.{Request};
 ghost use Rattle.vlm_words.specs.declared.resources.Site.{Site};
 ghost use Rattle.vlm_words.specs.declared.steps.NewRequest.{NewRequest};
-ghost use Rattle.vlm_model.specs.Enqueue.{enq_change, enq_flags_refusal, enq_form_refusal, enq_limit_refusal, enq_refusal, expedite_refusal, is_at_once, name_refusal};
+ghost use Rattle.vlm_model.specs.Enqueue.{enq_change, enq_form_refusal, enq_limit_refusal, enq_refusal, expedite_refusal, is_at_once, name_refusal};
 ghost use Rattle.vlm_words.specs.Names.{is_name};
 ghost use Rattle.vlm_words.specs.Resources.{is_at, new_resource, IsKeyed};
 ghost use Rattle.vlm_words.specs.Flags.{expedite, flag_bits, has_flag};
@@ -25,7 +25,7 @@ ghost use Rattle.vlm_machine.specs.Machine.{plain_state};
 ghost use Rattle.vlm_machine.specs.Notes.{HasRoomToNote};
 
 use crate::checks::{acceptance, check_queue};
-use crate::flags::enq_flags;
+use crate::flags::checked_request_flags;
 use crate::parents::{Parent, lock_of};
 use crate::processes::Caller;
 use crate::records::Machine;
@@ -158,7 +158,7 @@ impl Machine {
         ensures refusal { result_err result ≡ enq_form_refusal (plain_state self.now) request.now }
         ensures form { IfOk result (λ form. IsRequestForm (plain_state self.now) request.now form) }
     {
-        let flags = checked_flags(request)?;
+        let flags = checked_request_flags(request.flags)?;
         self.check_status_block(caller, request.block)?;
         let parent = self.checked_lkid(caller, request.parent)?;
         check_name(&request.name)?;
@@ -219,7 +219,15 @@ impl Machine {
         ensures { IsAdmitted self.now request.now result }
     {
         NewLock {
-            asked: request_of(self.last_request + 1, checked.flags, request),
+            asked: Request {
+                number: self.last_request + 1,
+                mode: request.mode,
+                flags: checked.flags,
+                block: request.block,
+                completion: request.ast,
+                blocking: request.bast,
+                param: request.param,
+            },
             lkid: self.last_lkid + 1,
             pid: request.pid,
             parent_lkid: checked.parent_lkid,
@@ -271,15 +279,6 @@ impl Machine {
     }
 }
 
-// The flags, or BADPARAM if one of them is unknown.
-#[tactic(auto, unfolding(vlm_model::specs::Enqueue::enq_flags_refusal))]
-fn checked_flags(request: &NewRequest) -> Result<EnqFlags, Cond>
-    ensures refusal { result_err result ≡ enq_flags_refusal request.now }
-    ensures flags { IfOk result (λ flags. flag_bits flags ≡ request.now.flags) }
-{
-    enq_flags(request.flags).ok_or(Cond::Badparam)
-}
-
 // IVBUFLEN if the bytes are not a name.
 #[tactic(auto, unfolding(vlm_model::specs::Enqueue::name_refusal, vlm_words::specs::Names::name_of))]
 fn check_name(name: &NameArg) -> Result<(), Cond>
@@ -302,27 +301,5 @@ fn check_expedite(mode: Mode, flags: EnqFlags) -> Result<(), Cond>
         Err(Cond::Unsupported)
     } else {
         Ok(())
-    }
-}
-
-fn request_of(number: u64, flags: EnqFlags, request: &NewRequest) -> Request
-    ensures { result ≡ record {
-      number = number;
-      mode = request.now.mode;
-      flags = flags;
-      block = request.now.block;
-      completion = request.now.ast;
-      blocking = request.now.bast;
-      param = request.now.param;
-    } }
-{
-    Request {
-        number,
-        mode: request.mode,
-        flags,
-        block: request.block,
-        completion: request.ast,
-        blocking: request.bast,
-        param: request.param,
     }
 }

@@ -11,10 +11,10 @@ use Rattle.vlm_words.specs.declared.steps.NewRequest.{NewRequest}
 use Rattle.vlm_words.specs.Modes.{rank}
 use Rattle.vlm_words.specs.Flags.{expedite, has_flag, cancel, deq_bits, deqall, is_known}
 use Rattle.vlm_words.specs.State.{State}
-use Rattle.vlm_model.specs.Checks.{caller_refusal, lock_refusal, or_else, queue_refusal, request_numbers_refusal, status_block_refusal, which_refusal}
+use Rattle.vlm_model.specs.Checks.{caller_refusal, lock_refusal, or_else, queue_refusal, request_flags_refusal, request_numbers_refusal, status_block_refusal, which_refusal}
 use Rattle.vlm_model.specs.Trees.{parent_lkid, site_refusal}
-use Rattle.vlm_model.specs.Enqueue.{enq_flags_refusal, enq_form_refusal, enq_limit_refusal, enq_refusal, expedite_refusal, name_refusal}
-use Rattle.vlm_model.specs.Convert.{ConversionAdmission, admission_refusal, convert_admission, convert_flags_refusal, convert_lkid, convert_refusal, pair_refusal}
+use Rattle.vlm_model.specs.Enqueue.{enq_form_refusal, enq_limit_refusal, enq_refusal, expedite_refusal, name_refusal}
+use Rattle.vlm_model.specs.Convert.{ConversionAdmission, admission_refusal, convert_admission, convert_lkid, convert_refusal, pair_refusal}
 use Rattle.vlm_words.specs.declared.steps.Dequeue.{Dequeue}
 use Rattle.vlm_model.specs.Dequeue.{cancel_refusal, deq_flags_refusal, deq_refusal, dequeue_lkid, dequeued_lock_refusal, is_mixed, leaves_none, sublocks_refusal}
 
@@ -96,7 +96,7 @@ expedited_is_null s e passed flagged =
     (not-false (rank e.mode == 0)
     (second_fails (has_flag e.flags expedite) (not (rank e.mode == 0))
     (test_fails (has_flag e.flags expedite && not (rank e.mode == 0)) Unsupported
-    (fifth_passes (enq_flags_refusal e) (status_block_refusal s e.pid e.block) (which_refusal s e.pid e.parent) (name_refusal e.name)
+    (fifth_passes (request_flags_refusal e.flags) (status_block_refusal s e.pid e.block) (which_refusal s e.pid e.parent) (name_refusal e.name)
     (cond (has_flag e.flags expedite && not (rank e.mode == 0)) (Some Unsupported) None) (enq_passes s e passed).1)) flagged))
 
 -- an admission that is not refused is there
@@ -110,7 +110,7 @@ pub admission_passes : (s : State) (c : Conversion) → convert_refusal s c ≡ 
     → admission_refusal s c (convert_admission s c) ≡ None
 unfolding convert_refusal
 admission_passes s c passed =
-    sixth_passes (caller_refusal s c.pid) (convert_flags_refusal c) (status_block_refusal s c.pid c.block) (which_refusal s c.pid c.lock)
+    sixth_passes (caller_refusal s c.pid) (request_flags_refusal c.flags) (status_block_refusal s c.pid c.block) (which_refusal s c.pid c.lock)
     (lock_refusal s c.pid (convert_lkid s c)) (admission_refusal s c (convert_admission s c)) passed
 
 -- QUECVT goes with an accepted conversion, if it is asked for

@@ -15,8 +15,8 @@ use Rattle.vlm_words.specs.declared.steps.Conversion.{Conversion}
 use Rattle.vlm_words.specs.Flags.{enq_bits, flag_bits, has_flag, is_known, noqueue, quecvt}
 use Rattle.vlm_words.specs.State.{Resource, State}
 use Rattle.vlm_words.specs.Rows.{fits, is_beside, is_empty, is_lock_of, rows_without}
-use Rattle.vlm_model.specs.Checks.{caller_refusal, lock_refusal, queue_refusal, request_numbers_refusal, status_block_refusal, which_refusal}
-use Rattle.vlm_model.specs.Convert.{ConversionAdmission, admission_among, admission_or, admission_refusal, convert_admission, convert_flags_refusal, convert_lkid, convert_refusal, convert_request, converts_at_once, is_queued_legally_from, pair_refusal}
+use Rattle.vlm_model.specs.Checks.{caller_refusal, lock_refusal, queue_refusal, request_flags_refusal, request_numbers_refusal, status_block_refusal, which_refusal}
+use Rattle.vlm_model.specs.Convert.{ConversionAdmission, admission_among, admission_or, admission_refusal, convert_admission, convert_lkid, convert_refusal, convert_request, converts_at_once, is_queued_legally_from, pair_refusal}
 use Rattle.vlm_model.specs.Laws.{ConvertsInTurn, IsBeside, Stands}
 use Rattle.vlm_model.specs.Reasons.{ConversionBreaks, HasLock, IsAmong, IsGrantedSomewhere, IsNotQueuedFrom, IsNotQueuedLegally}
 use Rattle.vlm_model.proofs.Each.{Any-cases, Any-here, Any-none, Any-there, Any-weaker, found_at}
@@ -282,10 +282,10 @@ admission_breaks s c a apart is =
 
 -- a refused conversion breaks the rule of its condition
 pub conversion_breaks : (s : State) (c : Conversion) → Apart s → Says (ConversionBreaks s c) (convert_refusal s c)
-unfolding convert_refusal convert_flags_refusal convert_admission
+unfolding convert_refusal request_flags_refusal convert_admission
 conversion_breaks s c apart =
     says_either B (caller_refusal s c.pid) _ (says_caller B s c.pid (λ departed. departed) (λ none. none))
-    (λ called. says_either B (convert_flags_refusal c) _ (says_unless B (is_known enq_bits c.flags) Badparam argument)
+    (λ called. says_either B (request_flags_refusal c.flags) _ (says_unless B (is_known enq_bits c.flags) Badparam argument)
     (λ _. says_either B (status_block_refusal s c.pid c.block) _ (says_block B s c.pid c.block (caller_passes s c.pid called) (λ broken. inl broken))
     (λ _. says_either B (which_refusal s c.pid c.lock) _ (says_which B s c.pid c.lock (caller_passes s c.pid called) (λ broken. inr broken))
     (λ _. says_either B (lock_refusal s c.pid lkid) _ (says_lock B s c.pid lkid (λ broken. broken))
@@ -308,10 +308,10 @@ conversion_breaks s c apart =
 -- an accepted conversion breaks none
 pub conversion_keeps : (s : State) (c : Conversion) → Apart s → convert_refusal s c ≡ None
     → (a : ConversionAdmission) → convert_admission s c ≡ Some a → (cond : Cond) → ConversionBreaks s c cond → ⊥
-unfolding convert_refusal convert_flags_refusal pair_refusal request_numbers_refusal
+unfolding convert_refusal request_flags_refusal pair_refusal request_numbers_refusal
 conversion_keeps s c apart passed a is =
     let first = both_pass (caller_refusal s c.pid) _ passed in
-    let argument = both_pass (convert_flags_refusal c) _ first.1 in
+    let argument = both_pass (request_flags_refusal c.flags) _ first.1 in
     let block = both_pass (status_block_refusal s c.pid c.block) _ argument.1 in
     let which = both_pass (which_refusal s c.pid c.lock) _ block.1 in
     let lock = both_pass (lock_refusal s c.pid lkid) _ which.1 in

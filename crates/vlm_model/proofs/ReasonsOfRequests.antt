@@ -20,10 +20,10 @@ use Rattle.vlm_words.specs.Flags.{enq_bits, expedite, has_flag, is_known, noqueu
 use Rattle.vlm_words.specs.State.{Process, Resource, State, process_of}
 use Rattle.vlm_words.specs.Rows.{fits, is_beside, is_lock_of}
 use Rattle.vlm_words.specs.Resources.{is_at, key_name, key_parent, new_resource}
-use Rattle.vlm_model.specs.Checks.{caller_refusal, holds_lock, lock_refusal, numbers_refusal, or_else, queue_refusal, status_block_refusal, which_refusal}
+use Rattle.vlm_model.specs.Checks.{caller_refusal, holds_lock, lock_refusal, numbers_refusal, or_else, queue_refusal, request_flags_refusal, status_block_refusal, which_refusal}
 use Rattle.vlm_model.specs.Quotas.{locks_of, quota_of, quota_refusal}
 use Rattle.vlm_model.specs.Trees.{caller_group, depth_refusal, enq_site, has_syslck, parent_lkid, parent_refusal, parent_resource, privilege_refusal, root_domain, site_below, site_refusal, waiting_refusal}
-use Rattle.vlm_model.specs.Enqueue.{enq_flags_refusal, enq_at_once, enq_form_refusal, enq_key, enq_limit_refusal, enq_refusal, enq_request, enq_resource, expedite_refusal, is_at_once, is_free_for, name_refusal}
+use Rattle.vlm_model.specs.Enqueue.{enq_at_once, enq_form_refusal, enq_key, enq_limit_refusal, enq_refusal, enq_request, enq_resource, expedite_refusal, is_at_once, is_free_for, name_refusal}
 use Rattle.vlm_model.specs.Laws.{IsAskedFor, IsBeside, IsFreeFor, IsRootDomain, StandsAsAskedFor, StandsOn}
 use Rattle.vlm_model.specs.Reasons.{HasLock, IsAmong, RequestBreaks}
 use Rattle.vlm_model.proofs.Each.{Any-weaker, found_at}
@@ -262,9 +262,9 @@ name_keeps s e passed = of_test (is_name e.name) refl passed
 
 -- the group of checks of the request itself
 form_breaks : (s : State) (e : NewRequest) → IsCaller s e.pid → Says (RequestBreaks s e) (enq_form_refusal s e)
-unfolding enq_form_refusal enq_flags_refusal expedite_refusal
+unfolding enq_form_refusal request_flags_refusal expedite_refusal
 form_breaks s e caller =
-    says_either B (enq_flags_refusal e) _
+    says_either B (request_flags_refusal e.flags) _
     (says_unless B (is_known enq_bits e.flags) Badparam (λ is. request_flag_unknown e.flags is))
     (λ _. says_either B (status_block_refusal s e.pid e.block) _ (says_block B s e.pid e.block caller (λ broken. inl broken))
     (λ _. says_either B (which_refusal s e.pid e.parent) _ (says_which B s e.pid e.parent caller (λ broken. inr broken))
@@ -334,10 +334,10 @@ request_breaks s e apart placed =
 
 -- an accepted request breaks none
 pub request_keeps : (s : State) (e : NewRequest) → Apart s → Placed s → enq_refusal s e ≡ None → (c : Cond) → RequestBreaks s e c → ⊥
-unfolding enq_form_refusal enq_flags_refusal expedite_refusal site_refusal privilege_refusal enq_limit_refusal numbers_refusal
+unfolding enq_form_refusal request_flags_refusal expedite_refusal site_refusal privilege_refusal enq_limit_refusal numbers_refusal
 request_keeps s e apart placed passed =
     let groups = enq_passes s e passed in
-    let argument = both_pass (enq_flags_refusal e) _ groups.1 in
+    let argument = both_pass (request_flags_refusal e.flags) _ groups.1 in
     let block = both_pass (status_block_refusal s e.pid e.block) _ argument.1 in
     let which = both_pass (which_refusal s e.pid e.parent) _ block.1 in
     let name = both_pass (name_refusal e.name) (expedite_refusal e.flags e.mode) which.1 in

@@ -25,13 +25,13 @@ use Rattle.vlm_words.specs.Processes.{new_status_block, later}
 use Rattle.vlm_model.specs.Endings.{Ending, How, is_told, row_endings, wanted_endings}
 use Rattle.vlm_model.specs.Effects.{blocks_with}
 use Rattle.vlm_model.specs.Sweeps.{processes_after_service, sweep_endings}
-use Rattle.vlm_model.specs.Checks.{caller_refusal, has_departed, or_else, status_block_refusal, which_refusal, lock_refusal}
+use Rattle.vlm_model.specs.Checks.{caller_refusal, has_departed, or_else, request_flags_refusal, status_block_refusal, which_refusal, lock_refusal}
 use Rattle.vlm_model.specs.Declare.{declare_change, declared_process, is_node}
 use Rattle.vlm_model.specs.SetValue.{set_change, set_refusal}
 use Rattle.vlm_model.specs.Take.{take_change}
 use Rattle.vlm_model.specs.Asts.{process_after_take, processes_after_take}
 use Rattle.vlm_model.specs.Enqueue.{enq_change, enq_endings, enq_resource, enq_at_once, enq_row}
-use Rattle.vlm_model.specs.Convert.{ConversionAdmission, admission_refusal, conversion_endings, convert_admission, convert_flags_refusal, convert_blocks, convert_change, convert_lkid, convert_refusal}
+use Rattle.vlm_model.specs.Convert.{ConversionAdmission, admission_refusal, conversion_endings, convert_admission, convert_blocks, convert_change, convert_lkid, convert_refusal}
 use Rattle.vlm_words.specs.Rows.{wanting_row, rows_of}
 use Rattle.vlm_words.specs.Steps.{node_of_pid, is_of_node}
 use Rattle.vlm_model.specs.Dequeue.{deq_change, deq_endings, conversion_ending, dequeued_lkids, withdrawal_of, withdrawals_of}
@@ -80,7 +80,7 @@ pub conversion_names : (s : State) (c : Conversion) → convert_refusal s c ≡ 
 unfolding convert_refusal
 conversion_names s c passed =
     from_1 s c.pid c.block
-    (third_of (caller_refusal s c.pid) (convert_flags_refusal c) (status_block_refusal s c.pid c.block)
+    (third_of (caller_refusal s c.pid) (request_flags_refusal c.flags) (status_block_refusal s c.pid c.block)
     (or_else (which_refusal s c.pid c.lock) (or_else (lock_refusal s c.pid (convert_lkid s c)) (admission_refusal s c (convert_admission s c)))) passed)
 
 -- ---- what a step makes of the blocks

@@ -1,11 +1,11 @@
 -- The checks that several steps share. Each answers a refusal, or nothing.
 use Rattle.std.specs.Prelude.{ℕ, Bool, not, ◌&&◌, ◌||◌, ◌^◌, Option, None, Some, is_some, nat_lt, nat_le, List, length, if◌then◌else◌}
 use Rattle.std.specs.List.{list_any}
-use Rattle.vlm_words.specs.declared.conditions.Cond.TheVariants.{Normal, Synch, Departed, Nonexpr, Accvio, Ivlockid, Nolockid, Notqueued}
+use Rattle.vlm_words.specs.declared.conditions.Cond.TheVariants.{Normal, Synch, Badparam, Departed, Nonexpr, Accvio, Ivlockid, Nolockid, Notqueued}
 use Rattle.vlm_words.specs.declared.conditions.Cond.{Cond}
 use Rattle.vlm_words.specs.declared.steps.Which.TheVariants.{Id, Block}
 use Rattle.vlm_words.specs.declared.steps.Which.{Which}
-use Rattle.vlm_words.specs.Flags.{has_flag, noqueue, syncsts}
+use Rattle.vlm_words.specs.Flags.{enq_bits, has_flag, is_known, noqueue, syncsts}
 use Rattle.vlm_words.specs.State.{Node, Resource, State, node_at, process_of}
 use Rattle.vlm_model.specs.StatusBlocks.{status_block_of, status_blocks_of}
 use Rattle.vlm_words.specs.Steps.{node_of_pid}
@@ -25,6 +25,10 @@ unfoldable pub caller_refusal : State → ℕ → Option Cond
 caller_refusal s pid =
     if has_departed s.nodes (node_of_pid pid) then Some Departed
     else (if is_some (process_of s.processes pid) then None else Some Nonexpr)
+
+-- BADPARAM for an unknown flag of a request
+unfoldable pub request_flags_refusal : ℕ → Option Cond
+request_flags_refusal flags = if is_known enq_bits flags then None else Some Badparam
 
 -- ACCVIO if the process has no status block with this number
 unfoldable pub status_block_refusal : State → ℕ → ℕ → Option Cond

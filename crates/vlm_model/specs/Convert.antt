@@ -8,18 +8,14 @@ use Rattle.vlm_words.specs.declared.modes.Mode.{Mode}
 use Rattle.vlm_words.specs.declared.resources.ValueBlock.{ValueBlock}
 use Rattle.vlm_words.specs.declared.steps.Conversion.{Conversion}
 use Rattle.vlm_words.specs.Modes.{is_queued_legally}
-use Rattle.vlm_words.specs.Flags.{enq_bits, flag_bits, has_flag, is_known, quecvt}
+use Rattle.vlm_words.specs.Flags.{flag_bits, has_flag, quecvt}
 use Rattle.vlm_words.specs.State.{Process, Resource, State}
 use Rattle.vlm_model.specs.StatusBlocks.{processes_after_acceptance}
 use Rattle.vlm_model.specs.Endings.{Ending}
 use Rattle.vlm_model.specs.Effects.{Blocks, blocks_after, blocks_with, with_value_block}
 use Rattle.vlm_words.specs.Rows.{fits, is_empty, is_lock_of, rows_without, wanting_row}
 use Rattle.vlm_model.specs.Grants.{grant_endings, resource_after_grant}
-use Rattle.vlm_model.specs.Checks.{caller_refusal, lock_refusal, named_lkid, or_else, queue_refusal, request_numbers_refusal, status_block_refusal, which_refusal}
-
--- BADPARAM for an unknown flag
-unfoldable pub convert_flags_refusal : Conversion → Option Cond
-convert_flags_refusal c = if is_known enq_bits c.flags then None else Some Badparam
+use Rattle.vlm_model.specs.Checks.{caller_refusal, lock_refusal, named_lkid, or_else, queue_refusal, request_flags_refusal, request_numbers_refusal, status_block_refusal, which_refusal}
 
 -- granted at once: the mode fits beside all other locks, and with QUECVT no conversion is queued
 unfoldable pub converts_at_once : Request → ℕ → Resource → Bool
@@ -94,7 +90,7 @@ admission_refusal s c (Some a) =
 unfoldable pub convert_refusal : State → Conversion → Option Cond
 convert_refusal s c =
     or_else (caller_refusal s c.pid)
-    (or_else (convert_flags_refusal c)
+    (or_else (request_flags_refusal c.flags)
     (or_else (status_block_refusal s c.pid c.block)
     (or_else (which_refusal s c.pid c.lock)
     (or_else (lock_refusal s c.pid (convert_lkid s c))

@@ -2,7 +2,7 @@
 use Rattle.std.specs.Prelude.{ℕ, Bool, true, false, not, ◌&&◌, ◌||◌, ◌==◌, ◌+◌, List, [], ◌∷◌, ◌++◌, Option, None, Some, find, unwrap_or, if◌then◌else◌}
 use Rattle.std.specs.List.{list_any}
 use Rattle.std.specs.Result.{result_err}
-use Rattle.vlm_words.specs.declared.conditions.Cond.TheVariants.{Badparam, Unsupported}
+use Rattle.vlm_words.specs.declared.conditions.Cond.TheVariants.{Unsupported}
 use Rattle.vlm_words.specs.declared.conditions.Cond.{Cond}
 use Rattle.vlm_words.specs.declared.locks.Request.{Request}
 use Rattle.vlm_words.specs.declared.locks.LockRow.{LockRow}
@@ -12,7 +12,7 @@ use Rattle.vlm_words.specs.declared.resources.Site.{Site}
 use Rattle.vlm_words.specs.declared.steps.NewRequest.{NewRequest}
 use Rattle.vlm_words.specs.Names.{name_of}
 use Rattle.vlm_words.specs.Modes.{rank}
-use Rattle.vlm_words.specs.Flags.{enq_bits, expedite, flag_bits, has_flag, is_known}
+use Rattle.vlm_words.specs.Flags.{expedite, flag_bits, has_flag}
 use Rattle.vlm_words.specs.State.{Process, Resource, State}
 use Rattle.vlm_model.specs.StatusBlocks.{processes_after_acceptance}
 use Rattle.vlm_model.specs.Endings.{Ending}
@@ -20,13 +20,9 @@ use Rattle.vlm_model.specs.Effects.{blocks_after, blocks_with}
 use Rattle.vlm_words.specs.Rows.{fits, is_empty}
 use Rattle.vlm_model.specs.Grants.{grant_endings, resource_after_grant}
 use Rattle.vlm_words.specs.Resources.{is_at, new_resource}
-use Rattle.vlm_model.specs.Checks.{caller_refusal, numbers_refusal, or_else, queue_refusal, status_block_refusal, which_refusal}
+use Rattle.vlm_model.specs.Checks.{caller_refusal, numbers_refusal, or_else, queue_refusal, request_flags_refusal, status_block_refusal, which_refusal}
 use Rattle.vlm_model.specs.Trees.{enq_site, parent_lkid, site_refusal}
 use Rattle.vlm_model.specs.Quotas.{quota_refusal}
-
--- BADPARAM for an unknown flag
-unfoldable pub enq_flags_refusal : NewRequest → Option Cond
-enq_flags_refusal e = if is_known enq_bits e.flags then None else Some Badparam
 
 -- UNSUPPORTED for EXPEDITE at a mode other than NL
 unfoldable pub expedite_refusal : ℕ → Mode → Option Cond
@@ -113,7 +109,7 @@ enq_processes s e =
 -- the refusals of the request's arguments, in their order
 unfoldable pub enq_form_refusal : State → NewRequest → Option Cond
 enq_form_refusal s e =
-    or_else (enq_flags_refusal e)
+    or_else (request_flags_refusal e.flags)
     (or_else (status_block_refusal s e.pid e.block)
     (or_else (which_refusal s e.pid e.parent)
     (or_else (name_refusal e.name) (expedite_refusal e.flags e.mode))))

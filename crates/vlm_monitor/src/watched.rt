@@ -196,6 +196,7 @@ impl MonitoredHub {
         ensures grown { HasGrown self.old.hub self.new.hub }
         ensures faults { IfErr result EndsSteps }
     {
+        // It never ends early: this many turns would take centuries.
         for _ in 0..u64::MAX {
             if self.turn_until_told(place)? == Came::Answer {
                 return Ok(());
@@ -296,6 +297,7 @@ fn take_items(port: &mut Port) -> Came
     ensures { posts_of port.new ≡ posts_of port.old }
 {
     let mut came = Came::Nothing;
+    // It never ends early: a port's ring holds few items, and none comes meanwhile.
     for _ in 0..u64::MAX {
         match port.take() {
             None => return came,

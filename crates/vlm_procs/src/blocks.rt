@@ -1,6 +1,6 @@
 //! Reads and writes of status blocks. They are numbered from 1, and a write to a missing block does nothing.
 
-ghost use Rattle.std.specs.Prelude.{◌≡◌, ℕ};
+ghost use Rattle.std.specs.Prelude.{◌≡◌, ◌&&◌, ℕ, length, nat_le, nat_lt};
 ghost use Rattle.vlm_words.specs.declared.conditions.Cond.{Cond};
 ghost use Rattle.vlm_model.specs.StatusBlocks.{processes_after_acceptance, processes_after_write, status_block_at, status_block_of, status_blocks_of, processes_after_status, processes_after_return, processes_after_setting};
 ghost use Rattle.vlm_store.specs.Plain.{plain_processes};
@@ -30,6 +30,16 @@ fn write(store: &mut Store, at: ProcAt, number: u8, block: Block)
 {
     law_records_are_sound(store);
     store.set_status_block(at, number, block);
+}
+
+/// Whether the process has a status block with this number.
+pub fn has_status_block(store: &Store, at: ProcAt, number: u8) -> bool
+    requires { HasProcess at store.now }
+    ensures { (pid : ℕ) → IsProcess at pid store.now
+        → result ≡ (nat_lt 0 number
+        && nat_le number (length (status_blocks_of (plain_processes store.now) pid))) }
+{
+    0 < number && usize::from(number) <= status_blocks(store, at).len()
 }
 
 /// The status block with this number, if the process has it.

@@ -11,6 +11,7 @@ mod views;
 pub use asts::{forgive, owe, pending, queue_ast, take};
 pub use authorizations::{group_of, has_room, has_syslck};
 pub use blocks::{
-    accept, accept_granted, end, end_with_return, set_value, status_block, status_block_or_new,
+    accept, accept_granted, end, end_with_return, has_status_block, set_value, status_block,
+    status_block_or_new,
 };
 pub use views::{ProcessView, process_at};

@@ -9,5 +9,6 @@ pub mod Making
 pub mod OwnLocks
 pub mod Packing
 pub mod Places
+pub mod Relisted
 pub mod Rooms
 pub mod Staying

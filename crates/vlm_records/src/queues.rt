@@ -4,12 +4,12 @@ ghost use Rattle.std.specs.Prelude.{◌≡◌, ◌≢◌, ◌≤◌, ◌+◌, �
 ghost use Rattle.std.specs.Bool.{OnTrue};
 ghost use Rattle.std.specs.Option.{ForSome, option_map};
 ghost use Rattle.slab.specs.Slab.{get, ContainsKey, HasRoomFor};
-ghost use Rattle.vlm_collections.specs.Lists.{IsIn, IsLinked, Lists, Relinks, without};
+ghost use Rattle.vlm_collections.specs.Lists.{Relinks, without};
 ghost use Rattle.vlm_records.specs.declared.handles.Place.{Place};
 ghost use Rattle.vlm_records.specs.Armed.{IsLaidOut, StandsLast, armed_rank};
 ghost use Rattle.vlm_records.specs.Kept.{Keeps, Requeues, Rewrites, WritesLock};
 ghost use Rattle.vlm_records.specs.WaitList.{wait_list_links};
-ghost use Rattle.vlm_records.specs.Shown.{IsPlaced, IsTallied, IsThere, SameBut, but_counted, but_lists, but_place, but_queued, but_queues, but_requeued, but_row, handles_at, list_at, named_row, new_lock, noted, queue_links, room_in, rows, with_queue_links};
+ghost use Rattle.vlm_records.specs.Shown.{IsPlaced, IsTallied, IsThere, SameBut, but_counted, but_lists, but_place, but_queued, but_queues, but_requeued, but_row, handles_at, list_at, named_row, new_lock, noted, room_in, rows, with_queue_links};
 
 use crate::handles::{LockAt, Place, ProcAt};
 use crate::locks::{InQueue, Lock};
@@ -52,44 +52,7 @@ impl Queues {
         }
     }
 
-    fn unlink_from(&mut self, at: usize, place: &Place)
-        requires listed { Lists queue_links self.old.locks (list_at self.old place.now) at }
-        requires there { IsThere self.old.resources place.now }
-        ensures linked { IsLinked queue_links self.new.locks (list_at self.new place.now) }
-        ensures handles { handles_at self.new place.now ≡ without at (handles_at self.old place.now) }
-        ensures others { (other : ℕ) → ¬ IsIn other (handles_at self.old place.now)
-            → get self.new.locks other ≡ get self.old.locks other }
-        ensures relinks { Relinks with_queue_links self.old.locks self.new.locks }
-        ensures elsewhere { (other : Place) → other ≢ place.now
-            → list_at self.new other ≡ list_at self.old other }
-        ensures rest { SameBut but_lists self.old.resources self.new.resources }
-        ensures resources_room { room_in self.new.resources ≡ room_in self.old.resources }
-    {
-        let (res, queue) = place.parts();
-        self.resources[res.slot()].unlink(&mut self.locks, queue, at);
-    }
-
-    fn link_to(&mut self, at: usize, place: &Place)
-        requires linked { IsLinked queue_links self.old.locks (list_at self.old place.now) }
-        requires present { ContainsKey self.old.locks at }
-        requires within { at ≤ LAST_HANDLE }
-        requires unlisted { ¬ IsIn at (handles_at self.old place.now) }
-        requires there { IsThere self.old.resources place.now }
-        ensures linked { IsLinked queue_links self.new.locks (list_at self.new place.now) }
-        ensures handles { handles_at self.new place.now ≡ handles_at self.old place.now ++ at ∷ [] }
-        ensures others { (other : ℕ) → ¬ IsIn other (handles_at self.old place.now)
-            → other ≢ at → get self.new.locks other ≡ get self.old.locks other }
-        ensures relinks { Relinks with_queue_links self.old.locks self.new.locks }
-        ensures elsewhere { (other : Place) → other ≢ place.now
-            → list_at self.new other ≡ list_at self.old other }
-        ensures rest { SameBut but_lists self.old.resources self.new.resources }
-        ensures resources_room { room_in self.new.resources ≡ room_in self.old.resources }
-    {
-        let (res, queue) = place.parts();
-        self.resources[res.slot()].push_back(&mut self.locks, queue, at);
-    }
-
-    // Takes a lock out of its queue. Its record still notes the queue.
+    // Takes a lock off the list in which it stands.
     fn take_off(&mut self, at: usize)
         requires placed { IsPlaced self.old None }
         requires present { ContainsKey self.old.locks at }
@@ -99,8 +62,8 @@ impl Queues {
         ensures relinks { Relinks with_queue_links self.old.locks self.new.locks }
         ensures kept { Keeps but_requeued but_lists self.old self.new }
     {
-        let place = self.locks[at].place;
-        self.unlink_from(at, &place);
+        let (res, queue) = self.locks[at].place.parts();
+        self.resources[res.slot()].unlink(&mut self.locks, queue, at);
     }
 
     // Puts a lock that is in no queue at the end of the queue that its record notes.
@@ -117,7 +80,8 @@ impl Queues {
         ensures rows { (other : ℕ) → rows self.new other ≡ rows self.old other }
         ensures kept { Keeps but_requeued but_lists self.old self.new }
     {
-        self.link_to(at, place);
+        let (res, queue) = place.parts();
+        self.resources[res.slot()].push_back(&mut self.locks, queue, at);
     }
 
     // Notes a queue in a lock's record, and puts the lock at the end of that queue.

@@ -1,7 +1,7 @@
 //! The index of resources by their keys.
 
-ghost use Rattle.std.specs.Prelude.{◌≡◌, ◌+◌, ◌<◌, ◌≤◌, ℕ, Some, IsOk, OnOk};
-ghost use Rattle.slab.specs.Slab.{ContainsKey, HasRoomFor};
+ghost use Rattle.std.specs.Prelude.{◌≡◌, ◌+◌, ◌<◌, ℕ, Some, IsOk, OnOk};
+ghost use Rattle.slab.specs.Slab.{ContainsKey};
 ghost use Rattle.vlm_collections.specs.Parts.{KeepsSpares, UsesOneSpare, spare_for};
 ghost use Rattle.vlm_store.specs.HashedKeys.{hashed_in};
 ghost use Rattle.vlm_store.specs.KeyIndexes.{Enters, FindsNothing, IsSame, Leaves, found_by, last_of, spares_in};
@@ -10,7 +10,7 @@ use crate::hashed::HashedKey;
 use indexmap::IndexMap;
 use slab::Slab;
 use std::alloc::{AllocError, Global};
-use vlm_collections::{LAST_HANDLE, PartedIndex, reserve_slot};
+use vlm_collections::PartedIndex;
 use vlm_records::{ResAt, Resource, ResourceKind};
 use vlm_words::resources::Key;
 
@@ -42,8 +42,8 @@ impl KeyIndex {
         }
     }
 
-    // Makes room for one more resource with this hash, if there is no room.
-    fn reserve(&mut self, hash: u32) -> Result<(), AllocError>
+    /// Makes room for one more resource with this hash, if there is no room.
+    pub fn reserve(&mut self, hash: u32) -> Result<(), AllocError>
         ensures same { IsSame self.old self.new }
         ensures room { KeepsSpares (spares_in self.old) (spares_in self.new) }
         ensures find { OnOk result (0 < spare_for (spares_in self.new) hash) }
@@ -96,25 +96,4 @@ impl KeyIndex {
         }
         self.last.remove(resource.hash);
     }
-}
-
-/// Makes room for one more resource and its hash. If memory is refused, nothing is changed, except that there may be
-/// more room.
-pub(crate) fn reserve_keyed(
-    resources: &mut Slab<Resource>,
-    index: &mut KeyIndex,
-    hash: u32,
-) -> Result<(), AllocError>
-    ensures records { resources.new ≡ record resources.old { capacity = resources.new.capacity } }
-    ensures capacity { resources.old.capacity ≤ resources.new.capacity }
-    ensures index { IsSame index.old index.new }
-    ensures room { KeepsSpares (spares_in index.old) (spares_in index.new) }
-    ensures slot { OnOk result (HasRoomFor resources.new 1) }
-    ensures handle { OnOk result (resources.new.vacant_key ≤ LAST_HANDLE) }
-    ensures find { OnOk result (0 < spare_for (spares_in index.new) hash) }
-    ensures succeeds { HasRoomFor resources.old 1 → resources.old.vacant_key ≤ LAST_HANDLE
-        → 0 < spare_for (spares_in index.old) hash → IsOk result }
-{
-    reserve_slot(resources)?;
-    index.reserve(hash)
 }

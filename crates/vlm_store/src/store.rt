@@ -12,11 +12,11 @@ ghost use Rattle.vlm_store.specs.Held.{held_counts};
 ghost use Rattle.vlm_store.specs.Records.{FindsLock, FindsResource, HasNoSublocks, HasPlace, HasResource, HasRoomForLock, HasRoomForResource, IsGivenBack, IsTaken, IsUnchanged, IsParentOf, IsProcess, at_after, disarming, first_at, first_resource_at, fits_beside, resource_at_after, resource_at, rows_of_locks, IsIdle, IsNewKey, IsNewLock, IsRowOf, IsSound, IsStored, Stores, locks_at, moving, new_stored_resource, nothing, on_resource, queued, with_lists, with_lock_room, with_new_lock, with_resource_room, without_resource, without_stored_lock};
 ghost use Rattle.vlm_store.specs.Total.{lock_total};
 
-use crate::key_index::{KeyIndex, reserve_keyed};
+use crate::key_index::KeyIndex;
 use slab::Slab;
 use std::alloc::{AllocError, Global};
 use std::marker::Model;
-use vlm_collections::{HandleTable, HashKeys, LinkedList, NodeMarks, PartedIndex, reserve_one};
+use vlm_collections::{HandleTable, HashKeys, LinkedList, NodeMarks, PartedIndex, reserve_slot};
 use vlm_records::{
     InOrder, InWaitList, Lock, LockAt, LockKind, Place, ProcAt, Process, Queues, ResAt, Resource,
     StoredRow, join_parent, join_process, join_wait_list, leave_parent, leave_process,
@@ -165,7 +165,8 @@ impl Store {
         ensures room { OnOk result (HasRoomForLock lkid self.new) }
         ensures succeeds { HasRoomForLock lkid self.old → IsOk result }
     {
-        reserve_one(&mut self.queues.locks, &mut self.lock_index, lkid)
+        reserve_slot(&mut self.queues.locks)?;
+        self.lock_index.reserve(lkid)
     }
 
     /// Adds a lock to the end of a queue, of its process's locks, and of its parent's sublocks. `reserve_lock` made
@@ -253,7 +254,8 @@ impl Store {
         ensures room { OnOk result (HasRoomForResource hash self.new) }
         ensures succeeds { HasRoomForResource hash self.old → IsOk result }
     {
-        reserve_keyed(&mut self.queues.resources, &mut self.resource_index, hash)
+        reserve_slot(&mut self.queues.resources)?;
+        self.resource_index.reserve(hash)
     }
 
     /// Adds a resource without locks, last in the order of making, with a value block of zeros, all valid.

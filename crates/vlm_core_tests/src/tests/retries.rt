@@ -9,7 +9,7 @@ use crate::tests::stores::{self, key, lock, process, resource};
 use std::alloc::AllocError;
 use std::process::Abort;
 use std::test::Fail;
-use vlm_queue::{can_hold, head, is_idle, next};
+use vlm_queue::{head, is_idle, next};
 use vlm_store::{Armed, LockAt, Place, Store, StoredRow};
 use vlm_words::flags::EnqFlags;
 use vlm_words::locks::{LockRow, Request};
@@ -132,8 +132,8 @@ fn serve(rt: &impl Abort, store: &mut Store, key: &Key, lkid: u32, mode: Mode) {
 fn fits(rt: &impl Abort, store: &Store, key: &Key, mode: Mode, own: Option<u32>) -> bool {
     let res = resource(rt, store, key);
     match own {
-        None => can_hold(store, res, mode, None),
-        Some(lkid) => can_hold(store, res, mode, Some(lock(rt, store, lkid))),
+        None => store.can_hold(res, mode, None),
+        Some(lkid) => store.can_hold(res, mode, Some(lock(rt, store, lkid))),
     }
 }
 

@@ -3,7 +3,7 @@ use Rattle.vlm_words.specs.Dues.{one_where}
 use Rattle.vlm_store.specs.Records.{DueChanges, due_of}
 use Rattle.vlm_locks.specs.Owing.{OwedMoves, left_row, row_after_end}
 use Rattle.vlm_locks.proofs.Found.{process_there}
-use Rattle.vlm_locks.proofs.Owing.{one_process, spared_owed}
+use Rattle.vlm_locks.proofs.Owing.{one_from, one_process, spared_owed}
 use Rattle.vlm_locks.proofs.releases.release_blocking_ast.Goals as goal
 
 pub forgive-requires-clause-there : goal.forgive-requires-clause-there
@@ -13,16 +13,16 @@ forgive-requires-clause-there c =
 
 pub forgive-requires-clause-owed : goal.forgive-requires-clause-owed
 forgive-requires-clause-owed c pid is =
-    subst (λ p. c.one_where.result ≤ due_of p c.args.store.now)
+    subst (λ p. c.from.result ≤ due_of p c.args.store.now)
     (one_process c.args.store.now c.law_records_are_sound.ensures c.args.located.now.owner c.args.located.now.row.pid pid
     c.requires.located.owner is)
-    (omega (arith, c.one_where.ensures, ap one_where c.is_armed.ensures, c.requires.owed))
+    (omega (arith, c.from.ensures ∙ one_from c.is_armed.result, ap one_where c.is_armed.ensures, c.requires.owed))
 
 pub returns-clause-owed : goal.returns-clause-owed
 returns-clause-owed c =
     let f = c.args.located.now in
     subst (λ gone. OwedMoves (row_after_end f.row) (left_row gone f.row) c.args.store.now c.forgive.new.store) (sym c.if-not-gone.false)
     (spared_owed f.row c.args.store.now c.forgive.new.store c.requires.owed
-    (subst (λ n. DueChanges f.row.pid (λ due. due - n) c.args.store.now c.forgive.new.store) (c.one_where.ensures ∙ ap one_where c.is_armed.ensures)
+    (subst (λ n. DueChanges f.row.pid (λ due. due - n) c.args.store.now c.forgive.new.store) (c.from.ensures ∙ one_from c.is_armed.result ∙ ap one_where c.is_armed.ensures)
     (c.forgive.ensures.owed f.row.pid
     c.requires.located.owner)))

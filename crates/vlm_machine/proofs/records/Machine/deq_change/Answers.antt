@@ -1,4 +1,4 @@
-use Rattle.std.proofs.Common.{refl, sym, ap, ◌∙◌, subst}
+use Rattle.std.proofs.Common.{sym, ap, ◌∙◌, subst}
 use Rattle.vlm_model.specs.Dequeue.{withdrawal_of}
 use Rattle.vlm_model.specs.Withdrawals.{Withdrawal}
 use Rattle.vlm_locks.specs.Withdrawals.{plain_withdrawal}
@@ -13,8 +13,7 @@ use Rattle.vlm_machine.proofs.records.Machine.deq_change.Goals as goal
 -- a lock that goes has no sublocks
 pub withdraw-requires-clause-childless : goal.withdraw-requires-clause-childless
 withdraw-requires-clause-childless c =
-    let stands = (subst (λ (m : MachineState). IsAdmittedDequeue m c.args.dequeue.now c.args.located.now) (sym c.self.view_is) c.requires.admitted).located.located in
-    λ takes. subst (λ (m : MachineState). IsChildless m c.args.dequeue.now c.args.located.now.lock) (sym c.self.view_is) c.requires.childless c.args.located.now stands refl
+    λ takes. subst (λ (m : MachineState). IsChildless m c.args.dequeue.now c.args.located.now) (sym c.self.view_is) c.requires.childless
     (ap (λ (w : Withdrawal). goes w.stays c.args.located.now.queue) (sym c.withdrawal_of-withdrawal.ensures) ∙ takes)
 
 -- a granted lock wants nothing

@@ -1,4 +1,5 @@
 use Rattle.std.proofs.Common.{◌≡◌, Some, refl, sym, ap, ◌∙◌, subst}
+use Rattle.vlm_words.specs.declared.locks.Request.{Request}
 use Rattle.vlm_words.specs.declared.locks.LockRow.{LockRow}
 use Rattle.vlm_model.specs.Enqueue.{enq_request, enq_row}
 use Rattle.vlm_store.specs.Records.{IsParentOf}
@@ -12,10 +13,11 @@ returns c =
     let m = kept c.self.inside in
     let checked = c.args.checked.now in
     let is = subst (λ (k : MachineState). IsChecked k e checked) (sym c.self.view_is) c.requires.checked in
-    let asked : c.request_of.result ≡ enq_request (plain_state m) e =
-    c.request_of.ensures ∙ ap (λ bits. record (enq_request (plain_state m) e) { flags = record { 0 = bits } }) is.flags in
-    let row : record (enq_row (plain_state m) e) { parent = checked.parent_lkid; want = Some c.request_of.result } ≡ enq_row (plain_state m) e =
-    ap (λ lkid. record (enq_row (plain_state m) e) { parent = lkid; want = Some c.request_of.result }) is.parent_lkid
+    let request : Request = record (enq_request (plain_state m) e) { flags = checked.flags } in
+    let asked : request ≡ enq_request (plain_state m) e =
+    ap (λ bits. record (enq_request (plain_state m) e) { flags = record { 0 = bits } }) is.flags in
+    let row : record (enq_row (plain_state m) e) { parent = checked.parent_lkid; want = Some request } ≡ enq_row (plain_state m) e =
+    ap (λ lkid. record (enq_row (plain_state m) e) { parent = lkid; want = Some request }) is.parent_lkid
     ∙ ap (λ q. record (enq_row (plain_state m) e) { want = Some q }) asked in
     rw (← c.self.view_is)
     (record {

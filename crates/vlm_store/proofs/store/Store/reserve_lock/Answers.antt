@@ -1,4 +1,5 @@
-use Rattle.std.proofs.Common.{OnOk}
+use Rattle.std.proofs.Common.{OnOk, arith, refl}
+use Rattle.std.proofs.lemmas.Result.{on_ok_weaker}
 use Rattle.vlm_collections.specs.Parts.{spares_of}
 use Rattle.vlm_store.specs.Records.{HasRoom}
 use Rattle.vlm_store.specs.Store.{tables}
@@ -7,23 +8,41 @@ use Rattle.vlm_store.proofs.RoomShown.{has_reserved, has_room, lock_room_kept, l
 use Rattle.vlm_store.proofs.store.Store.reserve_lock.Goals as goal
 
 pub invariant_of-self : goal.invariant_of-self
-invariant_of-self c = lock_room_kept c.self.inside c.self.invariant c.reserve_one.new.records c.reserve_one.new.index c.reserve_one.ensures.records c.reserve_one.ensures.index
+invariant_of-self c = lock_room_kept c.self.inside c.self.invariant c.reserve_slot.new.records c.self.inside.lock_index c.reserve_slot.ensures.records (λ number. refl)
+
+pub invariant_of-self-2 : goal.invariant_of-self-2
+invariant_of-self-2 c = lock_room_kept c.self.inside c.self.invariant c.reserve_slot.new.records c.reserve.new.self c.reserve_slot.ensures.records c.reserve.ensures.same
+
+pub returns-in_err-reserve_slot-clause-unchanged : goal.returns-in_err-reserve_slot-clause-unchanged
+returns-in_err-reserve_slot-clause-unchanged c =
+    rw (← c.self.view_is)
+    (lock_room_made c.self.inside c.reserve_slot.new.records (spares_of c.self.inside.lock_index) c.reserve_slot.ensures.records c.reserve_slot.ensures.capacity (λ number. omega arith))
 
 pub returns-clause-unchanged : goal.returns-clause-unchanged
 returns-clause-unchanged c =
     rw (← c.self.view_is)
-    (lock_room_made c.self.inside c.reserve_one.new.records (spares_of c.reserve_one.new.index) c.reserve_one.ensures.records c.reserve_one.ensures.capacity c.reserve_one.ensures.room)
+    (lock_room_made c.self.inside c.reserve_slot.new.records (spares_of c.reserve.new.self) c.reserve_slot.ensures.records c.reserve_slot.ensures.capacity c.reserve.ensures.room)
+
+-- where there is room none is refused
+pub returns-in_err-reserve_slot-clause-succeeds : goal.returns-in_err-reserve_slot-clause-succeeds
+returns-in_err-reserve_slot-clause-succeeds c has =
+    let s = c.self.inside in
+    let room = has_room s.queues.locks (spares_of s.lock_index) c.args.lkid (shown_room (λ r. HasRoom c.args.lkid r.locks) (tables s.queues s.order (beside_shown s)) (rw (← c.self.view_is) at has)) in
+    let never = c.in_err-reserve_slot.ensures.succeeds room.0 room.1 in
+    cc
 
 pub returns-clause-succeeds : goal.returns-clause-succeeds
 returns-clause-succeeds c has =
     let s = c.self.inside in
     let room = has_room s.queues.locks (spares_of s.lock_index) c.args.lkid (shown_room (λ r. HasRoom c.args.lkid r.locks) (tables s.queues s.order (beside_shown s)) (rw (← c.self.view_is) at has)) in
-    c.reserve_one.ensures.succeeds room.0 room.1 room.2
+    c.reserve.ensures.succeeds room.2
 
 pub returns-clause-room : goal.returns-clause-room
 returns-clause-room c =
     let s = c.self.inside in
-    let s' = record s { queues = record s.queues { locks = c.reserve_one.new.records }; lock_index = c.reserve_one.new.index } in
+    let s' = record s { queues = record s.queues { locks = c.reserve_slot.new.records }; lock_index = c.reserve.new.self } in
     let l = tables s'.queues s'.order (beside_shown s') in
-    room_shown (λ _ room. OnOk c.reserve_one.result (HasRoom c.args.lkid room.locks)) l l
-    (has_reserved c.reserve_one.result c.reserve_one.new.records (spares_of c.reserve_one.new.index) c.args.lkid c.reserve_one.ensures.slot c.reserve_one.ensures.handle c.reserve_one.ensures.find)
+    room_shown (λ _ room. OnOk c.reserve.result (HasRoom c.args.lkid room.locks)) l l
+    (has_reserved c.reserve.result c.reserve_slot.new.records (spares_of c.reserve.new.self) c.args.lkid
+    (on_ok_weaker c.reserve.result (λ _. c.in_ok-reserve_slot.ensures.slot) c.reserve.ensures.find)
+    (on_ok_weaker c.reserve.result (λ _. c.in_ok-reserve_slot.ensures.handle) c.reserve.ensures.find) c.reserve.ensures.find)
