@@ -38,7 +38,7 @@ mod queues;
 mod sip;
 mod tables;
 
-pub use growth::{reserve_one, reserve_slot};
+pub use growth::reserve_slot;
 pub use handles::{At, MaybeAt};
 pub use hashers::{HashKeys, HashSpread};
 pub use link::{LAST_HANDLE, Links};

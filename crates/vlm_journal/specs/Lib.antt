@@ -5,3 +5,4 @@ pub mod Departed
 pub mod Drawing
 pub mod Worlds
 pub mod Books
+pub mod Written

@@ -10,9 +10,8 @@ ghost use Rattle.std.specs.Option.{option_map};
 ghost use Rattle.vlm_queue.specs.Views.{usage};
 ghost use Rattle.vlm_core.specs.Readers.{root_of};
 ghost use Rattle.vlm_journal.specs.Books.{GoesOn, made};
-ghost use Rattle.vlm_journal.specs.Departed.{StaysDeparted};
 ghost use Rattle.vlm_journal.specs.Journals.{IsPostOf, JournalFrom};
-ghost use Rattle.vlm_journal.specs.Lengthening.{LengthensLittle};
+ghost use Rattle.vlm_journal.specs.Written.{IsWritten};
 
 use crate::entries::{Entry, Part};
 use crate::laws::{law_departed, law_draw, law_entry};
@@ -86,16 +85,8 @@ impl Book {
         requires sender { (0 < sender) × (sender ≤ 8) }
         requires post { IsPostOf sender step }
         ensures outcome { Outcome self.old.state step self.new.state result }
-        ensures entries { self.new.entries ≡ self.old.entries
-            ++ record { sender = sender; step = step; answer = result } ∷ [] }
-        ensures leads { JournalFrom self.old.state
-            (record { sender = sender; step = step; answer = result } ∷ []) self.new.state }
-        ensures departed { (node : ℕ) → HasDeparted self.old.state node → StaysDeparted node
-            (record { sender = sender; step = step; answer = result } ∷ []) self.new.state }
-        ensures told { LengthensLittle self.old.entries
-            (record { sender = sender; step = step; answer = result }) }
-        ensures base { self.new.base ≡ self.old.base }
-        ensures room { self.new.room + 1 ≡ self.old.room }
+        ensures written { IsWritten (record { sender = sender; step = step; answer = result })
+            self.old self.new }
     {
         law_entry();
         law_departed();
@@ -120,22 +111,10 @@ impl Book {
         requires pending { first_pending node self.old.state.processes ≡ Some pid }
         ensures outcome { Outcome self.old.state (Step.Take pid) self.new.state
             (Answer.Taken (Some result)) }
-        ensures entries { self.new.entries ≡ self.old.entries ++ record {
-          sender = 0;
-          step = Step.Take pid;
-          answer = Answer.Taken (Some result);
-        } ∷ [] }
-        ensures leads { JournalFrom self.old.state
-            (record { sender = 0; step = Step.Take pid; answer = Answer.Taken (Some result) } ∷ [])
-            self.new.state }
-        ensures departed { (gone : ℕ) → HasDeparted self.old.state gone → StaysDeparted gone
-            (record { sender = 0; step = Step.Take pid; answer = Answer.Taken (Some result) } ∷ [])
-            self.new.state }
-        ensures told { LengthensLittle self.old.entries
-            (record { sender = 0; step = Step.Take pid; answer = Answer.Taken (Some result) }) }
+        ensures written { IsWritten
+            (record { sender = 0; step = Step.Take pid; answer = Answer.Taken (Some result) })
+            self.old self.new }
         ensures node { pid / 65536 ≡ node }
-        ensures base { self.new.base ≡ self.old.base }
-        ensures room { self.new.room + 1 ≡ self.old.room }
     {
         law_draw();
         law_entry();
@@ -152,18 +131,10 @@ impl Book {
     pub fn lose(&mut self, node: u8) -> Answer
         requires room { 0 < self.old.room }
         ensures outcome { Outcome self.old.state (Step.Leave node) self.new.state result }
-        ensures entries { self.new.entries ≡ self.old.entries
-            ++ record { sender = 0; step = Step.Leave node; answer = result } ∷ [] }
-        ensures leads { JournalFrom self.old.state
-            (record { sender = 0; step = Step.Leave node; answer = result } ∷ []) self.new.state }
-        ensures departed { (gone : ℕ) → HasDeparted self.old.state gone → StaysDeparted gone
-            (record { sender = 0; step = Step.Leave node; answer = result } ∷ []) self.new.state }
+        ensures written { IsWritten (record { sender = 0; step = Step.Leave node; answer = result })
+            self.old self.new }
         ensures leaves { (result ≡ Answer.Plain Normal) ⊎ (result ≡ Answer.Plain Departed)
             → HasDeparted self.new.state node }
-        ensures told { LengthensLittle self.old.entries
-            (record { sender = 0; step = Step.Leave node; answer = result }) }
-        ensures base { self.new.base ≡ self.old.base }
-        ensures room { self.new.room + 1 ≡ self.old.room }
     {
         law_entry();
         law_departed();

@@ -11,8 +11,8 @@
 //! | Take | `ast_takes` | `checked_caller` | none | `take_change` | none |
 //! | Enq | `new_requests` | `checked_request` | in `enter` | `enq_change` | its resource |
 //! | Convert | `conversions` | `checked_names`, `checked_admission` | in `convert` | `convert_change` | its resource |
-//! | Deq | `dequeues` | `checked_dequeue` | none | `deq_change` | its resource |
-//! | Deq with DEQALL | `dequeues` | `checked_dequeue_of_all` | none | `deq_all_change` | all touched |
+//! | Deq | `dequeues` | `checked_dequeue`, `check_alone` | none | `deq_change` | its resource |
+//! | Deq with DEQALL | `dequeues` | `checked_dequeue`, `checked_scope` | none | `deq_all_change` | all touched |
 //! | Rundown, Leave | `rundowns` | `checked_caller`, `check_node` | none | `rundown_change`, `leave_change` | all touched |
 //! | Search | `searches` | `check_node` | none | `end_victim` | the victim's resource |
 //!

@@ -1,4 +1,4 @@
-use Rattle.std.proofs.Common.{◌≡◌, inl, refl, subst, sym, Some}
+use Rattle.std.proofs.Common.{rules, ◌≡◌, inl, refl, subst, sym, Some}
 use Rattle.vlm_words.specs.declared.steps.Answer.TheVariants.{Taken}
 use Rattle.vlm_words.specs.declared.steps.Step.TheVariants.{Take}
 use Rattle.vlm_model.specs.Pending.{first_pending}
@@ -21,20 +21,21 @@ invariant_of-self c =
     rw (c.push_reserved.ensures.items, c.entry.ensures, c.ast_of-ast.ensures)
     (goes_on (record { sender = 0; step = Take c.args.pid; answer = Taken (Some c.ast_of-ast.result) }) c.self.invariant (inl (refl, takes c.args.pid c.ast_of-ast.result)) (rw (sym c.ast_of-ast.ensures) c.step-answer.ensures))
 
-pub returns-clause-told : goal.returns-clause-told
-returns-clause-told c = c.law_entry.ensures.more _ _ (inl (refl, takes c.args.pid c.ast_of-ast.result))
-
 pub returns-clause-node : goal.returns-clause-node
 returns-clause-node c =
     let P : Account → Type 0 = λ b. first_pending c.args.node b.state.processes ≡ Some c.args.pid in
     (draws c.law_draw.ensures c.self.invariant (subst P (sym c.self.view_is) c.requires.pending) c.step-answer.ensures).of_node
 
-pub returns-clause-leads : goal.returns-clause-leads
-returns-clause-leads c =
-    one_leads (record { sender = 0; step = Take c.args.pid; answer = Taken (Some c.ast_of-ast.result) }) (inl (refl, takes c.args.pid c.ast_of-ast.result))
-    (subst (λ (b : Account). Outcome b.state (Take c.args.pid) c.step-answer.new.self (Taken (Some c.ast_of-ast.result))) c.self.view_is (rw (sym c.ast_of-ast.ensures) c.step-answer.ensures))
-
--- who had departed is told so
-pub returns-clause-departed : goal.returns-clause-departed
-returns-clause-departed c gone =
-    c.law_departed.ensures.since _ _ _ _ _ (subst (λ (b : Account). GoesOn b.base b.entries b.state) c.self.view_is c.self.invariant) (returns-clause-leads c) gone
+-- a node that had departed stays departed
+pub returns-clause-written : goal.returns-clause-written
+returns-clause-written c =
+    let leads = one_leads (record { sender = 0; step = Take c.args.pid; answer = Taken (Some c.ast_of-ast.result) }) (inl (refl, takes c.args.pid c.ast_of-ast.result))
+    (subst (λ (b : Account). Outcome b.state (Take c.args.pid) c.step-answer.new.self (Taken (Some c.ast_of-ast.result))) c.self.view_is (rw (sym c.ast_of-ast.ensures) c.step-answer.ensures)) in record {
+      entries = search rules;
+      leads = leads;
+      departed = λ gone.
+          c.law_departed.ensures.since _ _ _ _ _ (subst (λ (b : Account). GoesOn b.base b.entries b.state) c.self.view_is c.self.invariant) leads gone;
+      told = c.law_entry.ensures.more _ _ (inl (refl, takes c.args.pid c.ast_of-ast.result));
+      base = search rules;
+      room = search rules;
+    }

@@ -1,4 +1,4 @@
-use Rattle.std.proofs.Common.{inr, subst}
+use Rattle.std.proofs.Common.{rules, inr, subst}
 use Rattle.vlm_model.specs.Stepped.{Outcome}
 use Rattle.vlm_journal.specs.Books.{Account, GoesOn}
 use Rattle.vlm_journal.proofs.GoingOn.{goes_on, one_leads}
@@ -10,14 +10,15 @@ invariant_of-self c =
     rw (c.push_reserved.ensures.items, c.entry.ensures)
     (goes_on (record { sender = c.args.sender; step = c.args.step; answer = c.step-answer.result }) c.self.invariant (inr (c.requires.sender.0, c.requires.sender.1, c.requires.post)) c.step-answer.ensures)
 
-pub returns-clause-told : goal.returns-clause-told
-returns-clause-told c = c.law_entry.ensures.more _ _ (inr (c.requires.sender.0, c.requires.sender.1, c.requires.post))
-
-pub returns-clause-leads : goal.returns-clause-leads
-returns-clause-leads c =
-    one_leads (record { sender = c.args.sender; step = c.args.step; answer = c.step-answer.result }) (inr (c.requires.sender.0, c.requires.sender.1, c.requires.post)) (subst (λ (b : Account). Outcome b.state c.args.step c.step-answer.new.self c.step-answer.result) c.self.view_is c.step-answer.ensures)
-
--- who had departed is told so
-pub returns-clause-departed : goal.returns-clause-departed
-returns-clause-departed c gone =
-    c.law_departed.ensures.since _ _ _ _ _ (subst (λ (b : Account). GoesOn b.base b.entries b.state) c.self.view_is c.self.invariant) (returns-clause-leads c) gone
+-- a node that had departed stays departed
+pub returns-clause-written : goal.returns-clause-written
+returns-clause-written c =
+    let leads = one_leads (record { sender = c.args.sender; step = c.args.step; answer = c.step-answer.result }) (inr (c.requires.sender.0, c.requires.sender.1, c.requires.post)) (subst (λ (b : Account). Outcome b.state c.args.step c.step-answer.new.self c.step-answer.result) c.self.view_is c.step-answer.ensures) in record {
+      entries = search rules;
+      leads = leads;
+      departed = λ gone.
+          c.law_departed.ensures.since _ _ _ _ _ (subst (λ (b : Account). GoesOn b.base b.entries b.state) c.self.view_is c.self.invariant) leads gone;
+      told = c.law_entry.ensures.more _ _ (inr (c.requires.sender.0, c.requires.sender.1, c.requires.post));
+      base = search rules;
+      room = search rules;
+    }

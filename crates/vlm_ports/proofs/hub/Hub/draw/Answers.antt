@@ -48,7 +48,7 @@ invariant_of-self-2-clause-linked c =
     let pid = c.in-Some.pid in let ast = c.draw-ast.result in
     let to = c.draw-ast.ensures.node ∙ node_at ls js at seen was c.args.self.now.linked c.requires c.index_mut-node_rings.ensures.value c.has_place.ensures.rings in
     (drawn_follows ls js c.reserve.new.self.entries c.draw-ast.new.self.entries at l was pid ast c.args.self.now.linked c.requires c.index_mut-node_rings.ensures.value
-    c.reserve.ensures.entries c.draw-ast.ensures.told c.draw-ast.ensures.entries to (c.tell.ensures.rings ∙ c.has_place.ensures.rings) (c.tell.ensures.taken ∙ c.has_place.ensures.taken)
+    c.reserve.ensures.entries c.draw-ast.ensures.written.told c.draw-ast.ensures.written.entries to (c.tell.ensures.rings ∙ c.has_place.ensures.rings) (c.tell.ensures.taken ∙ c.has_place.ensures.taken)
     (c.tell.ensures.told ∙ ap (λ (xs : List Item). xs ++ ast_item pid ast ∷ []) c.has_place.ensures.told)).linked
 
 pub returns-clause-rings : goal.returns-clause-rings
@@ -62,21 +62,21 @@ returns-clause-base c =
     let was = c.index_mut-node_rings.result.now in let seen = c.has_place.new.self in
     let pid = c.in-Some.pid in let ast = c.draw-ast.result in
     let to = c.draw-ast.ensures.node ∙ node_at ls js at seen was c.args.self.now.linked c.requires c.index_mut-node_rings.ensures.value c.has_place.ensures.rings in (
-      c.draw-ast.ensures.base ∙ c.reserve.ensures.base,
+      c.draw-ast.ensures.written.base ∙ c.reserve.ensures.base,
       (drawn_follows ls js c.reserve.new.self.entries c.draw-ast.new.self.entries at l was pid ast c.args.self.now.linked c.requires c.index_mut-node_rings.ensures.value
-          c.reserve.ensures.entries c.draw-ast.ensures.told c.draw-ast.ensures.entries to (c.tell.ensures.rings ∙ c.has_place.ensures.rings) (c.tell.ensures.taken ∙ c.has_place.ensures.taken)
+          c.reserve.ensures.entries c.draw-ast.ensures.written.told c.draw-ast.ensures.written.entries to (c.tell.ensures.rings ∙ c.has_place.ensures.rings) (c.tell.ensures.taken ∙ c.has_place.ensures.taken)
           (c.tell.ensures.told ∙ ap (λ (xs : List Item). xs ++ ast_item pid ast ∷ []) c.has_place.ensures.told)).bases,
     )
 
 pub returns-clause-none_asks : goal.returns-clause-none_asks
 returns-clause-none_asks c =
-    hub_asks c.args.self.now.book.entries c.reserve.new.self.entries c.draw-ast.new.self.entries (drawing c.in-Some.pid c.draw-ast.result) c.reserve.ensures.entries c.draw-ast.ensures.told c.draw-ast.ensures.entries refl
+    hub_asks c.args.self.now.book.entries c.reserve.new.self.entries c.draw-ast.new.self.entries (drawing c.in-Some.pid c.draw-ast.result) c.reserve.ensures.entries c.draw-ast.ensures.written.told c.draw-ast.ensures.written.entries refl
 
 pub returns-clause-grew : goal.returns-clause-grew
 returns-clause-grew c = (
   omega arith,
   grew_one c.args.self.now.book.entries c.reserve.new.self.entries c.draw-ast.new.self.entries c.args.self.now.book.state c.reserve.new.self.state c.draw-ast.new.self.state (drawing c.in-Some.pid c.draw-ast.result)
-      c.reserve.ensures.entries c.reserve.ensures.state c.draw-ast.ensures.entries c.draw-ast.ensures.leads c.draw-ast.ensures.departed
+      c.reserve.ensures.entries c.reserve.ensures.state c.draw-ast.ensures.written.entries c.draw-ast.ensures.written.leads c.draw-ast.ensures.written.departed
       (λ own. record { pid = c.in-Some.pid; ast = c.draw-ast.result; step = refl; answer = refl }),
 )
 

@@ -10,8 +10,8 @@ pub returns-clause-base : goal.returns-clause-base
 returns-clause-base c =
     let ls = c.args.self.now.all_node_rings.items in let js = c.args.self.now.book.entries in
     let follows = lost_follows ls js c.reserve.new.self.entries c.lose-answer.new.self.entries c.args.node c.lose-answer.result c.args.self.now.linked
-    c.reserve.ensures.entries c.lose-answer.ensures.told c.lose-answer.ensures.entries in
-    (c.lose-answer.ensures.base ∙ c.reserve.ensures.base, follows.bases)
+    c.reserve.ensures.entries c.lose-answer.ensures.written.told c.lose-answer.ensures.written.entries in
+    (c.lose-answer.ensures.written.base ∙ c.reserve.ensures.base, follows.bases)
 
 pub returns-clause-answer : goal.returns-clause-answer
 returns-clause-answer c =

@@ -41,7 +41,7 @@ invariant_of-self-2-clause-linked c =
     let node = node_at ls js at popped was c.args.self.now.linked c.requires c.index_mut-node_rings.ensures.value ring in
     let e : Entry = record { sender = popped.node; step = step; answer = answer } in
     (served_follows ls js c.reserve.new.self.entries c.serve-answer.new.self.entries at l was e c.args.self.now.linked c.requires c.index_mut-node_rings.ensures.value
-    c.reserve.ensures.entries c.serve-answer.ensures.told c.serve-answer.ensures.entries node (c.tell.ensures.rings ∙ ring)
+    c.reserve.ensures.entries c.serve-answer.ensures.written.told c.serve-answer.ensures.written.entries node (c.tell.ensures.rings ∙ ring)
     (c.tell.ensures.taken ∙ c.request-step.ensures.taken ∙ ap (λ (xs : List Step). xs ++ step ∷ []) c.has_request.ensures.taken)
     (c.tell.ensures.told ∙ ap (λ (xs : List Item). xs ++ answer_item answer ∷ []) (c.request-step.ensures.told ∙ c.has_request.ensures.told))).linked
 
@@ -58,9 +58,9 @@ returns-clause-base c =
     let ring = c.request-step.ensures.rings ∙ c.has_request.ensures.rings in
     let node = node_at ls js at popped was c.args.self.now.linked c.requires c.index_mut-node_rings.ensures.value ring in
     let e : Entry = record { sender = popped.node; step = step; answer = answer } in (
-      c.serve-answer.ensures.base ∙ c.reserve.ensures.base,
+      c.serve-answer.ensures.written.base ∙ c.reserve.ensures.base,
       (served_follows ls js c.reserve.new.self.entries c.serve-answer.new.self.entries at l was e c.args.self.now.linked c.requires c.index_mut-node_rings.ensures.value
-          c.reserve.ensures.entries c.serve-answer.ensures.told c.serve-answer.ensures.entries node (c.tell.ensures.rings ∙ ring)
+          c.reserve.ensures.entries c.serve-answer.ensures.written.told c.serve-answer.ensures.written.entries node (c.tell.ensures.rings ∙ ring)
           (c.tell.ensures.taken ∙ c.request-step.ensures.taken ∙ ap (λ (xs : List Step). xs ++ step ∷ []) c.has_request.ensures.taken)
           (c.tell.ensures.told ∙ ap (λ (xs : List Item). xs ++ answer_item answer ∷ []) (c.request-step.ensures.told ∙ c.has_request.ensures.told))).bases,
     )
@@ -72,7 +72,7 @@ returns-clause-once c =
     let ring = c.request-step.ensures.rings ∙ c.has_request.ensures.rings in
     let node = node_at ls js c.args.at popped c.index_mut-node_rings.result.now c.args.self.now.linked c.requires c.index_mut-node_rings.ensures.value ring in
     let e : Entry = record { sender = popped.node; step = c.request-step.result; answer = c.serve-answer.result } in
-    node_asks c.args.at js c.reserve.new.self.entries c.serve-answer.new.self.entries e c.reserve.ensures.entries c.serve-answer.ensures.told c.serve-answer.ensures.entries node
+    node_asks c.args.at js c.reserve.new.self.entries c.serve-answer.new.self.entries e c.reserve.ensures.entries c.serve-answer.ensures.written.told c.serve-answer.ensures.written.entries node
 
 pub returns-clause-grew : goal.returns-clause-grew
 returns-clause-grew c =
@@ -83,7 +83,7 @@ returns-clause-grew c =
     let e : Entry = record { sender = popped.node; step = c.request-step.result; answer = c.serve-answer.result } in (
       omega arith,
       grew_one c.args.self.now.book.entries c.reserve.new.self.entries c.serve-answer.new.self.entries c.args.self.now.book.state c.reserve.new.self.state c.serve-answer.new.self.state e
-          c.reserve.ensures.entries c.reserve.ensures.state c.serve-answer.ensures.entries c.serve-answer.ensures.leads c.serve-answer.ensures.departed
+          c.reserve.ensures.entries c.reserve.ensures.state c.serve-answer.ensures.written.entries c.serve-answer.ensures.written.leads c.serve-answer.ensures.written.departed
           (λ own. absurd (omega (arith, own, node))),
     )
 
