@@ -1,5 +1,5 @@
 -- The ASTs of processes.
-use Rattle.std.specs.Prelude.{ℕ, Bool, false, not, List, [], ◌∷◌, ◌++◌, map, drop, ◌==◌, ◌&&◌, ◌||◌, flat_map, Option, None, Some, slice_get, if◌then◌else◌}
+use Rattle.std.specs.Prelude.{ℕ, Bool, false, List, [], ◌∷◌, map, ◌==◌, ◌&&◌, ◌||◌, flat_map, Option, None, Some, if◌then◌else◌}
 use Rattle.std.specs.List.{list_any}
 use Rattle.std.specs.Option.{option_map_or}
 use Rattle.vlm_words.specs.declared.asts.Ast.{Ast}
@@ -7,8 +7,6 @@ use Rattle.vlm_words.specs.declared.asts.AstKind.{AstKind}
 use Rattle.vlm_words.specs.declared.asts.AstKind.TheVariants.{Completion, Blocking}
 use Rattle.vlm_words.specs.declared.locks.Request.{Request}
 use Rattle.vlm_words.specs.declared.locks.LockRow.{LockRow}
-use Rattle.vlm_words.specs.declared.modes.Mode.{Mode}
-use Rattle.vlm_words.specs.Modes.{is_compatible}
 use Rattle.vlm_words.specs.Flags.{flag_bits, has_flag, syncsts}
 use Rattle.vlm_words.specs.State.{Process, Resource, process_of}
 use Rattle.vlm_model.specs.Endings.{Ending, is_told}

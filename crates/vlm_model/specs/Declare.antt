@@ -1,10 +1,10 @@
 -- The step Declare: a new process.
-use Rattle.std.specs.Prelude.{ℕ, Bool, ◌&&◌, ◌+◌, ◌-◌, ◌*◌, not, nat_lt, nat_le, Option, None, Some, List, [], ◌∷◌, ◌++◌, slice_set, replicate, if◌then◌else◌}
+use Rattle.std.specs.Prelude.{ℕ, Bool, ◌&&◌, ◌+◌, ◌-◌, ◌*◌, not, nat_lt, nat_le, Option, None, Some, List, [], ◌∷◌, ◌++◌, slice_set, if◌then◌else◌}
 use Rattle.vlm_words.specs.declared.conditions.Cond.TheVariants.{Badparam, Departed}
 use Rattle.vlm_words.specs.declared.conditions.Cond.{Cond}
 use Rattle.vlm_words.specs.declared.steps.Declaration.{Declaration}
 use Rattle.vlm_words.specs.State.{Node, Process, State, node_at}
-use Rattle.vlm_words.specs.Processes.{new_status_block, new_process}
+use Rattle.vlm_words.specs.Processes.{new_process}
 use Rattle.vlm_model.specs.Checks.{has_departed}
 
 -- the number of a node, 1 to 8

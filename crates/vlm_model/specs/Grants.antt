@@ -1,12 +1,11 @@
 -- How queued requests are granted: what fits, a grant, the service of a resource.
-use Rattle.std.specs.Prelude.{Bool, true, false, ◌&&◌, List, [], ◌∷◌, ◌++◌, Option, None, Some, is_some, if◌then◌else◌}
-use Rattle.std.specs.List.{list_all}
+use Rattle.std.specs.Prelude.{Bool, false, List, [], ◌∷◌, ◌++◌, Option, None, Some, if◌then◌else◌}
 use Rattle.vlm_words.specs.declared.locks.Request.{Request}
 use Rattle.vlm_words.specs.declared.locks.LockRow.{LockRow}
 use Rattle.vlm_words.specs.declared.modes.Act.TheVariants.{Nothing, Return}
 use Rattle.vlm_words.specs.declared.modes.Act.{Act}
 use Rattle.vlm_words.specs.declared.modes.Mode.{Mode}
-use Rattle.vlm_words.specs.Modes.{is_compatible, value_action}
+use Rattle.vlm_words.specs.Modes.{value_action}
 use Rattle.vlm_words.specs.Flags.{flag_bits, has_flag, valblk}
 use Rattle.vlm_words.specs.State.{Resource}
 use Rattle.vlm_model.specs.Endings.{Ending, row_endings}

@@ -1,5 +1,5 @@
 -- The processes of a node with a pending AST.
-use Rattle.std.specs.Prelude.{◌≡◌, ◌<◌, ◌==◌, ◌&&◌, ℕ, nat_lt, true, Bool, List, length, find, All, AllPairs, Option}
+use Rattle.std.specs.Prelude.{◌≡◌, ◌<◌, ℕ, true, List, find, All, AllPairs, Option}
 use Rattle.std.specs.Option.{option_map}
 use Rattle.vlm_model.specs.Declare.{is_node}
 use Rattle.vlm_words.specs.State.{Process, State}

@@ -3,7 +3,6 @@ use Rattle.std.specs.Prelude.{ℕ, Bool, true, false, not, ◌==◌, ◌-◌, Li
 use Rattle.vlm_words.specs.declared.conditions.Cond.TheVariants.{Badparam, Departed}
 use Rattle.vlm_words.specs.declared.conditions.Cond.{Cond}
 use Rattle.vlm_words.specs.State.{Node, Process, State, node_at}
-use Rattle.vlm_words.specs.Steps.{node_of_pid}
 use Rattle.vlm_model.specs.Endings.{Ending}
 use Rattle.vlm_model.specs.Endings.How.{by_rundown}
 use Rattle.vlm_model.specs.Withdrawals.{Withdrawal, resource_after_withdrawals, withdrawn_endings}

@@ -1,5 +1,5 @@
 -- The status blocks of processes.
-use Rattle.std.specs.Prelude.{ℕ, Bool, List, [], map, ◌==◌, ◌-◌, nat_lt, replicate, Option, None, unwrap_or, slice_get, slice_index_or, slice_set, if◌then◌else◌}
+use Rattle.std.specs.Prelude.{ℕ, Bool, List, [], map, ◌==◌, ◌-◌, nat_lt, Option, None, unwrap_or, slice_get, slice_index_or, if◌then◌else◌}
 use Rattle.std.specs.Option.{option_map_or}
 use Rattle.vlm_words.specs.declared.blocks.Block.{Block}
 use Rattle.vlm_words.specs.declared.conditions.Cond.{Cond}
