@@ -194,14 +194,13 @@ with_lists change s = record s { resources = map (resource_with change) s.resour
 abbrev pub leaving : ℕ → QueueChange
 leaving at place locks = without_lock at locks
 
--- a change of queues: the lock leaves its queue and joins one at the end
-abbrev pub moving : Place → StoredLock → QueueChange
-moving to lock place locks =
-    if is_place place to then without_lock lock.at locks ++ lock ∷ [] else without_lock lock.at locks
-
 -- a change of queues: a new lock joins one at the end
 abbrev pub joining : Place → StoredLock → QueueChange
 joining to lock place locks = if is_place place to then locks ++ lock ∷ [] else locks
+
+-- a change of queues: the lock leaves its queue and joins one at the end
+abbrev pub moving : Place → StoredLock → QueueChange
+moving to lock place locks = joining to lock place (leaving lock.at place locks)
 
 -- the lock is disarmed
 abbrev pub disarmed : StoredLock → StoredLock
