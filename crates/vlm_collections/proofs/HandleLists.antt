@@ -1,5 +1,5 @@
 -- Lists of handles that are apart.
-use Rattle.std.proofs.Common.{◌≡◌, ◌≢◌, ◌⊎◌, ℕ, zero, suc, ◌+◌, ◌<◌, ◌≤◌, List, [], ◌∷◌, ◌++◌, length, slice_get, Some, refl, sym, ap, ◌∙◌, subst, inl, inr, arith, eq-eqb, ne_eqb}
+use Rattle.std.proofs.Common.{◌≡◌, ◌≢◌, ◌⊎◌, ℕ, zero, suc, ◌+◌, ◌<◌, ◌≤◌, List, [], ◌∷◌, ◌++◌, length, map, slice_get, Some, refl, sym, ap, ◌∙◌, subst, inl, inr, arith, eq-eqb, ne_eqb}
 use Rattle.std.proofs.lemmas.Bool.{cases_eq, cond-true, cond-false, not_from_true, not_from_false}
 use Rattle.std.proofs.lemmas.Option.{none-some, same_Some}
 use Rattle.vlm_collections.specs.Lists.{without, IsIn, IsApart}
@@ -77,6 +77,30 @@ length-without handle (first ∷ rest) apart found =
             | inr there ↦ omega (arith, ap length (without_past handle first rest differs), length-without handle rest apart.1 there)
           ]
     ]
+
+-- what stands in one of two lists, in the images of a list, and in no list
+pub in_ahead : {A : Type 0} (x : A) (xs ys : List A) → IsIn x xs → IsIn x (xs ++ ys)
+in_ahead x [] ys there = absurd there
+in_ahead x (y ∷ xs) ys there = elim there [ inl here ↦ inl here | inr later ↦ inr (in_ahead x xs ys later) ]
+
+pub in_behind : {A : Type 0} (x : A) (xs ys : List A) → IsIn x ys → IsIn x (xs ++ ys)
+in_behind x [] ys there = there
+in_behind x (y ∷ xs) ys there = inr (in_behind x xs ys there)
+
+pub in_either : {A : Type 0} (x : A) (xs ys : List A) → IsIn x (xs ++ ys) → IsIn x xs ⊎ IsIn x ys
+in_either x [] ys there = inr there
+in_either x (y ∷ xs) ys there = elim there [
+  | inl here ↦ inl (inl here)
+  | inr later ↦ elim (in_either x xs ys later) [ inl first ↦ inl (inr first) | inr second ↦ inr second ]
+]
+
+pub in_map : {A B : Type 0} (f : A → B) (x : A) (xs : List A) → IsIn x xs → IsIn (f x) (map f xs)
+in_map f x [] there = absurd there
+in_map f x (y ∷ xs) there = elim there [ inl here ↦ inl (ap f here) | inr later ↦ inr (in_map f x xs later) ]
+
+pub none_in : {A : Type 0} (xs : List A) → ((x : A) → IsIn x xs → ⊥) → xs ≡ []
+none_in [] none = refl
+none_in (x ∷ xs) none = absurd (none x (inl refl))
 
 pub IsIn-push : (handle other : ℕ) (handles : List ℕ) → IsIn other (handles ++ handle ∷ []) → IsIn other handles ⊎ (handle ≡ other)
 IsIn-push handle other [] found = elim found [ inl here ↦ inr here | inr nowhere ↦ absurd nowhere ]

@@ -1,24 +1,9 @@
 -- The handles of numbers, by the rows of their ranges.
 use Rattle.std.proofs.Common.{◌≡◌, ℕ, ◌-◌, ◌*◌, ◌/◌, ◌%◌, ◌<◌, ◌≤◌, List, [], ◌∷◌, ◌++◌, length, get_or, set, replicate, Option, None, refl, sym, ap, ◌∙◌, subst, inl, inr, arith}
 use Rattle.std.proofs.lemmas.Bool.{cases_eq, cases_lt}
-use Rattle.std.proofs.lemmas.List.{get_or-set_same, get_or-set_other, get_or_past, get_or-replicate, length-append, length-replicate, length-set}
-use Rattle.std.proofs.Math.ListN.{get_or-append}
-use Rattle.std.proofs.Math.Seq.{get_or-append_right}
+use Rattle.std.proofs.lemmas.List.{get_or-set_same, get_or-set_other, get_or_past, length-append, length-replicate, length-set}
 use Rattle.vlm_collections.specs.Tables.{Grows, HasRoomFor, Writes, handle_of, row_of}
-
--- behind its end a list is as if it went on with what a look-up past it gives
-pub get_or-behind : {X : Type 0} (xs : List X) (n i : ℕ) (d : X) → get_or (xs ++ replicate n d) i d ≡ get_or xs i d
-get_or-behind xs n i d =
-    elim (cases_lt i (length xs)) [
-      | inl within ↦ get_or-append xs (replicate n d) d i within
-      | inr past ↦ get_or-append_right xs (replicate n d) i d past ∙ of_default (i - length xs) ∙ sym (get_or_past xs i d past)
-    ]
-  where
-    of_default : (k : ℕ) → get_or (replicate n d) k d ≡ d
-    of_default k = elim (cases_lt k n) [
-      | inl few ↦ get_or-replicate n k d d few
-      | inr many ↦ get_or_past (replicate n d) k d (subst (λ m. m ≤ k) (sym (length-replicate n d)) many)
-    ]
+use Rattle.vlm_collections.proofs.Numbers.{get_or-behind}
 
 pub no_handle : (number : ℕ) → handle_of [] number ≡ None
 unfolding handle_of

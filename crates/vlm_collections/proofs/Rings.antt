@@ -253,6 +253,10 @@ module _ {T : Type 0} (links : T → Links) {Kind : Type 0} where
     pub joined-linked : IsLinked links n2 (record e2 { last = Some handle; len = e2.len + 1 })
     joined-linked = IsLinked-joined n0 n2 e0 (record e2 { last = Some handle; len = e2.len + 1 }) handle linked present low apart inserts there (omega arith)
 
+  -- the list has the handles that it had
+  abbrev HandlesStay : Slab T → Slab T → LinkedList Kind → Type 0
+  HandlesStay nodes nodes' list = handles_of links nodes' list ≡ handles_of links nodes list
+
   -- a list stays where its records keep their neighbours
   module _ (nodes nodes' : Slab T) (list : LinkedList Kind) (linked : IsLinked links nodes list)
       (nexts : (handle : ℕ) → IsIn handle (handles_of links nodes list) → next_in links (get nodes' handle) ≡ next_in links (get nodes handle))
@@ -277,7 +281,7 @@ module _ {T : Type 0} (links : T → Links) {Kind : Type 0} where
     chain-kept : IsChain (next_of links nodes' list) (prev_of links nodes' list) None (handles_of links nodes list)
     chain-kept = IsChain-kept _ _ _ _ None (handles_of links nodes list) linked.chained next_kept prev_kept
 
-    pub kept-handles : handles_of links nodes' list ≡ handles_of links nodes list
+    pub kept-handles : HandlesStay nodes nodes' list
     kept-handles = handles_of_chain links nodes' list _ chain-kept linked.counted
 
     pub kept-linked : IsLinked links nodes' list
@@ -286,7 +290,7 @@ module _ {T : Type 0} (links : T → Links) {Kind : Type 0} where
   -- the same where the records are the same
   module _ (nodes nodes' : Slab T) (list : LinkedList Kind) (linked : IsLinked links nodes list)
       (same : (handle : ℕ) → IsIn handle (handles_of links nodes list) → get nodes' handle ≡ get nodes handle) where
-    pub same-handles : handles_of links nodes' list ≡ handles_of links nodes list
+    pub same-handles : HandlesStay nodes nodes' list
     same-handles = kept-handles nodes nodes' list linked (λ k found. ap (next_in links) (same k found)) (λ k found. ap (prev_in links) (same k found)) (λ k found here. rw (same k found) here)
 
     pub same-linked : IsLinked links nodes' list

@@ -38,6 +38,10 @@ IsFirstMarked nodes node (Some first) =
     (is_marked nodes first ≡ true) × (first / 65536 ≡ node)
     × ((pid : ℕ) → pid / 65536 ≡ node → is_marked nodes pid ≡ true → first ≤ pid)
 
+-- the marks of other processes stay
+abbrev pub OthersStay : ℕ → List (List Bool) → List (List Bool) → Type 0
+OthersStay pid old new = (other : ℕ) → ¬ (other ≡ pid) → is_marked new other ≡ is_marked old other
+
 -- marks stay, and there may be more room
 pub record Grows (old new : List (List Bool)) : Type 0 where
   pub marks : (pid : ℕ) → is_marked new pid ≡ is_marked old pid
@@ -46,5 +50,5 @@ pub record Grows (old new : List (List Bool)) : Type 0 where
 -- the process's mark becomes this, if its node is 1 to 8; other marks and the room stay
 pub record Writes (pid : ℕ) (value : Bool) (old new : List (List Bool)) : Type 0 where
   pub this : is_marked new pid ≡ (is_node (pid / 65536) && value)
-  pub others : (other : ℕ) → ¬ (other ≡ pid) → is_marked new other ≡ is_marked old other
+  pub others : OthersStay pid old new
   pub room : (other : ℕ) → HasRoomFor old other → HasRoomFor new other

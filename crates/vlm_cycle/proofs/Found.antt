@@ -13,7 +13,8 @@ use Rattle.vlm_locks.specs.Standing.{IsLocated}
 use Rattle.vlm_cycle.specs.Finding.{Improves, IsCovered, IsFit, IsLater, IsNotLater, IsVictimOf}
 use Rattle.vlm_cycle.specs.Waiting.{searched}
 use Rattle.vlm_cycle.proofs.Keeping.{waiting_on}
-use Rattle.vlm_cycle.proofs.Listed.{among_is, in_either, in_first, in_second}
+use Rattle.vlm_cycle.proofs.Listed.{among_is}
+use Rattle.vlm_collections.proofs.HandleLists.{in_either, in_ahead, in_behind}
 
 -- the best of what is left makes, with the best so far, the best of all
 abbrev pub BestGoesOn : Records → List LockRow → List LockRow → Option LocatedLock → Option LocatedLock → Type 0
@@ -121,9 +122,9 @@ waiting_queued s row lock waits =
     in_all r [] there here = absurd there
     in_all r (x ∷ rs) there here = elim there [
       | inl first ↦
-          in_first row (queue_of (plain_resource x)) (flat_map queue_of (map plain_resource rs))
+          in_ahead row (queue_of (plain_resource x)) (flat_map queue_of (map plain_resource rs))
           (subst (λ y. IsIn row (queue_of (plain_resource y))) (sym first) here)
-      | inr later ↦ in_second row (queue_of (plain_resource x)) (flat_map queue_of (map plain_resource rs)) (in_all r rs later here)
+      | inr later ↦ in_behind row (queue_of (plain_resource x)) (flat_map queue_of (map plain_resource rs)) (in_all r rs later here)
     ]
 
 -- and so is one that is deadlocked

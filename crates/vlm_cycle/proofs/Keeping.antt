@@ -14,7 +14,8 @@ use Rattle.vlm_store.specs.Records.{AreApart, IsSound, Records, StoredLock, Stor
 use Rattle.vlm_store.proofs.Records.{queue_at, resource_is}
 use Rattle.vlm_locks.proofs.Stood.{queued_stored}
 use Rattle.vlm_cycle.specs.Waiting.{OwnsWaitedFor, OwnsBefore, OwnsBlocker, OwnsKeeper, rows_before, searched}
-use Rattle.vlm_cycle.proofs.Listed.{RowsApart, among_is, any_resource, apart_both, before_differs, before_is, before_passes, before_stops, in_either, in_first, in_second, is_among, lock_of, row_in, some_resource, split_before}
+use Rattle.vlm_cycle.proofs.Listed.{RowsApart, among_is, any_resource, apart_both, before_differs, before_is, before_passes, before_stops, is_among, lock_of, row_in, some_resource, split_before}
+use Rattle.vlm_collections.proofs.HandleLists.{in_either, in_ahead, in_behind}
 
 -- a lock that is queued and not granted
 pub record IsQueuedOn (s : Records) (r : StoredResource) (row : LockRow) : Type 0 where
@@ -70,7 +71,7 @@ module _ (s : Records) (sound : IsSound s) where
             ]
         | inr before ↦
             (let stands = queued_on s w.resource lock
-            (subst (IsIn lock) (sym before.0.queued) (in_first lock before.0.before (row ∷ before.0.behind) (among_is lock before.0.before before.0.first_among))) in
+            (subst (IsIn lock) (sym before.0.queued) (in_ahead lock before.0.before (row ∷ before.0.behind) (among_is lock before.0.before before.0.first_among))) in
             in_one w.resource w.there stands.queue (stands.lock, (stands.among, stands.its)))
       ]
     where
@@ -134,8 +135,8 @@ module _ (s : Records) (sound : IsSound s) where
       before_whole Waiting not among pid some =
           subst (λ rows. OwnsBlocker rows pid) (sym (before_passes lock.row.lkid (rows_of_locks own.converting) (rows_of_locks own.waiting) (not_converting among)))
           (elim some [
-            | inl first ↦ (first.0, (in_first first.0 (rows_before lock.row.lkid (rows_of_locks own.converting)) (rows_before lock.row.lkid (rows_of_locks own.waiting)) first.1.0, first.1.1, first.1.2))
-            | inr second ↦ (second.0, (in_second second.0 (rows_before lock.row.lkid (rows_of_locks own.converting)) (rows_before lock.row.lkid (rows_of_locks own.waiting)) second.1.0, second.1.1, second.1.2))
+            | inl first ↦ (first.0, (in_ahead first.0 (rows_before lock.row.lkid (rows_of_locks own.converting)) (rows_before lock.row.lkid (rows_of_locks own.waiting)) first.1.0, first.1.1, first.1.2))
+            | inr second ↦ (second.0, (in_behind second.0 (rows_before lock.row.lkid (rows_of_locks own.converting)) (rows_before lock.row.lkid (rows_of_locks own.waiting)) second.1.0, second.1.1, second.1.2))
           ])
 
       pub whole_before : (queue : Queue) → queue ≢ Granted → IsIn lock (queued queue own) → (pid : ℕ)
@@ -157,8 +158,8 @@ module _ (s : Records) (sound : IsSound s) where
 
       in_whole : (queue : Queue) → queue ≢ Granted → IsIn lock (queued queue own) → IsIn lock.row (queue_of (plain_resource own))
       in_whole Granted not among = absurd (not refl)
-      in_whole Conversion not among = in_first lock.row (rows_of_locks own.converting) (rows_of_locks own.waiting) (row_in lock own.converting among)
-      in_whole Waiting not among = in_second lock.row (rows_of_locks own.converting) (rows_of_locks own.waiting) (row_in lock own.waiting among)
+      in_whole Conversion not among = in_ahead lock.row (rows_of_locks own.converting) (rows_of_locks own.waiting) (row_in lock own.converting among)
+      in_whole Waiting not among = in_behind lock.row (rows_of_locks own.converting) (rows_of_locks own.waiting) (row_in lock own.waiting among)
 
       module _ (queue : Queue) (among : IsIn lock (queued queue own)) where
         -- where its request waits: here, and it is not granted
@@ -221,12 +222,12 @@ module _ (s : Records) (sound : IsSound s) where
           keeper_waited not counted pid keeper = elim keeper [
             | inl granted ↦
                 waited granted.0 granted.1.1.0
-                (inl (is_among granted.0 (rows_of_locks own.granted ++ rows_of_locks own.converting) (in_first granted.0 (rows_of_locks own.granted) (rows_of_locks own.converting) granted.1.0), granted.1.1.1))
+                (inl (is_among granted.0 (rows_of_locks own.granted ++ rows_of_locks own.converting) (in_ahead granted.0 (rows_of_locks own.granted) (rows_of_locks own.converting) granted.1.0), granted.1.1.1))
                 granted.1.2
             | inr more ↦ elim more [
               | inl converting ↦
                   waited converting.0 converting.1.1.0
-                  (inl (is_among converting.0 (rows_of_locks own.granted ++ rows_of_locks own.converting) (in_second converting.0 (rows_of_locks own.granted) (rows_of_locks own.converting) converting.1.0), converting.1.1.1))
+                  (inl (is_among converting.0 (rows_of_locks own.granted ++ rows_of_locks own.converting) (in_behind converting.0 (rows_of_locks own.granted) (rows_of_locks own.converting) converting.1.0), converting.1.1.1))
                   converting.1.2
               | inr before ↦ of_blocker (before_whole queue not among pid before)
             ]

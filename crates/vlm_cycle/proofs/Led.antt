@@ -19,7 +19,7 @@ use Rattle.vlm_cycle.specs.Leading.{IsFirstOn, IsLed, rows_queued_on}
 use Rattle.vlm_cycle.specs.Ranking.{Falls, FallsOn, rank_of}
 use Rattle.vlm_cycle.specs.Waiting.{searched}
 use Rattle.vlm_cycle.proofs.Found.{waiting_queued}
-use Rattle.vlm_cycle.proofs.Listed.{in_either}
+use Rattle.vlm_collections.proofs.HandleLists.{in_either}
 
 -- a queued request is led to by the first of these, or by one behind it
 pub led_cases : (s : Records) (at : ℕ) (rest : List ℕ) (row : LockRow) → IsLed s (at ∷ rest) row → ((res : ℕ) × (IsFirstOn s at res × IsIn row (rows_queued_on res s))) ⊎ IsLed s rest row

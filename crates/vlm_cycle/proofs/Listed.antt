@@ -1,5 +1,5 @@
 -- Rows in lists, and those before one.
-use Rattle.std.proofs.Common.{◌≡◌, ◌≢◌, ◌⊎◌, ℕ, List, [], ◌∷◌, ◌++◌, map, refl, sym, ap, ◌∙◌, subst, inl, inr, eq-eqb, ne_eqb}
+use Rattle.std.proofs.Common.{◌≡◌, ◌≢◌, ℕ, List, [], ◌∷◌, ◌++◌, map, refl, sym, ap, ◌∙◌, subst, inl, inr, eq-eqb, ne_eqb}
 use Rattle.std.specs.Prelude.{Any}
 use Rattle.std.proofs.lemmas.Bool.{cases_eq}
 use Rattle.vlm_words.specs.declared.locks.LockRow.{LockRow}
@@ -10,6 +10,7 @@ use Rattle.vlm_collections.specs.Lists.{IsIn}
 use Rattle.vlm_store.specs.Plain.{plain_resource}
 use Rattle.vlm_store.specs.Records.{StoredLock, StoredResource, rows_of_locks}
 use Rattle.vlm_cycle.specs.Waiting.{rows_before}
+use Rattle.vlm_collections.proofs.HandleLists.{in_behind, in_either}
 
 pub among_is : (row : LockRow) (rows : List LockRow) → IsRowAmong rows row → IsIn row rows
 among_is row [] some = absurd (Any-none (λ (other : LockRow). other ≡ row) some)
@@ -23,21 +24,6 @@ is_among row [] there = absurd there
 is_among row (x ∷ rows) there = elim there [
   | inl here ↦ Any-here (λ (other : LockRow). other ≡ row) x rows here
   | inr later ↦ Any-there (λ (other : LockRow). other ≡ row) x rows (is_among row rows later)
-]
-
-pub in_first : {X : Type 0} (x : X) (xs ys : List X) → IsIn x xs → IsIn x (xs ++ ys)
-in_first x [] ys there = absurd there
-in_first x (z ∷ xs) ys there = elim there [ inl here ↦ inl here | inr later ↦ inr (in_first x xs ys later) ]
-
-pub in_second : {X : Type 0} (x : X) (xs ys : List X) → IsIn x ys → IsIn x (xs ++ ys)
-in_second x [] ys there = there
-in_second x (z ∷ xs) ys there = inr (in_second x xs ys there)
-
-pub in_either : {X : Type 0} (x : X) (xs ys : List X) → IsIn x (xs ++ ys) → IsIn x xs ⊎ IsIn x ys
-in_either x [] ys there = inr there
-in_either x (z ∷ xs) ys there = elim there [
-  | inl here ↦ inl (inl here)
-  | inr later ↦ elim (in_either x xs ys later) [ inl first ↦ inl (inr first) | inr second ↦ inr second ]
 ]
 
 -- a row is that of a lock
@@ -97,7 +83,7 @@ split_before (x ∷ rows) row apart there = elim there [
 pub before_is : (before : List LockRow) (row : LockRow) (behind : List LockRow) → RowsApart (before ++ row ∷ behind) → rows_before row.lkid (before ++ row ∷ behind) ≡ before
 before_is [] row behind apart = rw (eq-eqb row.lkid row.lkid refl) refl
 before_is (x ∷ before) row behind apart =
-    rw (ne_eqb x.lkid row.lkid (λ same. apart.0 row (in_second row before (row ∷ behind) (inl refl)) (sym same))) (ap (λ ys. x ∷ ys) (before_is before row behind apart.1))
+    rw (ne_eqb x.lkid row.lkid (λ same. apart.0 row (in_behind row before (row ∷ behind) (inl refl)) (sym same))) (ap (λ ys. x ∷ ys) (before_is before row behind apart.1))
 
 pub before_differs : (lkid : ℕ) (rows : List LockRow) (other : LockRow) → IsIn other (rows_before lkid rows) → other.lkid ≢ lkid
 before_differs lkid [] other there = absurd there

@@ -14,8 +14,8 @@ use Rattle.vlm_cycle.specs.declared.scratch.Scratch.{Scratch}
 use Rattle.vlm_cycle.specs.Marking.{Marks}
 use Rattle.vlm_cycle.specs.Waiting.{IsBehind, OwnsWaitedFor}
 use Rattle.vlm_cycle.proofs.Keeping.{row_stored}
-use Rattle.vlm_cycle.proofs.Listed.{in_second}
 use Rattle.vlm_cycle.proofs.Marked.{GoesOn, goes_step}
+use Rattle.vlm_collections.proofs.HandleLists.{in_behind}
 
 -- the walk has come to one of these, or to their end
 abbrev pub IsAtOwn : Option ℕ → List ℕ → Type 0
@@ -60,7 +60,7 @@ passed lock handles apart there =
         record {
           left = on_from_first done (lock ∷ rest) apart ∙ ap (λ hs. lock ∷ hs) (sym behind);
           there = subst (λ o. IsAtOwn o (done ++ lock ∷ rest)) (sym after)
-              (λ at is. in_second at done (lock ∷ rest) (inr (first_in rest at is)));
+              (λ at is. in_behind at done (lock ∷ rest) (inr (first_in rest at is)));
         }
 
 -- it begins at the first

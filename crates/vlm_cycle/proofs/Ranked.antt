@@ -25,8 +25,8 @@ use Rattle.vlm_cycle.specs.Ranks.{Ranks}
 use Rattle.vlm_cycle.specs.Ranking.{CountsHeld, CountsHolders, Falls, FallsOn, HasPassed, IsAboveAll, AreBlockerRanksAt, AreBlockerRanksOf, PassesQueue, PassesOne, rank_at, rank_of}
 use Rattle.vlm_cycle.specs.Waiting.{OwnsWaitedFor, OwnsBefore, OwnsBlocker, OwnsHolder, OwnsKeeper, rows_before, searched}
 use Rattle.vlm_cycle.proofs.Keeping.{none_waited, none_wanted, waited_keeps}
-use Rattle.vlm_cycle.proofs.Listed.{in_either}
 use Rattle.vlm_cycle.proofs.Walked.{before_step}
+use Rattle.vlm_collections.proofs.HandleLists.{in_either}
 
 -- ---- ranks
 

@@ -32,8 +32,8 @@ use Rattle.vlm_locks.proofs.Owing.{notices_twice}
 use Rattle.vlm_locks.proofs.RunsDown.{its_handles, same_process_of}
 use Rattle.vlm_locks.proofs.Notes.{note_in, number_there}
 use Rattle.vlm_locks.proofs.Stood.{one_lock}
-use Rattle.vlm_locks.proofs.Sublocks.{in_behind}
 use Rattle.vlm_locks.proofs.Unowed.{paid_on}
+use Rattle.vlm_collections.proofs.HandleLists.{in_behind}
 
 -- ---- the locks of the process
 

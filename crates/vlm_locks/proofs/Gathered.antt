@@ -6,7 +6,7 @@ use Rattle.std.proofs.lemmas.List.{append_assoc, append-nil, length-append, leng
 use Rattle.vlm_words.specs.declared.locks.LockRow.{LockRow}
 use Rattle.vlm_model.specs.OwnLocks.{is_below, parent_of}
 use Rattle.vlm_collections.specs.Lists.{IsApart, IsIn}
-use Rattle.vlm_collections.proofs.HandleLists.{IsIn-push, IsIn-push_kept, IsIn-push_last}
+use Rattle.vlm_collections.proofs.HandleLists.{IsIn-push, IsIn-push_kept, IsIn-push_last, in_ahead, in_behind, in_either, in_map}
 use Rattle.vlm_store.specs.Plain.{plain_resources}
 use Rattle.vlm_store.specs.Records.{FindsLock, IsProcess, IsSound, IsStored, Records, Stores, own_handles_at, sublocks_at}
 use Rattle.vlm_store.specs.Total.{lock_total}
@@ -23,7 +23,8 @@ use Rattle.vlm_locks.proofs.Notes.{handle_there, note_of, rise_in_order, rise_no
 use Rattle.vlm_locks.proofs.ParentsNamed.{below_no_other, parent_named, parent_nowhere, parents_come_first, somewhere_or_not}
 use Rattle.vlm_locks.proofs.RunsDown.{handles_apart, its_handles, owned_here, stored_here, they_rise}
 use Rattle.vlm_locks.proofs.Stood.{one_lock}
-use Rattle.vlm_locks.proofs.Sublocks.{apart_both, as_many_at_most, below_of, in_ahead, in_behind, in_either, in_map, is_below_it, sublocks_apart}
+use Rattle.vlm_locks.proofs.Sublocks.{as_many_at_most, below_of, is_below_it, sublocks_apart}
+use Rattle.vlm_records.proofs.Counting.{IsApart-append}
 
 -- ---- all locks of a process
 
@@ -153,7 +154,7 @@ module _ (s : Records) (sound : IsSound s) (rest : IsAtRest s) (pid top : ℕ) (
             ))
       ];
       apart =
-          apart_both handles (sublocks_at h s) gathered.apart (sublocks_apart s sound h rest)
+          IsApart-append handles (sublocks_at h s) gathered.apart (sublocks_apart s sound h rest)
           (λ at before behind.
           let below = sublock at behind in
           let under = gathered.under at below.0 before below.1.0 in

@@ -19,8 +19,8 @@ use Rattle.vlm_locks.proofs.EndsTogether.{below_later}
 use Rattle.vlm_locks.proofs.RunsDown.{AreGoing, IsTurn, among_others, gone, its_handles, next_turn, none_goes, one_were_there, owned_here}
 use Rattle.vlm_locks.proofs.Staying.{among_without}
 use Rattle.vlm_locks.proofs.Stood.{one_lock}
-use Rattle.vlm_locks.proofs.Sublocks.{in_ahead, in_behind, in_either, in_map}
 use Rattle.vlm_locks.proofs.Unowed.{paid_whole, paid_without}
+use Rattle.vlm_collections.proofs.HandleLists.{in_ahead, in_behind, in_either, in_map, none_in}
 
 -- nothing is noted, in the same room
 abbrev pub no_notes : Touches → Touches
@@ -165,7 +165,7 @@ module _ (invalidates : Bool) (owner pid : ℕ) (old s : Records) (before now : 
 
     -- its sublocks are gone
     pub no_sublocks : HasNoSublocks last.at s
-    no_sublocks p own in_p in_own same = of_sublocks own.sublocks refl
+    no_sublocks p own in_p in_own same = none_in own.sublocks none_below
       where
         none_below : (sub : ℕ) → IsIn sub own.sublocks → ⊥
         none_below sub there =
@@ -187,10 +187,6 @@ module _ (invalidates : Bool) (owner pid : ℕ) (old s : Records) (before now : 
                 | inr none ↦ none
               ]
             ]
-
-        of_sublocks : (subs : List ℕ) → own.sublocks ≡ subs → own.sublocks ≡ []
-        of_sublocks [] is = is
-        of_sublocks (sub ∷ subs) is = absurd (none_below sub (subst (IsIn sub) (sym is) (inl refl)))
 
     -- it goes
     module _ (new : Records) (noted : Touches) (then : Touches) (f : LocatedLock) (w : Withdrawal)

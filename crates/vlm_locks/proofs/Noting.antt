@@ -10,7 +10,7 @@ use Rattle.vlm_locks.specs.declared.touched.Note.{Note}
 use Rattle.vlm_locks.specs.GivingUp.{AreOfLocks}
 use Rattle.vlm_locks.specs.Touched.{Touches, touched_handles}
 use Rattle.vlm_locks.proofs.Chosen.{absent_before, on_from, on_from_first}
-use Rattle.vlm_locks.proofs.Sublocks.{in_behind, in_either}
+use Rattle.vlm_collections.proofs.HandleLists.{in_behind, in_either}
 
 -- the handles up to this spot are noted, behind what was
 pub record AreNoted (s : Records) (handles : List ℕ) (was touched : Touches) (next : Option ℕ) : Type 0 where

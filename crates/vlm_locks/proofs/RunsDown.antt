@@ -22,7 +22,7 @@ use Rattle.vlm_store.proofs.Plain.{process_at-stored}
 use Rattle.vlm_locks.specs.Rising.{IsOlder, HasRisingLocks, StandByIdentification, handles_of_own}
 use Rattle.vlm_locks.proofs.Left.{IsOthers, nothing_left, IsOwnRow, OwnRows, one_withdrawn}
 use Rattle.vlm_locks.proofs.Stood.{one_lock, queued_stored, only, own_among, resource_among, stored}
-use Rattle.vlm_collections.proofs.HandleLists.{IsIn-without, length-without}
+use Rattle.vlm_collections.proofs.HandleLists.{IsIn-without, length-without, none_in, in_map}
 use Rattle.vlm_records.specs.declared.handles.Place.TheVariants.{Queued}
 use Rattle.vlm_locks.specs.declared.located_locks.LocatedLock.{LocatedLock}
 use Rattle.vlm_locks.specs.declared.touched.Note.{Note}
@@ -191,7 +191,7 @@ module _ (owner pid : ℕ) (s : Records) (sound : IsSound s) (lives : IsProcess 
 
     -- the last lock that a process made has no sublocks
     pub last_is_childless : SublocksAreOwn s → HasNoSublocks lock s
-    last_is_childless together q own in_q in_own same = of_sublocks own.sublocks refl
+    last_is_childless together q own in_q in_own same = none_in own.sublocks none_below
       where
         rises : HasRisingLocks s q
         rises = rest.rising q in_q
@@ -213,10 +213,6 @@ module _ (owner pid : ℕ) (s : Records) (sound : IsSound s) (lives : IsProcess 
             let order = before_last s (handles_of_own p.own) lock sub (rest.rising p lives.1.0).own (sym (ap last_handle its_handles) ∙ last)
             (owned_here sub below.1 below.2.1 mine) in
             of_order below.0 below.1 sub (after below.0 below.1 up_stored below.2.1) order up_stored below.2.1
-
-        of_sublocks : (subs : List ℕ) → own.sublocks ≡ subs → own.sublocks ≡ []
-        of_sublocks [] is = is
-        of_sublocks (sub ∷ subs) is = absurd (none_below sub (subst (IsIn sub) (sym is) (inl refl)))
 
   -- where the process has no lock, no row is its own
   pub none_is_own : own_handles_at owner s ≡ [] → (at : ℕ) (row : LockRow) → Stores s at row → (row.pid == pid) ≡ false
@@ -312,13 +308,6 @@ same_process_of (y ∷ olds) (q ∷ news) same x there = elim there [
     rest_of [] = []
     rest_of (z ∷ zs) = zs
 
-mapped_in : (f : StoredProcess → StoredProcess) (x : StoredProcess) (ps : List StoredProcess) → IsIn x ps → IsIn (f x) (map f ps)
-mapped_in f x [] there = there
-mapped_in f x (y ∷ ps) there = elim there [
-  | inl here ↦ inl (ap f here)
-  | inr later ↦ inr (mapped_in f x ps later)
-]
-
 module _ (s new : Records) (sound : IsSound s) (sound_new : IsSound new) (f : LocatedLock) (located : IsLocated f s) (beside : LeavesOthers f.res f.lock s new)
     (own_locks : map but_notices new.processes ≡ map but_notices (map (process_without_lock f.lock) s.processes)) where
   -- the lock is gone
@@ -351,7 +340,7 @@ module _ (s new : Records) (sound : IsSound s) (sound_new : IsSound new) (f : Lo
     process_left : (q : StoredProcess) × (IsIn q new.processes × (q.at ≡ lives.0.at) × (q.process.pid ≡ lives.0.process.pid) × (q.own ≡ (process_without_lock f.lock lives.0).own))
     process_left =
         same_process_of (map (process_without_lock f.lock) s.processes) new.processes own_locks (process_without_lock f.lock lives.0)
-        (mapped_in (process_without_lock f.lock) lives.0 s.processes lives.1.0)
+        (in_map (process_without_lock f.lock) lives.0 s.processes lives.1.0)
 
     pub lives_on : IsProcess owner pid new
     lives_on = let q = process_left in (q.0, (q.1.0, q.1.1 ∙ lives.1.1, q.1.2 ∙ lives.1.2))
@@ -685,14 +674,13 @@ its_row owner pid s sound lives f located there =
 
 module _ (goes : LockRow → Bool) (invalidates : Bool) (owner pid : ℕ) (old s new : Records) (before touched noted : Touches) (f : LocatedLock) (w : Withdrawal)
     (so_far : AreGoing goes invalidates owner pid old s before touched) (turn : IsTurn goes invalidates owner s new touched noted f w) where
-  own_left : own_handles_at owner new ≡ without f.lock (own_handles_at owner s)
-  own_left = handles_left s new so_far.sound turn.sound f turn.located turn.beside turn.own_locks owner pid so_far.lives
-
   pub own_apart : IsApart (own_handles_at owner s)
   own_apart = handles_apart owner pid s so_far.sound so_far.lives
 
   pub fewer_own : length (own_handles_at owner new) + 1 ≡ length (own_handles_at owner s)
-  fewer_own = omega (arith, ap (λ (handles : List ℕ). length handles) own_left, length-without f.lock (own_handles_at owner s) own_apart turn.mine)
+  fewer_own =
+      let own_left = handles_left s new so_far.sound turn.sound f turn.located turn.beside turn.own_locks owner pid so_far.lives in
+      omega (arith, ap (λ (handles : List ℕ). length handles) own_left, length-without f.lock (own_handles_at owner s) own_apart turn.mine)
 
   pub next_turn : AreGoing goes invalidates owner pid old new before noted
   next_turn = record {

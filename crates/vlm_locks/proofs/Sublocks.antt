@@ -1,5 +1,5 @@
 -- The locks that stand below a lock on the next level, and how many handles of stored locks there can be.
-use Rattle.std.proofs.Common.{◌≡◌, ◌≢◌, ◌≤◌, ◌+◌, ◌⊎◌, ℕ, List, [], ◌∷◌, ◌++◌, map, flat_map, length, refl, sym, ap, ◌∙◌, subst, inl, inr, arith, eq-eqb, ne_eqb}
+use Rattle.std.proofs.Common.{◌≡◌, ◌≢◌, ◌≤◌, ◌+◌, ℕ, List, [], ◌∷◌, ◌++◌, map, flat_map, length, refl, sym, ap, ◌∙◌, subst, inl, inr, arith, eq-eqb, ne_eqb}
 use Rattle.std.specs.Option.{option_map_or}
 use Rattle.std.specs.List.{sum_by}
 use Rattle.std.proofs.lemmas.Bool.{cases_eq}
@@ -16,45 +16,9 @@ use Rattle.vlm_store.proofs.Siblings.{all_of_own, own_found, own_of_all}
 use Rattle.vlm_locks.specs.Rest.{IsAtRest}
 use Rattle.vlm_locks.specs.Rising.{StandByIdentification}
 use Rattle.vlm_locks.proofs.Stood.{in_queue, one_lock}
-
--- ---- lists of handles
-
-pub in_ahead : {A : Type 0} (x : A) (xs ys : List A) → IsIn x xs → IsIn x (xs ++ ys)
-in_ahead x [] ys there = absurd there
-in_ahead x (y ∷ xs) ys there = elim there [ inl here ↦ inl here | inr later ↦ inr (in_ahead x xs ys later) ]
-
-pub in_behind : {A : Type 0} (x : A) (xs ys : List A) → IsIn x ys → IsIn x (xs ++ ys)
-in_behind x [] ys there = there
-in_behind x (y ∷ xs) ys there = inr (in_behind x xs ys there)
-
-pub in_either : {A : Type 0} (x : A) (xs ys : List A) → IsIn x (xs ++ ys) → IsIn x xs ⊎ IsIn x ys
-in_either x [] ys there = inr there
-in_either x (y ∷ xs) ys there = elim there [
-  | inl here ↦ inl (inl here)
-  | inr later ↦ elim (in_either x xs ys later) [ inl first ↦ inl (inr first) | inr second ↦ inr second ]
-]
-
-pub in_map : {A B : Type 0} (f : A → B) (x : A) (xs : List A) → IsIn x xs → IsIn (f x) (map f xs)
-in_map f x [] there = absurd there
-in_map f x (y ∷ xs) there = elim there [ inl here ↦ inl (ap f here) | inr later ↦ inr (in_map f x xs later) ]
-
--- handles of two lists that have none in common
-pub apart_both : (xs ys : List ℕ) → IsApart xs → IsApart ys → ((x : ℕ) → IsIn x xs → IsIn x ys → ⊥) → IsApart (xs ++ ys)
-apart_both [] ys apart apart_y none = apart_y
-apart_both (x ∷ xs) ys apart apart_y none = (
-  λ there. elim (in_either x xs ys there) [ inl first ↦ apart.0 first | inr second ↦ none x (inl refl) second ],
-  apart_both xs ys apart.1 apart_y (λ y first second. none y (inr first) second),
-)
+use Rattle.vlm_collections.proofs.HandleLists.{IsIn-without_kept, in_ahead, in_behind, in_map}
 
 -- ---- no more handles than these
-
-kept_other : (x y : ℕ) (ys : List ℕ) → IsIn y ys → y ≢ x → IsIn y (without x ys)
-kept_other x y [] there differs = absurd there
-kept_other x y (z ∷ ys) there differs =
-    elim (cases_eq z x) [
-      | inl same ↦ rw (eq-eqb z x same) (elim there [ inl here ↦ absurd (differs (sym here ∙ same)) | inr later ↦ kept_other x y ys later differs ])
-      | inr other ↦ rw (ne_eqb z x other) (elim there [ inl here ↦ inl here | inr later ↦ inr (kept_other x y ys later differs) ])
-    ]
 
 no_longer : (x : ℕ) (ys : List ℕ) → length (without x ys) ≤ length ys
 no_longer x [] = omega arith
@@ -78,7 +42,7 @@ no_more [] ys apart among = omega arith
 no_more (x ∷ xs) ys apart among =
     omega (
       arith,
-      no_more xs (without x ys) apart.1 (λ y there. kept_other x y ys (among y (inr there)) (λ same. apart.0 (subst (λ k. IsIn k xs) same there))),
+      no_more xs (without x ys) apart.1 (λ y there. IsIn-without_kept x y ys (among y (inr there)) (λ same. apart.0 (subst (λ k. IsIn k xs) same there))),
       shorter x ys (among x (inl refl)),
     )
 

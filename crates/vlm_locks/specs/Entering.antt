@@ -13,7 +13,7 @@ use Rattle.vlm_words.specs.State.{Process, Resource}
 use Rattle.vlm_model.specs.StatusBlocks.{processes_after_acceptance}
 use Rattle.vlm_words.specs.declared.resources.ValueBlock.{ValueBlock}
 use Rattle.vlm_store.specs.Plain.{plain_processes, plain_resources}
-use Rattle.vlm_store.specs.Records.{DueChanges, DuesStay, HasResource, HasRoomForLock, HasRoomForResource, IsParentOf, IsProcess, IsSameLock, IsStored, Records, Stores, but_notices, process_with_lock, resource_at}
+use Rattle.vlm_store.specs.Records.{DueChanges, DuesStay, HasResource, HasRoomForLock, HasRoomForResource, IsParentOf, IsProcess, IsSameLock, IsStored, ProcessesStay, Records, Stores, but_notices, process_with_lock, resource_at}
 use Rattle.vlm_locks.specs.declared.new_locks.NewLock.{NewLock}
 use Rattle.vlm_locks.specs.Owing.{IsPaid, due_for}
 use Rattle.vlm_locks.specs.Rest.{IsAtRest, OtherLocksStay, OthersStay}
@@ -58,7 +58,7 @@ pub record HasRoomToEnter (e : NewLock) (s : Records) : Type 0 where
 -- the request names; nothing else is changed
 pub record IsReady (e : NewLock) (old new : Records) : Type 0 where
   pub resources : new.resources ≡ old.resources
-  pub processes : map but_notices new.processes ≡ map but_notices old.processes
+  pub processes : ProcessesStay old new
   pub keys : new.keys ≡ old.keys
   pub statuses : plain_processes new ≡ plain_processes old
   pub lock : HasRoomForLock e.lkid new

@@ -1,11 +1,10 @@
 -- What holds between two steps, and what a step needs of it.
-use Rattle.std.specs.Prelude.{◌≡◌, ◌≤◌, ◌<◌, true, All, AllPairs}
+use Rattle.std.specs.Prelude.{◌≤◌, ◌<◌, All, AllPairs}
 use Rattle.std.specs.List.{AllByRecursion}
 use Rattle.vlm_model.specs.Laws.{ChainsAreBounded, DeclarationsGiveNewIdentifications, IdentificationsAreApart, ParentsOutliveTheirSublocks, RowsFitTheirQueues}
 use Rattle.vlm_model.specs.Settled.{IsSettled}
-use Rattle.vlm_model.specs.Declare.{is_node}
+use Rattle.vlm_model.specs.Pending.{AreOfNodes}
 use Rattle.vlm_words.specs.State.{State}
-use Rattle.vlm_words.specs.Steps.{node_of_pid}
 
 -- the laws that a step relies on: no resource needs a sweep; identifications of locks differ, are not 0 and were given;
 -- serials rise from 1, and are no more than the identifications given; a declaration gives an identification that no
@@ -18,7 +17,7 @@ pub record IsBetweenSteps (s : State) : Type 0 where
   pub serials_from_1 : All (λ r. 0 < r.serial) s.resources
   pub few_serials : s.next_serial ≤ s.next_lkid
   pub new_processes : DeclarationsGiveNewIdentifications s
-  pub of_nodes : All (λ p. is_node (node_of_pid p.pid) ≡ true) s.processes
+  pub of_nodes : AreOfNodes s
   pub parents : ParentsOutliveTheirSublocks s
   pub chains : ChainsAreBounded s
   pub rows_fit : RowsFitTheirQueues s

@@ -1,30 +1,25 @@
 -- What fits is granted at once.
-use Rattle.std.proofs.Common.{◌≡◌, ◌≢◌, ◌≤◌, ◌+◌, ◌||◌, ℕ, Bool, true, false, not, List, [], ◌∷◌, ◌++◌, cond, Option, None, Some, refl, sym, subst, ap, inl, inr, ◌∙◌, arith}
-use Rattle.std.specs.Prelude.{◌==◌, ◌&&◌, All, Any, unwrap_or}
-use Rattle.std.specs.List.{AllByRecursion, find, list_all, sum_by}
-use Rattle.std.proofs.lemmas.Bool.{eq-eqb, true≢false}
+use Rattle.std.proofs.Common.{◌≡◌, ◌≤◌, ◌+◌, ◌||◌, ℕ, Bool, true, false, List, [], ◌∷◌, ◌++◌, Option, None, Some, refl, sym, subst, ap, inl, inr, ◌∙◌, arith}
+use Rattle.std.specs.Prelude.{All, Any, unwrap_or}
+use Rattle.std.specs.List.{AllByRecursion, find}
 use Rattle.std.proofs.lemmas.List.Elements.{recursion_from_All}
 use Rattle.std.proofs.lemmas.List.Sums.{sum_by-cons}
 use Rattle.vlm_words.specs.declared.conditions.Cond.{Cond}
 use Rattle.vlm_words.specs.declared.locks.Request.{Request}
 use Rattle.vlm_words.specs.declared.locks.LockRow.{LockRow}
-use Rattle.vlm_words.specs.declared.modes.Mode.{Mode}
-use Rattle.vlm_words.specs.declared.steps.Answer.TheVariants.{Lock}
 use Rattle.vlm_words.specs.declared.steps.Conversion.{Conversion}
 use Rattle.vlm_words.specs.declared.steps.NewRequest.{NewRequest}
 use Rattle.vlm_words.specs.declared.steps.Step.TheVariants.{Convert, Enq}
-use Rattle.vlm_words.specs.Flags.{expedite, flag_bits, has_flag, quecvt}
+use Rattle.vlm_words.specs.Flags.{expedite, has_flag}
 use Rattle.vlm_words.specs.State.{Resource, State}
-use Rattle.vlm_model.specs.Endings.{Ending}
-use Rattle.vlm_words.specs.Rows.{fits, is_beside, is_empty, rows_without}
 use Rattle.vlm_model.specs.Sweeps.{sweep_endings}
 use Rattle.vlm_words.specs.Resources.{is_at, new_resource}
 use Rattle.vlm_model.specs.Trees.{enq_site, parent_lkid, parent_refusal, privilege_refusal, site_refusal}
 use Rattle.vlm_model.specs.Enqueue.{enq_at_once, enq_change, enq_endings, enq_key, enq_refusal, enq_request, enq_resource, is_at_once, is_free_for}
-use Rattle.vlm_model.specs.Convert.{ConversionAdmission, conversion_endings, convert_admission, convert_change, convert_lkid, convert_refusal, convert_request, converts_at_once}
+use Rattle.vlm_model.specs.Convert.{ConversionAdmission, convert_admission, convert_change, convert_lkid, convert_refusal, convert_request}
 use Rattle.vlm_model.specs.Stepped.{Stepped, conversion_change, refused_or, step_change, stepped, stepped_after_sweep}
 use Rattle.vlm_model.specs.Runs.{History, Run}
-use Rattle.vlm_model.specs.Laws.{ConvertsInTurn, EntersInTurn, IsAskedFor, IsBeside, IsFreeFor, IsGrantedAtOnce, Stands}
+use Rattle.vlm_model.specs.Laws.{ConvertsInTurn, EntersInTurn, IsAskedFor, IsFreeFor, IsGrantedAtOnce, Stands}
 use Rattle.vlm_model.proofs.Always.{admission_of}
 use Rattle.vlm_model.proofs.Admissions.{admitted_request}
 use Rattle.vlm_model.proofs.Apart.{Apart, apart_always, standing, stands}
@@ -32,39 +27,14 @@ use Rattle.vlm_model.proofs.WritesAtOnce.{stands_counted}
 use Rattle.vlm_model.proofs.Each.{Any-cases, Any-here, Any-none, Found, found_at}
 use Rattle.vlm_model.proofs.Keys.{Placed, placed_always}
 use Rattle.vlm_model.proofs.Passed.{both_pass, enq_passes}
-use Rattle.vlm_model.proofs.ReasonsOfConversions.{at_once_by_turn, granted_there}
-use Rattle.vlm_model.proofs.ReasonsOfRequests.{asked_for, new_is_free}
+use Rattle.vlm_model.proofs.ReasonsOfConversions.{at_once_by_turn, granted_there, turn_passes}
+use Rattle.vlm_model.proofs.ReasonsOfRequests.{asked_for, free_passes, new_is_free}
 use Rattle.vlm_model.proofs.Refusals.{caller_passes}
 use Rattle.vlm_model.proofs.Weights.{weigh}
+use Rattle.vlm_model.proofs.Writes.{at_once_first, lock_same, made_conversion, refused_answers_no_lock}
 use Rattle.vlm_model.specs.AtOnce.{GrantsAtOnce, IsAcceptedFor, WhatFitsIsGrantedAtOnce}
 
--- ---- modes that may be held
-
--- two tests that pass
-both : (a b : Bool) → a ≡ true → b ≡ true → (a && b) ≡ true
-both true b first second = second
-both false b first second = cc
-
--- a mode that may be held beside what is held passes the test
-beside_passes : (mode : Mode) (held : Option Request) → IsBeside mode held → is_beside mode held ≡ true
-beside_passes mode None so = refl
-beside_passes mode (Some held) so = so
-
--- beside each row it passes
-all_pass : (mode : Mode) (rows : List LockRow) → AllByRecursion (λ row. IsBeside mode row.held) rows → list_all (λ row. is_beside mode row.held) rows ≡ true
-all_pass mode [] each = refl
-all_pass mode (row ∷ rows) each =
-    both (is_beside mode row.held) (list_all (λ x. is_beside mode x.held) rows) (beside_passes mode row.held each.0) (all_pass mode rows each.1)
-
 -- ---- new requests
-
--- a resource that is free for the mode is free for the request
-free_passes : (request : Request) (r : Resource) → IsFreeFor request.mode r → is_free_for request r ≡ true
-unfolding fits
-free_passes request r free =
-    let granted : list_all (λ row. is_beside request.mode row.held) r.granted ≡ true =
-    all_pass request.mode r.granted (recursion_from_All (λ row. IsBeside request.mode row.held) r.granted free.beside) in
-    rw (granted, free.no_conversions, free.nobody_waits) refl
 
 -- where each resource that is asked for is free, the one that the request finds is
 finds_free : (s : State) (e : NewRequest) → Apart s → Placed s → enq_refusal s e ≡ None
@@ -103,67 +73,6 @@ enters_at_once s e apart placed passed (inr expedited) = rw expedited.0 refl
 
 -- ---- conversions
 
--- beside the other rows the mode passes
-others_pass : (mode : Mode) (lkid : ℕ) (rows : List LockRow) → AllByRecursion (λ row. row.lkid ≢ lkid → IsBeside mode row.held) rows
-    → list_all (λ row. is_beside mode row.held) (rows_without lkid rows) ≡ true
-others_pass mode lkid [] each = refl
-others_pass mode lkid (row ∷ rows) each = of_test (row.lkid == lkid) refl (others_pass mode lkid rows each.1)
-  where
-    of_test : (b : Bool) → (row.lkid == lkid) ≡ b → list_all (λ x. is_beside mode x.held) (rows_without lkid rows) ≡ true
-        → list_all (λ x. is_beside mode x.held) (cond (not b) (row ∷ rows_without lkid rows) (rows_without lkid rows)) ≡ true
-    of_test true is behind = behind
-    of_test false is behind =
-        both (is_beside mode row.held) (list_all (λ x. is_beside mode x.held) (rows_without lkid rows))
-        (beside_passes mode row.held (each.0 (λ same. true≢false (sym (eq-eqb row.lkid lkid same) ∙ is)))) behind
-
--- where the lock has no row, all rows are others
-none_of_it : (P : LockRow → Type 0) (lkid : ℕ) (rows : List LockRow) → sum_by (stands lkid) rows ≡ 0 → AllByRecursion (λ row. row.lkid ≢ lkid → P row) rows
-    → AllByRecursion P rows
-none_of_it P lkid [] none each = tt
-none_of_it P lkid (row ∷ rows) none each =
-    let all : sum_by (stands lkid) (row ∷ rows) ≡ stands lkid row + sum_by (stands lkid) rows = sum_by-cons (stands lkid) row rows in (
-      each.0 (λ same. let one : stands lkid row ≡ 1 = ap (λ (b : Bool). cond b 1 0) (eq-eqb row.lkid lkid same) in omega (arith, one, all, none)),
-      none_of_it P lkid rows (omega (arith, all, none)) each.1,
-    )
-
--- a queue that is empty
-nothing_queued : (rows : List LockRow) → rows ≡ [] → is_empty rows ≡ true
-nothing_queued rows none = rw none refl
-
--- a conversion of a granted lock that has one row is granted at once where it may be
-turn_passes : (c : Conversion) (request : Request) (lkid : ℕ) (r : Resource) → request.mode ≡ c.mode → flag_bits request.flags ≡ c.flags
-    → Stands lkid r.granted → weigh (stands lkid) r ≤ 1 → ConvertsInTurn c lkid r → converts_at_once request lkid r ≡ true
-unfolding converts_at_once fits
-turn_passes c request lkid r mode flags there one turn =
-    both (list_all (λ x. is_beside request.mode x.held) (rows_without lkid r.granted) && list_all (λ x. is_beside request.mode x.held) r.converting)
-    (not (has_flag (flag_bits request.flags) quecvt) || is_empty r.converting)
-    (both (list_all (λ x. is_beside request.mode x.held) (rows_without lkid r.granted)) (list_all (λ x. is_beside request.mode x.held) r.converting)
-    (others_pass request.mode lkid r.granted (each_left r.granted r.converting each))
-    (all_pass request.mode r.converting
-    (none_of_it (λ x. IsBeside request.mode x.held) lkid r.converting (omega (arith, one, stands_counted lkid r.granted there))
-    (each_right r.granted r.converting each))))
-    (overtakes (has_flag (flag_bits request.flags) quecvt) refl)
-  where
-    Beside : LockRow → Type 0
-    Beside x = x.lkid ≢ lkid → IsBeside request.mode x.held
-
-    each : AllByRecursion Beside (r.granted ++ r.converting)
-    each =
-        subst (λ (m : Mode). AllByRecursion (λ x. x.lkid ≢ lkid → IsBeside m x.held) (r.granted ++ r.converting)) (sym mode)
-        (recursion_from_All (λ x. x.lkid ≢ lkid → IsBeside c.mode x.held) (r.granted ++ r.converting) turn.beside)
-
-    each_left : (xs ys : List LockRow) → AllByRecursion Beside (xs ++ ys) → AllByRecursion Beside xs
-    each_left [] ys all = tt
-    each_left (x ∷ xs) ys all = (all.0, each_left xs ys all.1)
-
-    each_right : (xs ys : List LockRow) → AllByRecursion Beside (xs ++ ys) → AllByRecursion Beside ys
-    each_right [] ys all = all
-    each_right (x ∷ xs) ys all = each_right xs ys all.1
-
-    overtakes : (flagged : Bool) → has_flag (flag_bits request.flags) quecvt ≡ flagged → (not flagged || is_empty r.converting) ≡ true
-    overtakes true is = nothing_queued r.converting (turn.overtakes_none (ap (λ (bits : ℕ). has_flag bits quecvt) (sym flags) ∙ is))
-    overtakes false is = refl
-
 -- what is said of some resource where the lock is granted is said of the one of its conversion, where it has few rows
 said_there : (lkid : ℕ) (P : Resource → Type 0) (found : Resource) (resources : List Resource)
     → AllByRecursion (λ r. Stands lkid r.granted → r ≡ found) resources → standing lkid resources ≤ 1
@@ -186,19 +95,9 @@ converts_now : (s : State) (c : Conversion) (a : ConversionAdmission) → Apart 
 converts_now s c a apart admitted some =
     let lkid : ℕ = convert_lkid s c in
     let there = said_there lkid (ConvertsInTurn c lkid) a.resource s.resources (granted_there s c a apart admitted) (apart.one_row lkid) some in
-    at_once_by_turn s c a admitted ∙ turn_passes c (convert_request s c) lkid a.resource refl refl there.0.0 there.1 there.0.1
+    at_once_by_turn s c a admitted ∙ turn_passes c (convert_request s c) lkid a.resource refl refl (stands_counted lkid a.resource.granted there.0.0) there.1 there.0.1
 
 -- ---- steps
-
--- a refused step answers no lock
-refused_answers_no_lock : (refusal : Option Cond) (s : State) (change : Stepped) (cond : Cond) (lkid : ℕ)
-    → (refused_or refusal s change).answer ≡ Lock cond lkid → refusal ≡ None
-refused_answers_no_lock None s change cond lkid answer = refl
-refused_answers_no_lock (Some refusal) s change cond lkid answer = cc
-
--- one answer names one lock
-lock_same : (first second : Cond) (m n : ℕ) → Lock first m ≡ Lock second n → m ≡ n
-lock_same first second m n same = cc
 
 request_granted : (s : State) → Apart s → Placed s → (e : NewRequest) (choice : Option LockRow) (lkid : ℕ) → IsAcceptedFor lkid s (Enq e) choice
     → EntersInTurn s e → GrantsAtOnce s (Enq e) choice
@@ -218,19 +117,14 @@ conversion_granted s apart c choice lkid accepted some =
     let passed : convert_refusal s c ≡ None = refused_answers_no_lock (convert_refusal s c) s (step_change s (Convert c) choice) accepted.0 lkid accepted.1 in
     let admitted = admission_of s c passed in
     let a : ConversionAdmission = admitted.0 in
-    let made : stepped s (Convert c) choice ≡ stepped_after_sweep (conversion_change s c (Some a)) =
-    ap (λ (refusal : Option Cond). refused_or refusal s (step_change s (Convert c) choice)) passed
-    ∙ ap (λ (there : Option ConversionAdmission). stepped_after_sweep (conversion_change s c there)) admitted.1 in
+    let made : stepped s (Convert c) choice ≡ stepped_after_sweep (conversion_change s c (Some a)) = made_conversion s c choice a passed admitted.1 in
     let named : convert_lkid s c ≡ lkid =
     lock_same _ accepted.0 (convert_lkid s c) lkid (sym (ap (λ (t : Stepped). t.answer) made) ∙ accepted.1) in
     subst (λ (t : Stepped). IsGrantedAtOnce s.next_request t.endings) (sym made)
-    (first_granted a (sweep_endings (convert_change s c a).resources) (ap (λ (q : Request). q.number) (admitted_request (convert_request s c) c.pid (convert_lkid s c) a s.resources admitted.1))
+    (at_once_first s.next_request a (sweep_endings (convert_change s c a).resources)
+    (ap (λ (q : Request). q.number) (admitted_request (convert_request s c) c.pid (convert_lkid s c) a s.resources admitted.1))
     (converts_now s c a apart admitted.1
     (subst (λ (n : ℕ). Any (λ r. Stands n r.granted × ConvertsInTurn c n r) s.resources) (sym named) some)))
-  where
-    first_granted : (a : ConversionAdmission) (more : List Ending) → a.request.number ≡ s.next_request → a.at_once ≡ true
-        → IsGrantedAtOnce s.next_request (conversion_endings a ++ more)
-    first_granted a more numbered at_once = rw at_once (Any-here _ _ more (tt, refl, numbered))
 
 -- after every run
 pub at_once_always : (history : History) (old : State) → Run history old → WhatFitsIsGrantedAtOnce old

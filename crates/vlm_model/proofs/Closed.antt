@@ -2,7 +2,7 @@
 use Rattle.std.proofs.Common.{◌≡◌, ◌≤◌, ◌<◌, ◌-◌, ℕ, Bool, zero, suc, true, false, List, [], ◌∷◌, ◌++◌, map, filter, cond, refl, sym, subst, ap, ◌∙◌, inl, inr, arith}
 use Rattle.std.specs.Prelude.{◌==◌, ◌||◌, Any, nat_lt}
 use Rattle.std.specs.List.{AllByRecursion, list_any, sum_by, range_with_len}
-use Rattle.std.proofs.lemmas.Bool.{and_parts, eqb-true, or_cases, or_right}
+use Rattle.std.proofs.lemmas.Bool.{and_parts, eqb-true, or_cases, or_parts, or_right}
 use Rattle.std.proofs.lemmas.Bool.Decides.{nat_tests}
 use Rattle.std.proofs.lemmas.List.Sums.{sum_by-cons}
 use Rattle.vlm_words.specs.declared.locks.LockRow.{LockRow}
@@ -213,17 +213,12 @@ module _ (s : State) (rooted : AllByRecursion (AllRooted s.resources) s.resource
   pub each_closed : AllByRecursion (AllListed (orphaned_by (map f lkids)) (map f lkids)) s.resources
   each_closed = all_closed s.resources (each_member s.resources) low rooted
 
--- two tests fail where neither passes
-pub or_fails : (a b : Bool) → (a || b) ≡ false → (a ≡ false) × (b ≡ false)
-or_fails true b none = cc
-or_fails false b none = (refl, none)
-
 -- what is held of a lock that is not given up is held
 rows_stay : (pid lkid : ℕ) (withdrawals : List Withdrawal) → list_any (λ w. lkid == w.lkid) withdrawals ≡ false → (rows : List LockRow)
     → sum_by (locks pid lkid) (rows_left withdrawals rows) ≡ sum_by (locks pid lkid) rows
 rows_stay pid lkid [] none rows = refl
 rows_stay pid lkid (w ∷ withdrawals) none rows =
-    let parts = or_fails (lkid == w.lkid) (list_any (λ v. lkid == v.lkid) withdrawals) none in
+    let parts = or_parts (lkid == w.lkid) (list_any (λ v. lkid == v.lkid) withdrawals) none in
     rows_stay pid lkid withdrawals parts.1 (rows_without w.lkid rows) ∙ others_go pid lkid w.lkid parts.0 rows
 
 pub held_stays : (pid lkid : ℕ) (withdrawals : List Withdrawal) → AllGo withdrawals → list_any (λ w. lkid == w.lkid) withdrawals ≡ false

@@ -58,12 +58,13 @@ has_more endings more kept row has = of_held row.held has
     of_held (Some held) has = kept held row.lkid row.pid has
 
 -- each row of a resource has it
-record EachRow (P : LockRow → Type 0) (r : Resource) : Type 0 where
-  granted : AllByRecursion P r.granted
-  converting : AllByRecursion P r.converting
-  waiting : AllByRecursion P r.waiting
+pub record EachRow (P : LockRow → Type 0) (r : Resource) : Type 0 where
+  pub granted : AllByRecursion P r.granted
+  pub converting : AllByRecursion P r.converting
+  pub waiting : AllByRecursion P r.waiting
 
-each_row_weaker : (P Q : LockRow → Type 0) → ((row : LockRow) → P row → Q row) → (r : Resource) → EachRow P r → EachRow Q r
+-- what follows from it holds of each row too
+pub each_row_weaker : (P Q : LockRow → Type 0) → ((row : LockRow) → P row → Q row) → (r : Resource) → EachRow P r → EachRow Q r
 each_row_weaker P Q weaker r each = record {
   granted = each_weaker P Q weaker r.granted each.granted;
   converting = each_weaker P Q weaker r.converting each.converting;
@@ -209,7 +210,7 @@ gone_has endings w r each =
     })
 
 -- an admitted conversion is of a lock of this process
-admitted_owned : (request : Request) (pid lkid : ℕ) (a : ConversionAdmission) (resources : List Resource)
+pub admitted_owned : (request : Request) (pid lkid : ℕ) (a : ConversionAdmission) (resources : List Resource)
     → admission_among request pid lkid resources ≡ Some a → a.row.pid ≡ pid
 admitted_owned request pid lkid a [] admitted = cc
 admitted_owned request pid lkid a (r ∷ rest) admitted =

@@ -108,7 +108,7 @@ one_row pid lkid P (x ∷ xs) row one is any =
 -- ---- its turn
 
 -- a mode that may be held beside what is held passes the test
-beside_passes : (mode : Mode) (held : Option Request) → IsBeside mode held → is_beside mode held ≡ true
+pub beside_passes : (mode : Mode) (held : Option Request) → IsBeside mode held → is_beside mode held ≡ true
 beside_passes mode None so = refl
 beside_passes mode (Some held) so = so
 
@@ -140,17 +140,17 @@ absent_pass mode lkid (row ∷ rows) none each =
 nothing_queued : (rows : List LockRow) → rows ≡ [] → is_empty rows ≡ true
 nothing_queued rows none = rw none refl
 
--- a conversion in its turn is granted at once
-turn_passes : (c : Conversion) (request : Request) (pid lkid : ℕ) (r : Resource) (row : LockRow) → request.mode ≡ c.mode → flag_bits request.flags ≡ c.flags
-    → find (is_lock_of pid lkid) r.granted ≡ Some row → weigh (stands lkid) r ≤ 1 → ConvertsInTurn c lkid r → converts_at_once request lkid r ≡ true
+-- a conversion of a granted lock that has one row is granted at once in its turn
+pub turn_passes : (c : Conversion) (request : Request) (lkid : ℕ) (r : Resource) → request.mode ≡ c.mode → flag_bits request.flags ≡ c.flags
+    → 1 ≤ sum_by (stands lkid) r.granted → weigh (stands lkid) r ≤ 1 → ConvertsInTurn c lkid r → converts_at_once request lkid r ≡ true
 unfolding converts_at_once fits
-turn_passes c request pid lkid r row mode flags found one turn =
+turn_passes c request lkid r mode flags granted one turn =
     and_from (list_all (λ x. is_beside request.mode x.held) (rows_without lkid r.granted) && list_all (λ x. is_beside request.mode x.held) r.converting)
     (not (has_flag (flag_bits request.flags) quecvt) || is_empty r.converting)
     (and_from (list_all (λ x. is_beside request.mode x.held) (rows_without lkid r.granted)) (list_all (λ x. is_beside request.mode x.held) r.converting)
     (others_pass request.mode lkid r.granted (each_left r.granted r.converting each))
     (absent_pass request.mode lkid r.converting
-    (omega (arith, one, found_stands pid lkid r.granted row (found_at (is_lock_of pid lkid) r.granted row found))) (each_right r.granted r.converting each)))
+    (omega (arith, one, granted)) (each_right r.granted r.converting each)))
     (overtakes (has_flag (flag_bits request.flags) quecvt) refl)
   where
     Beside : LockRow → Type 0
@@ -266,7 +266,8 @@ admission_breaks s c a apart is =
 
     no_turn : a.at_once ≡ false → ConvertsInTurn c lkid a.resource → ⊥
     no_turn waits its_turn =
-        true≢false (sym (turn_passes c (convert_request s c) c.pid lkid a.resource a.row refl refl row.found few its_turn)
+        true≢false (sym (turn_passes c (convert_request s c) lkid a.resource refl refl
+        (found_stands c.pid lkid a.resource.granted a.row (found_at (is_lock_of c.pid lkid) a.resource.granted a.row row.found)) few its_turn)
         ∙ sym (at_once_by_turn s c a is) ∙ waits)
 
     turn : (has_flag c.flags noqueue && not a.at_once) ≡ true → B Notqueued

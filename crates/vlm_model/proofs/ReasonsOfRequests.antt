@@ -35,6 +35,7 @@ use Rattle.vlm_model.proofs.WritesAtOnce.{enters_in_turn, found_pid, no_zero, pa
 use Rattle.vlm_model.proofs.Quotas.{all_counted, room_left}
 use Rattle.vlm_model.proofs.NewlyRooted.{any_found}
 use Rattle.vlm_model.proofs.FlagBits.{request_flag_unknown, request_flags_known}
+use Rattle.vlm_model.proofs.ReasonsOfConversions.{beside_passes}
 use Rattle.vlm_model.proofs.Refusals.{Any_found, IsCaller, Says, all_or_any, among, among_found, block_passes, caller_passes, held_stands, is_somebody, lock_passes, says_block, says_caller, says_either, says_lock, says_none, says_some, says_unless, says_where, says_which, which_passes}
 
 -- ---- the parent lock
@@ -177,14 +178,10 @@ asked_for s e r caller apart placed passed at =
 all_beside : (mode : Mode) (rows : List LockRow) → AllByRecursion (λ row. IsBeside mode row.held) rows → list_all (λ row. is_beside mode row.held) rows ≡ true
 all_beside mode [] each = refl
 all_beside mode (row ∷ rows) each =
-    and_from (is_beside mode row.held) (list_all (λ x. is_beside mode x.held) rows) (here row.held each.0) (all_beside mode rows each.1)
-  where
-    here : (held : Option Request) → IsBeside mode held → is_beside mode held ≡ true
-    here None so = refl
-    here (Some request) so = so
+    and_from (is_beside mode row.held) (list_all (λ x. is_beside mode x.held) rows) (beside_passes mode row.held each.0) (all_beside mode rows each.1)
 
 -- a resource that is free for the mode
-free_passes : (request : Request) (r : Resource) → IsFreeFor request.mode r → is_free_for request r ≡ true
+pub free_passes : (request : Request) (r : Resource) → IsFreeFor request.mode r → is_free_for request r ≡ true
 unfolding fits
 free_passes request r free =
     let granted : list_all (λ row. is_beside request.mode row.held) r.granted ≡ true =

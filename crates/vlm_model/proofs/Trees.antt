@@ -2,7 +2,7 @@
 use Rattle.std.proofs.Common.{◌≡◌, ◌≢◌, ◌≤◌, ◌<◌, ◌+◌, inl, inr, ℕ, Bool, true, false, not, ◌&&◌, ◌||◌, List, [], ◌∷◌, ◌++◌, map, cond, Option, None, Some, refl, sym, ap, ◌∙◌, arith, subst}
 use Rattle.std.specs.Prelude.{◌==◌, All, nat_lt}
 use Rattle.std.specs.List.{AllByRecursion, list_any, sum_by, filter}
-use Rattle.std.proofs.lemmas.Bool.{and_parts, eq-eqb, eqb-true, or_cases}
+use Rattle.std.proofs.lemmas.Bool.{and_parts, eq-eqb, eqb-true, or_cases, or_parts}
 use Rattle.std.proofs.lemmas.Bool.Decides.{nat_tests}
 use Rattle.std.proofs.lemmas.List.Elements.{All-from_recursion}
 use Rattle.std.proofs.lemmas.List.Folds.{Any-from_list_any}
@@ -42,7 +42,7 @@ use Rattle.vlm_model.proofs.Sums.{sum_of_zero}
 use Rattle.vlm_model.proofs.Rooted.{Position, position, is_parent, is_up, is_rooted, loose, loose_named, AllRooted, up_mapped, still_rooted, weigh_le_both, rooted_changed, rooted_swept, NoneOrphaned, rooted_mapped}
 use Rattle.vlm_model.proofs.NewlyRooted.{parent_of, up_entered, rooted_row, stands_well, own_rooted}
 use Rattle.vlm_model.proofs.Below.{each_weightless, held_there, no_more_levels}
-use Rattle.vlm_model.proofs.Closed.{Closed, each_closed, held_stays, or_fails, orphaned_by, own_are_closed, taken_are_closed}
+use Rattle.vlm_model.proofs.Closed.{Closed, each_closed, held_stays, orphaned_by, own_are_closed, taken_are_closed}
 use Rattle.vlm_model.proofs.Leaving.{AllGo, AllListed, all_go, none_left_here}
 use Rattle.vlm_model.specs.OwnLocks.{own_lkids}
 use Rattle.vlm_model.specs.Rundown.{rundown_of, state_after_rundown}
@@ -197,7 +197,7 @@ none_left_behind s d passed alone =
     (cond (not (leaves_none d) && list_any (has_sublock_on (dequeue_lkid s d)) s.resources) (Some Sublocks) None) passed)))
   where
     both_false : (a b c : Bool) → (a && (b || c)) ≡ false → ((a && b) ≡ false) × ((a && c) ≡ false)
-    both_false true b c none = or_fails b c none
+    both_false true b c none = or_parts b c none
     both_false false b c none = (refl, refl)
 
     plain : Bool → Bool → Bool

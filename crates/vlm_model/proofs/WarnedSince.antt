@@ -27,7 +27,7 @@ use Rattle.vlm_model.specs.SetValue.{set_change}
 use Rattle.vlm_model.specs.Take.{take_change}
 use Rattle.vlm_model.specs.Trees.{enq_site}
 use Rattle.vlm_model.specs.Enqueue.{enq_at_once, enq_change, enq_resource, enq_row, resource_after_entry}
-use Rattle.vlm_model.specs.Convert.{ConversionAdmission, admission_among, admission_or, conversion_endings, convert_admission, convert_blocks, convert_change, convert_lkid, convert_request, resource_after_conversion, resource_after_conversion_of, resource_without_granted}
+use Rattle.vlm_model.specs.Convert.{ConversionAdmission, conversion_endings, convert_admission, convert_blocks, convert_change, convert_lkid, convert_request, resource_after_conversion, resource_after_conversion_of, resource_without_granted}
 use Rattle.vlm_model.specs.Withdrawals.{Withdrawal, is_held_by_writer, resource_after_cancel, resource_after_going, resource_after_withdrawals, resource_after_writer, resource_without, row_after_cancel, value_block_after_writer}
 use Rattle.vlm_model.specs.Dequeue.{deq_change, withdrawals_of}
 use Rattle.vlm_model.specs.Rundown.{is_ended_by, rundowns, state_after_rundown}
@@ -36,11 +36,11 @@ use Rattle.vlm_model.specs.Search.{search_change, victim_withdrawals}
 use Rattle.vlm_model.specs.Granted.{IsGrantTo}
 use Rattle.vlm_model.specs.Stepped.{Outcome, Stepped, conversion_change, outcome_endings, outcome_queued, refused_or, step_change, step_refusal, stepped}
 use Rattle.vlm_model.specs.Runs.{History, Run, begin, history_after, next}
-use Rattle.vlm_model.proofs.Admissions.{some_same}
 use Rattle.vlm_model.proofs.Always.{admission_of}
 use Rattle.vlm_model.proofs.WritesAtOnce.{admitted_stands}
 use Rattle.vlm_model.proofs.Each.{Any-behind, Any-weaker, Found, any_left, each_append, each_at, each_filter, each_map, each_member, each_weaker, found_at}
 use Rattle.vlm_model.proofs.EachResource.{each_entered_on, found_has}
+use Rattle.vlm_model.proofs.Granted.{EachRow, admitted_owned, each_row_weaker}
 use Rattle.vlm_model.proofs.Withdrawing.{kept_withdrawn}
 use Rattle.vlm_model.specs.WarnedSince.{EachGrantIsArmedOrWarned, IsTold, IsWarningOf, QueuedSince, and_then, at_grant}
 use Rattle.vlm_model.proofs.Accounting.{each_first}
@@ -54,12 +54,6 @@ AreIn {X} all xs = AllByRecursion (λ x. Any (λ y. x ≡ y) all) xs
 each_last : {X : Type 0} (P : X → Type 0) (xs ys : List X) → AllByRecursion P (xs ++ ys) → AllByRecursion P ys
 each_last P [] ys each = each
 each_last P (x ∷ xs) ys each = each_last P xs ys each.1
-
--- each row of a resource has it
-record EachRow (P : LockRow → Type 0) (r : Resource) : Type 0 where
-  granted : AllByRecursion P r.granted
-  converting : AllByRecursion P r.converting
-  waiting : AllByRecursion P r.waiting
 
 -- what is said of a row: of its lock, its process, whether it is armed, and what it holds
 abbrev Said : Type 1
@@ -302,20 +296,6 @@ module _ (F : Said) (ended : List Ending) (queued : List Queued) (keeps : Keeps 
       (entered_so (enq_row s e) (enq_at_once s e) (enq_resource s e) refl ends
       (found_has (EachRow (OfRow F)) s.next_serial (enq_site s e) (record { granted = tt; converting = tt; waiting = tt }) s.resources each)) each
 
-  -- an admitted conversion is of a lock of this process
-  admitted_owned : (request : Request) (pid lkid : ℕ) (a : ConversionAdmission) (resources : List Resource)
-      → admission_among request pid lkid resources ≡ Some a → a.row.pid ≡ pid
-  admitted_owned request pid lkid a [] admitted = cc
-  admitted_owned request pid lkid a (r ∷ rest) admitted =
-      of_found (find (is_lock_of pid lkid) r.granted) refl (admission_among request pid lkid rest) (admitted_owned request pid lkid a rest) admitted
-    where
-      of_found : (found : Option LockRow) → find (is_lock_of pid lkid) r.granted ≡ found → (later : Option ConversionAdmission)
-          → (later ≡ Some a → a.row.pid ≡ pid) → admission_or request r found later ≡ Some a → a.row.pid ≡ pid
-      of_found None is later behind at = behind at
-      of_found (Some row) is later behind at =
-          sym (ap (λ (b : ConversionAdmission). b.row.pid) (some_same _ a at))
-          ∙ eqb-true row.pid pid (and_parts (row.lkid == lkid) (row.pid == pid) (found_at (is_lock_of pid lkid) r.granted row is).passes).1
-
   conversion_so : (s : State) (c : Conversion) (a : ConversionAdmission) → convert_admission s c ≡ Some a → Changes s (conversion_change s c (Some a))
   unfolding convert_change convert_admission
   conversion_so s c a admitted ends each =
@@ -438,13 +418,6 @@ kept_told run outcome row kept = of_held row.held kept
     of_held (Some held) kept = λ routine named.
         let is = kept routine named in
         record { since = is.before ++ outcome_queued outcome; queued = is.queued; warning = is.warning }
-
-each_row_weaker : (P Q : LockRow → Type 0) → ((row : LockRow) → P row → Q row) → (r : Resource) → EachRow P r → EachRow Q r
-each_row_weaker P Q weaker r each = record {
-  granted = each_weaker P Q weaker r.granted each.granted;
-  converting = each_weaker P Q weaker r.converting each.converting;
-  waiting = each_weaker P Q weaker r.waiting each.waiting;
-}
 
 told_always : (history : History) (last : State) (run : Run history last) → AllByRecursion (EachRow (OfRow (IsTold run))) last.resources
 told_always _ _ begin = tt

@@ -234,26 +234,26 @@ write_at_once s c a agree passed admitted writes =
     ∙ (rw named (rw (fits_at_write c c.pid lkid a known writes) (rw unflagged refl)))
 
 -- a refused step answers no lock
-refused_answers_no_lock : (refusal : Option Cond) (s : State) (change : Stepped) (cond : Cond) (lkid : ℕ)
+pub refused_answers_no_lock : (refusal : Option Cond) (s : State) (change : Stepped) (cond : Cond) (lkid : ℕ)
     → (refused_or refusal s change).answer ≡ Lock cond lkid → refusal ≡ None
 refused_answers_no_lock None s change cond lkid answer = refl
 refused_answers_no_lock (Some refusal) s change cond lkid answer = cc
 
 -- the endings of a conversion that is granted at once begin with its grant
-at_once_first : (number : ℕ) (a : ConversionAdmission) (more : List Ending) → a.request.number ≡ number → a.at_once ≡ true
+pub at_once_first : (number : ℕ) (a : ConversionAdmission) (more : List Ending) → a.request.number ≡ number → a.at_once ≡ true
     → IsGrantedAtOnce number (conversion_endings a ++ more)
 at_once_first number a more numbered at_once =
     rw at_once (Any-here _ _ more (tt, refl, numbered))
 
 -- what an accepted conversion answers and ends
-made_conversion : (s : State) (c : Conversion) (choice : Option LockRow) (a : ConversionAdmission) → convert_refusal s c ≡ None → convert_admission s c ≡ Some a
+pub made_conversion : (s : State) (c : Conversion) (choice : Option LockRow) (a : ConversionAdmission) → convert_refusal s c ≡ None → convert_admission s c ≡ Some a
     → stepped s (Convert c) choice ≡ stepped_after_sweep (conversion_change s c (Some a))
 made_conversion s c choice a passed admitted =
     ap (λ (refusal : Option Cond). refused_or refusal s (step_change s (Convert c) choice)) passed
     ∙ ap (λ (there : Option ConversionAdmission). stepped_after_sweep (conversion_change s c there)) admitted
 
 -- one answer names one lock
-lock_same : (first second : Cond) (m n : ℕ) → Lock first m ≡ Lock second n → m ≡ n
+pub lock_same : (first second : Cond) (m n : ℕ) → Lock first m ≡ Lock second n → m ≡ n
 lock_same first second m n same = cc
 
 -- where held modes are compatible and identifications apart, accepted conversions that write are granted at once

@@ -10,7 +10,11 @@ use Rattle.vlm_words.specs.Processes.{is_pending_on}
 abbrev pub first_pending : ℕ → List Process → Option ℕ
 first_pending node processes = option_map (λ p. p.pid) (find (is_pending_on node) processes)
 
+-- each living process is of a node from 1 to 8
+abbrev pub AreOfNodes : State → Type 0
+AreOfNodes s = All (λ p. is_node (node_of_pid p.pid) ≡ true) s.processes
+
 -- each living process is of a node from 1 to 8, and the identifications of a node's processes rise
 pub record ProcessesRise (s : State) : Type 0 where
-  pub named : All (λ p. is_node (node_of_pid p.pid) ≡ true) s.processes
+  pub named : AreOfNodes s
   pub rising : AllPairs (λ a b. node_of_pid a.pid ≡ node_of_pid b.pid → a.pid < b.pid) s.processes

@@ -7,7 +7,7 @@ use Rattle.vlm_words.specs.declared.steps.Step.{Step}
 use Rattle.vlm_journal.specs.declared.entries.Entry.{Entry}
 use Rattle.vlm_journal.specs.declared.entries.Item.{Item}
 use Rattle.vlm_journal.specs.Told.{asked, told}
-use Rattle.vlm_journal.proofs.Lists.{prefix_then}
+use Rattle.vlm_journal.proofs.Lists.{prefix_behind, prefix_then}
 use Rattle.vlm_ports.specs.declared.node_rings.NodeRings.{NodeRings}
 use Rattle.vlm_ports.specs.Links.{AreLinked, Base, Lasts, front, has_taken, has_told, knows, node_rings_base, node_rings_identity, no_base, places}
 use Rattle.vlm_ports.specs.Rings.{RingName}
@@ -16,9 +16,6 @@ use Rattle.vlm_ports.specs.Rings.{RingName}
 
 prefix_same : {X : Type 0} (xs : List X) → IsPrefix xs xs
 prefix_same xs = ([], append-nil xs)
-
-prefix_behind : {X : Type 0} (xs ys zs : List X) → IsPrefix ys zs → IsPrefix (xs ++ ys) (xs ++ zs)
-prefix_behind xs ys zs h = (h.0, append_assoc xs ys h.0 ∙ ap (λ (l : List _). xs ++ l) h.1)
 
 pub prefix_map : {X Y : Type 0} (f : X → Y) (xs ys : List X) → IsPrefix xs ys → IsPrefix (map f xs) (map f ys)
 prefix_map f xs ys h = (map f h.0, sym (map-append f xs h.0) ∙ ap (map f) h.1)

@@ -12,6 +12,15 @@ use Rattle.vlm_records.specs.declared.locks.Lock.{Lock}
 use Rattle.vlm_records.specs.Families.{IsFamily}
 
 module _ {I Kind : Type 0} (links : Lock → Links) (noted : Option Lock → Option I) where
+  -- each list has the handles that it had
+  abbrev AllStay : Slab Lock → (I → LinkedList Kind) → Slab Lock → (I → LinkedList Kind) → Type 0
+  AllStay locks lists locks' lists' = (i : I) → handles_of links locks' (lists' i) ≡ handles_of links locks (lists i)
+
+  -- each list but one has
+  abbrev OthersStay : Slab Lock → (I → LinkedList Kind) → Slab Lock → (I → LinkedList Kind) → I → Type 0
+  OthersStay locks lists locks' lists' i =
+      (j : I) → j ≢ i → handles_of links locks' (lists' j) ≡ handles_of links locks (lists j)
+
   module _ (locks : Slab Lock) (lists : I → LinkedList Kind) (out : Option ℕ) (family : IsFamily links noted locks lists out) where
     -- a lock stands in one list
     pub one_list : (at : ℕ) (i j : I) → IsIn at (handles_of links locks (lists i)) → IsIn at (handles_of links locks (lists j)) → i ≡ j
@@ -22,7 +31,7 @@ module _ {I Kind : Type 0} (links : Lock → Links) (noted : Option Lock → Opt
         (nexts : (i : I) (k : ℕ) → IsIn k (handles_of links locks (lists i)) → next_in links (get locks' k) ≡ next_in links (get locks k))
         (prevs : (i : I) (k : ℕ) → IsIn k (handles_of links locks (lists i)) → prev_in links (get locks' k) ≡ prev_in links (get locks k))
         (there : (i : I) (k : ℕ) → IsIn k (handles_of links locks (lists i)) → ContainsKey locks k → ContainsKey locks' k) where
-      pub family-handles : (i : I) → handles_of links locks' (lists' i) ≡ handles_of links locks (lists i)
+      pub family-handles : AllStay locks lists locks' lists'
       family-handles i = ap (handles_of links locks') (same i) ∙ kept-handles links locks locks' (lists i) (family.linked i) (nexts i) (prevs i) (there i)
 
       linked_still : (i : I) → IsLinked links locks' (lists' i)
@@ -45,7 +54,7 @@ module _ {I Kind : Type 0} (links : Lock → Links) (noted : Option Lock → Opt
     module _ (locks' : Slab Lock) (lists' : I → LinkedList Kind) (same : (i : I) → lists' i ≡ lists i) (at : ℕ) (unlisted : (i : I) → ¬ IsIn at (handles_of links locks (lists i)))
         (nexts : (k : ℕ) → k ≢ at → next_in links (get locks' k) ≡ next_in links (get locks k)) (prevs : (k : ℕ) → k ≢ at → prev_in links (get locks' k) ≡ prev_in links (get locks k))
         (there : (k : ℕ) → k ≢ at → ContainsKey locks k → ContainsKey locks' k) where
-      pub family-other_handles : (i : I) → handles_of links locks' (lists' i) ≡ handles_of links locks (lists i)
+      pub family-other_handles : AllStay locks lists locks' lists'
       family-other_handles =
           family-handles locks' lists' same (λ i k found. nexts k (other_handle at unlisted i k found)) (λ i k found. prevs k (other_handle at unlisted i k found)) (λ i k found. there k (other_handle at unlisted i k found))
 
@@ -127,7 +136,7 @@ module _ {I Kind : Type 0} (links : Lock → Links) (noted : Option Lock → Opt
       other_linked1 : (j : I) → j ≢ i → IsLinked links locks1 (lists j)
       other_linked1 j differs = same-linked links locks locks1 (lists j) (family.linked j) (unchanged j differs)
 
-      handles_elsewhere : (j : I) → j ≢ i → handles_of links locks' (lists' j) ≡ handles_of links locks (lists j)
+      handles_elsewhere : OthersStay locks lists locks' lists' i
       handles_elsewhere j differs =
           ap (handles_of links locks') (elsewhere j differs)
           ∙ kept-handles links locks1 locks' (lists j) (other_linked1 j differs) (λ k _. nexts k) (λ k _. prevs k) (λ k _. there k)
@@ -176,7 +185,7 @@ module _ {I Kind : Type 0} (links : Lock → Links) (noted : Option Lock → Opt
       others_but : (other : ℕ) → ¬ IsIn other (handles_of links locks (lists i)) → Some other ≢ Some at → get locks1 other ≡ get locks other
       others_but other absent differs = others1 other absent (λ same. differs (ap Some same))
 
-      pub family-put_others : (j : I) → j ≢ i → handles_of links locks' (lists' j) ≡ handles_of links locks (lists j)
+      pub family-put_others : OthersStay locks lists locks' lists' i
       family-put_others = handles_elsewhere (Some at) family others_but
 
       pub family-put : noted (get locks' at) ≡ Some i → ((k : ℕ) → k ≢ at → noted (get locks' k) ≡ noted (get locks k)) → IsFamily links noted locks' lists' None

@@ -18,11 +18,15 @@ pub record Keeps (of_lock : Lock → Lock) (of_resource : Resource → Resource)
   pub locks_room : room_in new.locks ≡ room_in old.locks
   pub resources_room : room_in new.resources ≡ room_in old.resources
 
+-- the handles at each place stay
+abbrev pub HandlesStay : Queues → Queues → Type 0
+HandlesStay old new = (place : Place) → handles_at new place ≡ handles_at old place
+
 -- every queue and every row stays, while a lock leaves or joins the lists of armed locks
 pub record KeepsPlaces (old new : Queues) : Type 0 where
   pub placed : IsPlaced new None
   pub tallied : IsTallied new None
-  pub handles : (place : Place) → handles_at new place ≡ handles_at old place
+  pub handles : HandlesStay old new
   pub rows : (other : ℕ) → rows new other ≡ rows old other
   pub records : Keeps but_in_armed but_armed old new
 
@@ -49,7 +53,7 @@ pub record WritesLock (at : ℕ) (old new : Queues) : Type 0 where
 pub record Rewrites (at : ℕ) (now : LockRow) (old new : Queues) : Type 0 where
   pub placed : IsPlaced new None
   pub tallied : IsTallied new None
-  pub handles : (place : Place) → handles_at new place ≡ handles_at old place
+  pub handles : HandlesStay old new
   pub row : rows new at ≡ now
   pub rows : (other : ℕ) → other ≢ at → rows new other ≡ rows old other
   pub kept : Keeps but_requeued but_counted old new

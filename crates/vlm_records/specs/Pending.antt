@@ -1,6 +1,6 @@
 -- The mark of a process with a pending AST.
 use Rattle.std.specs.Prelude.{◌≡◌, ℕ, ◌/◌, ◌&&◌, Bool, nat_lt, length, List}
-use Rattle.vlm_collections.specs.Nodes.{HasRoomFor, is_marked, is_node}
+use Rattle.vlm_collections.specs.Nodes.{HasRoomFor, OthersStay, is_marked, is_node}
 use Rattle.vlm_records.specs.declared.processes.Process.{Process}
 
 -- the process is of a node from 1 to 8, and has a pending AST
@@ -14,5 +14,5 @@ pub record IsToldOf (p : Process) (marks : List (List Bool)) : Type 0 where
 
 -- no other process's mark changes, and no room goes
 pub record OtherMarksStay (pid : ℕ) (old new : List (List Bool)) : Type 0 where
-  pub marks : (other : ℕ) → ¬ (other ≡ pid) → is_marked new other ≡ is_marked old other
+  pub marks : OthersStay pid old new
   pub room : (other : ℕ) → HasRoomFor old other → HasRoomFor new other

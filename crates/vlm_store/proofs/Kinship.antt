@@ -159,8 +159,12 @@ named-removed processes processes' locks locks' at gone pids same childless name
 
 -- ---- the queues change
 
+-- each lock has the list of sublocks that it had
+abbrev SublocksStay : Slab Lock → Slab Lock → Type 0
+SublocksStay locks locks' = (k : ℕ) → below_list locks' k ≡ below_list locks k
+
 module _ (processes : Slab Process) (locks locks' : Slab Lock) (same : SameBut but_queued locks locks') where
-  below_lists : (k : ℕ) → below_list locks' k ≡ below_list locks k
+  below_lists : SublocksStay locks locks'
   below_lists = through but_queued below_in below-queued locks locks' same
 
   module _ (out : Option ℕ) where
@@ -244,7 +248,7 @@ module _ (locks locks' : Slab Lock) (relinks : Relinks with_own_links locks lock
   below_prev : (k : ℕ) → prev_in below_links (get locks' k) ≡ prev_in below_links (get locks k)
   below_prev = relinked_same with_own_links (prev_in below_links) (λ l pair. refl) locks locks' relinks
 
-  below_heads : (k : ℕ) → below_list locks' k ≡ below_list locks k
+  below_heads : SublocksStay locks locks'
   below_heads = relinked_same with_own_links below_in (λ l pair. refl) locks locks' relinks
 
   pub own_kin : SameBut but_kin locks locks'

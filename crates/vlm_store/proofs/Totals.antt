@@ -1,5 +1,5 @@
 -- As many locks stand in the queues as the slab has.
-use Rattle.std.proofs.Common.{◌⊎◌, ◌≡◌, ◌≢◌, ◌+◌, ℕ, zero, suc, Bool, true, false, cond, List, [], ◌∷◌, ◌++◌, map, length, length-append, get_or, set, Option, None, Some, inl, inr, refl, sym, subst, ◌∙◌, arith}
+use Rattle.std.proofs.Common.{◌≡◌, ◌≢◌, ◌+◌, ℕ, zero, suc, Bool, true, false, cond, List, [], ◌∷◌, ◌++◌, map, length, length-append, get_or, set, Option, None, Some, inl, inr, refl, sym, subst, ◌∙◌, arith}
 use Rattle.std.specs.Prelude.{◌==◌, is_some, IsSome, count_by}
 use Rattle.std.specs.List.{flat_map, sum_by}
 use Rattle.std.proofs.lemmas.Bool.{eqb-false, eqb-true}
@@ -19,6 +19,8 @@ use Rattle.vlm_store.specs.Total.{lock_total}
 use Rattle.vlm_records.specs.Shown.{IsPlaced, handles_at, order_links}
 use Rattle.vlm_store.specs.Store.{Beside, Layout, records_of, resource_of, tables, under_handle}
 use Rattle.std.proofs.lemmas.Option.{none-some}
+use Rattle.vlm_collections.proofs.HandleLists.{in_ahead, in_behind, in_either}
+use Rattle.vlm_records.proofs.Counting.{IsApart-append}
 use Rattle.vlm_records.proofs.Places.{noted_there, one_place, stands_there}
 
 -- ---- handles that are apart, and all that is there
@@ -81,27 +83,6 @@ as_many {T} (h ∷ hs) slots apart there all =
 
 -- ---- parts that are apart
 
-in_parts : (us vs : List ℕ) (k : ℕ) → IsIn k (us ++ vs) → IsIn k us ⊎ IsIn k vs
-in_parts [] vs k there = inr there
-in_parts (u ∷ us) vs k (inl here) = inl (inl here)
-in_parts (u ∷ us) vs k (inr there) = elim (in_parts us vs k there) [ inl among ↦ inl (inr among) | inr later ↦ inr later ]
-
-apart_parts : (xs ys : List ℕ) → IsApart xs → IsApart ys → ((k : ℕ) → IsIn k xs → IsIn k ys → ⊥) → IsApart (xs ++ ys)
-apart_parts [] ys first second apart = second
-apart_parts (x ∷ xs) ys first second apart = (
-  λ there. elim (in_parts xs ys x there) [ inl among ↦ first.0 among | inr later ↦ apart x (inl refl) later ],
-  apart_parts xs ys first.1 second (λ k among later. apart k (inr among) later),
-)
-
-in_first : (us vs : List ℕ) (k : ℕ) → IsIn k us → IsIn k (us ++ vs)
-in_first [] vs k none = absurd none
-in_first (u ∷ us) vs k (inl here) = inl here
-in_first (u ∷ us) vs k (inr there) = inr (in_first us vs k there)
-
-in_second : (us vs : List ℕ) (k : ℕ) → IsIn k vs → IsIn k (us ++ vs)
-in_second [] vs k there = there
-in_second (u ∷ us) vs k there = inr (in_second us vs k there)
-
 module _ (handles : Place → List ℕ) where
   -- the handles in the queues of a resource
   abbrev of_resource : ℕ → List ℕ
@@ -113,35 +94,35 @@ module _ (handles : Place → List ℕ) where
   -- one of them stands in a queue of that resource
   in_resource : (r k : ℕ) → IsIn k (of_resource r) → (queue : Queue) × IsIn k (handles (Queued r queue))
   in_resource r k there =
-      elim (in_parts (handles (Queued r Granted)) (handles (Queued r Conversion) ++ handles (Queued r Waiting)) k there) [
+      elim (in_either k (handles (Queued r Granted)) (handles (Queued r Conversion) ++ handles (Queued r Waiting)) there) [
         | inl granted ↦ (Granted, granted)
-        | inr rest ↦ elim (in_parts (handles (Queued r Conversion)) (handles (Queued r Waiting)) k rest) [
+        | inr rest ↦ elim (in_either k (handles (Queued r Conversion)) (handles (Queued r Waiting)) rest) [
           | inl converting ↦ (Conversion, converting)
           | inr waiting ↦ (Waiting, waiting)
         ]
       ]
 
   resource_in : (r k : ℕ) (queue : Queue) → IsIn k (handles (Queued r queue)) → IsIn k (of_resource r)
-  resource_in r k Granted there = in_first (handles (Queued r Granted)) (handles (Queued r Conversion) ++ handles (Queued r Waiting)) k there
+  resource_in r k Granted there = in_ahead k (handles (Queued r Granted)) (handles (Queued r Conversion) ++ handles (Queued r Waiting)) there
   resource_in r k Conversion there =
-      in_second (handles (Queued r Granted)) (handles (Queued r Conversion) ++ handles (Queued r Waiting)) k
-      (in_first (handles (Queued r Conversion)) (handles (Queued r Waiting)) k there)
+      in_behind k (handles (Queued r Granted)) (handles (Queued r Conversion) ++ handles (Queued r Waiting))
+      (in_ahead k (handles (Queued r Conversion)) (handles (Queued r Waiting)) there)
   resource_in r k Waiting there =
-      in_second (handles (Queued r Granted)) (handles (Queued r Conversion) ++ handles (Queued r Waiting)) k
-      (in_second (handles (Queued r Conversion)) (handles (Queued r Waiting)) k there)
+      in_behind k (handles (Queued r Granted)) (handles (Queued r Conversion) ++ handles (Queued r Waiting))
+      (in_behind k (handles (Queued r Conversion)) (handles (Queued r Waiting)) there)
 
   in_all : (order : List ℕ) (k : ℕ) → IsIn k (of_all order) → (r : ℕ) × (IsIn r order × IsIn k (of_resource r))
   in_all [] k none = absurd none
   in_all (r ∷ rest) k there =
-      elim (in_parts (of_resource r) (of_all rest) k there) [
+      elim (in_either k (of_resource r) (of_all rest) there) [
         | inl here ↦ (r, (inl refl, here))
         | inr later ↦ let found = in_all rest k later in (found.0, (inr found.1.0, found.1.1))
       ]
 
   all_in : (order : List ℕ) (r k : ℕ) → IsIn r order → IsIn k (of_resource r) → IsIn k (of_all order)
   all_in [] r k none there = absurd none
-  all_in (q ∷ rest) r k (inl here) there = in_first (of_resource q) (of_all rest) k (subst (λ n. IsIn k (of_resource n)) (sym here) there)
-  all_in (q ∷ rest) r k (inr later) there = in_second (of_resource q) (of_all rest) k (all_in rest r k later there)
+  all_in (q ∷ rest) r k (inl here) there = in_ahead k (of_resource q) (of_all rest) (subst (λ n. IsIn k (of_resource n)) (sym here) there)
+  all_in (q ∷ rest) r k (inr later) there = in_behind k (of_resource q) (of_all rest) (all_in rest r k later there)
 
   module _ (each : (place : Place) → IsApart (handles place)) (one : (at : ℕ) (p q : Place) → IsIn at (handles p) → IsIn at (handles q) → p ≡ q) where
     same_resource : (k a b : ℕ) → IsIn k (of_resource a) → IsIn k (of_resource b) → a ≡ b
@@ -153,10 +134,10 @@ module _ (handles : Place → List ℕ) where
 
     resource_apart : (r : ℕ) → IsApart (of_resource r)
     resource_apart r =
-        apart_parts (handles (Queued r Granted)) (handles (Queued r Conversion) ++ handles (Queued r Waiting)) (each (Queued r Granted))
-        (apart_parts (handles (Queued r Conversion)) (handles (Queued r Waiting)) (each (Queued r Conversion)) (each (Queued r Waiting))
+        IsApart-append (handles (Queued r Granted)) (handles (Queued r Conversion) ++ handles (Queued r Waiting)) (each (Queued r Granted))
+        (IsApart-append (handles (Queued r Conversion)) (handles (Queued r Waiting)) (each (Queued r Conversion)) (each (Queued r Waiting))
         (λ k first second. let same : Queued r Conversion ≡ Queued r Waiting = one k (Queued r Conversion) (Queued r Waiting) first second in cc))
-        (λ k first second. elim (in_parts (handles (Queued r Conversion)) (handles (Queued r Waiting)) k second) [
+        (λ k first second. elim (in_either k (handles (Queued r Conversion)) (handles (Queued r Waiting)) second) [
           | inl converting ↦ let same : Queued r Granted ≡ Queued r Conversion = one k (Queued r Granted) (Queued r Conversion) first converting in cc
           | inr waiting ↦ let same : Queued r Granted ≡ Queued r Waiting = one k (Queued r Granted) (Queued r Waiting) first waiting in cc
         ])
@@ -164,7 +145,7 @@ module _ (handles : Place → List ℕ) where
     all_apart : (order : List ℕ) → IsApart order → IsApart (of_all order)
     all_apart [] apart = tt
     all_apart (r ∷ rest) apart =
-        apart_parts (of_resource r) (of_all rest) (resource_apart r) (all_apart rest apart.1)
+        IsApart-append (of_resource r) (of_all rest) (resource_apart r) (all_apart rest apart.1)
         (λ k first second. let found = in_all rest k second in apart.0 (subst (λ n. IsIn n rest) (same_resource k found.0 r found.1.1 first) found.1.0))
 
 -- ---- what a caller sees

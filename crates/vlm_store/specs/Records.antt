@@ -174,8 +174,12 @@ is_place (Queued a p) (Queued b q) = (a == b) && is_queue p q
 abbrev pub without_lock : ℕ → List StoredLock → List StoredLock
 without_lock at locks = filter (λ k. not (k.at == at)) locks
 
+-- a change of queues: what becomes of the locks at each place
+abbrev pub QueueChange : Type 0
+QueueChange = Place → List StoredLock → List StoredLock
+
 -- a resource with changed queues
-abbrev pub resource_with : (Place → List StoredLock → List StoredLock) → StoredResource → StoredResource
+abbrev pub resource_with : QueueChange → StoredResource → StoredResource
 resource_with change r = record r {
   granted = change (Queued r.at Granted) r.granted;
   converting = change (Queued r.at Conversion) r.converting;
@@ -183,28 +187,27 @@ resource_with change r = record r {
 }
 
 -- the records with changed queues
-abbrev pub with_lists : (Place → List StoredLock → List StoredLock) → Records → Records
+abbrev pub with_lists : QueueChange → Records → Records
 with_lists change s = record s { resources = map (resource_with change) s.resources }
 
 -- a change of queues: the lock leaves its queue
-abbrev pub leaving : ℕ → Place → List StoredLock → List StoredLock
+abbrev pub leaving : ℕ → QueueChange
 leaving at place locks = without_lock at locks
 
--- a change of queues: the lock leaves its queue and joins one at the end
-abbrev pub moving : Place → StoredLock → Place → List StoredLock → List StoredLock
-moving to lock place locks =
-    if is_place place to then without_lock lock.at locks ++ lock ∷ [] else without_lock lock.at locks
-
 -- a change of queues: a new lock joins one at the end
-abbrev pub joining : Place → StoredLock → Place → List StoredLock → List StoredLock
+abbrev pub joining : Place → StoredLock → QueueChange
 joining to lock place locks = if is_place place to then locks ++ lock ∷ [] else locks
+
+-- a change of queues: the lock leaves its queue and joins one at the end
+abbrev pub moving : Place → StoredLock → QueueChange
+moving to lock place locks = joining to lock place (leaving lock.at place locks)
 
 -- the lock is disarmed
 abbrev pub disarmed : StoredLock → StoredLock
 disarmed k = record k { row = record k.row { armed = false } }
 
 -- a change of queues: the lock is disarmed and keeps its place
-abbrev pub disarming : ℕ → Place → List StoredLock → List StoredLock
+abbrev pub disarming : ℕ → QueueChange
 disarming at place locks = map (λ k. if k.at == at then disarmed k else k) locks
 
 -- a change of the resource with this handle
@@ -407,10 +410,14 @@ HasNoLocks at s = own_at at s ≡ []
 abbrev pub but_notices : StoredProcess → StoredProcess
 but_notices p = record p { process = record p.process { blocks = []; asts = [] }; due = 0 }
 
+-- of each process only its notices may change
+abbrev pub ProcessesStay : Records → Records → Type 0
+ProcessesStay old new = map but_notices new.processes ≡ map but_notices old.processes
+
 -- only status blocks and ASTs, pending or due, may change
 pub record SameButNotices (old new : Records) : Type 0 where
   pub resources : new.resources ≡ old.resources
-  pub processes : map but_notices new.processes ≡ map but_notices old.processes
+  pub processes : ProcessesStay old new
   pub room : new.room ≡ old.room
   pub keys : new.keys ≡ old.keys
 

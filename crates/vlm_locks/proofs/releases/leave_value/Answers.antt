@@ -1,7 +1,7 @@
 use Rattle.vlm_store.specs.Records.{Records}
 use Rattle.vlm_locks.specs.Rest.{OtherLocksStay}
 use Rattle.vlm_locks.proofs.OtherLocks.{block_alone}
-use Rattle.std.proofs.Common.{◌≡◌, ◌||◌, Bool, true, false, is_some, refl, sym, ap, ◌∙◌, subst}
+use Rattle.std.proofs.Common.{is_some, refl, sym, ap, ◌∙◌, subst}
 use Rattle.vlm_model.specs.Withdrawals.{resource_after_writer}
 use Rattle.vlm_locks.specs.Standing.{IsLocated}
 use Rattle.vlm_locks.specs.Withdrawals.{plain_withdrawal}
@@ -9,6 +9,7 @@ use Rattle.vlm_locks.specs.Withdrawing.{IsChange}
 use Rattle.vlm_locks.proofs.Owing.{weighs_valued}
 use Rattle.vlm_locks.proofs.Withdrawn.{left_block, left_nothing, left_unwritten, stands_left}
 use Rattle.vlm_locks.proofs.releases.leave_value.Goals as goal
+use Rattle.std.proofs.lemmas.Bool.{or_parts}
 
 -- where nothing is to be written it leaves nothing
 pub returns-then-not-writes-clause-left : goal.returns-then-not-writes-clause-left
@@ -20,10 +21,6 @@ returns-then-not-writes-clause-left c =
       locks = λ place. refl;
       own_locks = refl;
     }
-  where
-    or_parts : (a b : Bool) → (a || b) ≡ false → (a ≡ false) × (b ≡ false)
-    or_parts true b is = cc
-    or_parts false b is = (refl, is)
 
 -- what may write leaves its value block
 pub returns-then-may_write-clause-left : goal.returns-then-may_write-clause-left
