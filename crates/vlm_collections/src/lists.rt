@@ -181,8 +181,9 @@ fn link_forward<Kind, T: Linked<Kind>>(
     match from.handle() {
         None => list.first = to,
         Some(handle) => {
-            let pair = nodes[handle].links();
-            write_links::<Kind, T>(nodes, handle, Links { next: to, ..pair });
+            let node = &mut nodes[handle];
+            let pair = node.links();
+            node.set_links(Links { next: to, ..pair });
         }
     }
 }
@@ -201,8 +202,9 @@ fn link_back<Kind, T: Linked<Kind>>(
     match from.handle() {
         None => list.last = to,
         Some(handle) => {
-            let pair = nodes[handle].links();
-            write_links::<Kind, T>(nodes, handle, Links { prev: to, ..pair });
+            let node = &mut nodes[handle];
+            let pair = node.links();
+            node.set_links(Links { prev: to, ..pair });
         }
     }
 }
