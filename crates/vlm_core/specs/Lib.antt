@@ -1,3 +1,4 @@
 pub mod Core
 pub mod Readers
 pub mod Running
+pub mod Made

@@ -10,6 +10,7 @@ ghost use Rattle.vlm_store.specs.Plain.{plain_processes, plain_resources};
 ghost use Rattle.vlm_store.specs.Records.{StoredResource, queued, rows_of_locks};
 ghost use Rattle.vlm_queue.specs.Walks.{GivesInTurn};
 ghost use Rattle.vlm_machine.specs.Between.{IsBetweenSteps};
+ghost use Rattle.vlm_core.specs.Made.{IsMadeAlways};
 
 use std::alloc::Global;
 use std::marker::Model;
@@ -137,8 +138,7 @@ impl Core {
     /// Writes the value part of a status block of the caller, and its tail if one is given (this project's own). It
     /// takes no memory, and answers NORMAL. Refusals, in this order: DEPARTED, NONEXPR, ACCVIO.
     pub fn set_value(&mut self, setting: ValueSetting) -> Answer
-        ensures state { self.new ≡ (stepped self.old (Step.SetValue setting) None).state }
-        ensures answer { result ≡ (stepped self.old (Step.SetValue setting) None).answer }
+        ensures { IsMadeAlways self.old (Step.SetValue setting) self.new result }
     {
         self.step(Step::SetValue(setting))
     }
@@ -146,8 +146,7 @@ impl Core {
     /// Takes the oldest pending AST of the process (this project's own), and answers it if there is one. It
     /// queues none, and takes no memory. Refusals, in this order: DEPARTED, NONEXPR.
     pub fn take(&mut self, pid: u32) -> Answer
-        ensures state { self.new ≡ (stepped self.old (Step.Take pid) None).state }
-        ensures answer { result ≡ (stepped self.old (Step.Take pid) None).answer }
+        ensures { IsMadeAlways self.old (Step.Take pid) self.new result }
     {
         self.step(Step::Take(pid))
     }
@@ -216,8 +215,7 @@ impl Core {
     /// that has sublocks is to be given up without DEQALL. With DEQALL the cost grows with the locks that go times the
     /// logarithm of their number, since they and their resources are put in order.
     pub fn deq(&mut self, dequeue: Dequeue) -> Answer
-        ensures state { self.new ≡ (stepped self.old (Step.Deq dequeue) None).state }
-        ensures answer { result ≡ (stepped self.old (Step.Deq dequeue) None).answer }
+        ensures { IsMadeAlways self.old (Step.Deq dequeue) self.new result }
     {
         self.step(Step::Deq(dequeue))
     }
@@ -229,8 +227,7 @@ impl Core {
     /// the locks that go, and with their resources times the logarithm of the number of resources, since these are put
     /// in order.
     pub fn rundown(&mut self, pid: u32) -> Answer
-        ensures state { self.new ≡ (stepped self.old (Step.Rundown pid) None).state }
-        ensures answer { result ≡ (stepped self.old (Step.Rundown pid) None).answer }
+        ensures { IsMadeAlways self.old (Step.Rundown pid) self.new result }
     {
         self.step(Step::Rundown(pid))
     }
@@ -240,8 +237,7 @@ impl Core {
     /// NORMAL. Refusals, in this order: BADPARAM if the node is not 1 to 8; DEPARTED if it has departed before. The
     /// cost grows with the processes and the locks that go, as that of a rundown does.
     pub fn leave(&mut self, node: u8) -> Answer
-        ensures state { self.new ≡ (stepped self.old (Step.Leave node) None).state }
-        ensures answer { result ≡ (stepped self.old (Step.Leave node) None).answer }
+        ensures { IsMadeAlways self.old (Step.Leave node) self.new result }
     {
         self.step(Step::Leave(node))
     }
