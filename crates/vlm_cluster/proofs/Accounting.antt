@@ -19,7 +19,7 @@ use Rattle.vlm_journal.proofs.Lists.{by_place}
 use Rattle.vlm_ports.specs.declared.hub.Hub.{Hub}
 use Rattle.vlm_ports.specs.declared.port.Port.{Port}
 use Rattle.vlm_ports.specs.Hubs.{Grew, HubTakesAlone, IsNewHub, IsPortOf, TakesAst, asked_before, base, bases, journal, nodes, rings, state, told_before}
-use Rattle.vlm_ports.specs.Links.{Base, line_identity, no_base}
+use Rattle.vlm_ports.specs.Links.{Base, no_base, node_rings_identity}
 use Rattle.vlm_ports.specs.Ports.{identity}
 use Rattle.vlm_ports.specs.Rings.{RingName}
 use Rattle.vlm_cluster.specs.Parts.{AreNumbered, IsAccounted, base_behind, entries_in}
@@ -58,8 +58,8 @@ accounts_begin h new = record {
   base = new.base;
   numbered = λ k part at. cc;
   takes = subst HubTakesAlone (sym new.journal) (All-nil _);
-  asked = λ node some within. new.asked node some (omega (arith, within, length-map h.lines.items line_identity));
-  told = λ node some within. new.told node some (omega (arith, within, length-map h.lines.items line_identity));
+  asked = λ node some within. new.asked node some (omega (arith, within, length-map h.all_node_rings.items node_rings_identity));
+  told = λ node some within. new.told node some (omega (arith, within, length-map h.all_node_rings.items node_rings_identity));
 }
 
 -- with more entries
@@ -105,7 +105,7 @@ pub accounts_cut : (ps : List Part) (p : Part) (h i : Hub) → IsAccounted ps h 
     → journal i ≡ [] → base i ≡ min (base h + length (journal h)) (2 ^ 64 - 1) → state i ≡ state h → PutsBefore h i → IsAccounted (ps ++ p ∷ []) i
 accounts_cut ps p h i was same_rings entries number left next same_state before =
     let long : length (rings i) ≡ length (rings h) = ap (λ (rs : List (ℕ × RingName × RingName)). length rs) same_rings in
-    let lines = length-map h.lines.items line_identity in
+    let lines = length-map h.all_node_rings.items node_rings_identity in
     let all : entries_in (ps ++ p ∷ []) ≡ entries_in ps ++ journal h = entries_with ps p ∙ ap (λ (es : List Entry). entries_in ps ++ es) entries in
     let rest : entries_in ps ++ journal h ≡ entries_in (ps ++ p ∷ []) ++ journal i =
     sym all ∙ sym (append-nil (entries_in (ps ++ p ∷ []))) ∙ ap (λ (es : List Entry). entries_in (ps ++ p ∷ []) ++ es) (sym left) in

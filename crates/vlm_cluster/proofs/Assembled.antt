@@ -25,8 +25,8 @@ use Rattle.vlm_cluster.specs.Headline.{AreAllPosted, AreServed, AreServedInPart,
 use Rattle.vlm_cluster.specs.Parts.{AreNumbered}
 use Rattle.vlm_cluster.specs.Reports.{entries_of, parts_of}
 use Rattle.vlm_cluster.specs.Works.{ArePortsOf, IsBegun, IsWhole, IsWorkOn, work_of}
-use Rattle.vlm_cluster.proofs.Results.{element}
 use Rattle.vlm_cluster.proofs.Outcomes.{begun_asked, begun_told, whole_asked, whole_told}
+use Rattle.vlm_journal.proofs.Lists.{element}
 
 -- a node that has departed is answered so
 abbrev pub DepartedLaw : Type 0

@@ -13,8 +13,8 @@ use Rattle.vlm_cluster.specs.Gates.{IsFollowed, IsToldOn, Moves}
 use Rattle.vlm_cluster.specs.Headline.{AreGated, AreGatedInPart, Items, StepList}
 use Rattle.vlm_cluster.specs.Works.{IsGatedWork, point_of}
 use Rattle.vlm_cluster.proofs.Assembled.{AreNoted}
-use Rattle.vlm_cluster.proofs.Results.{element}
 use Rattle.vlm_cluster.proofs.Guides.{followed_cancelled, followed_none, followed_told}
+use Rattle.vlm_journal.proofs.Lists.{element}
 
 -- each worker has posted its list as its gate said
 abbrev pub AreGatedWorks : {G : Type 0} → Moves G → List G → List StepList → List (WorkerResult G) → Type 0

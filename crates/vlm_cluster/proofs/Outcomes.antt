@@ -1,12 +1,12 @@
 -- What a run comes to, from what each worker hands back.
-use Rattle.std.proofs.Common.{◌≡◌, ◌+◌, ◌<◌, ◌++◌, ℕ, Bool, true, false, List, [], ◌∷◌, length, get_or, take, refl, sym, ap, ◌∙◌, subst, append_assoc}
+use Rattle.std.proofs.Common.{◌≡◌, ◌+◌, ◌<◌, ◌++◌, ℕ, Bool, true, false, List, [], ◌∷◌, length, get_or, take, refl, sym, ap, ◌∙◌, subst}
 use mathlib.Core.List.{IsPrefix}
 use Rattle.vlm_words.specs.declared.steps.Step.{Step}
 use Rattle.vlm_words.specs.declared.steps.Step.TheVariants.{Leave}
 use Rattle.vlm_journal.specs.declared.entries.Entry.{Entry}
 use Rattle.vlm_journal.specs.declared.entries.Item.{Item}
 use Rattle.vlm_journal.specs.Told.{asked, told}
-use Rattle.vlm_journal.proofs.Lists.{prefix_then}
+use Rattle.vlm_journal.proofs.Lists.{prefix_behind, prefix_then}
 use Rattle.vlm_ports.specs.declared.port.Port.{Port}
 use Rattle.vlm_ports.specs.Ports.{AreNew}
 use Rattle.vlm_ports.specs.Rings.{RingName}
@@ -16,9 +16,6 @@ use Rattle.vlm_cluster.specs.Works.{IsBegun, IsWhole, IsWorkOn, Work, farewell}
 farewell_begins : (node : ℕ) (left : Bool) → IsPrefix (farewell node left) (Leave node ∷ [])
 farewell_begins node true = ([], refl)
 farewell_begins node false = (Leave node ∷ [], refl)
-
-prefix_behind : {X : Type 0} (xs ys zs : List X) → IsPrefix ys zs → IsPrefix (xs ++ ys) (xs ++ zs)
-prefix_behind xs ys zs h = (h.0, append_assoc xs ys h.0 ∙ ap (λ (l : List _). xs ++ l) h.1)
 
 module _ (never : Bool) (ports : List Port) (new : AreNew ports) (k : ℕ) (p : Port) (lt : k < length ports) (list : List Step) (w : Work)
     (is : IsWorkOn never (get_or ports k p) list w) where

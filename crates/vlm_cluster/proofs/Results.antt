@@ -15,12 +15,6 @@ use Rattle.vlm_cluster.specs.Gates.{IsTold, IsToldOn, Moves, Point}
 use Rattle.vlm_cluster.specs.Works.{AreBegun, ArePortsOf, AreTold, AreWhole, IsBegun, IsWhole, Work, point_of, work_of}
 use Rattle.vlm_cluster.proofs.Guides.{told_none, told_then}
 
--- an element of a list that is long enough
-pub element : {X : Type 0} (xs : List X) (k : ℕ) → k < length xs → X
-element [] k lt = absurd (omega (arith, lt))
-element (x ∷ xs) zero lt = x
-element (x ∷ xs) (suc k) lt = element xs k (omega (arith, lt))
-
 -- what holds of each element, and of one that is put at the end, holds of each
 pub all_more : {X : Type 0} (P : ℕ → X → Type 0) (xs : List X) (x : X) → ((k : ℕ) (d : X) → k < length xs → P k (get_or xs k d)) → P (length xs) x
     → (k : ℕ) (d : X) → k < length xs + 1 → P k (get_or (xs ++ x ∷ []) k d)

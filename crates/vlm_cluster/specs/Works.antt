@@ -1,5 +1,5 @@
 -- What a worker does with a port and a list.
-use Rattle.std.specs.Prelude.{◌≡◌, ◌<◌, ◌≤◌, ◌++◌, ℕ, Bool, true, false, List, [], ◌∷◌, length, slice_index_or, take}
+use Rattle.std.specs.Prelude.{◌≡◌, ◌<◌, ◌≤◌, ◌++◌, ℕ, Bool, true, false, List, [], ◌∷◌, length, map, slice_index_or, take}
 use mathlib.Core.List.{IsPrefix}
 use Rattle.vlm_words.specs.declared.steps.Step.{Step}
 use Rattle.vlm_words.specs.declared.steps.Step.TheVariants.{Leave}
@@ -32,6 +32,10 @@ pub record Work : Type 0 where
 -- the work in a worker's result
 abbrev pub work_of : {G : Type 0} → WorkerResult G → Work
 work_of d = record { port = identity d.client.port; posts = posted d.client.port; count = d.posted; left = d.left }
+
+-- no worker's work changes
+abbrev pub WorksStay : {G : Type 0} → List (WorkerResult G) → List (WorkerResult G) → Type 0
+WorksStay old new = map work_of new ≡ map work_of old
 
 -- the worker has posted the first steps of the list, and then the departure if `left`; it has posted all steps if its
 -- gate never stops and it has left

@@ -1,5 +1,5 @@
 -- What a hub that is watched goes through, and the row that is seen of it.
-use Rattle.std.proofs.Common.{◌≡◌, ◌∙◌, ◌+◌, ◌-◌, ◌<◌, ◌≤◌, ◌∷◌, ◌++◌, ◌==◌, ℕ, zero, suc, Bool, true, false, List, [], Option, None, Some, Global, Vec, ap, append-nil, arith, get_or, if◌then◌else◌, length, map, option_map, refl, set, subst, sym, take}
+use Rattle.std.proofs.Common.{◌≡◌, ◌∙◌, ◌+◌, ◌-◌, ◌<◌, ◌≤◌, ◌∷◌, ◌++◌, ◌==◌, ℕ, Bool, true, false, List, [], Option, None, Some, Global, Vec, ap, append-nil, arith, get_or, if◌then◌else◌, length, map, option_map, refl, set, subst, sym, take}
 use Rattle.std.specs.List.{All, slice_get}
 use Rattle.std.specs.Vec.{with_items}
 use Rattle.std.proofs.Math.Seq.{map-set_same}
@@ -29,6 +29,7 @@ use Rattle.vlm_monitor.specs.declared.watched.MonitoredHub.{MonitoredHub}
 use Rattle.vlm_monitor.specs.MonitoredHubs.{HasLeftAt, standing}
 use Rattle.vlm_monitor.specs.WatchedPorts.{HasGrown, Name, Posts, posts_of}
 use Rattle.vlm_monitor.specs.Watches.{Makes, printed_row, row_at, steps_asked}
+use Rattle.vlm_journal.proofs.Lists.{element}
 
 -- ---- entries
 
@@ -79,12 +80,6 @@ module _ (node : ℕ) (some : 0 < node) where
       step_alone step e.step (asked node es) (steps_asked es) (asked_within es) (asked_alone step es) (e.sender == 0) (e.sender == node) (not_both e.sender) asks one
 
 -- ---- ports
-
--- an element of a list that is long enough
-element : {X : Type 0} (xs : List X) (k : ℕ) → k < length xs → X
-element [] k lt = absurd (omega (arith, lt))
-element (x ∷ xs) zero lt = x
-element (x ∷ xs) (suc k) lt = element xs k (omega (arith, lt))
 
 as_many : (xs ys : List Port) → map posts_of ys ≡ map posts_of xs → length ys ≡ length xs
 as_many xs ys same = sym (length-map ys posts_of) ∙ ap (λ (ps : List Posts). length ps) same ∙ length-map xs posts_of

@@ -20,6 +20,10 @@ pub record Shares : Type 0 where
   pub declared : List ℕ
   pub lists : List (List Step)
 
+-- there are as many lists as before
+abbrev pub ListsStay : Shares → Shares → Type 0
+ListsStay old new = length new.lists ≡ length old.lists
+
 -- before the first line
 abbrev pub no_shares : ℕ → Shares
 no_shares nodes = record { names = []; declared = replicate nodes 0; lists = replicate nodes [] }

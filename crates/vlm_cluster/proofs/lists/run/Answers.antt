@@ -9,9 +9,9 @@ use Rattle.vlm_cluster.specs.Gates.{Moves, moves}
 use Rattle.vlm_cluster.specs.Headline.{StepList}
 use Rattle.vlm_cluster.specs.Parts.{HaveEnough}
 use Rattle.vlm_cluster.proofs.Assembled.{AreNoted, AreWorks, all_posted, begun, given_up, ports_of_works, served, works_of}
-use Rattle.vlm_cluster.proofs.Results.{element}
 use Rattle.vlm_cluster.proofs.Gated.{AreGatedWorks, gated, gated_by_none, gated_in_part, gated_works_of}
 use Rattle.vlm_cluster.proofs.lists.run.Goals as goal
+use Rattle.vlm_journal.proofs.Lists.{element}
 
 pub finish-finished-requires-clause-ports : goal.finish-finished-requires-clause-ports
 finish-finished-requires-clause-ports g c =

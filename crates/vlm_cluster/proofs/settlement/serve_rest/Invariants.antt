@@ -1,14 +1,14 @@
-use Rattle.std.proofs.Common.{◌≡◌, map}
+use Rattle.std.proofs.Common.{◌≡◌}
 use Rattle.vlm_ports.specs.Hubs.{rings}
 use Rattle.vlm_cluster.specs.Parts.{IsAccounted}
 use Rattle.vlm_cluster.specs.Gates.{moves}
-use Rattle.vlm_cluster.specs.Works.{AreTold, work_of}
+use Rattle.vlm_cluster.specs.Works.{AreTold, WorksStay}
 use Rattle.vlm_cluster.proofs.settlement.serve_rest.Given as goal
 
 abbrev pub invariant-loop : goal.invariant-loop
 invariant-loop g l = record {
   rings : rings l.driver.hub ≡ rings l.initial.driver.hub;
-  same : map work_of l.results ≡ map work_of l.initial.results;
+  same : WorksStay l.initial.results l.results;
   told : AreTold (moves g.G.Gate.answers g.G.Gate.hears) l.initial.results l.results;
   accounted : IsAccounted l.driver.parts.items l.driver.hub;
   every : l.driver.every ≡ l.initial.driver.every;

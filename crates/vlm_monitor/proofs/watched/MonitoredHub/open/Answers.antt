@@ -1,6 +1,6 @@
 use Rattle.std.proofs.Common.{◌≡◌, ◌∙◌, ◌∷◌, [], ◌<◌, ◌-◌, Some, Global, Vec, ap, arith, length, map, refl, rules, slice_index_or, subst, sym, vec_len}
-use Rattle.vlm_ports.specs.declared.node_rings.Line.{Line}
-use Rattle.vlm_ports.specs.Links.{line_identity}
+use Rattle.vlm_ports.specs.declared.node_rings.NodeRings.{NodeRings}
+use Rattle.vlm_ports.specs.Links.{node_rings_identity}
 use Rattle.vlm_ports.specs.Watched.{board_name, watched_keys}
 use Rattle.vlm_watch.specs.declared.watcher.Watcher.{Watcher}
 use Rattle.vlm_watch.specs.Watching.{IsNew}
@@ -31,5 +31,5 @@ invariant_of-result g c =
       ours = (new.board_is, new.keys_are ∙ sym keys);
       one = omega (arith, new.keys_are, one);
       subject = subject;
-      linked = ports_stay hub c.watch.new.self ports ports (ap (λ (ls : Vec Line Global). map line_identity ls.items) c.watch.ensures.same.1) refl c.in_ok-hub.ensures.ours;
+      linked = ports_stay hub c.watch.new.self ports ports (ap (λ (ls : Vec NodeRings Global). map node_rings_identity ls.items) c.watch.ensures.same.1) refl c.in_ok-hub.ensures.ours;
     }

@@ -10,14 +10,15 @@ use Rattle.vlm_script.proofs.node_lists.Sharing.put_named.Goals as goal
 pub add_step-requires : goal.add_step-requires
 add_step-requires c =
     let there = bound_node _ _ _ _ c.self.invariant.bound c.in_ok-pid.ensures in
-    record { above = there.above; within = omega (arith, rw length-map at there.within, c.self.inside.lists.ok.0) }
+    rw (c.from-node.ensures, c.process_node.ensures)
+    (record { above = there.above; within = omega (arith, rw length-map at there.within, c.self.inside.lists.ok.0) })
 
 -- the step is in the list of its node
 pub invariant_of-self-2 : goal.invariant_of-self-2
 invariant_of-self-2 c =
     let there = bound_node _ _ _ _ c.self.invariant.bound c.in_ok-pid.ensures in
     let listed = subst (IsListed (node_of_pid c.in_ok-pid.pid)) (sym c.of_process-step.ensures) (c.requires c.in_ok-pid.pid) in
-    rw c.in_ok-add_step.ensures.ok (sharing-with_step _ _ _ _ _ c.self.invariant there listed)
+    rw (c.in_ok-add_step.ensures.ok, c.from-node.ensures, c.process_node.ensures) (sharing-with_step _ _ _ _ _ c.self.invariant there listed)
 
 -- there are as many lists
 pub returns-clause-count : goal.returns-clause-count
