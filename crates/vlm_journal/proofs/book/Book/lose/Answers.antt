@@ -12,7 +12,6 @@ invariant_of-self c =
     rw (c.push_reserved.ensures.items, c.entry-written.ensures)
     (goes_on (record { sender = 0; step = Leave c.args.node; answer = c.step-answer.result }) c.self.invariant (inl (refl, leaves c.args.node c.step-answer.result)) c.step-answer.ensures)
 
-
 -- the departure, if it is answered so
 pub returns-clause-leaves : goal.returns-clause-leaves
 returns-clause-leaves c which =
