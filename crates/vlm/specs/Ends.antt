@@ -27,6 +27,10 @@ pub record Output : Type 0 where
 abbrev pub output_of : Option (List ℕ) → Option (List ℕ) → Output
 output_of printed faults = record { printed = printed; faults = faults }
 
+-- the end of a call: its input before and after, its output before and after, and its exit status
+abbrev pub EndOfCall : Type 1
+EndOfCall = Option (List ℕ) → Option (List ℕ) → Output → Output → ℕ → Type 0
+
 -- the exit status of a run: 0 if it is done, 1 for a line with a fault, 3 for any other fault
 abbrev pub status_of : Result (Unit {0}) PlayFault → ℕ
 status_of (Ok done) = 0
@@ -72,10 +76,14 @@ pub record WantsRandomBytes (old new : Output) (status : ℕ) : Type 0 where
   pub faults : PrintsNoRandomBytes old.faults new.faults
   pub ended : status ≡ 3
 
+-- the call ended in this way; or the system gave no random bytes, and nothing was read
+abbrev pub OrWantsRandomBytes : EndOfCall → EndOfCall
+OrWantsRandomBytes runs script left old new status =
+    runs script left old new status ⊎ ((left ≡ script) × WantsRandomBytes old new status)
+
 -- a script was run, or the system gave no random bytes, and nothing was read
-abbrev pub StartsRun : Option (List ℕ) → Option (List ℕ) → Output → Output → ℕ → Type 0
-StartsRun script left old new status =
-    RunsScript script left old new status ⊎ ((left ≡ script) × WantsRandomBytes old new status)
+abbrev pub StartsRun : EndOfCall
+StartsRun script left old new status = OrWantsRandomBytes RunsScript script left old new status
 
 -- a script was served by this many nodes: the status and the line on standard error are those of its end
 pub record RunsCluster (nodes : ℕ) (script left : Option (List ℕ)) (old new : Output) (status : ℕ)
@@ -87,10 +95,9 @@ pub record RunsCluster (nodes : ℕ) (script left : Option (List ℕ)) (old new 
   pub faults : PrintsEnd end old.faults new.faults
 
 -- a script was served by this many nodes; or the system gave no random bytes, and nothing was read
-abbrev pub StartsCluster : ℕ → Option (List ℕ) → Option (List ℕ) → Output → Output → ℕ → Type 0
+abbrev pub StartsCluster : ℕ → EndOfCall
 StartsCluster nodes script left old new status =
-    RunsCluster nodes script left old new status
-    ⊎ ((left ≡ script) × WantsRandomBytes old new status)
+    OrWantsRandomBytes (RunsCluster nodes) script left old new status
 
 -- the line that says why a watch ended
 abbrev pub watch_fault_line : WatchFault → List ℕ
@@ -125,22 +132,19 @@ pub record RefusesName (old new : Output) (status : ℕ) : Type 0 where
   pub ended : status ≡ 2
 
 -- the resource under the key was watched while a script ran, or the system gave no random bytes and nothing was read
-abbrev pub StartsNamedWatch : RootKey → Option (List ℕ) → Option (List ℕ) → Output → Output → ℕ → Type 0
+abbrev pub StartsNamedWatch : RootKey → EndOfCall
 StartsNamedWatch key script left old new status =
-    RunsWatch key script left old new status
-    ⊎ ((left ≡ script) × WantsRandomBytes old new status)
+    OrWantsRandomBytes (RunsWatch key) script left old new status
 
 -- the resource of this name in this domain was to be watched, or no resource has the name that was given, and nothing
 -- was read
-abbrev pub StartsWatch : Domain → Option (List ℕ) → Option (List ℕ) → Option (List ℕ) → Output → Output → ℕ
-    → Type 0
+abbrev pub StartsWatch : Domain → Option (List ℕ) → EndOfCall
 StartsWatch domain None script left old new status = (left ≡ script) × RefusesName old new status
 StartsWatch domain (Some name) script left old new status =
     StartsNamedWatch (record { domain = domain; name = name }) script left old new status
 
 -- the words start a cluster or a watch if they name it, else a run
-abbrev pub StartsTask : List Text → Option (List ℕ) → Option (List ℕ)
-    → Output → Output → ℕ → Type 0
+abbrev pub StartsTask : List Text → EndOfCall
 StartsTask words script left old new status =
     (AskForPlay words × StartsRun script left old new status)
     ⊎ ((nodes : ℕ) × AskForCluster words nodes × StartsCluster nodes script left old new status)
@@ -182,25 +186,27 @@ EndsByError kind old new status =
     ⊎ ((kind ≢ OutOfMemory) × (IsHelp kind → ⊥) × RefusesWords old new status)
 
 -- the words have no error, and their task was started; or they have an error, and nothing was read
-abbrev pub EndsByWords : List Text → Option (List ℕ) → Option (List ℕ)
-    → Output → Output → ℕ → Type 0
+abbrev pub EndsByWords : List Text → EndOfCall
 EndsByWords words script left old new status =
     ((word_errors words ≡ []) × StartsTask words script left old new status)
     ⊎ ((left ≡ script)
     × ((kind : ErrorKind) × IsErrorOf words kind × EndsByError kind old new status))
 
+-- the call ended in this way; or memory ran out before, and nothing was read
+abbrev pub OrWantsMemory : EndOfCall → EndOfCall
+OrWantsMemory starts script left old new status =
+    starts script left old new status ⊎ ((left ≡ script) × WantsMemory old new status)
+
 -- a run was started, or memory ran out before
-abbrev pub RunsOrWantsMemory : Option (List ℕ) → Option (List ℕ) → Output → Output → ℕ → Type 0
-RunsOrWantsMemory script left old new status =
-    StartsRun script left old new status ⊎ ((left ≡ script) × WantsMemory old new status)
+abbrev pub RunsOrWantsMemory : EndOfCall
+RunsOrWantsMemory script left old new status = OrWantsMemory StartsRun script left old new status
 
 -- a cluster of this many nodes was started, or memory ran out before
-abbrev pub ClustersOrWantsMemory : ℕ → Option (List ℕ) → Option (List ℕ) → Output → Output → ℕ → Type 0
+abbrev pub ClustersOrWantsMemory : ℕ → EndOfCall
 ClustersOrWantsMemory nodes script left old new status =
-    StartsCluster nodes script left old new status ⊎ ((left ≡ script) × WantsMemory old new status)
+    OrWantsMemory (StartsCluster nodes) script left old new status
 
 -- a watch of the resource of this name in the system's domain was started, or memory ran out before
-abbrev pub WatchesOrWantsMemory : Option (List ℕ) → Option (List ℕ) → Option (List ℕ) → Output → Output → ℕ
-    → Type 0
+abbrev pub WatchesOrWantsMemory : Option (List ℕ) → EndOfCall
 WatchesOrWantsMemory name script left old new status =
-    StartsWatch System name script left old new status ⊎ ((left ≡ script) × WantsMemory old new status)
+    OrWantsMemory (StartsWatch System name) script left old new status

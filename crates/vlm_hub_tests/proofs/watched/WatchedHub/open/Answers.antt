@@ -5,7 +5,7 @@ use Rattle.std.specs.Vec.Iter.{into_iter_items}
 use Rattle.std.proofs.lemmas.List.{get_or-map, length-map}
 use Rattle.vlm_ports.specs.declared.port.Port.{Port}
 use Rattle.vlm_ports.specs.Hubs.{IsPortOf}
-use Rattle.vlm_ports.specs.Links.{line_identity}
+use Rattle.vlm_ports.specs.Links.{node_rings_identity}
 use Rattle.vlm_ports.specs.Watched.{board_name}
 use Rattle.vlm_watch.specs.declared.watcher.Watcher.{Watcher}
 use Rattle.vlm_watch.specs.Watching.{IsNew}
@@ -26,7 +26,7 @@ invariant_of-result g c =
     let seated = c.seat.new.onlookers.items in
     let new : All (IsNew (board_name watched) (vec_len c.args.keys)) (map who seated) = subst (All (IsNew (board_name watched) (vec_len c.args.keys))) (sym c.seat.ensures) told.each in
     record {
-      ours = (was.0, ap (λ lines. slice_get (map line_identity lines.items) (port.node - 1)) told.same.1 ∙ was.1);
+      ours = (was.0, ap (λ lines. slice_get (map node_rings_identity lines.items) (port.node - 1)) told.same.1 ∙ was.1);
       watched = told.watched;
       places = omega (arith, c.len-count.ensures, ap length told.board.0);
       some = omega (arith, c.len-count.ensures, c.requires.keys);
