@@ -23,6 +23,11 @@ use Rattle.vlm_c.specs.declared.shown.VlmResource.{VlmResource}
 use Rattle.vlm_c.specs.declared.shown.VlmRow.{VlmRow}
 use Rattle.vlm_c.specs.Words.{queue_of}
 
+-- a reader answers what the core shows, and the core stays
+pub record Tells {A : Type 0} (shown answer : A) (old new : Option State) : Type 0 where
+  pub told : answer ≡ shown
+  pub same : new ≡ old
+
 -- a value is written, with NORMAL; with no value nothing is written, and BADPARAM is returned
 abbrev pub Told : {A : Type 0} → Option A → A → A → ℕ → Type 0
 Told (Some x) old new status = (new ≡ x) × (status ≡ condition_number Normal)

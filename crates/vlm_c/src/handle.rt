@@ -4,7 +4,7 @@ ghost use Rattle.std.specs.Prelude.{◌≡◌, None, Some};
 ghost use Rattle.std.specs.Option.{is_some, option_map};
 ghost use Rattle.std.specs.Fn.{FnOnceReturnsAtMut};
 ghost use Rattle.vlm_c.specs.Served.{Called, Served};
-ghost use Rattle.vlm_c.specs.Shown.{block_shown, count_shown, pending_shown, process_count_shown, process_shown, resource_shown, row_shown_at};
+ghost use Rattle.vlm_c.specs.Shown.{Tells, block_shown, count_shown, pending_shown, process_count_shown, process_shown, resource_shown, row_shown_at};
 
 use crate::arguments::queue_of;
 use crate::loose::Loose;
@@ -68,8 +68,7 @@ impl Vlm {
     }
 
     pub(crate) fn is_open(&mut self) -> bool
-        ensures told { result ≡ is_some self.old.slot.core }
-        ensures same { self.new.slot.core ≡ self.old.slot.core }
+        ensures { Tells (is_some self.old.slot.core) result self.old.slot.core self.new.slot.core }
     {
         self.is_held
     }
@@ -102,8 +101,8 @@ impl Vlm {
     /// A status block of a process. Numbers start at 1.
     #[tactic(auto, unfolding(crate::specs::Shown::block_shown))]
     pub(crate) fn block(&mut self, pid: u32, number: u32) -> Option<Block>
-        ensures told { result ≡ block_shown self.old.slot.core pid number }
-        ensures same { self.new.slot.core ≡ self.old.slot.core }
+        ensures { Tells (block_shown self.old.slot.core pid number) result
+            self.old.slot.core self.new.slot.core }
     {
         if number > 255 {
             return None;
@@ -114,46 +113,46 @@ impl Vlm {
 
     /// How many ASTs are pending for a process.
     pub(crate) fn pending(&mut self, pid: u32) -> Option<usize>
-        ensures told { result ≡ pending_shown self.old.slot.core pid }
-        ensures same { self.new.slot.core ≡ self.old.slot.core }
+        ensures { Tells (pending_shown self.old.slot.core pid) result
+            self.old.slot.core self.new.slot.core }
     {
         self.with_core(|core| core.pending(pid))?
     }
 
     pub(crate) fn process_count(&mut self) -> usize
-        ensures told { result ≡ process_count_shown self.old.slot.core }
-        ensures same { self.new.slot.core ≡ self.old.slot.core }
+        ensures { Tells (process_count_shown self.old.slot.core) result
+            self.old.slot.core self.new.slot.core }
     {
         self.with_core(|core| core.process_count()).unwrap_or(0)
     }
 
     /// The living process at a place, from 0.
     pub(crate) fn process(&mut self, place: usize) -> Option<ProcessView>
-        ensures told { result ≡ process_shown self.old.slot.core place }
-        ensures same { self.new.slot.core ≡ self.old.slot.core }
+        ensures { Tells (process_shown self.old.slot.core place) result
+            self.old.slot.core self.new.slot.core }
     {
         self.with_core(|core| core.process_at(place))?
     }
 
     pub(crate) fn resource_count(&mut self) -> usize
-        ensures told { result ≡ count_shown self.old.slot.core }
-        ensures same { self.new.slot.core ≡ self.old.slot.core }
+        ensures { Tells (count_shown self.old.slot.core) result
+            self.old.slot.core self.new.slot.core }
     {
         self.with_core(|core| core.resource_count()).unwrap_or(0)
     }
 
     /// The resource at a place, from 0.
     pub(crate) fn resource(&mut self, place: usize) -> Option<ResourceView>
-        ensures told { result ≡ resource_shown self.old.slot.core place }
-        ensures same { self.new.slot.core ≡ self.old.slot.core }
+        ensures { Tells (resource_shown self.old.slot.core place) result
+            self.old.slot.core self.new.slot.core }
     {
         self.with_core(|core| core.resource_at(place))?
     }
 
     /// The lock at a place in a queue of a resource, each from 0.
     pub(crate) fn row(&mut self, resource: usize, queue: u32, place: usize) -> Option<RowView>
-        ensures told { result ≡ row_shown_at self.old.slot.core resource queue place }
-        ensures same { self.new.slot.core ≡ self.old.slot.core }
+        ensures { Tells (row_shown_at self.old.slot.core resource queue place) result
+            self.old.slot.core self.new.slot.core }
     {
         let queue = queue_of(queue)?;
         self.with_core(|core| core.row_at(resource, queue, place))?
