@@ -87,7 +87,7 @@ def sizes(_program):
     if len(held) != 2:
         yield f"the tests hold {sorted(held)}"
     for page in PAGES:
-        for kind, size in re.findall(r"record of a (lock|resource) takes (\d+) bytes", page.read_text()):
+        for kind, size in re.findall(r"record of a (lock|resource)(?: takes)? at most (\d+)(?: bytes)?", page.read_text()):
             if (kind, size) not in held:
                 yield f"{page.name}: the record of a {kind} takes {size} bytes"
 

@@ -3,7 +3,7 @@
 //! | Module | Role |
 //! |---|---|
 //! | `exports` | the calls of include/vlm.h |
-//! | `words` | reads arguments as steps of the core |
+//! | `arguments` | reads arguments as steps of the core |
 //! | `replies` | turns answers into values for C |
 //! | `shown` | the structs that readers copy out |
 //! | `handle` | the handle, which lends its core to a call |
