@@ -1,4 +1,4 @@
--- The locks that are first in line on their resources.
+-- The locks with the first queued request on their resources.
 use Rattle.std.specs.Prelude.{◌≡◌, ℕ, List, ◌++◌, Some}
 use Rattle.vlm_words.specs.declared.locks.LockRow.{LockRow}
 use Rattle.vlm_words.specs.declared.resources.Queue.TheVariants.{Conversion, Waiting}
@@ -16,6 +16,6 @@ rows_queued_on res s = rows_queued res Conversion s ++ rows_queued res Waiting s
 abbrev pub IsFirstOn : Records → ℕ → ℕ → Type 0
 IsFirstOn s at res = first_at (locks_at (Queued res Conversion) s ++ locks_at (Queued res Waiting) s) ≡ Some at
 
--- the request of the row is queued on a resource on which one of these locks is the first in line
+-- the row's request is queued on a resource on which one of these locks has the first queued request
 abbrev pub IsLed : Records → List ℕ → LockRow → Type 0
 IsLed s handles row = (at : ℕ) × (res : ℕ) × (IsIn at handles × IsFirstOn s at res × IsIn row (rows_queued_on res s))

@@ -1,4 +1,4 @@
--- Ranks of processes, and what a gauge of a resource has counted of them.
+-- Ranks of processes, and their bounds on a resource.
 use Rattle.std.specs.Prelude.{◌≡◌, ◌≢◌, ◌<◌, ◌≤◌, ◌==◌, ℕ, false, List, Option, None, Some, find, slice_get, slice_index_or}
 use Rattle.std.specs.Option.{option_map_or}
 use Rattle.vlm_words.specs.declared.locks.Request.{Request}
@@ -73,7 +73,7 @@ IsAbove peaks held lkid top =
 abbrev pub IsAboveAll : List HighestRank → Mode → ℕ → ℕ → Type 0
 IsAboveAll peaks mode lkid top = (held : Mode) → is_compatible mode held ≡ false → IsAbove peaks held lkid top
 
--- ---- the gauge of a resource
+-- ---- the blocker ranks of a resource
 
 -- the ranks of the owners whose requests block later ones are below the bound for earlier requests
 abbrev pub HasPassedAll : Records → Ranks → ℕ → List LockRow → Type 0
@@ -86,7 +86,7 @@ HasPassed s ranks before res Granted = Unit {0}
 HasPassed s ranks before res Conversion = Unit {0}
 HasPassed s ranks before res Waiting = HasPassedAll s ranks before (rows_queued res Conversion s)
 
--- the gauge of a resource, at the head of a queue: it has counted all that is held there, and passed the queue before
+-- the blocker ranks of a resource at the head of a queue: all held modes are counted, and the queue before is passed
 pub record AreBlockerRanksOf (s : Records) (ranks : Ranks) (blocker_ranks : BlockerRanks) (res : ℕ) (queue : Queue) : Type 0 where
   pub granted : CountsHolders s ranks blocker_ranks.held (rows_queued res Granted s)
   pub converting : CountsHolders s ranks blocker_ranks.held (rows_queued res Conversion s)
@@ -98,13 +98,13 @@ pub record AreBlockerRanksAt (s : Records) (ranks : Ranks) (blocker_ranks : Bloc
   pub converting : CountsHolders s ranks blocker_ranks.held (rows_queued f.res Conversion s)
   pub passed : (pid : ℕ) → OwnsBefore f.row.lkid f.queue (rows_queued f.res Conversion s) (rows_queued f.res Waiting s) pid → rank_of s ranks pid < blocker_ranks.before
 
--- the gauge passes a queue
+-- the blocker ranks pass a queue
 pub record PassesQueue (s : Records) (ranks : Ranks) (rows : List LockRow) (old new : BlockerRanks) : Type 0 where
   pub held : new.held ≡ old.held
   pub before : old.before ≤ new.before
   pub passed : HasPassedAll s ranks new.before rows
 
--- the gauge passes one request, whose owner has this rank
+-- the blocker ranks pass one request, whose owner has this rank
 pub record PassesOne (row : LockRow) (rank : ℕ) (old new : BlockerRanks) : Type 0 where
   pub held : new.held ≡ old.held
   pub before : old.before ≤ new.before

@@ -1,4 +1,4 @@
-//! The gauge of a resource: bounds of the ranks for which its queued requests wait.
+//! Bounds of the ranks for which the queued requests of a resource wait.
 
 ghost use Rattle.std.specs.Prelude.{◌≡◌, ◌≢◌, ◌<◌, ◌≤◌, ℕ, Some, false};
 ghost use Rattle.vlm_words.specs.declared.locks.Request.{Request};
@@ -66,7 +66,7 @@ pub(crate) struct BlockerRanks {
 }
 
 impl BlockerRanks {
-    /// A gauge of no locks and no requests.
+    /// The bounds of no locks and no requests.
     pub(crate) fn new() -> BlockerRanks {
         let none = HighestRank {
             lkid: 0,

@@ -1,4 +1,4 @@
-//! The locks that are first in line on their resources.
+//! The locks with the first queued request on their resources.
 
 ghost use Rattle.std.specs.Prelude.{◌≡◌, ◌++◌, ℕ, Some};
 ghost use Rattle.std.specs.Option.{ForSome};
@@ -12,7 +12,7 @@ use vlm_store::laws::law_records_are_sound;
 use vlm_store::{LockAt, ResAt, Store};
 use vlm_words::resources::Queue;
 
-// The first in line on a resource, if a request is queued there.
+// The lock with the first queued request on a resource, if there is one.
 fn first_queued(store: &Store, res: ResAt) -> Option<LockAt>
     requires { HasResource res store.now }
     ensures { result ≡ first_at (locks_at (Place.Queued res Queue.Conversion) store.now
@@ -24,7 +24,7 @@ fn first_queued(store: &Store, res: ResAt) -> Option<LockAt>
     }
 }
 
-/// The resource on which a lock is the first in line, if there is one. Each resource with queued requests has one such
+/// The resource on which a lock has the first queued request, if there is one. Each resource with queued requests has one such
 /// lock. So a walk along all queued locks comes to each of these resources once.
 pub(crate) fn resource_of_first(store: &Store, lock: LockAt) -> Option<ResAt>
     requires { IsStored lock store.now }

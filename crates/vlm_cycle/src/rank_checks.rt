@@ -110,7 +110,7 @@ fn check_ranks_of_resource(
     )
 }
 
-// Takes in the requests of a resource, if this lock is the first in line there.
+// Takes in the requests of a resource, if this lock has the first of them.
 fn check_ranks_of_first(
     store: &Store,
     ranks: &Ranks,

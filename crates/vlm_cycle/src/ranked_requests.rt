@@ -96,7 +96,7 @@ fn hold_queue(
     }
 }
 
-/// The gauge of a resource. The cost grows with the locks that hold a mode on it.
+/// The bounds of a resource before its first queued request. The cost grows with the locks that hold a mode on it.
 pub(crate) fn blocker_ranks_of(store: &Store, ranks: &Ranks, res: ResAt) -> BlockerRanks
     requires there { HasResource res store.now }
     ensures { AreBlockerRanksOf store.now ranks.now result res Queue.Conversion }

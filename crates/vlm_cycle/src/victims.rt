@@ -172,7 +172,7 @@ fn best_of_resource(
     )
 }
 
-// The best so far, or a better one of a resource, if this lock is the first in line there.
+// The best so far, or a better one of a resource, if this lock has the first queued request there.
 fn best_of_led(
     store: &Store,
     scratch: &mut Scratch,

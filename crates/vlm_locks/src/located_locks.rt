@@ -39,7 +39,7 @@ impl LocatedLock {
     }
 }
 
-/// The standing of a lock with this handle. Each lock is in a queue.
+/// Locates the lock with this handle. Each lock is in a queue.
 pub fn located_lock(store: &Store, lock: LockAt) -> LocatedLock
     requires rest { IsAtRest store.now }
     requires stored { IsStored lock store.now }

@@ -1,4 +1,4 @@
-//! The entry of a new lock.
+//! A new lock enters its resource.
 
 ghost use Rattle.std.specs.Prelude.{◌≡◌, ◌≤◌, true, None, Some, IfOk, IfSome, IsOk, OnErr, OnOk};
 ghost use Rattle.vlm_words.specs.declared.locks.Request.{Request};

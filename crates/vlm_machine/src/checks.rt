@@ -149,7 +149,7 @@ impl Machine {
         find_lock(&self.store, caller.pid, lkid).ok_or(Cond::Ivlockid)
     }
 
-    /// The standing of a lock that a check has found.
+    /// Locates a lock that a check has found.
     pub(crate) fn located(&self, lock: LockAt) -> LocatedLock
         requires { IsStored lock self.now.records }
         ensures lock { result.lock ≡ lock }

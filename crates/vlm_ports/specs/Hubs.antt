@@ -91,15 +91,15 @@ abbrev pub MayIdle : Hub → Type 0
 MayIdle h = (node : ℕ) → 0 < node → node ≤ nodes h
     → (free_for h node ≡ 0) ⊎ ((first_pending node (state h).processes ≡ None) × (waiting h node ≡ []))
 
--- nothing is left to draw for the line at a place
+-- nothing is left to draw for the node at a place
 abbrev pub IsDrawnAt : Hub → ℕ → Type 0
 IsDrawnAt h k = (d : NodeRings) → IsDrawn (state h) (slice_index_or h.all_node_rings.items k d)
 
--- the line at a place may rest
+-- the node at a place may rest
 abbrev pub MayRestAt : Hub → ℕ → Type 0
 MayRestAt h k = (d : NodeRings) → MayRest (state h) (slice_index_or h.all_node_rings.items k d)
 
--- only the line at a place has changed, and not the state
+-- only the rings at a place have changed, and not the state
 pub record IsSameBut (at : ℕ) (old new : Hub) : Type 0 where
   pub state : new.book.state ≡ old.book.state
   pub all_node_rings : (k : ℕ) (d : NodeRings) → (k ≡ at → ⊥) → slice_index_or new.all_node_rings.items k d ≡ slice_index_or old.all_node_rings.items k d
@@ -137,7 +137,7 @@ IsAsWritten old new = (journal new ≡ journal old) × (state new ≡ state old)
 abbrev pub NoneAsks : List Entry → List Entry → Type 0
 NoneAsks old new = (k : ℕ) → asked (k + 1) new ≡ asked (k + 1) old
 
--- these entries have at most one request, of the node of the line at a place
+-- these entries have at most one request, of the node at a place
 pub record OneAsks (at : ℕ) (old new : List Entry) : Type 0 where
   pub own : length (asked (at + 1) new) ≤ length (asked (at + 1) old) + 1
   pub others : (k : ℕ) → (k ≡ at → ⊥) → asked (k + 1) new ≡ asked (k + 1) old

@@ -140,15 +140,15 @@ but_requeued l = record l { row = named_row l.row; place = no_place; in_queue = 
 abbrev pub but_in_armed : Lock → Lock
 but_in_armed l = record l { in_above_nl = no_links; in_above_cr = no_links }
 
--- the lock without its links in the line
+-- the lock without its links in the wait list
 abbrev pub but_in_wait_list : Lock → Lock
 but_in_wait_list l = record l { in_wait_list = no_links }
 
--- the lock without its lists on a resource, the line, and the changing part of its row
+-- the lock without its lists on a resource, the wait list, and the changing part of its row
 abbrev pub but_queued : Lock → Lock
 but_queued l = but_in_wait_list (but_in_armed (but_requeued l))
 
--- the lock without its links in the line, its process and its parent's sublocks, and without its own sublocks
+-- the lock without its links in the wait list, its process and its parent's sublocks, and without its own sublocks
 abbrev pub but_kin : Lock → Lock
 but_kin l = but_in_wait_list (record l { of_process = no_links; of_parent = no_links; sublocks = no_list })
 

@@ -16,7 +16,7 @@ pub struct InAboveNl;
 /// Marks the lists of armed granted locks that hold more than CR, in the same order.
 pub struct InAboveCr;
 
-/// Marks the line: the queued locks of all resources, in the order of queueing.
+/// Marks the wait list: the queued locks of all resources, in the order of queueing.
 pub struct InWaitList;
 
 /// Marks the lists of the locks of a process, in the order of making.
@@ -39,7 +39,7 @@ pub struct Lock {
     pub(crate) in_above_nl: Links,
     // its neighbours in the armed locks above CR, if it is one of them
     pub(crate) in_above_cr: Links,
-    // its neighbours in the line, if its request is queued
+    // its neighbours in the wait list, if its request is queued
     pub(crate) in_wait_list: Links,
     /// The process that owns it.
     pub owner: ProcAt,

@@ -215,7 +215,7 @@ impl Queues {
     }
 
     /// Adds a lock at the end of a queue. The caller made the room, and adds the lock to its process, its parent lock
-    /// and the line.
+    /// and the wait list.
     pub fn add(
         &mut self,
         row: &StoredRow,

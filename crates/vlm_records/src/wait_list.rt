@@ -1,4 +1,4 @@
-//! Locks join and leave the line, the list of all queued locks.
+//! Locks join and leave the wait list, which has all queued locks.
 
 ghost use Rattle.std.specs.Prelude.{◌≡◌, ◌≤◌, None, Some};
 ghost use Rattle.slab.specs.Slab.{get, ContainsKey};
@@ -10,7 +10,7 @@ use crate::locks::{InWaitList, Lock};
 use slab::Slab;
 use vlm_collections::{LAST_HANDLE, LinkedList};
 
-/// Takes a lock out of the line, if its place is a conversion or waiting queue.
+/// Takes a lock out of the wait list, if its place is a conversion or waiting queue.
 pub fn leave_wait_list(
     locks: &mut Slab<Lock>,
     wait_list: &mut LinkedList<InWaitList>,
@@ -28,7 +28,7 @@ pub fn leave_wait_list(
     }
 }
 
-/// Puts a lock at the end of the line, if its place is a conversion or waiting queue.
+/// Puts a lock at the end of the wait list, if its place is a conversion or waiting queue.
 pub fn join_wait_list(
     locks: &mut Slab<Lock>,
     wait_list: &mut LinkedList<InWaitList>,

@@ -42,7 +42,7 @@ records_shown s = records_of (tables s.queues s.order (beside_shown s))
 abbrev pub found_in : Inside → Key → Option ℕ
 found_in s key = found_by s.resource_index s.queues.resources (hashed (hash_key s.keys) key)
 
--- the invariant of a store: each lock is in the lists that it notes, and in the line exactly if its request is
+-- the invariant of a store: each lock is in the lists that it notes, and in the wait list exactly if its request is
 -- queued; each resource counts its locks and lists the armed ones; resources and processes are in their orders; each
 -- index finds exactly what exists; the marks are exactly the living processes, and those with a pending AST
 pub record IsKept (s : Inside) : Type 0 where
