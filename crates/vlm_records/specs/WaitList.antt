@@ -1,4 +1,4 @@
--- The line: the list of the queued locks of all resources.
+-- The wait list: the queued locks of all resources.
 use Rattle.std.specs.Prelude.{Bool, true, false, ℕ, List, Option, None, Some}
 use Rattle.slab.specs.Slab.{Slab}
 use Rattle.vlm_collections.specs.declared.link.Links.{Links}
