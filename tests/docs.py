@@ -199,8 +199,11 @@ def parts(_program):
 
 
 def functions(_program):
-    """Each function whose name a page gives is there: names of four words and more, such as those of tests."""
+    """Each function and definition whose name a page gives is there: names of four words and more, such as those of
+    tests."""
     there = {name for file in sources() for name in re.findall(r"\bfn (\w+)", file.read_text())}
+    for file in (TOP / "crates").glob("*/specs/*.antt"):
+        there |= set(re.findall(r"^(?:abbrev|unfoldable) pub (\w+) :", file.read_text(), re.M))
     for page in PAGES:
         for name in sorted(set(re.findall(r"`([a-z]+(?:_[a-z0-9]+){3,})`", page.read_text())) - there):
             yield f"{page.name}: no function {name}"
