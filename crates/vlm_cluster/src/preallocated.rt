@@ -11,7 +11,7 @@ use std::sync::Arc;
 use std::thread::PromisedHandle;
 use vlm_journal::entries::Item;
 
-/// The memory of a run, except that of its items and entries.
+/// The memory of a run, without its items and entries.
 #[derive(Drop)]
 pub(crate) struct Preallocated<G: Gate> {
     pub(crate) signals: Arc<Signals>,

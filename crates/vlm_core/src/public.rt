@@ -151,9 +151,9 @@ impl Core {
         self.step(Step::Take(pid))
     }
 
-    /// Asks for a new lock ($ENQ). The resource is below that of a parent lock of the caller, or a root: in the caller's
-    /// group, or with SYSTEM in the system's domain. The answer is NORMAL, or SYNCH if the lock is granted at once with
-    /// SYNCSTS.
+    /// Asks for a new lock ($ENQ). With a parent lock of the caller, the resource is below the parent's resource. Without
+    /// one it is a root: in the caller's group, or with SYSTEM in the system's domain. The answer is NORMAL, or SYNCH if
+    /// the lock is granted at once with SYNCSTS.
     ///
     /// With VALBLK the grant returns the resource's value block: the 16 bytes, and with WIDE the tail too (this
     /// project's own). The status block then has VALNOTVALID if the 16 bytes are invalid. With WIDE it has WIDENOTVALID
@@ -177,7 +177,7 @@ impl Core {
     /// conversion is granted at once with SYNCSTS.
     ///
     /// With VALBLK the grant returns the resource's value block, writes it, or does neither, by the held and the wanted
-    /// mode. A return is reported as that of a new request is. A write takes the value part of the status block, and
+    /// mode. A return is reported as for a new request. A write takes the value part of the status block, and
     /// with WIDE its tail (this project's own). The written bytes are valid; without WIDE the tail keeps its bytes and
     /// becomes invalid. If the request names a completion routine, its end queues an AST for that routine to the
     /// caller, except a grant at once with SYNCSTS. Its blocking routine, or none, replaces the lock's own with the
@@ -235,7 +235,7 @@ impl Core {
     /// Lets a node depart (this project's own). All its processes end as by a rundown, and all their locks go before
     /// anything is granted. From then on each step of the node is answered DEPARTED. It takes no memory, and answers
     /// NORMAL. Refusals, in this order: BADPARAM if the node is not 1 to 8; DEPARTED if it has departed before. The
-    /// cost grows with the processes and the locks that go, as that of a rundown does.
+    /// cost grows with the processes and the locks that go, like the cost of a rundown.
     pub fn leave(&mut self, node: u8) -> Answer
         ensures { IsMadeAlways self.old (Step.Leave node) self.new result }
     {

@@ -69,7 +69,7 @@ fn best_guess(
     None
 }
 
-// The lock, if its request is deadlocked and more recent than that of the best; else the best. If no process waits for
+// The lock, if its request is deadlocked and more recent than the best one's; else the best. If no process waits for
 // one of a higher rank, a request that waits only for lower ranks is not deadlocked, and needs no search.
 fn better(
     store: &Store,

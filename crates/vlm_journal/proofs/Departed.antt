@@ -18,7 +18,7 @@ use Rattle.vlm_model.specs.Departing.{DepartedNodesAreToldSo, HasLeft, IsDepartu
 use Rattle.vlm_model.specs.Happened.{HasHappened}
 use Rattle.vlm_model.proofs.Happened.{all_answered, happened_before, happened_now}
 use Rattle.vlm_journal.specs.declared.entries.Entry.{Entry}
-use Rattle.vlm_journal.specs.Books.{GoesOn}
+use Rattle.vlm_journal.specs.Accounts.{GoesOn}
 use Rattle.vlm_journal.specs.Departed.{IsAnsweredDeparted, ShowsDeparture, StaysDeparted}
 use Rattle.vlm_journal.specs.Journals.{IsAllowed, Journal, JournalFrom, answers_of, begin, next, steps_of}
 use Rattle.vlm_journal.proofs.Joining.{join, last_of, run_of}
@@ -98,9 +98,9 @@ module _ (law : (history : History) (last : State) → Run history last → Depa
 
   pub departs_by : {base : ℕ} {last : State} (entries : List Entry) (entry : Entry) → GoesOn base (entries ++ entry ∷ []) last
       → (node : ℕ) → ShowsDeparture node entry → HasDeparted last node
-  departs_by {last = last} entries entry book node shows =
-      let parts = last_of book.cut entries entry book.since refl in
-      let legal = run_of start (join start book.before entries book.handed_out parts.1) in
+  departs_by {last = last} entries entry journaled node shows =
+      let parts = last_of journaled.cut entries entry journaled.since refl in
+      let legal = run_of start (join start journaled.before entries journaled.handed_out parts.1) in
       shown legal.history parts.0 last entry legal.run parts.3 node shows
 
   -- one entry more behind a departure
@@ -128,8 +128,8 @@ module _ (law : (history : History) (last : State) → Run history last → Depa
 
   pub stays_departed : {base : ℕ} {entries more : List Entry} {between last : State} → GoesOn base entries between → JournalFrom between more last
       → (node : ℕ) → HasDeparted between node → StaysDeparted node more last
-  stays_departed {entries = entries} {more} book journal node gone =
-      let both = behind_each (join start book.before entries book.handed_out book.since) node gone journal in
+  stays_departed {entries = entries} {more} journaled journal node gone =
+      let both = behind_each (join start journaled.before entries journaled.handed_out journaled.since) node gone journal in
       record {
         departed = both.0;
         told = All-from_recursion (λ (e : Entry). e.sender ≡ node → e.answer ≡ Plain departed_cond) more both.1;

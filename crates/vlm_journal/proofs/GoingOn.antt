@@ -1,4 +1,4 @@
--- A book goes on with a legal journal.
+-- A journaled core goes on with a legal journal.
 use Rattle.std.proofs.Common.{◌≡◌, ◌+◌, ◌-◌, ◌^◌, ℕ, List, [], ◌∷◌, ◌++◌, length, refl, sym, ap, ◌∙◌, arith, Some, min}
 use Rattle.std.proofs.lemmas.List.{length-append}
 use Rattle.vlm_words.specs.declared.steps.Answer.{Answer}
@@ -7,9 +7,9 @@ use Rattle.vlm_model.specs.Pending.{first_pending}
 use Rattle.vlm_model.specs.Runs.{History, Run}
 use Rattle.vlm_words.specs.State.{State, start}
 use Rattle.vlm_model.specs.Stepped.{Outcome}
-use Rattle.vlm_journal.specs.Books.{GoesOn}
+use Rattle.vlm_journal.specs.Accounts.{GoesOn}
 use Rattle.vlm_journal.specs.declared.entries.Entry.{Entry}
-use Rattle.vlm_journal.specs.Drawing.{GivesAst}
+use Rattle.vlm_journal.specs.Delivery.{GivesAst}
 use Rattle.vlm_journal.specs.Journals.{IsAllowed, JournalFrom, begin, next}
 use Rattle.vlm_journal.proofs.Joining.{join, run_of}
 
@@ -20,12 +20,12 @@ begins = record { before = []; counted = refl; cut = start; handed_out = begin; 
 -- with one entry more
 pub goes_on : {base : ℕ} {entries : List Entry} {old new : State} (entry : Entry) → GoesOn base entries old → IsAllowed entry → Outcome old entry.step new entry.answer
     → GoesOn base (entries ++ entry ∷ []) new
-goes_on entry book allowed outcome = record {
-  before = book.before;
-  counted = book.counted;
-  cut = book.cut;
-  handed_out = book.handed_out;
-  since = next book.since allowed outcome;
+goes_on entry journaled allowed outcome = record {
+  before = journaled.before;
+  counted = journaled.counted;
+  cut = journaled.cut;
+  handed_out = journaled.handed_out;
+  since = next journaled.since allowed outcome;
 }
 
 -- as many as were handed out, and these
@@ -34,24 +34,24 @@ counts_on before entries most = grind arith
 
 -- behind a cut
 pub goes_on_behind : {base : ℕ} {entries : List Entry} {last : State} → GoesOn base entries last → GoesOn (min (base + length entries) (2 ^ 64 - 1)) [] last
-goes_on_behind {base} {entries} {last} book = record {
-  before = book.before ++ entries;
+goes_on_behind {base} {entries} {last} journaled = record {
+  before = journaled.before ++ entries;
   counted =
-      ap (λ n. min (n + length entries) (2 ^ 64 - 1)) book.counted
-      ∙ counts_on (length book.before) (length entries) (2 ^ 64 - 1)
-      ∙ ap (λ n. min n (2 ^ 64 - 1)) (sym (length-append book.before entries));
+      ap (λ n. min (n + length entries) (2 ^ 64 - 1)) journaled.counted
+      ∙ counts_on (length journaled.before) (length entries) (2 ^ 64 - 1)
+      ∙ ap (λ n. min n (2 ^ 64 - 1)) (sym (length-append journaled.before entries));
   cut = last;
-  handed_out = join start book.before entries book.handed_out book.since;
+  handed_out = join start journaled.before entries journaled.handed_out journaled.since;
   since = begin;
 }
 
 -- where an AST is pending for a node, a take of its process answers one
-pub draws : {base : ℕ} {entries : List Entry} {last new : State} {node pid : ℕ} {answer : Answer}
+pub delivers : {base : ℕ} {entries : List Entry} {last new : State} {node pid : ℕ} {answer : Answer}
     → ((history : History) (s : State) → Run history s → (node pid : ℕ) → first_pending node s.processes ≡ Some pid
     → (t : State) (a : Answer) → Outcome s (Take pid) t a → GivesAst node pid a)
     → GoesOn base entries last → first_pending node last.processes ≡ Some pid → Outcome last (Take pid) new answer → GivesAst node pid answer
-draws {entries = entries} {last} {new} {node} {pid} {answer} law book pending outcome =
-    let legal = run_of start (join start book.before entries book.handed_out book.since) in
+delivers {entries = entries} {last} {new} {node} {pid} {answer} law journaled pending outcome =
+    let legal = run_of start (join start journaled.before entries journaled.handed_out journaled.since) in
     law legal.history last legal.run node pid pending new answer outcome
 
 -- one entry leads from the state before it to that behind it

@@ -5,4 +5,4 @@ pub mod Worlds
 pub mod OwnSteps
 pub mod GoingOn
 pub mod Departed
-pub mod Drawing
+pub mod Delivery

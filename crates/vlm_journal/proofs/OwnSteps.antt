@@ -5,7 +5,7 @@ use Rattle.vlm_words.specs.declared.steps.Step.TheVariants.{Leave, Take}
 use Rattle.vlm_words.specs.declared.steps.Step.{Step}
 use Rattle.vlm_journal.specs.declared.entries.Entry.{Entry}
 use Rattle.vlm_journal.specs.Told.{asked}
-use Rattle.vlm_journal.specs.Worlds.{Event, Happens, Reached, World, begin, draw, lose, next, own_step, own_steps, post, send, serve, take}
+use Rattle.vlm_journal.specs.Worlds.{Event, Happens, Reached, World, begin, deliver, lose, next, own_step, own_steps, post, send, serve, take}
 use Rattle.vlm_journal.proofs.Appending.{asks_no_other, asks_step}
 
 -- one event more
@@ -22,7 +22,7 @@ added nodes w (serve node) v h =
     ap (λ (x : World). asked 0 x.journal) h.becomes
     ∙ asks_no_other 0 w.journal e (λ is. omega (arith, is, h.node_is.0))
     ∙ sym (append-nil (asked 0 w.journal))
-added nodes w (draw pid) v h =
+added nodes w (deliver pid) v h =
     let e : Entry = record { sender = 0; step = Take pid; answer = Taken (Some h.ast) } in
     ap (λ (x : World). asked 0 x.journal) h.becomes ∙ asks_step w.journal e
 added nodes w (lose node) v h =

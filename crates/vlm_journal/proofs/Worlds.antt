@@ -10,7 +10,7 @@ use Rattle.vlm_words.specs.declared.steps.Step.{Step}
 use Rattle.vlm_journal.specs.declared.entries.Entry.{Entry}
 use Rattle.vlm_journal.specs.Journals.{IsPostOf, Journal, begin as journal_begin, leaves, next as journal_next, takes}
 use Rattle.vlm_journal.specs.Told.{told}
-use Rattle.vlm_journal.specs.Worlds.{Event, Happens, IsInOrder, IsNext, IsNode, IsRight, Lists, Reached, World, begin, draw, lose, next, post, send, serve, take, with_lists_of}
+use Rattle.vlm_journal.specs.Worlds.{Event, Happens, IsInOrder, IsNext, IsNode, IsRight, Lists, Reached, World, begin, deliver, lose, next, post, send, serve, take, with_lists_of}
 use Rattle.vlm_journal.proofs.Appending.{asks_no_other, asks_step, told-append}
 use Rattle.vlm_journal.proofs.Lists.{prefix_more}
 
@@ -118,7 +118,7 @@ module _ (n : ℕ) (few : n ≤ 8) where
         legal = journal_next kept.legal (inr (h.node_is.0, omega (arith, h.node_is.1, few), own)) h.outcome;
         nodes = λ j is. with_cases (λ m x. Fine m (w.journal ++ e ∷ []) x) w.lists k l here j (λ ne. fine_entry j w.journal e (w.lists j) ne (kept.nodes j is));
       })
-  keeps w (draw pid) v kept h =
+  keeps w (deliver pid) v kept h =
       let e : Entry = record { sender = 0; step = Take pid; answer = Taken (Some h.ast) } in
       subst (λ x. Kept n x) (sym h.becomes) (record {
         legal = journal_next kept.legal (inl (refl, takes pid h.ast)) h.outcome;

@@ -2,7 +2,7 @@ pub mod Journals
 pub mod Told
 pub mod Lengthening
 pub mod Departed
-pub mod Drawing
+pub mod Delivery
 pub mod Worlds
-pub mod Books
+pub mod Accounts
 pub mod Written

@@ -46,11 +46,11 @@ with_entry w entry state lists = record { journal = w.journal ++ entry ∷ []; s
 abbrev pub with_node : World → ℕ → Lists → World
 with_node w node own = record { journal = w.journal; state = w.state; lists = with_lists_of w.lists node own }
 
--- the kinds of event: of a node, or a draw of a process
+-- the kinds of event: of a node, or a delivery to a process
 pub data Event : Type 0 where
   post : ℕ → Step → Event
   serve : ℕ → Event
-  draw : ℕ → Event
+  deliver : ℕ → Event
   lose : ℕ → Event
   send : ℕ → Event
   take : ℕ → Event
@@ -82,7 +82,7 @@ pub record Serves (nodes : ℕ) (w : World) (node : ℕ) (v : World) : Type 0 wh
       (with_lists_of w.lists node (record (w.lists node) { served = (w.lists node).served ++ step ∷ [] }))
 
 -- the hub takes an AST of a process, and writes an entry
-pub record Draws (w : World) (pid : ℕ) (v : World) : Type 0 where
+pub record Delivers (w : World) (pid : ℕ) (v : World) : Type 0 where
   pub ast : Ast
   pub state : State
   pub outcome : Outcome w.state (Take pid) state (Taken (Some ast))
@@ -114,14 +114,14 @@ pub record Takes (nodes : ℕ) (w : World) (node : ℕ) (v : World) : Type 0 whe
 abbrev pub Happens : ℕ → World → Event → World → Type 0
 Happens nodes w (post node step) v = Posts nodes w node step v
 Happens nodes w (serve node) v = Serves nodes w node v
-Happens nodes w (draw pid) v = Draws w pid v
+Happens nodes w (deliver pid) v = Delivers w pid v
 Happens nodes w (lose node) v = Loses w node v
 Happens nodes w (send node) v = Sends nodes w node v
 Happens nodes w (take node) v = Takes nodes w node v
 
--- the step that the hub itself asks for at an event: the take of a draw, or the departure of a lost node
+-- the step that the hub itself asks for at an event: the take of a delivery, or the departure of a lost node
 abbrev pub own_step : Event → List Step
-own_step (draw pid) = Take pid ∷ []
+own_step (deliver pid) = Take pid ∷ []
 own_step (lose node) = Leave node ∷ []
 own_step (post node step) = []
 own_step (serve node) = []

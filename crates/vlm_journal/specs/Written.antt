@@ -1,8 +1,8 @@
--- The change of a book by one entry.
+-- The change of a journaled core by one entry.
 use Rattle.std.specs.Prelude.{◌≡◌, ◌+◌, ◌++◌, ◌∷◌, ℕ, []}
 use Rattle.vlm_model.specs.Reasons.{HasDeparted}
 use Rattle.vlm_journal.specs.declared.entries.Entry.{Entry}
-use Rattle.vlm_journal.specs.Books.{Account}
+use Rattle.vlm_journal.specs.Accounts.{Account}
 use Rattle.vlm_journal.specs.Departed.{StaysDeparted}
 use Rattle.vlm_journal.specs.Journals.{JournalFrom}
 use Rattle.vlm_journal.specs.Lengthening.{LengthensLittle}

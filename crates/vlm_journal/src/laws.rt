@@ -10,9 +10,9 @@ ghost use Rattle.vlm_model.specs.Runs.{History, Legal, Run};
 ghost use Rattle.vlm_words.specs.State.{State};
 ghost use Rattle.vlm_model.specs.Stepped.{Outcome};
 ghost use Rattle.vlm_journal.specs.declared.entries.Entry.{Entry};
-ghost use Rattle.vlm_journal.specs.Books.{GoesOn};
+ghost use Rattle.vlm_journal.specs.Accounts.{GoesOn};
 ghost use Rattle.vlm_journal.specs.Departed.{IsAnsweredDeparted, ShowsDeparture, StaysDeparted};
-ghost use Rattle.vlm_journal.specs.Drawing.{GivesAst};
+ghost use Rattle.vlm_journal.specs.Delivery.{GivesAst};
 ghost use Rattle.vlm_journal.specs.Journals.{IsAllowed, Journal, JournalFrom, answers_of, steps_of};
 ghost use Rattle.vlm_journal.specs.Lengthening.{IsSilent, LengthensLittle};
 ghost use Rattle.vlm_journal.specs.Told.{asked};
@@ -67,7 +67,7 @@ pub fn law_departed()
 
 /// A take of the hub finds an AST: after every run, a take of the first process of a node with a pending AST is answered
 /// an AST, and that process is one of the node.
-pub fn law_draw()
+pub fn law_delivery()
     ensures { (history : History) (last : State) → Run history last
         → (node pid : ℕ) → first_pending node last.processes ≡ Some pid
         → (new : State) (answer : Answer) → Outcome last (Take pid) new answer

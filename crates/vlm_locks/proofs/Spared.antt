@@ -6,8 +6,8 @@ use Rattle.vlm_words.specs.declared.locks.Request.{Request}
 use Rattle.vlm_words.specs.declared.locks.LockRow.{LockRow}
 use Rattle.vlm_words.specs.declared.modes.Mode.{Mode}
 use Rattle.vlm_words.specs.declared.modes.Mode.TheVariants.{Nl, Cr, Cw, Pr, Pw, Ex}
-use Rattle.vlm_model.specs.Asts.{is_in_the_way, is_to_warn}
-use Rattle.vlm_words.specs.Rows.{keeps_out}
+use Rattle.vlm_model.specs.Asts.{blocks_a_request, is_to_warn}
+use Rattle.vlm_words.specs.Rows.{blocks_request}
 use Rattle.vlm_words.specs.Modes.{is_compatible, rank}
 use Rattle.vlm_records.specs.declared.handles.Armed.{Armed}
 use Rattle.vlm_records.specs.declared.handles.Armed.TheVariants.{AboveNl, AboveCr}
@@ -25,18 +25,18 @@ nl_fits Pr = refl
 nl_fits Pw = refl
 nl_fits Ex = refl
 
-nl_admits : (want : Option Request) → keeps_out Nl want ≡ false
+nl_admits : (want : Option Request) → blocks_request Nl want ≡ false
 nl_admits None = refl
 nl_admits (Some want) = rw (nl_fits want.mode) refl
 
-nl_admits_all : (rows : List LockRow) → list_any (λ row. keeps_out Nl row.want) rows ≡ false
+nl_admits_all : (rows : List LockRow) → list_any (λ row. blocks_request Nl row.want) rows ≡ false
 nl_admits_all [] = refl
 nl_admits_all (row ∷ rows) = rw (nl_admits row.want) (nl_admits_all rows)
 
 module _ (converting waiting : List LockRow) where
   -- a lock that holds the mode is in nobody's way
   abbrev pub IsFree : Mode → Type 0
-  IsFree mode = (list_any (λ row. keeps_out mode row.want) converting || list_any (λ row. keeps_out mode row.want) waiting) ≡ false
+  IsFree mode = (list_any (λ row. blocks_request mode row.want) converting || list_any (λ row. blocks_request mode row.want) waiting) ≡ false
 
   nl_is_free : IsFree Nl
   nl_is_free = rw (nl_admits_all converting, nl_admits_all waiting) refl
@@ -62,7 +62,7 @@ module _ (converting waiting : List LockRow) where
   unfolding is_to_warn
   spared which free row unlisted = of_parts row.armed row.held unlisted
     where
-      of_parts : (armed : Bool) (held : Option Request) → nat_lt (floor which) (if armed then held_rank held else 0) ≡ false → (armed && is_in_the_way held converting waiting) ≡ false
+      of_parts : (armed : Bool) (held : Option Request) → nat_lt (floor which) (if armed then held_rank held else 0) ≡ false → (armed && blocks_a_request held converting waiting) ≡ false
       of_parts false held low = refl
       of_parts true None low = refl
       of_parts true (Some held) low = free held.mode low
@@ -72,8 +72,8 @@ spares_above_nl res s r row found =
     spared (rows_of_locks r.converting) (rows_of_locks r.waiting) AboveNl (free_above_nl (rows_of_locks r.converting) (rows_of_locks r.waiting)) row
 
 pub spares_above_cr : (res : ℕ) (s : Records) → IfSome (resource_at res s.resources)
-    (λ r. false ≡ (list_any (λ row. keeps_out Cr row.want) (rows_of_locks r.converting) || list_any (λ row. keeps_out Cr row.want) (rows_of_locks r.waiting)))
+    (λ r. false ≡ (list_any (λ row. blocks_request Cr row.want) (rows_of_locks r.converting) || list_any (λ row. blocks_request Cr row.want) (rows_of_locks r.waiting)))
     → SparesOthers AboveCr res s
 spares_above_cr res s none r row found =
-    let cr = subst (λ o. IfSome o (λ r. false ≡ (list_any (λ row. keeps_out Cr row.want) (rows_of_locks r.converting) || list_any (λ row. keeps_out Cr row.want) (rows_of_locks r.waiting)))) found none in
+    let cr = subst (λ o. IfSome o (λ r. false ≡ (list_any (λ row. blocks_request Cr row.want) (rows_of_locks r.converting) || list_any (λ row. blocks_request Cr row.want) (rows_of_locks r.waiting)))) found none in
     spared (rows_of_locks r.converting) (rows_of_locks r.waiting) AboveCr (free_above_cr (rows_of_locks r.converting) (rows_of_locks r.waiting) (sym cr)) row

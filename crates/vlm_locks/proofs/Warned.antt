@@ -12,7 +12,7 @@ use Rattle.vlm_words.specs.declared.resources.Queue.{Queue}
 use Rattle.vlm_words.specs.declared.resources.Queue.TheVariants.{Granted, Conversion, Waiting}
 use Rattle.vlm_words.specs.Rows.{is_empty}
 use Rattle.vlm_words.specs.State.{Process, Resource}
-use Rattle.vlm_model.specs.Asts.{Queued as QueuedAst, blocking_asts, has_to_warn, is_in_the_way, is_to_warn, processes_after_asts, processes_after_queueing, resource_after_warning, row_after_warning, row_warnings, warnings}
+use Rattle.vlm_model.specs.Asts.{Queued as QueuedAst, blocking_asts, has_to_warn, blocks_a_request, is_to_warn, processes_after_asts, processes_after_queueing, resource_after_warning, row_after_warning, row_warnings, warnings}
 use Rattle.vlm_words.specs.Dues.{due_to, one_where, routines_of, row_due}
 use Rattle.vlm_model.proofs.Warned.{blind_warned}
 use Rattle.vlm_collections.specs.Lists.{IsIn}
@@ -65,7 +65,7 @@ armed_there res s row there warned = of_found (resource_at res s.resources) refl
   where
     of_found : (o : Option StoredResource) → resource_at res s.resources ≡ o → IsSome o → row.armed ≡ true
     of_found None found there = cc
-    of_found (Some r) found there = (and_parts row.armed (is_in_the_way row.held (rows_of_locks r.converting) (rows_of_locks r.waiting)) (warned r found)).0
+    of_found (Some r) found there = (and_parts row.armed (blocks_a_request row.held (rows_of_locks r.converting) (rows_of_locks r.waiting)) (warned r found)).0
 
 -- one that is not to be warned stays as it is
 pub lock_unwarned : (r : StoredResource) (lock : ℕ) (row : LockRow) (s : Records) → is_warned_on r row ≡ false → IsLockWarned r lock row s s
@@ -559,7 +559,7 @@ unwarned queued nothing row = rw (not_held row.held) (one row.armed)
     both : (is_empty queued.converting ≡ true) × (is_empty queued.waiting ≡ true)
     both = and_parts (is_empty queued.converting) (is_empty queued.waiting) nothing
 
-    not_held : (held : Option Request) → is_in_the_way held queued.converting queued.waiting ≡ false
+    not_held : (held : Option Request) → blocks_a_request held queued.converting queued.waiting ≡ false
     not_held None = refl
     not_held (Some held) = rw (empty_is queued.converting both.0, empty_is queued.waiting both.1) refl
 
@@ -571,10 +571,10 @@ none_unwarned : (queued : Resource) → nothing_queued queued ≡ true → (rows
 none_unwarned queued nothing [] = refl
 none_unwarned queued nothing (row ∷ rows) = rw (unwarned queued nothing row) (none_unwarned queued nothing rows)
 
-pub none_in_the_way : (res : ℕ) (s : Records) → IsSound s → HasResource res s → IfSome (resource_at res s.resources) (λ r. true ≡ nothing_queued (plain_resource r))
+pub none_blocks : (res : ℕ) (s : Records) → IsSound s → HasResource res s → IfSome (resource_at res s.resources) (λ r. true ≡ nothing_queued (plain_resource r))
     → IfSome (resource_at res s.resources) (λ r. IsWarned res r s s)
 unfolding has_to_warn
-none_in_the_way res s sound there nothing = none_warned res s sound there (of_found (resource_at res s.resources) nothing)
+none_blocks res s sound there nothing = none_warned res s sound there (of_found (resource_at res s.resources) nothing)
   where
     of_found : (o : Option StoredResource) → IfSome o (λ r. true ≡ nothing_queued (plain_resource r)) → IfSome o (λ r. false ≡ has_to_warn (plain_resource r))
     of_found None nothing = tt

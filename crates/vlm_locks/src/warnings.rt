@@ -23,7 +23,7 @@ fn is_to_warn(store: &Store, res: ResAt, row: &StoredRow) -> bool
         ≡ is_to_warn (rows_of_locks r.converting) (rows_of_locks r.waiting) row.now }
 {
     match row.held() {
-        Some(held) => row.is_armed() && store.is_in_the_way(res, held.mode),
+        Some(held) => row.is_armed() && store.blocks_a_request(res, held.mode),
         None => false,
     }
 }
@@ -105,7 +105,7 @@ pub(crate) fn warn(store: &mut Store, res: ResAt)
         (λ r. IsWarned res r store.old store.new) }
     ensures paid { IsPaid store.new }
 {
-    if store.is_in_the_way(res, Mode::Cr) {
+    if store.blocks_a_request(res, Mode::Cr) {
         warn_armed(store, res, Armed::AboveNl);
     } else {
         warn_armed(store, res, Armed::AboveCr);

@@ -5,7 +5,7 @@ use Rattle.std.proofs.lemmas.Bool.{and_parts}
 use Rattle.vlm_words.specs.declared.locks.Request.{Request}
 use Rattle.vlm_words.specs.declared.locks.LockRow.{LockRow}
 use Rattle.vlm_words.specs.declared.resources.Site.{Site}
-use Rattle.vlm_model.specs.Asts.{has_to_warn, is_in_the_way, is_to_warn}
+use Rattle.vlm_model.specs.Asts.{has_to_warn, blocks_a_request, is_to_warn}
 use Rattle.vlm_model.specs.Enqueue.{is_at_once, is_free_for, resource_after_entry, resources_after_entry}
 use Rattle.vlm_words.specs.Flags.{expedite, flag_bits, has_flag}
 use Rattle.vlm_words.specs.Rows.{fits, is_empty}
@@ -15,12 +15,12 @@ use Rattle.vlm_model.specs.Settled.{IsSettled}
 use Rattle.vlm_words.specs.State.{Resource}
 
 -- nobody is warned where nobody is queued
-none_in_the_way : (rows : List LockRow) → list_any (is_to_warn [] []) rows ≡ false
+none_blocks : (rows : List LockRow) → list_any (is_to_warn [] []) rows ≡ false
 unfolding is_to_warn
-none_in_the_way [] = refl
-none_in_the_way (row ∷ rows) = rw (of_row row.armed row.held) (none_in_the_way rows)
+none_blocks [] = refl
+none_blocks (row ∷ rows) = rw (of_row row.armed row.held) (none_blocks rows)
   where
-    of_row : (armed : Bool) (held : Option Request) → (armed && is_in_the_way held [] []) ≡ false
+    of_row : (armed : Bool) (held : Option Request) → (armed && blocks_a_request held [] []) ≡ false
     of_row true None = refl
     of_row true (Some held) = refl
     of_row false held = refl
@@ -31,7 +31,7 @@ settled_with : (base : Resource) (granted : List LockRow) (row : LockRow) (conve
 unfolding service has_to_warn
 settled_with base granted row [] [] none_converts none_waits = record {
   served = refl;
-  warned = none_in_the_way (granted ++ row ∷ []);
+  warned = none_blocks (granted ++ row ∷ []);
   occupied = of_granted granted;
 }
   where

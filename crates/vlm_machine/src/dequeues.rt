@@ -126,7 +126,7 @@ impl Machine {
         }
     }
 
-    // All locks of the caller if none is named, else those below the named one. IVLOCKID if the caller has no such lock.
+    // All locks of the caller if the dequeue names no lock, else those below the named one. IVLOCKID if the caller has no such lock.
     fn checked_scope(&self, caller: &Caller, lkid: u32) -> Result<Scope, Cond>
         ensures refusal { result_err result ≡ (if lkid == 0 then None
             else lock_refusal (plain_state self.now) caller.now.pid lkid) }

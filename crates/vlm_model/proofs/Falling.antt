@@ -15,7 +15,7 @@ use Rattle.vlm_words.specs.declared.resources.ValueBlock.{ValueBlock}
 use Rattle.vlm_words.specs.State.{Process, Resource}
 use Rattle.vlm_model.specs.Endings.{Ending, How, is_told, row_endings, wanted_endings}
 use Rattle.vlm_model.specs.Endings.How.{by_grant}
-use Rattle.vlm_model.specs.Asts.{Queued, asts_for, blocking_asts, completion_asts, completions, completions_of, is_in_the_way, is_synchronous, is_to_warn, resource_after_warning, row_after_warning, row_warnings, warnings}
+use Rattle.vlm_model.specs.Asts.{Queued, asts_for, blocking_asts, completion_asts, completions, completions_of, blocks_a_request, is_synchronous, is_to_warn, resource_after_warning, row_after_warning, row_warnings, warnings}
 use Rattle.vlm_model.specs.Effects.{with_value_block}
 use Rattle.vlm_model.specs.Grants.{Service, grant_act, grant_endings, no_service, resource_after_grant, service, service_after_grant, service_of_conversions, service_of_new_requests, service_of_waiting, wanted_fits}
 use Rattle.vlm_words.specs.Rows.{granted_row, is_arming, is_empty, rows_of, rows_without}
@@ -166,7 +166,7 @@ served_falls pid r =
 -- who is to be warned is armed
 pub is_armed : (converting waiting : List LockRow) (row : LockRow) → is_to_warn converting waiting row ≡ true → row.armed ≡ true
 unfolding is_to_warn
-is_armed converting waiting row warned = (and_parts row.armed (is_in_the_way row.held converting waiting) warned).0
+is_armed converting waiting row warned = (and_parts row.armed (blocks_a_request row.held converting waiting) warned).0
 
 held_warns : (pid : ℕ) (held : Option Request) (lkid owner : ℕ) → many pid (blocking_asts held lkid owner) ≤ own pid owner 1
 held_warns pid None lkid owner = omega arith

@@ -69,7 +69,7 @@ pub mod Falling
 pub mod Raising
 pub mod Warning
 pub mod WarnedOnce
-pub mod InTheWay
+pub mod BlocksRequests
 pub mod TakenBelow
 pub mod AbortedInOrder
 pub mod Departing

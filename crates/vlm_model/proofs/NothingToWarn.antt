@@ -8,8 +8,8 @@ use Rattle.vlm_words.specs.declared.locks.Request.{Request}
 use Rattle.vlm_words.specs.declared.locks.LockRow.{LockRow}
 use Rattle.vlm_words.specs.Modes.{is_compatible}
 use Rattle.vlm_words.specs.State.{Resource, State}
-use Rattle.vlm_model.specs.Asts.{has_to_warn, is_in_the_way, is_to_warn}
-use Rattle.vlm_words.specs.Rows.{keeps_out}
+use Rattle.vlm_model.specs.Asts.{has_to_warn, blocks_a_request, is_to_warn}
+use Rattle.vlm_words.specs.Rows.{blocks_request}
 use Rattle.vlm_model.specs.Runs.{History, Run}
 use Rattle.vlm_model.specs.Laws.{AreCompatible, IsInNobodysWay, NothingIsLeftToWarn}
 use Rattle.vlm_model.proofs.Each.{each_append, each_weaker}
@@ -20,14 +20,14 @@ not_not true is = refl
 not_not false is = cc
 
 -- what keeps no request out is compatible with each
-none_kept_out : (held : Request) (rows : List LockRow) → list_any (λ row. keeps_out held.mode row.want) rows ≡ false
+none_kept_out : (held : Request) (rows : List LockRow) → list_any (λ row. blocks_request held.mode row.want) rows ≡ false
     → AllByRecursion (λ row. AreCompatible row.want (Some held)) rows
 none_kept_out held [] none = tt
 none_kept_out held (row ∷ rows) none =
-    let parts = or_parts (keeps_out held.mode row.want) (list_any (λ x. keeps_out held.mode x.want) rows) none in
+    let parts = or_parts (blocks_request held.mode row.want) (list_any (λ x. blocks_request held.mode x.want) rows) none in
     (of_want row.want parts.0, none_kept_out held rows parts.1)
   where
-    of_want : (want : Option Request) → keeps_out held.mode want ≡ false → AreCompatible want (Some held)
+    of_want : (want : Option Request) → blocks_request held.mode want ≡ false → AreCompatible want (Some held)
     of_want None out = tt
     of_want (Some want) out = not_not (is_compatible want.mode held.mode) out
 
@@ -45,13 +45,13 @@ in_nobodys_way : (converting waiting : List LockRow) (row : LockRow) → is_to_w
 unfolding is_to_warn
 in_nobodys_way converting waiting row none armed =
     All-from_recursion (λ other. AreCompatible other.want row.held) (converting ++ waiting)
-    (of_held row.held (subst (λ (b : Bool). (b && is_in_the_way row.held converting waiting) ≡ false) armed none))
+    (of_held row.held (subst (λ (b : Bool). (b && blocks_a_request row.held converting waiting) ≡ false) armed none))
   where
-    of_held : (held : Option Request) → is_in_the_way held converting waiting ≡ false
+    of_held : (held : Option Request) → blocks_a_request held converting waiting ≡ false
         → AllByRecursion (λ other. AreCompatible other.want held) (converting ++ waiting)
     of_held None out = nothing_held (converting ++ waiting)
     of_held (Some held) out =
-        let parts = or_parts (list_any (λ x. keeps_out held.mode x.want) converting) (list_any (λ x. keeps_out held.mode x.want) waiting) out in
+        let parts = or_parts (list_any (λ x. blocks_request held.mode x.want) converting) (list_any (λ x. blocks_request held.mode x.want) waiting) out in
         each_append (λ other. AreCompatible other.want (Some held)) converting waiting (none_kept_out held converting parts.0) (none_kept_out held waiting parts.1)
 
 -- each granted row of a resource on which nobody is to be warned

@@ -21,7 +21,7 @@ use Rattle.vlm_model.proofs.Always.{always, kept_by_stepped}
 use Rattle.vlm_model.proofs.Each.{each_weaker}
 use Rattle.vlm_model.proofs.NothingLeft.{HeadsWait, NothingFits, nothing_fits_always, served_stops, kept_by_all, warned_stops}
 use Rattle.std.proofs.lemmas.Bool.{or_parts, or_from}
-use Rattle.vlm_model.specs.Asts.{is_to_warn, row_after_warning, row_warnings, has_to_warn, resource_after_warning, warnings, is_in_the_way}
+use Rattle.vlm_model.specs.Asts.{is_to_warn, row_after_warning, row_warnings, has_to_warn, resource_after_warning, warnings, blocks_a_request}
 use Rattle.vlm_model.specs.Effects.{with_value_block}
 use Rattle.std.specs.Prelude.{⊤}
 use Rattle.vlm_model.proofs.EachResource.{each_always}
@@ -99,9 +99,9 @@ unfolding row_after_warning is_to_warn
 warned_once converting waiting [] = refl
 warned_once converting waiting (row ∷ rows) =
     or_from (is_to_warn converting waiting (row_after_warning converting waiting row)) _
-    (of_test (row.armed && is_in_the_way row.held converting waiting) refl) (warned_once converting waiting rows)
+    (of_test (row.armed && blocks_a_request row.held converting waiting) refl) (warned_once converting waiting rows)
   where
-    of_test : (b : Bool) → (row.armed && is_in_the_way row.held converting waiting) ≡ b
+    of_test : (b : Bool) → (row.armed && blocks_a_request row.held converting waiting) ≡ b
         → is_to_warn converting waiting (cond b (record row { armed = false }) row) ≡ false
     of_test true is = refl
     of_test false is = is

@@ -10,7 +10,7 @@ use Rattle.vlm_words.specs.declared.locks.LockRow.{LockRow}
 use Rattle.vlm_words.specs.Flags.{flag_bits, has_flag, syncsts}
 use Rattle.vlm_words.specs.State.{Process, Resource, process_of}
 use Rattle.vlm_model.specs.Endings.{Ending, is_told}
-use Rattle.vlm_words.specs.Rows.{keeps_out}
+use Rattle.vlm_words.specs.Rows.{blocks_request}
 use Rattle.vlm_words.specs.Processes.{with_ast, without_oldest_ast}
 
 -- the pending ASTs of a process, oldest first; empty if the process does not live
@@ -76,15 +76,15 @@ completions_of endings = flat_map completions endings
 -- ---- warnings
 
 -- the held mode, if there is one, is incompatible with some queued request
-abbrev pub is_in_the_way : Option Request → List LockRow → List LockRow → Bool
-is_in_the_way None converting waiting = false
-is_in_the_way (Some held) converting waiting =
-    list_any (λ row. keeps_out held.mode row.want) converting
-    || list_any (λ row. keeps_out held.mode row.want) waiting
+abbrev pub blocks_a_request : Option Request → List LockRow → List LockRow → Bool
+blocks_a_request None converting waiting = false
+blocks_a_request (Some held) converting waiting =
+    list_any (λ row. blocks_request held.mode row.want) converting
+    || list_any (λ row. blocks_request held.mode row.want) waiting
 
 -- the granted lock is armed and blocks a queued request
 unfoldable pub is_to_warn : List LockRow → List LockRow → LockRow → Bool
-is_to_warn converting waiting row = row.armed && is_in_the_way row.held converting waiting
+is_to_warn converting waiting row = row.armed && blocks_a_request row.held converting waiting
 
 -- the blocking AST of a held request, if it names a blocking routine
 abbrev pub blocking_asts : Option Request → ℕ → ℕ → List Queued

@@ -40,7 +40,7 @@ pub mod Anew
 pub mod Raising
 pub mod Warning
 pub mod WarnedOnce
-pub mod InTheWay
+pub mod BlocksRequests
 pub mod TakenBelow
 pub mod Departing
 pub mod EndedProcesses

@@ -24,7 +24,7 @@ ghost use Rattle.vlm_model.specs.Raising.{NoMoreIsQueuedThanNamed, OnlyOwnReques
 ghost use Rattle.vlm_model.specs.Warning.{WarningsAreOfGrants};
 ghost use Rattle.vlm_model.specs.WarnedOnce.{EachGrantIsWarnedAtMostOnce};
 ghost use Rattle.vlm_model.specs.WarnedSince.{EachGrantIsArmedOrWarned};
-ghost use Rattle.vlm_model.specs.InTheWay.{WarnedLocksAreInTheWay};
+ghost use Rattle.vlm_model.specs.BlocksRequests.{WarnedLocksAreInTheWay};
 ghost use Rattle.vlm_model.specs.NoNewCircles.{NoneIsCaughtAnew};
 ghost use Rattle.vlm_model.specs.TailMarks.{TailsAreValidWithTheirValues};
 ghost use Rattle.vlm_model.specs.TakenBelow.{AbortsByRisingIdentification, TakesThoseBelowAlone};
@@ -93,7 +93,7 @@ pub fn law_a_grant_is_armed_or_was_warned()
 
 /// In any state: a lock that a step warns is granted, after the step, in a mode that is incompatible with some queued
 /// request of its resource. The AST goes to the lock's process.
-pub fn law_a_warned_lock_is_in_the_way()
+pub fn law_a_warned_lock_blocks_a_request()
     ensures { (s : State) (step : Step) (choice : Option LockRow)
         → WarnedLocksAreInTheWay (stepped s step choice) }
 {}

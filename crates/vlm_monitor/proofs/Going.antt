@@ -10,7 +10,7 @@ use Rattle.vlm_words.specs.State.{State}
 use Rattle.vlm_queue.specs.Views.{usage}
 use Rattle.vlm_core.specs.Readers.{root_of}
 use Rattle.vlm_journal.specs.declared.entries.Entry.{Entry}
-use Rattle.vlm_journal.specs.Books.{Account, made}
+use Rattle.vlm_journal.specs.Accounts.{Account, made}
 use Rattle.vlm_journal.specs.Journals.{JournalFrom}
 use Rattle.vlm_journal.specs.Told.{asked}
 use Rattle.vlm_ports.specs.declared.hub.Hub.{Hub}
@@ -160,12 +160,12 @@ first_of [] row is = cc
 first_of (r ∷ rows) row is = ap (λ (rs : List Row). get_or rs 0 no_row) is
 
 -- the row of the one key in the last of the changes
-pub shown_last : (book : Account) (key : RootKey) (keys : List RootKey) (changes : List Change) (change : Change) → keys ≡ key ∷ [] → IsChangeOf book keys change
-    → row_shown (changes ++ change ∷ []) 0 ≡ row_of book key
-shown_last book key keys changes change one is =
-    let first : take 1 change.rows ≡ row_of book key ∷ [] = subst (λ (ks : List RootKey). take (length ks) change.rows ≡ map (row_of book) ks) one is in
-    ap (λ (o : Option Change). row_in o 0) (last-of-sheet changes (Some change)) ∙ first_of change.rows (row_of book key) first
+pub shown_last : (journaled : Account) (key : RootKey) (keys : List RootKey) (changes : List Change) (change : Change) → keys ≡ key ∷ [] → IsChangeOf journaled keys change
+    → row_shown (changes ++ change ∷ []) 0 ≡ row_of journaled key
+shown_last journaled key keys changes change one is =
+    let first : take 1 change.rows ≡ row_of journaled key ∷ [] = subst (λ (ks : List RootKey). take (length ks) change.rows ≡ map (row_of journaled) ks) one is in
+    ap (λ (o : Option Change). row_in o 0) (last-of-sheet changes (Some change)) ∙ first_of change.rows (row_of journaled key) first
 
-pub printed_at : (book : Account) (key : RootKey) → printed_row (row_of book key) ≡ row_at book.state key
-printed_at book key =
-    same_print (option_map usage (root_of book.state.resources key.domain key.name)) (made book) (made (record { entries = []; state = book.state; base = 0; room = 0 }))
+pub printed_at : (journaled : Account) (key : RootKey) → printed_row (row_of journaled key) ≡ row_at journaled.state key
+printed_at journaled key =
+    same_print (option_map usage (root_of journaled.state.resources key.domain key.name)) (made journaled) (made (record { entries = []; state = journaled.state; base = 0; room = 0 }))

@@ -155,13 +155,13 @@ served_more at l was js e little from same taken sent =
     }
 
 -- an AST of a process of the node is taken
-abbrev pub drawing : ℕ → Ast → Entry
-drawing pid ast = record { sender = 0; step = Take pid; answer = Taken (Some ast) }
+abbrev pub delivery : ℕ → Ast → Entry
+delivery pid ast = record { sender = 0; step = Take pid; answer = Taken (Some ast) }
 
-pub drawn_more : (at : ℕ) (l was : NodeRings) (js : List Entry) (pid : ℕ) (ast : Ast) → LengthensLittle js (drawing pid ast) → pid / 65536 ≡ at + 1
+pub delivered_more : (at : ℕ) (l was : NodeRings) (js : List Entry) (pid : ℕ) (ast : Ast) → LengthensLittle js (delivery pid ast) → pid / 65536 ≡ at + 1
     → node_rings_identity l ≡ node_rings_identity was → has_taken l ≡ has_taken was → has_told l ≡ has_told was ++ ast_item pid ast ∷ []
-    → HasMore at l was js (js ++ drawing pid ast ∷ [])
-drawn_more at l was js pid ast little to same taken sent =
+    → HasMore at l was js (js ++ delivery pid ast ∷ [])
+delivered_more at l was js pid ast little to same taken sent =
     let both = little.takes pid ast refl refl in
     let one_some : 0 < little.one = (let o = both.0 ∙ to in omega (arith, o)) in record {
       same = same;
@@ -171,7 +171,7 @@ drawn_more at l was js pid ast little to same taken sent =
       asks = little.asks_none (at + 1) (λ h. omega (arith, h)) ∙ sym (append-nil (asked (at + 1) js));
       sent = sent;
       tells =
-          subst (λ (n : ℕ). told n (js ++ drawing pid ast ∷ []) ≡ told n js ++ little.items) (both.0 ∙ to) (little.tells one_some)
+          subst (λ (n : ℕ). told n (js ++ delivery pid ast ∷ []) ≡ told n js ++ little.items) (both.0 ∙ to) (little.tells one_some)
           ∙ ap (λ (xs : List Item). told (at + 1) js ++ xs) both.1;
     }
 
@@ -187,8 +187,8 @@ others_of_served at js e little from =
     let some : 0 < e.sender = omega (arith, from) in
     others_of at js e little ((little.answers some).0 ∙ from) (inr from)
 
-pub others_of_drawn : (at : ℕ) (js : List Entry) (pid : ℕ) (ast : Ast) → LengthensLittle js (drawing pid ast) → pid / 65536 ≡ at + 1 → OthersStay at js (js ++ drawing pid ast ∷ [])
-others_of_drawn at js pid ast little to = others_of at js (drawing pid ast) little ((little.takes pid ast refl refl).0 ∙ to) (inl refl)
+pub others_of_delivered : (at : ℕ) (js : List Entry) (pid : ℕ) (ast : Ast) → LengthensLittle js (delivery pid ast) → pid / 65536 ≡ at + 1 → OthersStay at js (js ++ delivery pid ast ∷ [])
+others_of_delivered at js pid ast little to = others_of at js (delivery pid ast) little ((little.takes pid ast refl refl).0 ∙ to) (inl refl)
 
 -- a node is lost
 abbrev pub leaving : ℕ → Answer → Entry
@@ -223,14 +223,14 @@ longer : (js room ks : List Entry) (e : Entry) → room ≡ js → ks ≡ room +
 longer js room ks e same is = is ∙ ap (λ (es : List Entry). es ++ e ∷ []) same
 
 -- an AST is sent
-pub drawn_follows : (ls : List NodeRings) (js room ks : List Entry) (at : ℕ) (l was : NodeRings) (pid : ℕ) (ast : Ast) → AreLinked ls js → at < length ls → was ≡ get_or ls at was
-    → room ≡ js → LengthensLittle room (drawing pid ast) → ks ≡ room ++ drawing pid ast ∷ [] → pid / 65536 ≡ at + 1
+pub delivered_follows : (ls : List NodeRings) (js room ks : List Entry) (at : ℕ) (l was : NodeRings) (pid : ℕ) (ast : Ast) → AreLinked ls js → at < length ls → was ≡ get_or ls at was
+    → room ≡ js → LengthensLittle room (delivery pid ast) → ks ≡ room ++ delivery pid ast ∷ [] → pid / 65536 ≡ at + 1
     → node_rings_identity l ≡ node_rings_identity was → has_taken l ≡ has_taken was → has_told l ≡ has_told was ++ ast_item pid ast ∷ []
     → Follow ls (set ls at l) js ks
-drawn_follows ls js room ks at l was pid ast linked lt is same little more to ring taken sent =
-    let here : LengthensLittle js (drawing pid ast) = subst (λ (es : List Entry). LengthensLittle es (drawing pid ast)) same little in
-    subst (λ (es : List Entry). Follow ls (set ls at l) js es) (sym (longer js room ks (drawing pid ast) same more))
-    (set_follows ls js (js ++ drawing pid ast ∷ []) linked at l was lt is (drawn_more at l was js pid ast here to ring taken sent) (others_of_drawn at js pid ast here to))
+delivered_follows ls js room ks at l was pid ast linked lt is same little more to ring taken sent =
+    let here : LengthensLittle js (delivery pid ast) = subst (λ (es : List Entry). LengthensLittle es (delivery pid ast)) same little in
+    subst (λ (es : List Entry). Follow ls (set ls at l) js es) (sym (longer js room ks (delivery pid ast) same more))
+    (set_follows ls js (js ++ delivery pid ast ∷ []) linked at l was lt is (delivered_more at l was js pid ast here to ring taken sent) (others_of_delivered at js pid ast here to))
 
 -- a post is answered
 pub served_follows : (ls : List NodeRings) (js room ks : List Entry) (at : ℕ) (l was : NodeRings) (e : Entry) → AreLinked ls js → at < length ls → was ≡ get_or ls at was

@@ -65,7 +65,7 @@ rest_more at a b same below here k lt d = elim (cases_eq k at) [
   | inl e ↦ let P : ℕ → Type 0 = λ m. MayRestAt b m in subst P (sym e) here d
   | inr ne ↦
       let P : State → Type 0 = λ s. MayRest s (get_or a.all_node_rings.items k d) in
-      let Q : NodeRings → Type 0 = λ l. MayRest b.book.state l in
+      let Q : NodeRings → Type 0 = λ l. MayRest b.journaled.state l in
       subst Q (sym (same.all_node_rings k d ne)) (subst P (sym same.state) (below k (omega (arith, ne)) d))
 ]
 
@@ -95,5 +95,5 @@ may_idle_by (x ∷ xs) s js linked rests node some within =
     may_idle_at x xs s js linked (node - 1) node (omega arith) lt (rests (node - 1) lt x)
 
 -- where each line may rest the hub may idle
-pub may_idle : (h : Hub) → AreLinked h.all_node_rings.items h.book.entries → ((k : ℕ) → k < nodes h → MayRestAt h k) → MayIdle h
-may_idle h linked rests node some within = may_idle_by h.all_node_rings.items h.book.state h.book.entries linked rests node some within
+pub may_idle : (h : Hub) → AreLinked h.all_node_rings.items h.journaled.entries → ((k : ℕ) → k < nodes h → MayRestAt h k) → MayIdle h
+may_idle h linked rests node some within = may_idle_by h.all_node_rings.items h.journaled.state h.journaled.entries linked rests node some within

@@ -16,19 +16,19 @@ use Rattle.vlm_journal.specs.Told.{asked, told}
 use Rattle.vlm_ports.specs.declared.hub.Hub.{Hub}
 use Rattle.vlm_ports.specs.declared.node_rings.NodeRings.{NodeRings}
 use Rattle.vlm_ports.specs.declared.port.Port.{Port}
-use Rattle.vlm_ports.specs.Links.{Base, IsDrawn, Lasts, MayRest, knows, node_rings_base, node_rings_identity, no_base, places}
+use Rattle.vlm_ports.specs.Links.{Base, IsDelivered, Lasts, MayRest, knows, node_rings_base, node_rings_identity, no_base, places}
 use Rattle.vlm_ports.specs.Ports.{identity}
 use Rattle.vlm_ports.specs.Rings.{RingName}
 
 -- the entries since the last cut, the state to which they lead, and the number of entries before them
 abbrev pub journal : Hub → List Entry
-journal h = h.book.entries
+journal h = h.journaled.entries
 
 abbrev pub state : Hub → State
-state h = h.book.state
+state h = h.journaled.state
 
 abbrev pub base : Hub → ℕ
-base h = h.book.base
+base h = h.journaled.base
 
 -- how many nodes the hub serves
 abbrev pub nodes : Hub → ℕ
@@ -91,9 +91,9 @@ abbrev pub MayIdle : Hub → Type 0
 MayIdle h = (node : ℕ) → 0 < node → node ≤ nodes h
     → (free_for h node ≡ 0) ⊎ ((first_pending node (state h).processes ≡ None) × (waiting h node ≡ []))
 
--- nothing is left to draw for the node at a place
-abbrev pub IsDrawnAt : Hub → ℕ → Type 0
-IsDrawnAt h k = (d : NodeRings) → IsDrawn (state h) (slice_index_or h.all_node_rings.items k d)
+-- no AST is left to deliver to the node at a place
+abbrev pub IsDeliveredAt : Hub → ℕ → Type 0
+IsDeliveredAt h k = (d : NodeRings) → IsDelivered (state h) (slice_index_or h.all_node_rings.items k d)
 
 -- the node at a place may rest
 abbrev pub MayRestAt : Hub → ℕ → Type 0
@@ -101,7 +101,7 @@ MayRestAt h k = (d : NodeRings) → MayRest (state h) (slice_index_or h.all_node
 
 -- only the rings at a place have changed, and not the state
 pub record IsSameBut (at : ℕ) (old new : Hub) : Type 0 where
-  pub state : new.book.state ≡ old.book.state
+  pub state : new.journaled.state ≡ old.journaled.state
   pub all_node_rings : (k : ℕ) (d : NodeRings) → (k ≡ at → ⊥) → slice_index_or new.all_node_rings.items k d ≡ slice_index_or old.all_node_rings.items k d
 
 -- the entry is a take, and its answer is an AST

@@ -73,9 +73,9 @@ AreFresh all_node_rings = (k : ℕ) (d : NodeRings) → k < length all_node_ring
     → ((slice_index_or all_node_rings k d).node ≡ k + 1) × (has_taken (slice_index_or all_node_rings k d) ≡ [])
     × (has_told (slice_index_or all_node_rings k d) ≡ [])
 
--- nothing is left to draw for the node: no free place is known, or no AST is pending
-abbrev pub IsDrawn : State → NodeRings → Type 0
-IsDrawn s l = (places l ≡ 0) ⊎ (first_pending l.node s.processes ≡ None)
+-- no AST is left to deliver to the node: no free place is known, or no AST is pending
+abbrev pub IsDelivered : State → NodeRings → Type 0
+IsDelivered s l = (places l ≡ 0) ⊎ (first_pending l.node s.processes ≡ None)
 
 -- the hub may do nothing for the node: it knows no free place, or neither a pending AST nor a post
 abbrev pub MayRest : State → NodeRings → Type 0

@@ -54,7 +54,7 @@ published h = published_in (board h)
 
 -- its journal, its core, its rings and what it knows of them are the same
 abbrev pub IsSameHub : Hub → Hub → Type 0
-IsSameHub old new = (new.book ≡ old.book) × (new.all_node_rings ≡ old.all_node_rings)
+IsSameHub old new = (new.journaled ≡ old.journaled) × (new.all_node_rings ≡ old.all_node_rings)
 
 -- it has the same watchers and the same keys as before
 abbrev pub IsWatchedAsBefore : Hub → Hub → Type 0
@@ -65,7 +65,7 @@ IsWatchedAsBefore old new =
 -- so far
 abbrev pub HasPublished : Hub → Hub → Type 0
 HasPublished old new =
-    (change : Change) × IsChangeOf old.book (watched_keys old) change
+    (change : Change) × IsChangeOf old.journaled (watched_keys old) change
     × (published new ≡ published old ++ change ∷ [])
 
 -- the watcher watches this hub, under as many keys

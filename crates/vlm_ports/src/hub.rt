@@ -10,7 +10,7 @@ use crate::port::Port;
 use std::alloc::{AllocError, Global};
 use std::sync::Wait;
 use vlm_core::Core;
-use vlm_journal::book::Book;
+use vlm_journal::journaled_core::JournaledCore;
 use vlm_journal::entries::{Entry, Item, Part};
 use vlm_watch::Board;
 use vlm_words::conditions::Cond;
@@ -19,12 +19,12 @@ use vlm_words::steps::Answer;
 /// The hub makes the steps that the ports post. It owns the core and its journal. It can't be dropped, since a watched
 /// hub may have to wait: end it by [`Hub::finish`], or by [`Hub::close`] if it is not watched.
 pub struct Hub {
-    pub(crate) book: Book,
+    pub(crate) journaled: JournaledCore,
     all_node_rings: Vec<NodeRings>,
     // the board of its watchers, once it is watched
     pub(crate) board: Option<Board>,
     ghost few: { vec_len all_node_rings ≤ 8 },
-    ghost linked: { AreLinked all_node_rings.items book.entries },
+    ghost linked: { AreLinked all_node_rings.items journaled.entries },
 }
 
 /// The result of a turn.
@@ -52,10 +52,10 @@ impl Hub {
     ghost use Rattle.vlm_words.specs.declared.steps.Answer.TheVariants.{Plain};
     ghost use Rattle.vlm_words.specs.declared.conditions.Cond.TheVariants.{Departed, Normal};
     ghost use Rattle.vlm_model.specs.Stepped.{Outcome};
-    ghost use Rattle.vlm_journal.specs.Books.{GoesOn, made};
+    ghost use Rattle.vlm_journal.specs.Accounts.{GoesOn, made};
     ghost use Rattle.vlm_journal.specs.Told.{asked, told};
     ghost use Rattle.vlm_ports.specs.Turns.{IsIdleTurn, IsServedTurn, turn_entries};
-    ghost use Rattle.vlm_ports.specs.Hubs.{EachAsksOnce, HubGrew, IsAsWritten, IsDrawnAt, IsNewHub, IsPortOf, IsSameBut, KeepsKnown, AllNodeRingsLast, MayIdle, MayRestAt, NoneAsks, OneAsks, OthersLast, asked_before, base, bases, free_for, journal, nodes, rings, state, told_before, waiting};
+    ghost use Rattle.vlm_ports.specs.Hubs.{EachAsksOnce, HubGrew, IsAsWritten, IsDeliveredAt, IsNewHub, IsPortOf, IsSameBut, KeepsKnown, AllNodeRingsLast, MayIdle, MayRestAt, NoneAsks, OneAsks, OthersLast, asked_before, base, bases, free_for, journal, nodes, rings, state, told_before, waiting};
     ghost use Rattle.vlm_ports.specs.Ports.{AreNew, arrived, free_places, identity, posted, taken};
     ghost use Rattle.vlm_ports.specs.Watched.{IsUnwatched, board};
 
@@ -71,7 +71,7 @@ impl Hub {
         ensures same { result.now ≡ journal self.now }
         ensures legal { GoesOn (base self.now) (journal self.now) (state self.now) }
     {
-        self.book.entries()
+        self.journaled.entries()
     }
 
     /// A hub of this many nodes with a new core, and a port for each node, node 1 first. If it is refused, there is no
@@ -101,7 +101,7 @@ impl Hub {
     {
         let (all_node_rings, ports) = ring_ends(alloc, count)?;
         let hub = Hub {
-            book: Book::new(core, alloc),
+            journaled: JournaledCore::new(core, alloc),
             all_node_rings,
             board: None,
         };
@@ -155,8 +155,8 @@ impl Hub {
         ensures answer { IfOk result (λ cond. (cond ≡ Normal) ⊎ (cond ≡ Departed)) }
         ensures refused { OnErr result (IsAsWritten self.old self.new) }
     {
-        self.book.reserve()?;
-        let answer = self.book.lose(node);
+        self.journaled.reserve()?;
+        let answer = self.journaled.lose(node);
         Ok(condition_of(answer))
     }
 
@@ -197,7 +197,7 @@ impl Hub {
         ensures number { result.base ≡ base self.old }
         ensures legal { GoesOn result.base result.entries.items (state self.new) }
         ensures left { journal self.new ≡ [] }
-        ensures next { base self.new ≡ made self.old.book }
+        ensures next { base self.new ≡ made self.old.journaled }
         ensures state { state self.new ≡ state self.old }
         ensures waiting { waiting self.new ≡ waiting self.old }
         ensures free { free_for self.new ≡ free_for self.old }
@@ -207,7 +207,7 @@ impl Hub {
             × (told_before self.new node
             ≡ told_before self.old node ++ told node (journal self.old)) }
     {
-        self.book.cut()
+        self.journaled.cut()
     }
 
     /// Ends a hub that is not watched, and gives out the entries since the last cut, and the core. It never waits.
@@ -218,12 +218,12 @@ impl Hub {
         ensures legal { GoesOn (base self) result.0.items result.1 }
     {
         let Hub {
-            book,
+            journaled,
             all_node_rings: _,
             board,
         } = self;
         match board {
-            None => book.finish(),
+            None => journaled.finish(),
             Some(_) => unreachable!(),
         }
     }
@@ -242,7 +242,7 @@ impl Hub {
         hub.close()
     }
 
-    // Draws and serves for the node at a place.
+    // Delivers and serves for the node at a place.
     fn attend(&mut self, at: usize) -> Attended
         requires { at < nodes self.old }
         ensures rings { rings self.new ≡ rings self.old }
@@ -255,18 +255,18 @@ impl Hub {
             → IsSameBut at self.old self.new × MayRestAt self.new at }
         ensures known { AllNodeRingsLast self.old self.new }
     {
-        match self.draw(at) {
+        match self.deliver_ast(at) {
             Err(_) => Attended {
                 made: 0,
                 refused: true,
             },
-            Ok(drawn) => match self.serve(at) {
+            Ok(delivered) => match self.serve(at) {
                 Err(_) => Attended {
-                    made: drawn,
+                    made: delivered,
                     refused: true,
                 },
                 Ok(served) => Attended {
-                    made: drawn + served,
+                    made: delivered + served,
                     refused: false,
                 },
             },
@@ -275,15 +275,15 @@ impl Hub {
 
     // Sends a node one of its pending ASTs, if there is one, and a place for it that the hub knows to be free. Answers
     // how many entries it made.
-    fn draw(&mut self, at: usize) -> Result<usize, AllocError>
+    fn deliver_ast(&mut self, at: usize) -> Result<usize, AllocError>
         requires { at < nodes self.old }
         ensures rings { rings self.new ≡ rings self.old }
         ensures base { (base self.new ≡ base self.old) × (bases self.new ≡ bases self.old) }
         ensures board { board self.new ≡ board self.old }
         ensures grew { IfOk result (λ n. (n ≤ 1) × HubGrew n self.old self.new) }
         ensures none_asks { IfOk result (λ n. NoneAsks (journal self.old) (journal self.new)) }
-        ensures drawn { IfOk result (λ n. n ≡ 0
-            → IsSameBut at self.old self.new × IsDrawnAt self.new at) }
+        ensures delivered { IfOk result (λ n. n ≡ 0
+            → IsSameBut at self.old self.new × IsDeliveredAt self.new at) }
         ensures known { AllNodeRingsLast self.old self.new }
         ensures refused { OnErr result (IsAsWritten self.old self.new) }
     {
@@ -292,11 +292,11 @@ impl Hub {
             return Ok(0);
         }
         let node = node_rings.node;
-        let Some(pid) = self.book.pending_of(node) else {
+        let Some(pid) = self.journaled.pending_of(node) else {
             return Ok(0);
         };
-        self.book.reserve()?;
-        let ast = self.book.draw(node, pid);
+        self.journaled.reserve()?;
+        let ast = self.journaled.deliver_ast(node, pid);
         node_rings.tell(Item::Ast(pid, ast));
         Ok(1)
     }
@@ -311,7 +311,7 @@ impl Hub {
         ensures grew { IfOk result (λ n. (n ≤ 1) × HubGrew n self.old self.new) }
         ensures once { IfOk result (λ n. OneAsks at (journal self.old) (journal self.new)) }
         ensures served { IfOk result (λ n. n ≡ 0
-            → IsSameBut at self.old self.new × (IsDrawnAt self.old at → MayRestAt self.new at)) }
+            → IsSameBut at self.old self.new × (IsDeliveredAt self.old at → MayRestAt self.new at)) }
         ensures known { AllNodeRingsLast self.old self.new }
         ensures refused { OnErr result (IsAsWritten self.old self.new) }
     {
@@ -322,9 +322,9 @@ impl Hub {
         if !node_rings.has_request() {
             return Ok(0);
         }
-        self.book.reserve()?;
+        self.journaled.reserve()?;
         let step = node_rings.request();
-        let answer = self.book.serve(node_rings.node, step);
+        let answer = self.journaled.serve(node_rings.node, step);
         node_rings.tell(Item::Answer(answer));
         Ok(1)
     }

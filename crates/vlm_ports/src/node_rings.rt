@@ -64,7 +64,7 @@ impl NodeRings {
         Ok((node_rings, port))
     }
 
-    /// Whether a place for an item is known to be free. It looks at the ring if none is known.
+    /// Whether a place for an item is known to be free. If it knows of no place, it looks at the ring.
     pub(crate) fn has_place(&mut self) -> bool
         ensures rings { node_rings_identity self.new ≡ node_rings_identity self.old }
         ensures taken { has_taken self.new ≡ has_taken self.old }
@@ -85,7 +85,7 @@ impl NodeRings {
         self.items.cached_slots() > 0
     }
 
-    /// Whether a post is known to be on the ring. It looks at the ring if none is known.
+    /// Whether a post is known to be on the ring. If it knows of no post, it looks at the ring.
     pub(crate) fn has_request(&mut self) -> bool
         ensures rings { node_rings_identity self.new ≡ node_rings_identity self.old }
         ensures taken { has_taken self.new ≡ has_taken self.old }

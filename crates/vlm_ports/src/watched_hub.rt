@@ -60,9 +60,9 @@ impl Hub {
             × (told_changes told ≡ published self.new)) }
         ensures refused { OnErr result (published self.new ≡ published self.old) }
     {
-        let book = &self.book;
+        let journaled = &self.journaled;
         match &mut self.board {
-            Some(board) => board.publish(rt, book),
+            Some(board) => board.publish(rt, journaled),
             None => unreachable!(),
         }
     }

@@ -5,7 +5,7 @@ use Rattle.std.specs.List.{list_all, list_any}
 use Rattle.std.proofs.lemmas.List.Folds.{list_all-append}
 use Rattle.vlm_words.specs.declared.locks.Request.{Request}
 use Rattle.vlm_words.specs.declared.modes.Mode.{Mode}
-use Rattle.vlm_words.specs.Rows.{keeps_out, is_beside}
+use Rattle.vlm_words.specs.Rows.{blocks_request, is_beside}
 use Rattle.vlm_words.specs.declared.locks.LockRow.{LockRow}
 use Rattle.vlm_words.specs.declared.resources.Queue.TheVariants.{Granted, Conversion, Waiting}
 use Rattle.vlm_words.specs.Modes.{is_compatible}
@@ -42,21 +42,21 @@ not_all p rows [] = refl
 not_all p rows (k ∷ ks) = not_both (p (rows k)) (list_all (λ x. p (rows x)) ks) ∙ ap (λ b. not (p (rows k)) || b) (not_all p rows ks)
 
 -- what is wanted is compatible with a mode, or the mode keeps it out
-passes_not : (mode : Mode) (want : Option Request) → not (passes (is_compatible mode) want) ≡ keeps_out mode want
+passes_not : (mode : Mode) (want : Option Request) → not (passes (is_compatible mode) want) ≡ blocks_request mode want
 passes_not mode None = refl
 passes_not mode (Some want) = ap not (is_compatible-comm mode want.mode)
 
 module _ (rows : ℕ → LockRow) (converting waiting : List ℕ) (fit : Mode → Bool)
     (is : (mode : Mode) → fit mode ≡ list_all (λ k. passes (is_compatible mode) (rows k).want) (converting ++ waiting)) where
   -- a mode is in the way where it does not fit beside all that is wanted
-  pub in_the_way : (mode : Mode) → not (fit mode) ≡ (list_any (λ row. keeps_out mode row.want) (map rows converting) || list_any (λ row. keeps_out mode row.want) (map rows waiting))
+  pub in_the_way : (mode : Mode) → not (fit mode) ≡ (list_any (λ row. blocks_request mode row.want) (map rows converting) || list_any (λ row. blocks_request mode row.want) (map rows waiting))
   in_the_way mode =
       ap not (is mode ∙ list_all-append (λ k. passes (is_compatible mode) (rows k).want) converting waiting)
       ∙ not_both (list_all (λ k. passes (is_compatible mode) (rows k).want) converting) (list_all (λ k. passes (is_compatible mode) (rows k).want) waiting)
       ∙ ap (λ b. b || not (list_all (λ k. passes (is_compatible mode) (rows k).want) waiting)) (some converting)
-      ∙ ap (λ b. list_any (λ row. keeps_out mode row.want) (map rows converting) || b) (some waiting)
+      ∙ ap (λ b. list_any (λ row. blocks_request mode row.want) (map rows converting) || b) (some waiting)
     where
-      some : (ks : List ℕ) → not (list_all (λ k. passes (is_compatible mode) (rows k).want) ks) ≡ list_any (λ row. keeps_out mode row.want) (map rows ks)
+      some : (ks : List ℕ) → not (list_all (λ k. passes (is_compatible mode) (rows k).want) ks) ≡ list_any (λ row. blocks_request mode row.want) (map rows ks)
       some ks =
           not_all (λ row. passes (is_compatible mode) row.want) rows ks
           ∙ ap (λ test. list_any test (map rows ks)) (fun_ext (λ (row : LockRow). passes_not mode row.want))

@@ -130,7 +130,7 @@ impl Tally {
     }
 
     /// Whether the mode is incompatible with some wanted mode.
-    pub fn keeps_out(&self, mode: Mode) -> bool
+    pub fn blocks_a_request(&self, mode: Mode) -> bool
         ensures { result ≡ not (counts_fit mode (how_many of_wanted self.now)) }
     {
         !counts_fit(&self.wanted, mode)

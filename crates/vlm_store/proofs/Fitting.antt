@@ -2,7 +2,7 @@
 use Rattle.std.proofs.Common.{◌≡◌, ℕ, List, [], ◌∷◌, map, not, ◌&&◌, ◌||◌, Option, None, Some, refl, sym, ap, ◌∙◌}
 use Rattle.std.specs.List.{list_all, list_any}
 use Rattle.vlm_words.specs.declared.modes.Mode.{Mode}
-use Rattle.vlm_words.specs.Rows.{keeps_out, fits, is_beside}
+use Rattle.vlm_words.specs.Rows.{blocks_request, fits, is_beside}
 use Rattle.vlm_words.specs.declared.locks.LockRow.{LockRow}
 use Rattle.vlm_words.specs.declared.resources.Queue.TheVariants.{Granted, Conversion, Waiting}
 use Rattle.vlm_collections.specs.Lists.{without}
@@ -43,7 +43,7 @@ rows-under_handle rows (k ∷ ks) = ap (λ rest. rows k ∷ rest) (rows-under_ha
 -- a mode that does not fit beside what is wanted is in the way, as a caller sees it
 pub in_the_way-handles : (q : Queues) (l : Layout) (r : ℕ) (wanted : Mode → ℕ) → ((m : Mode) → wanted m ≡ shares q (weight_of of_wanted m) None r) → l.handles ≡ handles_at q → l.rows ≡ rows q
     → (mode : Mode) → not (counts_fit mode wanted)
-    ≡ (list_any (λ row. keeps_out mode row.want) (rows_of_locks (resource_of l r).converting) || list_any (λ row. keeps_out mode row.want) (rows_of_locks (resource_of l r).waiting))
+    ≡ (list_any (λ row. blocks_request mode row.want) (rows_of_locks (resource_of l r).converting) || list_any (λ row. blocks_request mode row.want) (rows_of_locks (resource_of l r).waiting))
 in_the_way-handles q l r wanted wanted_is handles rows_same mode =
     let converting = handles_at q (Queued r Conversion) in
     let waiting = handles_at q (Queued r Waiting) in

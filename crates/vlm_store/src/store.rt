@@ -6,7 +6,7 @@ ghost use Rattle.std.specs.Option.{ForSome};
 ghost use Rattle.vlm_words.specs.declared.locks.LockRow.{LockRow};
 ghost use Rattle.vlm_collections.specs.Lists.{IsIn, handle_before};
 ghost use Rattle.vlm_records.specs.declared.handles.Place.{Place};
-ghost use Rattle.vlm_words.specs.Rows.{keeps_out};
+ghost use Rattle.vlm_words.specs.Rows.{blocks_request};
 ghost use Rattle.vlm_store.specs.Index.{hash_key};
 ghost use Rattle.vlm_store.specs.Held.{held_counts};
 ghost use Rattle.vlm_store.specs.Records.{FindsLock, FindsResource, HasNoSublocks, HasPlace, HasResource, HasRoomForLock, HasRoomForResource, IsGivenBack, IsTaken, IsUnchanged, IsParentOf, IsProcess, at_after, disarming, first_at, first_resource_at, fits_beside, resource_at_after, resource_at, rows_of_locks, IsIdle, IsNewKey, IsNewLock, IsRowOf, IsSound, IsStored, Stores, locks_at, moving, new_stored_resource, nothing, on_resource, queued, with_lists, with_lock_room, with_new_lock, with_resource_room, without_resource, without_stored_lock};
@@ -409,13 +409,13 @@ impl Store {
     }
 
     /// Whether this held mode is incompatible with a queued request of the resource. It reads counts, not locks.
-    pub fn is_in_the_way(&self, res: ResAt, held: Mode) -> bool
+    pub fn blocks_a_request(&self, res: ResAt, held: Mode) -> bool
         requires { HasResource res self.now }
         ensures { IfSome (resource_at res self.now.resources) (λ r. result
-            ≡ (list_any (λ row. keeps_out held row.want) (rows_of_locks r.converting)
-            || list_any (λ row. keeps_out held row.want) (rows_of_locks r.waiting))) }
+            ≡ (list_any (λ row. blocks_request held row.want) (rows_of_locks r.converting)
+            || list_any (λ row. blocks_request held row.want) (rows_of_locks r.waiting))) }
     {
-        self.queues.resources[res.slot()].tally.keeps_out(held)
+        self.queues.resources[res.slot()].tally.blocks_a_request(held)
     }
 
     /// How many locks of the resource hold each mode, from NL to EX, granted or converting. It reads counts, not

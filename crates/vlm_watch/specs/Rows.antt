@@ -4,7 +4,7 @@ use Rattle.std.specs.Option.{option_map}
 use Rattle.vlm_queue.specs.declared.views.Usage.{Usage}
 use Rattle.vlm_queue.specs.Views.{usage}
 use Rattle.vlm_core.specs.Readers.{root_of}
-use Rattle.vlm_journal.specs.Books.{Account, made}
+use Rattle.vlm_journal.specs.Accounts.{Account, made}
 use Rattle.vlm_watch.specs.declared.rows.Change.{Change}
 use Rattle.vlm_watch.specs.declared.rows.RootKey.{RootKey}
 use Rattle.vlm_watch.specs.declared.rows.Row.{Row}

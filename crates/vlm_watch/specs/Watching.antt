@@ -2,7 +2,7 @@
 use Rattle.std.specs.Prelude.{◌≡◌, ◌++◌, ◌∷◌, ℕ, List, []}
 use Rattle.left_right.specs.Sides.{view}
 use Rattle.logbook.specs.Pages.{Book}
-use Rattle.vlm_journal.specs.Books.{Account}
+use Rattle.vlm_journal.specs.Accounts.{Account}
 use Rattle.vlm_watch.specs.declared.board.Board.{Board}
 use Rattle.vlm_watch.specs.declared.rows.Change.{Change}
 use Rattle.vlm_watch.specs.declared.rows.RootKey.{RootKey}

@@ -9,7 +9,7 @@ use crate::told::Told;
 use crate::watcher::Watcher;
 use std::alloc::{AllocError, Global};
 use std::sync::Wait;
-use vlm_journal::book::Book;
+use vlm_journal::journaled_core::JournaledCore;
 
 /// Publishes how the resources under some keys are used. It can't be dropped: end it by [`Board::close`].
 pub struct Board {
@@ -49,17 +49,17 @@ impl Board {
         }
     }
 
-    /// Publishes the rows of the keys in the present state of the book, and answers a told value of all that is
+    /// Publishes the rows of the keys in the present state of the journaled core, and answers a told value of all that is
     /// published. If the writer's log can't grow or there were 2 ^ 64 - 1 changes, it is refused, and nothing is
     /// published. It may wait for readers of the change before the last. Its cost grows only with the number of keys.
-    pub fn publish<R: Wait>(&mut self, rt: &R, book: &Book) -> Result<Told, AllocError>
+    pub fn publish<R: Wait>(&mut self, rt: &R, journaled: &JournaledCore) -> Result<Told, AllocError>
         ensures same { (name_of self.new ≡ name_of self.old) × (keys_of self.new ≡ keys_of self.old) }
-        ensures published { OnOk result (HasPublished book.now self.old self.new) }
+        ensures published { OnOk result (HasPublished journaled.now self.old self.new) }
         ensures told { IfOk result (λ told. (told_board told ≡ name_of self.old)
             × (told_changes told ≡ published self.new)) }
         ensures refused { OnErr result (published self.new ≡ published self.old) }
     {
-        let change = Change::of(book, self.keys.as_slice());
+        let change = Change::of(journaled, self.keys.as_slice());
         self.publisher.publish(rt, change)
     }
 

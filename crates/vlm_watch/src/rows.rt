@@ -4,7 +4,7 @@ ghost use Rattle.std.specs.Prelude.{◌≡◌, ◌≤◌, IsTrue, length};
 ghost use Rattle.vlm_watch.specs.Rows.{IsChangeOf, absent, row_of, row_with};
 
 use vlm_core::Usage;
-use vlm_journal::book::Book;
+use vlm_journal::journaled_core::JournaledCore;
 use vlm_words::names::Name;
 use vlm_words::resources::Domain;
 
@@ -87,22 +87,22 @@ impl Row {
     }
 }
 
-// The row of a resource in the present state of the book.
-fn root_row(book: &Book, key: &RootKey) -> Row
-    ensures { result ≡ row_of book.now key.now }
+// The row of a resource in the present state of the journaled core.
+fn root_row(journaled: &JournaledCore, key: &RootKey) -> Row
+    ensures { result ≡ row_of journaled.now key.now }
 {
-    Row::of(book.usage(key.domain, key.name), book.made())
+    Row::of(journaled.usage(key.domain, key.name), journaled.made())
 }
 
 impl Change {
-    /// The rows of the resources under these keys in the present state of the book.
-    pub(crate) fn of(book: &Book, keys: &[RootKey]) -> Change
+    /// The rows of the resources under these keys in the present state of the journaled core.
+    pub(crate) fn of(journaled: &JournaledCore, keys: &[RootKey]) -> Change
         requires { length keys.now ≤ 16 }
-        ensures { IsChangeOf book.now keys.now result }
+        ensures { IsChangeOf journaled.now keys.now result }
     {
         let mut rows = [Row::absent(); 16];
         for (at, key) in keys.iter().enumerate() {
-            rows[at] = root_row(book, key);
+            rows[at] = root_row(journaled, key);
         }
         Change { rows }
     }

@@ -53,6 +53,6 @@ abbrev pub wanting_row : LockRow → Request → LockRow
 wanting_row row request = record row { want = Some request }
 
 -- the request cannot be granted beside this held mode
-abbrev pub keeps_out : Mode → Option Request → Bool
-keeps_out mode None = false
-keeps_out mode (Some want) = not (is_compatible want.mode mode)
+abbrev pub blocks_request : Mode → Option Request → Bool
+blocks_request mode None = false
+blocks_request mode (Some want) = not (is_compatible want.mode mode)

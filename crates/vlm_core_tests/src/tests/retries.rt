@@ -270,18 +270,18 @@ fn an_armed_lock_is_in_both_lists_until_it_is_disarmed(rt: HostRuntime) -> Resul
 }
 
 // Whether a lock that holds this mode is in the way of a queued request of the resource.
-fn is_in_the_way(rt: &impl Abort, store: &Store, key: &Key, mode: Mode) -> bool {
-    store.is_in_the_way(resource(rt, store, key), mode)
+fn blocks_a_request(rt: &impl Abort, store: &Store, key: &Key, mode: Mode) -> bool {
+    store.blocks_a_request(resource(rt, store, key), mode)
 }
 
 #[test]
-fn a_mode_is_in_the_way_of_what_is_queued(rt: HostRuntime) -> Result<(), Fail> {
+fn a_mode_blocks_what_is_queued(rt: HostRuntime) -> Result<(), Fail> {
     let key = key(b"A")?;
     let mut store = Store::new(rt.alloc());
     fill(&rt, &mut store, &key)?;
-    assert!(rt; is_in_the_way(&rt, &store, &key, Mode::Ex));
-    assert!(rt; is_in_the_way(&rt, &store, &key, Mode::Cw));
-    assert!(rt; !is_in_the_way(&rt, &store, &key, Mode::Pr));
+    assert!(rt; blocks_a_request(&rt, &store, &key, Mode::Ex));
+    assert!(rt; blocks_a_request(&rt, &store, &key, Mode::Cw));
+    assert!(rt; !blocks_a_request(&rt, &store, &key, Mode::Pr));
     Ok(())
 }
 

@@ -5,7 +5,7 @@ pub returns-clause-answered : goal.returns-clause-answered
 returns-clause-answered c entries last journal = departed_from c.law_a_departed_node_is_answered_departed.ensures journal
 
 pub returns-clause-departs : goal.returns-clause-departs
-returns-clause-departs c base entries entry last book = departs_by c.law_a_departed_node_is_answered_departed.ensures entries entry book
+returns-clause-departs c base entries entry last journaled = departs_by c.law_a_departed_node_is_answered_departed.ensures entries entry journaled
 
 pub returns-clause-since : goal.returns-clause-since
-returns-clause-since c base entries more between last book journal = stays_departed c.law_a_departed_node_is_answered_departed.ensures book journal
+returns-clause-since c base entries more between last journaled journal = stays_departed c.law_a_departed_node_is_answered_departed.ensures journaled journal

@@ -2,7 +2,7 @@ use Rattle.std.proofs.Common.{◌≡◌, IfSome, subst}
 use Rattle.std.specs.Prelude.{◌||◌}
 use Rattle.std.specs.List.{list_any}
 use Rattle.vlm_words.specs.declared.modes.Mode.TheVariants.{Cr}
-use Rattle.vlm_words.specs.Rows.{keeps_out}
+use Rattle.vlm_words.specs.Rows.{blocks_request}
 use Rattle.vlm_store.specs.Records.{resource_at, rows_of_locks}
 use Rattle.vlm_locks.proofs.Spared.{spares_above_cr, spares_above_nl}
 use Rattle.vlm_locks.proofs.warnings.warn.Goals as goal
@@ -12,10 +12,10 @@ pub warn_armed-requires-clause-spares : goal.warn_armed-requires-clause-spares
 warn_armed-requires-clause-spares c = spares_above_nl c.args.res c.args.store.now
 
 -- it is not
-pub warn_armed-requires-else-is_in_the_way-clause-spares : goal.warn_armed-requires-else-is_in_the_way-clause-spares
-warn_armed-requires-else-is_in_the_way-clause-spares c =
+pub warn_armed-requires-else-blocks_a_request-clause-spares : goal.warn_armed-requires-else-blocks_a_request-clause-spares
+warn_armed-requires-else-blocks_a_request-clause-spares c =
     spares_above_cr c.args.res c.args.store.now
     (subst
     (λ b. IfSome (resource_at c.args.res c.args.store.now.resources)
-    (λ r. b ≡ (list_any (λ row. keeps_out Cr row.want) (rows_of_locks r.converting) || list_any (λ row. keeps_out Cr row.want) (rows_of_locks r.waiting))))
-    c.if-is_in_the_way.false c.is_in_the_way.ensures)
+    (λ r. b ≡ (list_any (λ row. blocks_request Cr row.want) (rows_of_locks r.converting) || list_any (λ row. blocks_request Cr row.want) (rows_of_locks r.waiting))))
+    c.if-blocks_a_request.false c.blocks_a_request.ensures)

@@ -5,13 +5,13 @@ use Rattle.vlm_ports.proofs.hub.Hub.attend.Goals as goal
 
 pub returns-in-Err-clause-grew : goal.returns-in-Err-clause-grew
 returns-in-Err-clause-grew c =
-    grew_none (journal c.args.self.now) (journal c.draw.new.self) (state c.args.self.now) (state c.draw.new.self) c.in-Err.ensures.refused.0 c.in-Err.ensures.refused.1
+    grew_none (journal c.args.self.now) (journal c.deliver_ast.new.self) (state c.args.self.now) (state c.deliver_ast.new.self) c.in-Err.ensures.refused.0 c.in-Err.ensures.refused.1
 
 pub returns-in-Ok-serve-clause-grew : goal.returns-in-Ok-serve-clause-grew
 returns-in-Ok-serve-clause-grew c = grew_add c.in-Ok.ensures.grew.1 c.in-Ok-serve.ensures.grew.1
 
 pub returns-in-Err-serve-clause-known : goal.returns-in-Err-serve-clause-known
-returns-in-Err-serve-clause-known c = all_node_rings_then c.args.self.now.all_node_rings.items c.draw.new.self.all_node_rings.items c.serve.new.self.all_node_rings.items c.draw.ensures.known c.serve.ensures.known
+returns-in-Err-serve-clause-known c = all_node_rings_then c.args.self.now.all_node_rings.items c.deliver_ast.new.self.all_node_rings.items c.serve.new.self.all_node_rings.items c.deliver_ast.ensures.known c.serve.ensures.known
 
 pub returns-in-Ok-serve-clause-known : goal.returns-in-Ok-serve-clause-known
-returns-in-Ok-serve-clause-known c = all_node_rings_then c.args.self.now.all_node_rings.items c.draw.new.self.all_node_rings.items c.serve.new.self.all_node_rings.items c.draw.ensures.known c.serve.ensures.known
+returns-in-Ok-serve-clause-known c = all_node_rings_then c.args.self.now.all_node_rings.items c.deliver_ast.new.self.all_node_rings.items c.serve.new.self.all_node_rings.items c.deliver_ast.ensures.known c.serve.ensures.known

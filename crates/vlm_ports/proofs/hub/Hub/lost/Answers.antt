@@ -8,7 +8,7 @@ use Rattle.vlm_ports.proofs.hub.Hub.lost.Goals as goal
 
 pub returns-clause-base : goal.returns-clause-base
 returns-clause-base c =
-    let ls = c.args.self.now.all_node_rings.items in let js = c.args.self.now.book.entries in
+    let ls = c.args.self.now.all_node_rings.items in let js = c.args.self.now.journaled.entries in
     let follows = lost_follows ls js c.reserve.new.self.entries c.lose-answer.new.self.entries c.args.node c.lose-answer.result c.args.self.now.linked
     c.reserve.ensures.entries c.lose-answer.ensures.written.told c.lose-answer.ensures.written.entries in
     (c.lose-answer.ensures.written.base ∙ c.reserve.ensures.base, follows.bases)

@@ -16,7 +16,7 @@ returns-then-not-has_request-clause-rings c =
 
 pub returns-then-not-has_request-clause-base : goal.returns-then-not-has_request-clause-base
 returns-then-not-has_request-clause-base c =
-    let follows = set_same c.args.self.now.all_node_rings.items c.args.self.now.book.entries c.args.at c.has_request.new.self c.index_mut-node_rings.result.now c.args.self.now.linked c.requires c.index_mut-node_rings.ensures.value
+    let follows = set_same c.args.self.now.all_node_rings.items c.args.self.now.journaled.entries c.args.at c.has_request.new.self c.index_mut-node_rings.result.now c.args.self.now.linked c.requires c.index_mut-node_rings.ensures.value
     c.has_request.ensures.rings c.has_request.ensures.taken c.has_request.ensures.told in
     (refl, follows.bases)
 
@@ -26,7 +26,7 @@ returns-in_err-reserve-clause-rings c =
 
 pub returns-in_err-reserve-clause-base : goal.returns-in_err-reserve-clause-base
 returns-in_err-reserve-clause-base c =
-    let ls = c.args.self.now.all_node_rings.items in let js = c.args.self.now.book.entries in
+    let ls = c.args.self.now.all_node_rings.items in let js = c.args.self.now.journaled.entries in
     let follows = set_same ls js c.args.at c.has_request.new.self c.index_mut-node_rings.result.now c.args.self.now.linked c.requires c.index_mut-node_rings.ensures.value
     c.has_request.ensures.rings c.has_request.ensures.taken c.has_request.ensures.told in
     let P : List Entry → Type 0 = λ es. map (node_rings_base es) (set ls c.args.at c.has_request.new.self) ≡ map (node_rings_base js) ls in
@@ -34,7 +34,7 @@ returns-in_err-reserve-clause-base c =
 
 pub invariant_of-self-2-clause-linked : goal.invariant_of-self-2-clause-linked
 invariant_of-self-2-clause-linked c =
-    let ls = c.args.self.now.all_node_rings.items in let js = c.args.self.now.book.entries in let l = c.tell.new.self in let at = c.args.at in
+    let ls = c.args.self.now.all_node_rings.items in let js = c.args.self.now.journaled.entries in let l = c.tell.new.self in let at = c.args.at in
     let was = c.index_mut-node_rings.result.now in let popped = c.request-step.new.self in
     let step = c.request-step.result in let answer = c.serve-answer.result in
     let ring = c.request-step.ensures.rings ∙ c.has_request.ensures.rings in
@@ -52,7 +52,7 @@ returns-clause-rings c =
 
 pub returns-clause-base : goal.returns-clause-base
 returns-clause-base c =
-    let ls = c.args.self.now.all_node_rings.items in let js = c.args.self.now.book.entries in let l = c.tell.new.self in let at = c.args.at in
+    let ls = c.args.self.now.all_node_rings.items in let js = c.args.self.now.journaled.entries in let l = c.tell.new.self in let at = c.args.at in
     let was = c.index_mut-node_rings.result.now in let popped = c.request-step.new.self in
     let step = c.request-step.result in let answer = c.serve-answer.result in
     let ring = c.request-step.ensures.rings ∙ c.has_request.ensures.rings in
@@ -67,7 +67,7 @@ returns-clause-base c =
 
 pub returns-clause-once : goal.returns-clause-once
 returns-clause-once c =
-    let ls = c.args.self.now.all_node_rings.items in let js = c.args.self.now.book.entries in
+    let ls = c.args.self.now.all_node_rings.items in let js = c.args.self.now.journaled.entries in
     let popped = c.request-step.new.self in
     let ring = c.request-step.ensures.rings ∙ c.has_request.ensures.rings in
     let node = node_at ls js c.args.at popped c.index_mut-node_rings.result.now c.args.self.now.linked c.requires c.index_mut-node_rings.ensures.value ring in
@@ -79,19 +79,19 @@ returns-clause-grew c =
     let popped = c.request-step.new.self in
     let ring = c.request-step.ensures.rings ∙ c.has_request.ensures.rings in
     let node =
-    node_at c.args.self.now.all_node_rings.items c.args.self.now.book.entries c.args.at popped c.index_mut-node_rings.result.now c.args.self.now.linked c.requires c.index_mut-node_rings.ensures.value ring in
+    node_at c.args.self.now.all_node_rings.items c.args.self.now.journaled.entries c.args.at popped c.index_mut-node_rings.result.now c.args.self.now.linked c.requires c.index_mut-node_rings.ensures.value ring in
     let e : Entry = record { sender = popped.node; step = c.request-step.result; answer = c.serve-answer.result } in (
       omega arith,
-      grew_one c.args.self.now.book.entries c.reserve.new.self.entries c.serve-answer.new.self.entries c.args.self.now.book.state c.reserve.new.self.state c.serve-answer.new.self.state e
+      grew_one c.args.self.now.journaled.entries c.reserve.new.self.entries c.serve-answer.new.self.entries c.args.self.now.journaled.state c.reserve.new.self.state c.serve-answer.new.self.state e
           c.reserve.ensures.entries c.reserve.ensures.state c.serve-answer.ensures.written.entries c.serve-answer.ensures.written.leads c.serve-answer.ensures.written.departed
           (λ own. absurd (omega (arith, own, node))),
     )
 
 pub returns-then-not-has_known_place-clause-grew : goal.returns-then-not-has_known_place-clause-grew
-returns-then-not-has_known_place-clause-grew c = (omega arith, grew_none c.args.self.now.book.entries c.args.self.now.book.entries c.args.self.now.book.state c.args.self.now.book.state refl refl)
+returns-then-not-has_known_place-clause-grew c = (omega arith, grew_none c.args.self.now.journaled.entries c.args.self.now.journaled.entries c.args.self.now.journaled.state c.args.self.now.journaled.state refl refl)
 
 pub returns-then-not-has_request-clause-grew : goal.returns-then-not-has_request-clause-grew
-returns-then-not-has_request-clause-grew c = (omega arith, grew_none c.args.self.now.book.entries c.args.self.now.book.entries c.args.self.now.book.state c.args.self.now.book.state refl refl)
+returns-then-not-has_request-clause-grew c = (omega arith, grew_none c.args.self.now.journaled.entries c.args.self.now.journaled.entries c.args.self.now.journaled.state c.args.self.now.journaled.state refl refl)
 
 pub returns-then-not-has_known_place-clause-known : goal.returns-then-not-has_known_place-clause-known
 returns-then-not-has_known_place-clause-known c =

@@ -12,14 +12,14 @@ returns-clause-rings c =
 
 pub returns-clause-base : goal.returns-clause-base
 returns-clause-base c =
-    let ls = c.args.self.now.all_node_rings.items in let js = c.args.self.now.book.entries in let at = c.args.port.now.node - 1 in let l = c.settle.new.self in
+    let ls = c.args.self.now.all_node_rings.items in let js = c.args.self.now.journaled.entries in let at = c.args.port.now.node - 1 in let l = c.settle.new.self in
     let lt = node_rings_within ls at _ c.requires.1 in
     let follows = set_same ls js at l c.index_mut-node_rings.result.now c.args.self.now.linked lt c.index_mut-node_rings.ensures.value c.settle.ensures.rings c.settle.ensures.taken c.settle.ensures.told in
     (refl, follows.bases)
 
 pub returns-clause-posted : goal.returns-clause-posted
 returns-clause-posted c =
-    let ls = c.args.self.now.all_node_rings.items in let js = c.args.self.now.book.entries in let at = c.args.port.now.node - 1 in let l = c.settle.new.self in
+    let ls = c.args.self.now.all_node_rings.items in let js = c.args.self.now.journaled.entries in let at = c.args.port.now.node - 1 in let l = c.settle.new.self in
     let node = c.settle.new.port.node in
     let lt = node_rings_within ls at _ c.requires.1 in
     let follows = set_same ls js at l c.index_mut-node_rings.result.now c.args.self.now.linked lt c.index_mut-node_rings.ensures.value c.settle.ensures.rings c.settle.ensures.taken c.settle.ensures.told in
@@ -41,7 +41,7 @@ returns-clause-steps c =
 
 pub returns-clause-told : goal.returns-clause-told
 returns-clause-told c =
-    let ls = c.args.self.now.all_node_rings.items in let js = c.args.self.now.book.entries in let at = c.args.port.now.node - 1 in let l = c.settle.new.self in
+    let ls = c.args.self.now.all_node_rings.items in let js = c.args.self.now.journaled.entries in let at = c.args.port.now.node - 1 in let l = c.settle.new.self in
     let node = c.settle.new.port.node in
     let lt = node_rings_within ls at _ c.requires.1 in
     let follows = set_same ls js at l c.index_mut-node_rings.result.now c.args.self.now.linked lt c.index_mut-node_rings.ensures.value c.settle.ensures.rings c.settle.ensures.taken c.settle.ensures.told in
@@ -61,7 +61,7 @@ returns-clause-places c =
 
 pub returns-clause-known : goal.returns-clause-known
 returns-clause-known c =
-    let ls = c.args.self.now.all_node_rings.items in let js = c.args.self.now.book.entries in let at = c.args.port.now.node - 1 in let l = c.settle.new.self in
+    let ls = c.args.self.now.all_node_rings.items in let js = c.args.self.now.journaled.entries in let at = c.args.port.now.node - 1 in let l = c.settle.new.self in
     let was = c.index_mut-node_rings.result.now in
     let lt = node_rings_within ls at _ c.requires.1 in
     let follows = set_same ls js at l was c.args.self.now.linked lt c.index_mut-node_rings.ensures.value c.settle.ensures.rings c.settle.ensures.taken c.settle.ensures.told in

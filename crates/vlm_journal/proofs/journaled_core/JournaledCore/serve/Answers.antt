@@ -1,8 +1,8 @@
 use Rattle.std.proofs.Common.{rules, inr, subst}
 use Rattle.vlm_model.specs.Stepped.{Outcome}
-use Rattle.vlm_journal.specs.Books.{Account, GoesOn}
+use Rattle.vlm_journal.specs.Accounts.{Account, GoesOn}
 use Rattle.vlm_journal.proofs.GoingOn.{goes_on, one_leads}
-use Rattle.vlm_journal.proofs.book.Book.serve.Goals as goal
+use Rattle.vlm_journal.proofs.journaled_core.JournaledCore.serve.Goals as goal
 
 -- the outcome leads on
 pub invariant_of-self : goal.invariant_of-self

@@ -1,5 +1,5 @@
-use Rattle.vlm_journal.proofs.Drawing.{gives_ast}
-use Rattle.vlm_journal.proofs.laws.law_draw.Goals as goal
+use Rattle.vlm_journal.proofs.Delivery.{gives_ast}
+use Rattle.vlm_journal.proofs.laws.law_delivery.Goals as goal
 
 pub returns : goal.returns
 returns c history last run =

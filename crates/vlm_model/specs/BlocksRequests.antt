@@ -12,7 +12,7 @@ use Rattle.vlm_model.specs.Stepped.{Stepped}
 pub record IsInTheWayOf (queued : List LockRow) (q : Queued) (row : LockRow) : Type 0 where
   pub lock : row.lkid ≡ q.ast.lkid
   pub process : row.pid ≡ q.pid
-  pub keeps_out : Any (λ other. AreCompatible other.want row.held → ⊥) queued
+  pub blocks_request : Any (λ other. AreCompatible other.want row.held → ⊥) queued
 
 -- the lock of a blocking AST is granted on some resource, and blocks a queued request there
 abbrev pub IsOfLockInTheWay : State → Queued → Type 0

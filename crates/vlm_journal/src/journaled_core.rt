@@ -9,12 +9,12 @@ ghost use Rattle.vlm_model.specs.Stepped.{Outcome};
 ghost use Rattle.std.specs.Option.{option_map};
 ghost use Rattle.vlm_queue.specs.Views.{usage};
 ghost use Rattle.vlm_core.specs.Readers.{root_of};
-ghost use Rattle.vlm_journal.specs.Books.{GoesOn, made};
+ghost use Rattle.vlm_journal.specs.Accounts.{GoesOn, made};
 ghost use Rattle.vlm_journal.specs.Journals.{IsPostOf, JournalFrom};
 ghost use Rattle.vlm_journal.specs.Written.{IsWritten};
 
 use crate::entries::{Entry, Part};
-use crate::laws::{law_departed, law_draw, law_entry};
+use crate::laws::{law_departed, law_delivery, law_entry};
 use std::alloc::{AllocError, Global};
 use std::marker::Model;
 use std::mem;
@@ -27,7 +27,7 @@ use vlm_words::steps::{Answer, Step};
 /// A core with its journal: the entries since the last cut, and the number of entries before them. All entries, from the
 /// first, are a legal journal that leads to the core's state (this project's own).
 #[derive(Drop)]
-pub struct Book {
+pub struct JournaledCore {
     core: Core,
     entries: Vec<Entry>,
     // how many entries were handed out; `u64::MAX` if that is less than their number
@@ -35,9 +35,9 @@ pub struct Book {
     alloc: Global,
 }
 
-impl Model for Book {
+impl Model for JournaledCore {
     ghost use Rattle.std.specs.Prelude.{◌-◌, vec_capacity, vec_len};
-    ghost use Rattle.vlm_journal.specs.Books.{Account, GoesOn};
+    ghost use Rattle.vlm_journal.specs.Accounts.{Account, GoesOn};
 
     ghost Value = { Account };
 
@@ -51,15 +51,15 @@ impl Model for Book {
     ghost invariant = { λ b. GoesOn b.base b.entries.items b.core };
 }
 
-impl Book {
-    /// A book with a new core and an empty journal. It takes no memory.
-    pub fn new(core: Core, alloc: Global) -> Book
+impl JournaledCore {
+    /// A journaled core with a new core and an empty journal. It takes no memory.
+    pub fn new(core: Core, alloc: Global) -> JournaledCore
         requires start { core ≡ start }
         ensures entries { result.entries ≡ [] }
         ensures state { result.state ≡ start }
         ensures base { result.base ≡ 0 }
     {
-        Book {
+        JournaledCore {
             core,
             entries: Vec::new(alloc),
             base: 0,
@@ -79,7 +79,7 @@ impl Book {
     }
 
     /// Makes a step that a node has posted, and writes an entry with its answer. The entry takes no memory. The step
-    /// may need some, and is answered INSFMEM if that is refused. The cost is that of the step.
+    /// may need some, and is answered INSFMEM if that is refused. It costs as much as the step.
     pub fn serve(&mut self, sender: u8, step: Step) -> Answer
         requires room { 0 < self.old.room }
         requires sender { (0 < sender) × (sender ≤ 8) }
@@ -104,9 +104,9 @@ impl Book {
         self.core.pending_of(node)
     }
 
-    /// Takes the oldest AST of the process that [`Book::pending_of`] answers for a node, and writes an entry of the
+    /// Takes the oldest AST of the process that [`JournaledCore::pending_of`] answers for a node, and writes an entry of the
     /// hub. It takes no memory.
-    pub fn draw(&mut self, node: u8, pid: u32) -> Ast
+    pub fn deliver_ast(&mut self, node: u8, pid: u32) -> Ast
         requires room { 0 < self.old.room }
         requires pending { first_pending node self.old.state.processes ≡ Some pid }
         ensures outcome { Outcome self.old.state (Step.Take pid) self.new.state
@@ -116,7 +116,7 @@ impl Book {
             self.old self.new }
         ensures node { pid / 65536 ≡ node }
     {
-        law_draw();
+        law_delivery();
         law_entry();
         law_departed();
         let answer = self.core.step(Step::Take(pid));
@@ -188,7 +188,7 @@ impl Book {
         ensures state { result.1 ≡ self.state }
         ensures legal { GoesOn self.base result.0.items result.1 }
     {
-        let Book {
+        let JournaledCore {
             core,
             entries,
             base: _,

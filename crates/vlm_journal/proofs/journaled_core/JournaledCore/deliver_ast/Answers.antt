@@ -3,16 +3,16 @@ use Rattle.vlm_words.specs.declared.steps.Answer.TheVariants.{Taken}
 use Rattle.vlm_words.specs.declared.steps.Step.TheVariants.{Take}
 use Rattle.vlm_model.specs.Pending.{first_pending}
 use Rattle.vlm_model.specs.Stepped.{Outcome}
-use Rattle.vlm_journal.specs.Books.{Account, GoesOn}
+use Rattle.vlm_journal.specs.Accounts.{Account, GoesOn}
 use Rattle.vlm_journal.specs.Journals.{takes}
-use Rattle.vlm_journal.proofs.GoingOn.{draws, goes_on, one_leads}
-use Rattle.vlm_journal.proofs.book.Book.draw.Goals as goal
+use Rattle.vlm_journal.proofs.GoingOn.{delivers, goes_on, one_leads}
+use Rattle.vlm_journal.proofs.journaled_core.JournaledCore.deliver_ast.Goals as goal
 
 -- the take answers an AST
 pub ast_of-ast-requires : goal.ast_of-ast-requires
 ast_of-ast-requires c =
     let P : Account → Type 0 = λ b. first_pending c.args.node b.state.processes ≡ Some c.args.pid in
-    let given = draws c.law_draw.ensures c.self.invariant (subst P (sym c.self.view_is) c.requires.pending) c.step-answer.ensures in
+    let given = delivers c.law_delivery.ensures c.self.invariant (subst P (sym c.self.view_is) c.requires.pending) c.step-answer.ensures in
     (given.ast, given.answered)
 
 -- the outcome leads on
@@ -24,7 +24,7 @@ invariant_of-self c =
 pub returns-clause-node : goal.returns-clause-node
 returns-clause-node c =
     let P : Account → Type 0 = λ b. first_pending c.args.node b.state.processes ≡ Some c.args.pid in
-    (draws c.law_draw.ensures c.self.invariant (subst P (sym c.self.view_is) c.requires.pending) c.step-answer.ensures).of_node
+    (delivers c.law_delivery.ensures c.self.invariant (subst P (sym c.self.view_is) c.requires.pending) c.step-answer.ensures).of_node
 
 -- a node that had departed stays departed
 pub returns-clause-written : goal.returns-clause-written

@@ -1,10 +1,10 @@
 use Rattle.std.proofs.Common.{rules, inl, refl, subst}
 use Rattle.vlm_words.specs.declared.steps.Step.TheVariants.{Leave}
 use Rattle.vlm_model.specs.Stepped.{Outcome}
-use Rattle.vlm_journal.specs.Books.{Account, GoesOn}
+use Rattle.vlm_journal.specs.Accounts.{Account, GoesOn}
 use Rattle.vlm_journal.specs.Journals.{leaves}
 use Rattle.vlm_journal.proofs.GoingOn.{goes_on, one_leads}
-use Rattle.vlm_journal.proofs.book.Book.lose.Goals as goal
+use Rattle.vlm_journal.proofs.journaled_core.JournaledCore.lose.Goals as goal
 
 -- the outcome leads on
 pub invariant_of-self : goal.invariant_of-self

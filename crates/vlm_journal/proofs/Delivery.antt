@@ -21,7 +21,7 @@ use Rattle.vlm_model.specs.Stepped.{Outcome, Stepped, refused, refused_or, step_
 use Rattle.vlm_words.specs.Steps.{node_of_pid}
 use Rattle.vlm_model.specs.Take.{take_refusal, taken_ast}
 use Rattle.vlm_model.specs.Departing.{DepartedNodesAreToldSo, NoneLivesOnDepartedNodes}
-use Rattle.vlm_journal.specs.Drawing.{GivesAst}
+use Rattle.vlm_journal.specs.Delivery.{GivesAst}
 
 -- what is found is among them, and passes the test
 found_so : {X : Type 0} (Q : X → Type 0) (test : X → Bool) (xs : List X) (x : X) → AllByRecursion Q xs → find test xs ≡ Some x → Q x × (test x ≡ true)

@@ -1,4 +1,4 @@
--- A book: the entries since its last cut, and the journal before them.
+-- A journaled core: the entries since its last cut, and the journal before them.
 use Rattle.std.specs.Prelude.{◌≡◌, ◌+◌, ◌-◌, ◌^◌, ℕ, List, length, min}
 use Rattle.vlm_words.specs.State.{State}
 use Rattle.vlm_journal.specs.declared.entries.Entry.{Entry}

@@ -6,7 +6,7 @@ use Rattle.vlm_records.specs.Shown.{tally_in}
 use Rattle.vlm_store.specs.Store.{tables}
 use Rattle.vlm_store.proofs.Fitting.{in_the_way-handles}
 use Rattle.vlm_store.proofs.Layouts.{HasResource-order, resource_at-found}
-use Rattle.vlm_store.proofs.store.Store.is_in_the_way.Goals as goal
+use Rattle.vlm_store.proofs.store.Store.blocks_a_request.Goals as goal
 
 pub index-requires : goal.index-requires
 index-requires c =
@@ -21,7 +21,7 @@ returns c =
     let l = tables s.queues s.order (beside_shown s) in
     let found = resource_at-found l c.args.res (HasResource-order l c.args.res (rw (← c.self.view_is) at c.requires)) in
     rw (← c.self.view_is, found)
-    (c.keeps_out.ensures
+    (c.blocks_a_request.ensures
     ∙ in_the_way-handles s.queues l c.args.res (how_many of_wanted c.index.result.now.tally)
     (λ mode. sym (ap (λ slot. how_many of_wanted (tally_in slot) mode) told) ∙ c.self.invariant.tallied.counts of_wanted c.args.res mode)
     refl refl c.args.held)

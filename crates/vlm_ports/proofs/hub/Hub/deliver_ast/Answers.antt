@@ -4,10 +4,10 @@ use Rattle.vlm_journal.specs.declared.entries.Item.TheVariants.{Ast as ast_item}
 use Rattle.vlm_journal.specs.declared.entries.Item.{Item}
 use Rattle.vlm_ports.specs.Links.{node_rings_base}
 use Rattle.vlm_ports.proofs.Asking.{hub_asks}
-use Rattle.vlm_ports.proofs.Lines.{drawing, drawn_follows, node_at, rings_set, set_same}
+use Rattle.vlm_ports.proofs.Lines.{delivery, delivered_follows, node_at, rings_set, set_same}
 use Rattle.vlm_ports.proofs.Resting.{grew_none, grew_one}
 use Rattle.vlm_ports.proofs.Lasting.{lasts_at, lasts_then}
-use Rattle.vlm_ports.proofs.hub.Hub.draw.Goals as goal
+use Rattle.vlm_ports.proofs.hub.Hub.deliver_ast.Goals as goal
 
 pub returns-then-not-has_place-clause-rings : goal.returns-then-not-has_place-clause-rings
 returns-then-not-has_place-clause-rings c =
@@ -15,7 +15,7 @@ returns-then-not-has_place-clause-rings c =
 
 pub returns-then-not-has_place-clause-base : goal.returns-then-not-has_place-clause-base
 returns-then-not-has_place-clause-base c =
-    let follows = set_same c.args.self.now.all_node_rings.items c.args.self.now.book.entries c.args.at c.has_place.new.self c.index_mut-node_rings.result.now c.args.self.now.linked c.requires c.index_mut-node_rings.ensures.value
+    let follows = set_same c.args.self.now.all_node_rings.items c.args.self.now.journaled.entries c.args.at c.has_place.new.self c.index_mut-node_rings.result.now c.args.self.now.linked c.requires c.index_mut-node_rings.ensures.value
     c.has_place.ensures.rings c.has_place.ensures.taken c.has_place.ensures.told in
     (refl, follows.bases)
 
@@ -25,7 +25,7 @@ returns-in_default-clause-rings c =
 
 pub returns-in_default-clause-base : goal.returns-in_default-clause-base
 returns-in_default-clause-base c =
-    let follows = set_same c.args.self.now.all_node_rings.items c.args.self.now.book.entries c.args.at c.has_place.new.self c.index_mut-node_rings.result.now c.args.self.now.linked c.requires c.index_mut-node_rings.ensures.value
+    let follows = set_same c.args.self.now.all_node_rings.items c.args.self.now.journaled.entries c.args.at c.has_place.new.self c.index_mut-node_rings.result.now c.args.self.now.linked c.requires c.index_mut-node_rings.ensures.value
     c.has_place.ensures.rings c.has_place.ensures.taken c.has_place.ensures.told in
     (refl, follows.bases)
 
@@ -35,7 +35,7 @@ returns-in_err-reserve-clause-rings c =
 
 pub returns-in_err-reserve-clause-base : goal.returns-in_err-reserve-clause-base
 returns-in_err-reserve-clause-base c =
-    let ls = c.args.self.now.all_node_rings.items in let js = c.args.self.now.book.entries in
+    let ls = c.args.self.now.all_node_rings.items in let js = c.args.self.now.journaled.entries in
     let follows = set_same ls js c.args.at c.has_place.new.self c.index_mut-node_rings.result.now c.args.self.now.linked c.requires c.index_mut-node_rings.ensures.value
     c.has_place.ensures.rings c.has_place.ensures.taken c.has_place.ensures.told in
     let P : List Entry → Type 0 = λ es. map (node_rings_base es) (set ls c.args.at c.has_place.new.self) ≡ map (node_rings_base js) ls in
@@ -43,12 +43,12 @@ returns-in_err-reserve-clause-base c =
 
 pub invariant_of-self-2-clause-linked : goal.invariant_of-self-2-clause-linked
 invariant_of-self-2-clause-linked c =
-    let ls = c.args.self.now.all_node_rings.items in let js = c.args.self.now.book.entries in let l = c.tell.new.self in let at = c.args.at in
+    let ls = c.args.self.now.all_node_rings.items in let js = c.args.self.now.journaled.entries in let l = c.tell.new.self in let at = c.args.at in
     let was = c.index_mut-node_rings.result.now in let seen = c.has_place.new.self in
-    let pid = c.in-Some.pid in let ast = c.draw-ast.result in
-    let to = c.draw-ast.ensures.node ∙ node_at ls js at seen was c.args.self.now.linked c.requires c.index_mut-node_rings.ensures.value c.has_place.ensures.rings in
-    (drawn_follows ls js c.reserve.new.self.entries c.draw-ast.new.self.entries at l was pid ast c.args.self.now.linked c.requires c.index_mut-node_rings.ensures.value
-    c.reserve.ensures.entries c.draw-ast.ensures.written.told c.draw-ast.ensures.written.entries to (c.tell.ensures.rings ∙ c.has_place.ensures.rings) (c.tell.ensures.taken ∙ c.has_place.ensures.taken)
+    let pid = c.in-Some.pid in let ast = c.deliver_ast-ast.result in
+    let to = c.deliver_ast-ast.ensures.node ∙ node_at ls js at seen was c.args.self.now.linked c.requires c.index_mut-node_rings.ensures.value c.has_place.ensures.rings in
+    (delivered_follows ls js c.reserve.new.self.entries c.deliver_ast-ast.new.self.entries at l was pid ast c.args.self.now.linked c.requires c.index_mut-node_rings.ensures.value
+    c.reserve.ensures.entries c.deliver_ast-ast.ensures.written.told c.deliver_ast-ast.ensures.written.entries to (c.tell.ensures.rings ∙ c.has_place.ensures.rings) (c.tell.ensures.taken ∙ c.has_place.ensures.taken)
     (c.tell.ensures.told ∙ ap (λ (xs : List Item). xs ++ ast_item pid ast ∷ []) c.has_place.ensures.told)).linked
 
 pub returns-clause-rings : goal.returns-clause-rings
@@ -58,33 +58,33 @@ returns-clause-rings c =
 
 pub returns-clause-base : goal.returns-clause-base
 returns-clause-base c =
-    let ls = c.args.self.now.all_node_rings.items in let js = c.args.self.now.book.entries in let l = c.tell.new.self in let at = c.args.at in
+    let ls = c.args.self.now.all_node_rings.items in let js = c.args.self.now.journaled.entries in let l = c.tell.new.self in let at = c.args.at in
     let was = c.index_mut-node_rings.result.now in let seen = c.has_place.new.self in
-    let pid = c.in-Some.pid in let ast = c.draw-ast.result in
-    let to = c.draw-ast.ensures.node ∙ node_at ls js at seen was c.args.self.now.linked c.requires c.index_mut-node_rings.ensures.value c.has_place.ensures.rings in (
-      c.draw-ast.ensures.written.base ∙ c.reserve.ensures.base,
-      (drawn_follows ls js c.reserve.new.self.entries c.draw-ast.new.self.entries at l was pid ast c.args.self.now.linked c.requires c.index_mut-node_rings.ensures.value
-          c.reserve.ensures.entries c.draw-ast.ensures.written.told c.draw-ast.ensures.written.entries to (c.tell.ensures.rings ∙ c.has_place.ensures.rings) (c.tell.ensures.taken ∙ c.has_place.ensures.taken)
+    let pid = c.in-Some.pid in let ast = c.deliver_ast-ast.result in
+    let to = c.deliver_ast-ast.ensures.node ∙ node_at ls js at seen was c.args.self.now.linked c.requires c.index_mut-node_rings.ensures.value c.has_place.ensures.rings in (
+      c.deliver_ast-ast.ensures.written.base ∙ c.reserve.ensures.base,
+      (delivered_follows ls js c.reserve.new.self.entries c.deliver_ast-ast.new.self.entries at l was pid ast c.args.self.now.linked c.requires c.index_mut-node_rings.ensures.value
+          c.reserve.ensures.entries c.deliver_ast-ast.ensures.written.told c.deliver_ast-ast.ensures.written.entries to (c.tell.ensures.rings ∙ c.has_place.ensures.rings) (c.tell.ensures.taken ∙ c.has_place.ensures.taken)
           (c.tell.ensures.told ∙ ap (λ (xs : List Item). xs ++ ast_item pid ast ∷ []) c.has_place.ensures.told)).bases,
     )
 
 pub returns-clause-none_asks : goal.returns-clause-none_asks
 returns-clause-none_asks c =
-    hub_asks c.args.self.now.book.entries c.reserve.new.self.entries c.draw-ast.new.self.entries (drawing c.in-Some.pid c.draw-ast.result) c.reserve.ensures.entries c.draw-ast.ensures.written.told c.draw-ast.ensures.written.entries refl
+    hub_asks c.args.self.now.journaled.entries c.reserve.new.self.entries c.deliver_ast-ast.new.self.entries (delivery c.in-Some.pid c.deliver_ast-ast.result) c.reserve.ensures.entries c.deliver_ast-ast.ensures.written.told c.deliver_ast-ast.ensures.written.entries refl
 
 pub returns-clause-grew : goal.returns-clause-grew
 returns-clause-grew c = (
   omega arith,
-  grew_one c.args.self.now.book.entries c.reserve.new.self.entries c.draw-ast.new.self.entries c.args.self.now.book.state c.reserve.new.self.state c.draw-ast.new.self.state (drawing c.in-Some.pid c.draw-ast.result)
-      c.reserve.ensures.entries c.reserve.ensures.state c.draw-ast.ensures.written.entries c.draw-ast.ensures.written.leads c.draw-ast.ensures.written.departed
-      (λ own. record { pid = c.in-Some.pid; ast = c.draw-ast.result; step = refl; answer = refl }),
+  grew_one c.args.self.now.journaled.entries c.reserve.new.self.entries c.deliver_ast-ast.new.self.entries c.args.self.now.journaled.state c.reserve.new.self.state c.deliver_ast-ast.new.self.state (delivery c.in-Some.pid c.deliver_ast-ast.result)
+      c.reserve.ensures.entries c.reserve.ensures.state c.deliver_ast-ast.ensures.written.entries c.deliver_ast-ast.ensures.written.leads c.deliver_ast-ast.ensures.written.departed
+      (λ own. record { pid = c.in-Some.pid; ast = c.deliver_ast-ast.result; step = refl; answer = refl }),
 )
 
 pub returns-then-not-has_place-clause-grew : goal.returns-then-not-has_place-clause-grew
-returns-then-not-has_place-clause-grew c = (omega arith, grew_none c.args.self.now.book.entries c.args.self.now.book.entries c.args.self.now.book.state c.args.self.now.book.state refl refl)
+returns-then-not-has_place-clause-grew c = (omega arith, grew_none c.args.self.now.journaled.entries c.args.self.now.journaled.entries c.args.self.now.journaled.state c.args.self.now.journaled.state refl refl)
 
 pub returns-in_default-clause-grew : goal.returns-in_default-clause-grew
-returns-in_default-clause-grew c = (omega arith, grew_none c.args.self.now.book.entries c.args.self.now.book.entries c.args.self.now.book.state c.args.self.now.book.state refl refl)
+returns-in_default-clause-grew c = (omega arith, grew_none c.args.self.now.journaled.entries c.args.self.now.journaled.entries c.args.self.now.journaled.state c.args.self.now.journaled.state refl refl)
 
 pub returns-then-not-has_place-clause-known : goal.returns-then-not-has_place-clause-known
 returns-then-not-has_place-clause-known c =

@@ -1,7 +1,7 @@
 use Rattle.std.proofs.Common.{◌≡◌, ◌+◌, ◌-◌, ◌^◌, [], length, min, ap, sym, ◌∙◌, rules}
-use Rattle.vlm_journal.specs.Books.{made}
+use Rattle.vlm_journal.specs.Accounts.{made}
 use Rattle.vlm_journal.proofs.GoingOn.{goes_on_behind}
-use Rattle.vlm_journal.proofs.book.Book.cut.Goals as goal
+use Rattle.vlm_journal.proofs.journaled_core.JournaledCore.cut.Goals as goal
 
 -- nothing is left, behind what was handed out
 pub invariant_of-self : goal.invariant_of-self
