@@ -86,6 +86,9 @@ module _ (processes : Slab Process) (locks locks1 : Slab Lock) (at owner : ℕ) 
     joined_others1 : (other : ℕ) → ¬ IsIn other (own_handles processes locks owner) → other ≢ at → get locks1 other ≡ get locks other
     joined_others1 other absent = others1 other (λ found. absent (subst (λ l. IsIn other (handles_of own_links locks l)) head found))
 
+    pub process_joined_here : own_handles left_processes locks1 owner ≡ own_handles processes locks owner ++ at ∷ []
+    process_joined_here = ap (handles_of own_links locks1) head_here ∙ joined_handles1
+
     pub process_joined_others : (p : ℕ) → p ≢ owner → own_handles left_processes locks1 p ≡ own_handles processes locks p
     process_joined_others =
         family-put_others own_links owner_in cases_eq locks locks1 locks1 (own_list processes) (own_list left_processes) own1 at owner (λ k. refl) (λ k. refl) (λ k h. h) linked1 head_here head_elsewhere

@@ -1,5 +1,6 @@
 pub mod Tallies
 pub mod Armed
+pub mod Changes
 pub mod Families
 pub mod Kept
 pub mod Kin

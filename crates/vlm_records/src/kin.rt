@@ -1,10 +1,11 @@
 //! Locks join and leave the list of their process, and the sublocks of their parent lock.
 
-ghost use Rattle.std.specs.Prelude.{◌≡◌, ◌≢◌, ◌≤◌, ℕ, Some, None, [], ◌∷◌, ◌++◌};
+ghost use Rattle.std.specs.Prelude.{◌≡◌, ◌≤◌, ℕ, Some, None};
 ghost use Rattle.slab.specs.Slab.{get, ContainsKey};
 ghost use Rattle.vlm_collections.specs.Lists.{Relinks, without};
 ghost use Rattle.vlm_records.specs.Shown.{SameBut, room_in};
 ghost use Rattle.vlm_records.specs.Kin.{IsBelow, IsOwned, below_handles, but_below, but_own, own_handles, owner_in, parent_in, with_own_links};
+ghost use Rattle.vlm_records.specs.Changes.{JoinsParent, JoinsProcess};
 
 use crate::handles::{LockAt, ProcAt};
 use crate::locks::Lock;
@@ -41,16 +42,7 @@ pub fn join_process(processes: &mut Slab<Process>, locks: &mut Slab<Lock>, at: u
     requires within { at ≤ LAST_HANDLE }
     requires there { (owner : ℕ) → owner_in (get locks.old at) ≡ Some owner
         → ContainsKey processes.old owner }
-    ensures owned { IsOwned processes.new locks.new None }
-    ensures here { (owner : ℕ) → owner_in (get locks.old at) ≡ Some owner
-        → own_handles processes.new locks.new owner
-        ≡ own_handles processes.old locks.old owner ++ at ∷ [] }
-    ensures elsewhere { (other : ℕ) → owner_in (get locks.old at) ≢ Some other
-        → own_handles processes.new locks.new other ≡ own_handles processes.old locks.old other }
-    ensures relinks { Relinks with_own_links locks.old locks.new }
-    ensures rest { SameBut but_own processes.old processes.new }
-    ensures locks_room { room_in locks.new ≡ room_in locks.old }
-    ensures processes_room { room_in processes.new ≡ room_in processes.old }
+    ensures { JoinsProcess at processes.old locks.old processes.new locks.new }
 {
     processes[owner.slot()].own.push_back(locks, at);
 }
@@ -82,13 +74,7 @@ pub fn join_parent(locks: &mut Slab<Lock>, at: usize, parent: Option<LockAt>)
     requires within { at ≤ LAST_HANDLE }
     requires there { (parent : ℕ) → parent_in (get locks.old at) ≡ Some parent
         → ContainsKey locks.old parent }
-    ensures below { IsBelow locks.new None }
-    ensures here { (parent : ℕ) → parent_in (get locks.old at) ≡ Some parent
-        → below_handles locks.new parent ≡ below_handles locks.old parent ++ at ∷ [] }
-    ensures elsewhere { (other : ℕ) → parent_in (get locks.old at) ≢ Some other
-        → below_handles locks.new other ≡ below_handles locks.old other }
-    ensures rest { SameBut but_below locks.old locks.new }
-    ensures locks_room { room_in locks.new ≡ room_in locks.old }
+    ensures { JoinsParent at locks.old locks.new }
 {
     let Some(parent) = parent else {
         return;

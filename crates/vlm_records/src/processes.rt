@@ -1,6 +1,6 @@
 //! The record of a process.
 
-ghost use Rattle.std.specs.Prelude.{◌≡◌, ◌≢◌, ◌≤◌, ◌+◌, ℕ, None, Some, [], ◌∷◌, ◌++◌, refl};
+ghost use Rattle.std.specs.Prelude.{◌≡◌, ◌≢◌, ◌≤◌, ◌+◌, ℕ, None, Some, refl};
 ghost use Rattle.std.specs.Option.{option_map};
 ghost use Rattle.slab.specs.Slab.{get, HasRoomFor};
 ghost use Rattle.vlm_collections.specs.Lists.{IsIn, IsLinked, IsNoList, handles_of, without};
@@ -8,6 +8,7 @@ ghost use Rattle.vlm_words.specs.Processes.{new_process, process_with_block};
 ghost use Rattle.vlm_records.specs.Kin.{but_order, plain_process, process_links};
 ghost use Rattle.vlm_records.specs.Shown.{room_in};
 ghost use Rattle.vlm_records.specs.StatusBlocks.{requested, with_changed_block, with_status};
+ghost use Rattle.vlm_records.specs.Changes.{AddsProcess};
 
 use crate::locks::OfProcess;
 use crate::resources::InOrder;
@@ -126,16 +127,7 @@ pub fn put_in(
     requires linked { IsLinked process_links processes.old order.old }
     requires room { HasRoomFor processes.old 1 }
     requires last { processes.old.vacant_key ≤ LAST_HANDLE }
-    ensures within { result ≤ LAST_HANDLE }
-    ensures fresh { get processes.old result ≡ None }
-    ensures linked { IsLinked process_links processes.new order.new }
-    ensures order { handles_of process_links processes.new order.new
-        ≡ handles_of process_links processes.old order.old ++ result ∷ [] }
-    ensures here { option_map but_order (get processes.new result) ≡ Some (but_order process) }
-    ensures others { (other : ℕ) → other ≢ result
-        → option_map but_order (get processes.new other)
-        ≡ option_map but_order (get processes.old other) }
-    ensures taken { (room_in processes.new).0 + 1 ≡ (room_in processes.old).0 }
+    ensures { AddsProcess result process order.old order.new processes.old processes.new }
 {
     let at = processes.insert_reserved(process);
     order.push_back(processes, at);

@@ -2,14 +2,15 @@
 
 ghost use Rattle.std.specs.Prelude.{◌≡◌, ◌≢◌, ◌≤◌, ◌+◌, ℕ, false, None, Some, [], ◌∷◌, ◌++◌};
 ghost use Rattle.std.specs.Bool.{OnTrue};
-ghost use Rattle.std.specs.Option.{ForSome, option_map};
-ghost use Rattle.slab.specs.Slab.{get, ContainsKey, HasRoomFor};
+ghost use Rattle.std.specs.Option.{ForSome};
+ghost use Rattle.slab.specs.Slab.{ContainsKey, HasRoomFor};
 ghost use Rattle.vlm_collections.specs.Lists.{Relinks, without};
 ghost use Rattle.vlm_records.specs.declared.handles.Place.{Place};
 ghost use Rattle.vlm_records.specs.Armed.{IsLaidOut, StandsLast, armed_rank};
 ghost use Rattle.vlm_records.specs.Kept.{Keeps, Requeues, Rewrites, WritesLock};
 ghost use Rattle.vlm_records.specs.WaitList.{wait_list_links};
-ghost use Rattle.vlm_records.specs.Shown.{IsPlaced, IsTallied, IsThere, SameBut, but_counted, but_lists, but_place, but_queued, but_queues, but_requeued, but_row, handles_at, list_at, named_row, new_lock, noted, room_in, rows, with_queue_links};
+ghost use Rattle.vlm_records.specs.Shown.{IsPlaced, IsTallied, IsThere, SameBut, but_lists, but_place, but_queued, but_queues, but_requeued, but_row, handles_at, list_at, named_row, new_lock, noted, rows, with_queue_links};
+ghost use Rattle.vlm_records.specs.Changes.{Adds, Moves, Removes};
 
 use crate::handles::{LockAt, Place, ProcAt};
 use crate::locks::{InQueue, Lock};
@@ -180,14 +181,7 @@ impl Queues {
         requires within { at ≤ LAST_HANDLE }
         requires there { IsThere self.old.resources to }
         requires named { named_row (rows self.old at) ≡ named_row row.now }
-        ensures laid_out { IsLaidOut self.new }
-        ensures here { handles_at self.new to ≡ without at (handles_at self.old to) ++ at ∷ [] }
-        ensures elsewhere { (other : Place) → other ≢ to
-            → handles_at self.new other ≡ without at (handles_at self.old other) }
-        ensures row { rows self.new at ≡ row.now }
-        ensures rows { (other : ℕ) → other ≢ at → rows self.new other ≡ rows self.old other }
-        ensures kept { Keeps but_queued but_queues self.old self.new }
-        ensures wait_list { SameBut wait_list_links self.old.locks self.new.locks }
+        ensures { Moves at row.now to self.old self.new }
     {
         if self.stays(at, row, &to) {
             self.rewrite(at, row);
@@ -228,25 +222,7 @@ impl Queues {
         requires within { self.old.locks.vacant_key ≤ LAST_HANDLE }
         requires there { IsThere self.old.resources to }
         requires parent { ForSome parent (λ up. up ≤ LAST_HANDLE) }
-        ensures within { result ≤ LAST_HANDLE }
-        ensures fresh { get self.old.locks result ≡ None }
-        ensures laid_out { IsLaidOut self.new }
-        ensures here { handles_at self.new to ≡ handles_at self.old to ++ result ∷ [] }
-        ensures elsewhere { (other : Place) → other ≢ to
-            → handles_at self.new other ≡ handles_at self.old other }
-        ensures row { rows self.new result ≡ row.now }
-        ensures rows { (other : ℕ) → other ≢ result → rows self.new other ≡ rows self.old other }
-        ensures lock { option_map but_queued (get self.new.locks result)
-            ≡ Some (new_lock row.now owner parent) }
-        ensures kin { (other : ℕ) → other ≢ result
-            → option_map but_queued (get self.new.locks other)
-            ≡ option_map but_queued (get self.old.locks other) }
-        ensures wait_list { (other : ℕ) → other ≢ result
-            → option_map wait_list_links (get self.new.locks other)
-            ≡ option_map wait_list_links (get self.old.locks other) }
-        ensures rest { SameBut but_queues self.old.resources self.new.resources }
-        ensures taken { (room_in self.new.locks).0 + 1 ≡ (room_in self.old.locks).0 }
-        ensures resources_room { room_in self.new.resources ≡ room_in self.old.resources }
+        ensures { Adds result row.now (new_lock row.now owner parent) to self.old self.new }
     {
         let at = self.locks.insert_reserved(Lock {
             row: *row,
@@ -271,18 +247,7 @@ impl Queues {
     pub fn remove(&mut self, at: usize)
         requires laid_out { IsLaidOut self.old }
         requires present { ContainsKey self.old.locks at }
-        ensures laid_out { IsLaidOut self.new }
-        ensures handles { (place : Place) → handles_at self.new place
-            ≡ without at (handles_at self.old place) }
-        ensures gone { get self.new.locks at ≡ None }
-        ensures rows { (other : ℕ) → other ≢ at → rows self.new other ≡ rows self.old other }
-        ensures kin { (other : ℕ) → other ≢ at → option_map but_queued (get self.new.locks other)
-            ≡ option_map but_queued (get self.old.locks other) }
-        ensures wait_list { (other : ℕ) → other ≢ at → option_map wait_list_links (get self.new.locks other)
-            ≡ option_map wait_list_links (get self.old.locks other) }
-        ensures rest { SameBut but_queues self.old.resources self.new.resources }
-        ensures given_back { room_in self.new.locks ≡ ((room_in self.old.locks).0 + 1, at) }
-        ensures resources_room { room_in self.new.resources ≡ room_in self.old.resources }
+        ensures { Removes at self.old self.new }
     {
         self.leave_armed(at);
         self.count_out(at);

@@ -1,13 +1,13 @@
 //! The record of a resource, and how one is made and removed.
 
-ghost use Rattle.std.specs.Prelude.{◌≡◌, ◌≢◌, ◌≤◌, ◌+◌, ℕ, None, Some, [], ◌∷◌, ◌++◌, refl};
-ghost use Rattle.std.specs.Option.{option_map};
+ghost use Rattle.std.specs.Prelude.{◌≡◌, ◌≢◌, ◌≤◌, ◌+◌, ℕ, [], ◌∷◌, ◌++◌, refl};
 ghost use Rattle.slab.specs.Slab.{get, ContainsKey, HasRoomFor};
 ghost use Rattle.vlm_collections.specs.Lists.{IsIn, IsLinked, Lists, Relinks, first_handle, handle_after, handles_of, without};
 ghost use Rattle.vlm_words.specs.declared.resources.Queue.{Queue};
 ghost use Rattle.vlm_records.specs.declared.handles.Place.{Place};
 ghost use Rattle.vlm_records.specs.Armed.{IsLaidOut, armed_links, list_of, with_armed_links, with_list};
-ghost use Rattle.vlm_records.specs.Shown.{SameBut, but_value_block, face_in, face_of, handles_at, new_face, order_links, room_in};
+ghost use Rattle.vlm_records.specs.Shown.{SameBut, but_value_block, face_in, handles_at, new_face, order_links, room_in};
+ghost use Rattle.vlm_records.specs.Changes.{AddsResource, RemovesResource};
 
 use crate::handles::Armed;
 use crate::locks::{InAboveCr, InAboveNl, InQueue, Lock};
@@ -201,19 +201,7 @@ impl Queues {
         requires linked { IsLinked order_links self.old.resources order.old }
         requires room { HasRoomFor self.old.resources 1 }
         requires within { self.old.resources.vacant_key ≤ LAST_HANDLE }
-        ensures within { result ≤ LAST_HANDLE }
-        ensures fresh { get self.old.resources result ≡ None }
-        ensures laid_out { IsLaidOut self.new }
-        ensures handles { (place : Place) → handles_at self.new place ≡ handles_at self.old place }
-        ensures locks { self.new.locks ≡ self.old.locks }
-        ensures linked { IsLinked order_links self.new.resources order.new }
-        ensures order { handles_of order_links self.new.resources order.new
-            ≡ handles_of order_links self.old.resources order.old ++ result ∷ [] }
-        ensures face { option_map face_of (get self.new.resources result)
-            ≡ Some (new_face serial site.now hash) }
-        ensures faces { (res : ℕ) → res ≢ result → option_map face_of (get self.new.resources res)
-            ≡ option_map face_of (get self.old.resources res) }
-        ensures taken { (room_in self.new.resources).0 + 1 ≡ (room_in self.old.resources).0 }
+        ensures { AddsResource result (new_face serial site.now hash) order.old order.new self.old self.new }
     {
         let at = self.resources.insert_reserved(Resource {
             serial,
@@ -240,18 +228,7 @@ impl Queues {
         requires linked { IsLinked order_links self.old.resources order.old }
         requires listed { IsIn res (handles_of order_links self.old.resources order.old) }
         requires idle { (queue : Queue) → handles_at self.old (Place.Queued res queue) ≡ [] }
-        ensures laid_out { IsLaidOut self.new }
-        ensures handles { (place : Place) → handles_at self.new place ≡ handles_at self.old place }
-        ensures locks { self.new.locks ≡ self.old.locks }
-        ensures linked { IsLinked order_links self.new.resources order.new }
-        ensures order { handles_of order_links self.new.resources order.new
-            ≡ without res (handles_of order_links self.old.resources order.old) }
-        ensures gone { get self.new.resources res ≡ None }
-        ensures faces { (other : ℕ) → other ≢ res
-            → option_map face_of (get self.new.resources other)
-            ≡ option_map face_of (get self.old.resources other) }
-        ensures given_back { room_in self.new.resources
-            ≡ ((room_in self.old.resources).0 + 1, res) }
+        ensures { RemovesResource res order.old order.new self.old self.new }
     {
         order.unlink(&mut self.resources, res);
         self.resources.remove(res);

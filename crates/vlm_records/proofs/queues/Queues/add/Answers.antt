@@ -74,73 +74,66 @@ join_armed-requires-clause-last c =
     (handles3 c.args.to ∙ put.here ∙ ap (λ ks. ks ++ at ∷ []) (handles1 c.args.to)) (λ p differs. handles3 p ∙ put.elsewhere p differs ∙ handles1 p)
     (counted_placed q2 q3 None put.placed counts.rest counts.locks)
 
-pub returns-clause-laid_out : goal.returns-clause-laid_out
-returns-clause-laid_out c = record {
-  placed = c.join_armed.ensures.places.placed;
-  tallied = c.join_armed.ensures.places.tallied;
-  armed = c.join_armed.ensures.armed;
+pub returns : goal.returns
+returns c = record {
+  within = search rules;
+  fresh = search rules;
+  laid_out = record {
+    placed = c.join_armed.ensures.places.placed;
+    tallied = c.join_armed.ensures.places.tallied;
+    armed = c.join_armed.ensures.armed;
+  };
+  here =
+      let q = c.args.self.now in
+      let at = c.insert_reserved-at.result in
+      let q1 : Queues = record q { locks = c.insert_reserved-at.new.self } in
+      let counts = c.count_in.ensures.counts in
+      let linked = c.requires.laid_out.placed.linked in
+      c.join_armed.ensures.places.handles c.args.to
+      ∙ counted_handles c.push_at.new.self c.count_in.new.self None c.push_at.ensures.placed counts.rest counts.locks c.args.to
+      ∙ c.push_at.ensures.here
+      ∙ ap (λ ks. ks ++ at ∷ [])
+      (updated_handles q q1 at _ c.insert_reserved-at.ensures.updates linked (λ p. vacant_unlisted queue_links q.locks (list_at q p) (linked p) at c.insert_reserved-at.ensures.was_vacant)
+      (lists_same q q1 refl) c.args.to);
+  elsewhere = λ p differs.
+      let q = c.args.self.now in
+      let at = c.insert_reserved-at.result in
+      let q1 : Queues = record q { locks = c.insert_reserved-at.new.self } in
+      let counts = c.count_in.ensures.counts in
+      let linked = c.requires.laid_out.placed.linked in
+      c.join_armed.ensures.places.handles p
+      ∙ counted_handles c.push_at.new.self c.count_in.new.self None c.push_at.ensures.placed counts.rest counts.locks p
+      ∙ c.push_at.ensures.elsewhere p differs
+      ∙ updated_handles q q1 at _ c.insert_reserved-at.ensures.updates linked (λ p. vacant_unlisted queue_links q.locks (list_at q p) (linked p) at c.insert_reserved-at.ensures.was_vacant)
+      (lists_same q q1 refl) p;
+  row = search rules;
+  rows = search rules;
+  lock =
+      let at = c.insert_reserved-at.result in
+      let q1 = c.insert_reserved-at.new.self in
+      let q2 = c.push_at.new.self.locks in
+      let q3 = c.count_in.new.self.locks in
+      let q4 = c.join_armed.new.self.locks in
+      let made : option_map but_queued (get q1 at) ≡ Some (new_lock c.args.row.now c.args.owner c.args.parent) = search rules in
+      in_armed_is (get q4 at) (get q3 at) (c.join_armed.ensures.places.records.kin at) ∙ ap (λ s. option_map but_queued (get s at)) c.count_in.ensures.counts.locks
+      ∙ requeued_is (get q2 at) (get q1 at) (c.push_at.ensures.kept.kin at) ∙ made;
+  kin = λ k differs.
+      let q1 = c.insert_reserved-at.new.self in
+      let q2 = c.push_at.new.self.locks in
+      let q3 = c.count_in.new.self.locks in
+      let q4 = c.join_armed.new.self.locks in
+      in_armed_is (get q4 k) (get q3 k) (c.join_armed.ensures.places.records.kin k) ∙ ap (λ s. option_map but_queued (get s k)) c.count_in.ensures.counts.locks
+      ∙ requeued_is (get q2 k) (get q1 k) (c.push_at.ensures.kept.kin k) ∙ ap (option_map but_queued) (c.insert_reserved-at.ensures.updates.others k differs);
+  wait_list = search rules;
+  rest = λ k.
+      let q1 = c.args.self.now.resources in
+      let q2 = c.push_at.new.self.resources in
+      let q3 = c.count_in.new.self.resources in
+      let q4 = c.join_armed.new.self.resources in
+      armed_queues q3 q4 c.join_armed.ensures.places.records.rest k
+      ∙ counted_queues q1 q3 (same_then but_counted q1 q2 q3 (lists_counted q1 q2 c.push_at.ensures.kept.rest) (tally_counted q2 q3 c.count_in.ensures.counts.rest)) k;
+  taken =
+      ap (λ (p : ℕ × ℕ). p.0 + 1) (c.join_armed.ensures.places.records.locks_room ∙ ap room_in c.count_in.ensures.counts.locks ∙ c.push_at.ensures.kept.locks_room)
+      ∙ room_taken c.args.self.now.locks c.insert_reserved-at.new.self c.requires.room c.insert_reserved-at.ensures.len c.insert_reserved-at.ensures.capacity;
+  resources_room = c.join_armed.ensures.places.records.resources_room ∙ c.count_in.ensures.counts.resources_room ∙ c.push_at.ensures.kept.resources_room;
 }
-
-pub returns-clause-here : goal.returns-clause-here
-returns-clause-here c =
-    let q = c.args.self.now in
-    let at = c.insert_reserved-at.result in
-    let q1 : Queues = record q { locks = c.insert_reserved-at.new.self } in
-    let counts = c.count_in.ensures.counts in
-    let linked = c.requires.laid_out.placed.linked in
-    c.join_armed.ensures.places.handles c.args.to
-    ∙ counted_handles c.push_at.new.self c.count_in.new.self None c.push_at.ensures.placed counts.rest counts.locks c.args.to
-    ∙ c.push_at.ensures.here
-    ∙ ap (λ ks. ks ++ at ∷ [])
-    (updated_handles q q1 at _ c.insert_reserved-at.ensures.updates linked (λ p. vacant_unlisted queue_links q.locks (list_at q p) (linked p) at c.insert_reserved-at.ensures.was_vacant)
-    (lists_same q q1 refl) c.args.to)
-
-pub returns-clause-elsewhere : goal.returns-clause-elsewhere
-returns-clause-elsewhere c p differs =
-    let q = c.args.self.now in
-    let at = c.insert_reserved-at.result in
-    let q1 : Queues = record q { locks = c.insert_reserved-at.new.self } in
-    let counts = c.count_in.ensures.counts in
-    let linked = c.requires.laid_out.placed.linked in
-    c.join_armed.ensures.places.handles p
-    ∙ counted_handles c.push_at.new.self c.count_in.new.self None c.push_at.ensures.placed counts.rest counts.locks p
-    ∙ c.push_at.ensures.elsewhere p differs
-    ∙ updated_handles q q1 at _ c.insert_reserved-at.ensures.updates linked (λ p. vacant_unlisted queue_links q.locks (list_at q p) (linked p) at c.insert_reserved-at.ensures.was_vacant)
-    (lists_same q q1 refl) p
-
-pub returns-clause-lock : goal.returns-clause-lock
-returns-clause-lock c =
-    let at = c.insert_reserved-at.result in
-    let q1 = c.insert_reserved-at.new.self in
-    let q2 = c.push_at.new.self.locks in
-    let q3 = c.count_in.new.self.locks in
-    let q4 = c.join_armed.new.self.locks in
-    let made : option_map but_queued (get q1 at) ≡ Some (new_lock c.args.row.now c.args.owner c.args.parent) = search rules in
-    in_armed_is (get q4 at) (get q3 at) (c.join_armed.ensures.places.records.kin at) ∙ ap (λ s. option_map but_queued (get s at)) c.count_in.ensures.counts.locks
-    ∙ requeued_is (get q2 at) (get q1 at) (c.push_at.ensures.kept.kin at) ∙ made
-
-pub returns-clause-kin : goal.returns-clause-kin
-returns-clause-kin c k differs =
-    let q1 = c.insert_reserved-at.new.self in
-    let q2 = c.push_at.new.self.locks in
-    let q3 = c.count_in.new.self.locks in
-    let q4 = c.join_armed.new.self.locks in
-    in_armed_is (get q4 k) (get q3 k) (c.join_armed.ensures.places.records.kin k) ∙ ap (λ s. option_map but_queued (get s k)) c.count_in.ensures.counts.locks
-    ∙ requeued_is (get q2 k) (get q1 k) (c.push_at.ensures.kept.kin k) ∙ ap (option_map but_queued) (c.insert_reserved-at.ensures.updates.others k differs)
-
-pub returns-clause-rest : goal.returns-clause-rest
-returns-clause-rest c k =
-    let q1 = c.args.self.now.resources in
-    let q2 = c.push_at.new.self.resources in
-    let q3 = c.count_in.new.self.resources in
-    let q4 = c.join_armed.new.self.resources in
-    armed_queues q3 q4 c.join_armed.ensures.places.records.rest k
-    ∙ counted_queues q1 q3 (same_then but_counted q1 q2 q3 (lists_counted q1 q2 c.push_at.ensures.kept.rest) (tally_counted q2 q3 c.count_in.ensures.counts.rest)) k
-
-pub returns-clause-taken : goal.returns-clause-taken
-returns-clause-taken c =
-    ap (λ (p : ℕ × ℕ). p.0 + 1) (c.join_armed.ensures.places.records.locks_room ∙ ap room_in c.count_in.ensures.counts.locks ∙ c.push_at.ensures.kept.locks_room)
-    ∙ room_taken c.args.self.now.locks c.insert_reserved-at.new.self c.requires.room c.insert_reserved-at.ensures.len c.insert_reserved-at.ensures.capacity
-
-pub returns-clause-resources_room : goal.returns-clause-resources_room
-returns-clause-resources_room c = c.join_armed.ensures.places.records.resources_room ∙ c.count_in.ensures.counts.resources_room ∙ c.push_at.ensures.kept.resources_room
