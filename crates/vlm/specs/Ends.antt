@@ -1,5 +1,5 @@
 -- The end of a call of the program: its exit status, and the bytes that it has read and written.
-use Rattle.std.specs.Prelude.{◌≡◌, ◌≢◌, ℕ, List, [], ◌⊎◌, Option, None, Some, Result, Ok, Err, IfSome, codes}
+use Rattle.std.specs.Prelude.{◌≡◌, ◌≢◌, ◌≤◌, ℕ, List, [], ◌∷◌, ◌⊎◌, Option, None, Some, Result, Ok, Err, IfSome, codes}
 use Rattle.std.specs.Io.KnownBytes.{Appends}
 use Rattle.clap.specs.Words.{Text}
 use Rattle.clap.specs.declared.error.kind.ErrorKind.{ErrorKind}
@@ -12,7 +12,7 @@ use Rattle.vlm_watch.specs.declared.rows.RootKey.{RootKey}
 use Rattle.vlm.specs.declared.arguments.Subject.{Subject}
 use Rattle.vlm.specs.Clusters.{PrintsCluster}
 use Rattle.vlm_monitor.specs.Watches.{PrintsWatch}
-use Rattle.vlm.specs.Words.{AskForCluster, AskForPlay, AskForWatch, IsErrorOf, IsHelp, word_errors}
+use Rattle.vlm.specs.Words.{AreClusterWords, AreWatchWords, AskForCluster, AskForPlay, AskForWatch, IsErrorOf, IsHelp, name_given, word_errors}
 use Rattle.vlm_script.specs.declared.faults.PlayFault.{PlayFault}
 use Rattle.vlm_script.specs.declared.faults.PlayFault.TheVariants.{Line, Memory, Read, Write, Long}
 use Rattle.vlm_script.specs.Faults.{fault_line}
@@ -210,3 +210,14 @@ ClustersOrWantsMemory nodes script left old new status =
 abbrev pub WatchesOrWantsMemory : Option (List ℕ) → EndOfCall
 WatchesOrWantsMemory name script left old new status =
     OrWantsMemory (StartsWatch System name) script left old new status
+
+-- the program ends as its words ask: `NAME play` runs the script, `NAME cluster --nodes N` serves it by N nodes,
+-- `NAME cluster` by two, and `NAME watch --name=RES` watches the resource of the name RES, if a resource can have that
+-- name
+pub record EndsAsAsked (words : List Text) (script left : Option (List ℕ)) (old new : Output) (status : ℕ) : Type 0 where
+  pub ends : EndsByWords words script left old new status
+  pub play : (name : List ℕ) → words ≡ name ∷ codes "play" ∷ [] → RunsOrWantsMemory script left old new status
+  pub cluster : (name : List ℕ) (nodes : ℕ) → 1 ≤ nodes → nodes ≤ 8
+      → AreClusterWords name nodes words → ClustersOrWantsMemory nodes script left old new status
+  pub watch : (name res : List ℕ) → AreWatchWords name res words
+      → WatchesOrWantsMemory (name_given res) script left old new status

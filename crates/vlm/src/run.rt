@@ -1,9 +1,8 @@
 //! Runs the program by the words of its command line.
 
-ghost use Rattle.std.specs.Prelude.{◌≡◌, ◌⊎◌, ◌≤◌, ℕ, List, [], ◌∷◌, Err, codes, map};
+ghost use Rattle.std.specs.Prelude.{◌≡◌, ◌⊎◌, Err, map};
 ghost use Rattle.clap.specs.Words.{kind_of};
-ghost use Rattle.vlm.specs.Words.{AreClusterWords, AreWatchWords, name_given};
-ghost use Rattle.vlm.specs.Ends.{ClustersOrWantsMemory, EndsByError, EndsByWords, FailsHelp, GivesHelp, PrintsFault, PrintsLine, PrintsNoRandomBytes, RunsOrWantsMemory, RunsScript, StartsRun, WatchesOrWantsMemory, output_of, status_of};
+ghost use Rattle.vlm.specs.Ends.{EndsAsAsked, EndsByError, FailsHelp, GivesHelp, PrintsFault, PrintsLine, PrintsNoRandomBytes, RunsScript, StartsRun, output_of, status_of};
 
 use crate::arguments::{Task, chosen};
 use crate::cluster::start_cluster;
@@ -39,27 +38,7 @@ pub fn run_words<S: AsStr, R: Read, W: Write, F: Write>(
     writer: &mut W,
     faults: &mut F,
 ) -> u8
-    ensures ends { EndsByWords (map S.text words.now)
-        (R.remaining reader.old) (R.remaining reader.new)
-        (output_of (W.contents writer.old) (F.contents faults.old))
-        (output_of (W.contents writer.new) (F.contents faults.new)) result }
-
-    // `NAME play` runs the script.
-    ensures play { (name : List ℕ) → map S.text words.now ≡ name ∷ codes "play" ∷ []
-        → RunsOrWantsMemory (R.remaining reader.old) (R.remaining reader.new)
-        (output_of (W.contents writer.old) (F.contents faults.old))
-        (output_of (W.contents writer.new) (F.contents faults.new)) result }
-
-    // `NAME cluster --nodes N` serves it by N nodes, and `NAME cluster` by two.
-    ensures cluster { (name : List ℕ) (nodes : ℕ) → 1 ≤ nodes → nodes ≤ 8
-        → AreClusterWords name nodes (map S.text words.now)
-        → ClustersOrWantsMemory nodes (R.remaining reader.old) (R.remaining reader.new)
-        (output_of (W.contents writer.old) (F.contents faults.old))
-        (output_of (W.contents writer.new) (F.contents faults.new)) result }
-
-    // `NAME watch --name=RES` watches the resource of the name RES, if a resource can have that name.
-    ensures watch { (name res : List ℕ) → AreWatchWords name res (map S.text words.now)
-        → WatchesOrWantsMemory (name_given res) (R.remaining reader.old) (R.remaining reader.new)
+    ensures { EndsAsAsked (map S.text words.now) (R.remaining reader.old) (R.remaining reader.new)
         (output_of (W.contents writer.old) (F.contents faults.old))
         (output_of (W.contents writer.new) (F.contents faults.new)) result }
 {

@@ -5,3 +5,4 @@ pub mod Settling
 pub mod Works
 pub mod Reports
 pub mod Headline
+pub mod Assembly

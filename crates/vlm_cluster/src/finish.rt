@@ -1,12 +1,11 @@
 //! Making the report of a run from the results of its workers.
 
 ghost use Rattle.std.specs.Prelude.{◌≡◌, ◌<◌, ◌≤◌, [], ℕ, IsTrue, length, map, replicate, slice_index, slice_index_or, vec_capacity, vec_len};
-ghost use Rattle.vlm_journal.specs.Journals.{Journal};
-ghost use Rattle.vlm_ports.specs.Hubs.{HubTakesAlone};
-ghost use Rattle.vlm_cluster.specs.Gates.{IsToldOn, moves};
-ghost use Rattle.vlm_cluster.specs.Parts.{AreNumbered, HaveEnough, IsAccounted};
-ghost use Rattle.vlm_cluster.specs.Reports.{entries_of, parts_of};
-ghost use Rattle.vlm_cluster.specs.Works.{ArePortsOf, IsBegun, IsWhole, entries_at, point_of, work_of};
+ghost use Rattle.vlm_cluster.specs.Gates.{moves};
+ghost use Rattle.vlm_cluster.specs.Parts.{IsAccounted};
+ghost use Rattle.vlm_cluster.specs.Reports.{entries_of};
+ghost use Rattle.vlm_cluster.specs.Works.{ArePortsOf, entries_at};
+ghost use Rattle.vlm_cluster.specs.Assembly.{AreBegunBy, ArePostedBy, AreToldBy, AreWholeBy, IsRoomFor, IsSoundReport};
 
 use crate::gate::Gate;
 use crate::hub_driver::HubDriver;
@@ -39,26 +38,16 @@ pub(crate) fn finish<G: Gate>(
 ) -> Finished
     requires ports { ArePortsOf driver.hub results.items }
     requires accounted { IsAccounted driver.parts.items driver.hub }
-    requires items { (vec_len space.items ≡ 0) × (vec_len results ≤ vec_capacity space.items) }
+    requires items { IsRoomFor (vec_len results) space.items }
     requires posted { vec_len space.posted ≡ vec_len results }
-    ensures legal { Journal (entries_of result.report) result.report.core }
-    ensures numbered { AreNumbered (parts_of result.report) }
-    ensures takes { HubTakesAlone (entries_of result.report) }
-    ensures enough { HaveEnough driver.every result.report.parts.items }
+    ensures sound { IsSoundReport driver.every result.report }
     ensures rest { IsTrue result.whole → length result.report.rest.entries.items < driver.every }
     ensures counts { (vec_len result.report.items ≡ vec_len results)
         × (vec_len result.report.posted ≡ vec_len results) }
-    ensures posted { (k : ℕ) (d : _) → k < vec_len results
-        → slice_index result.report.posted.items k ≡ (slice_index_or results.items k d).posted }
-    ensures begun { (k : ℕ) (d : _) (v : _) → k < vec_len results
-        → IsBegun (entries_of result.report) (work_of (slice_index_or results.items k d))
-        (slice_index_or result.report.items.items k v).items }
-    ensures whole { IsTrue result.whole → (k : ℕ) (d : _) (v : _) → k < vec_len results
-        → IsWhole (entries_of result.report) (work_of (slice_index_or results.items k d))
-        (slice_index_or result.report.items.items k v).items }
-    ensures told { (k : ℕ) (d : _) (v : _) → k < vec_len results
-        → IsToldOn (moves G.answers G.hears) (point_of (slice_index_or results.items k d))
-        (slice_index_or result.report.items.items k v).items }
+    ensures posted { ArePostedBy (vec_len results) result.report results.items }
+    ensures begun { AreBegunBy (vec_len results) result.report results.items }
+    ensures whole { IsTrue result.whole → AreWholeBy (vec_len results) result.report results.items }
+    ensures told { AreToldBy (moves G.answers G.hears) (vec_len results) result.report results.items }
 {
     let mut driver = driver;
     let mut results = results;
@@ -85,22 +74,17 @@ pub(crate) fn give_up<G: Gate>(
     results: &[WorkerResult<G>],
     space: ReportSpace,
 ) -> Report
-    requires quiet { entries_at driver ≡ [] }
-    requires accounted { IsAccounted driver.parts.items driver.hub }
-    requires items { (vec_len space.items ≡ 0) × (vec_len space.posted ≤ vec_capacity space.items) }
+    requires accounted { (entries_at driver ≡ []) × IsAccounted driver.parts.items driver.hub }
+    requires items { IsRoomFor (vec_len space.posted) space.items }
     requires few { length results.now ≤ vec_len space.posted }
     requires posted { space.posted.items ≡ replicate (vec_len space.posted) 0 }
     ensures entries { entries_of result ≡ [] }
-    ensures legal { Journal (entries_of result) result.core }
-    ensures numbered { AreNumbered (parts_of result) }
-    ensures takes { HubTakesAlone (entries_of result) }
-    ensures enough { HaveEnough driver.every result.parts.items }
+    ensures sound { IsSoundReport driver.every result }
     ensures counts { (vec_len result.items ≡ vec_len space.posted)
         × (vec_len result.posted ≡ vec_len space.posted) }
     ensures items { (k : ℕ) (v : _) → k < vec_len space.posted
         → (slice_index_or result.items.items k v).items ≡ [] }
-    ensures posted { (k : ℕ) (d : _) → k < length results.now
-        → slice_index result.posted.items k ≡ (slice_index_or results.now k d).posted }
+    ensures posted { ArePostedBy (length results.now) result results.now }
     ensures others { (k : ℕ) → length results.now ≤ k → slice_index result.posted.items k ≡ 0 }
 {
     let ReportSpace {

@@ -1,6 +1,6 @@
 //! Serving lists of steps: a worker thread for each list, and the hub in the caller's thread.
 
-ghost use Rattle.std.specs.Prelude.{◌≡◌, ◌<◌, ◌≤◌, [], MatchResult, map, replicate, vec_capacity, vec_len};
+ghost use Rattle.std.specs.Prelude.{◌≡◌, ◌<◌, ◌≤◌, [], MatchResult, map, replicate, vec_len};
 ghost use Rattle.vlm_words.specs.State.{start};
 ghost use Rattle.vlm_ports.specs.Hubs.{rings};
 ghost use Rattle.vlm_ports.specs.Ports.{AreNew, identity};
@@ -10,6 +10,7 @@ ghost use Rattle.vlm_cluster.specs.Parts.{IsAccounted};
 ghost use Rattle.vlm_cluster.specs.Posts.{AreListsOfPosts};
 ghost use Rattle.vlm_cluster.specs.Reports.{IsParted, IsPartedFault};
 ghost use Rattle.vlm_cluster.specs.Works.{entries_at};
+ghost use Rattle.vlm_cluster.specs.Assembly.{IsGatedRun, IsRoomFor};
 
 use crate::finish::{finish, give_up};
 use crate::gate::Gate;
@@ -104,19 +105,13 @@ fn run<R: Threads + Wait + Clock + Copy + Send + 'static, G: Gate + Send + 'stat
         × (vec_len inputs.gates ≡ vec_len inputs.lists) }
     requires posts { AreListsOfPosts inputs.lists.items }
     requires new { AreNew inputs.ports.items × (map identity inputs.ports.items ≡ rings driver.hub) }
-    requires quiet { entries_at driver ≡ [] }
-    requires accounted { IsAccounted driver.parts.items driver.hub }
-    requires children { (vec_len preallocated.children ≡ 0)
-        × (vec_len inputs.lists ≤ vec_capacity preallocated.children) }
-    requires results { (vec_len preallocated.results ≡ 0)
-        × (vec_len inputs.lists ≤ vec_capacity preallocated.results) }
-    requires items { (vec_len preallocated.space.items ≡ 0)
-        × (vec_len inputs.lists ≤ vec_capacity preallocated.space.items) }
+    requires accounted { (entries_at driver ≡ []) × IsAccounted driver.parts.items driver.hub }
+    requires children { IsRoomFor (vec_len inputs.lists) preallocated.children }
+    requires results { IsRoomFor (vec_len inputs.lists) preallocated.results }
+    requires items { IsRoomFor (vec_len inputs.lists) preallocated.space.items }
     requires posted { preallocated.space.posted.items ≡ replicate (vec_len inputs.lists) 0 }
     ensures serving { IsServing G.never_stops inputs.lists.items result }
-    ensures gated { MatchResult result
-        (AreGated (moves G.answers G.hears) inputs.gates.items inputs.lists.items)
-        (IsGatedFault (moves G.answers G.hears) inputs.gates.items inputs.lists.items) }
+    ensures gated { IsGatedRun (moves G.answers G.hears) inputs.gates.items inputs.lists.items result }
     ensures parts { MatchResult result (IsParted driver.every) (IsPartedFault driver.every) }
 {
     let Preallocated {

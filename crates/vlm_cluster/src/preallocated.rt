@@ -1,6 +1,7 @@
 //! Memory that is allocated before any worker starts.
 
-ghost use Rattle.std.specs.Prelude.{◌≡◌, ◌≤◌, IfOk, replicate, vec_capacity, vec_len};
+ghost use Rattle.std.specs.Prelude.{◌≡◌, IfOk, replicate};
+ghost use Rattle.vlm_cluster.specs.Assembly.{IsRoomFor};
 
 use crate::gate::Gate;
 use crate::signals::Signals;
@@ -35,10 +36,9 @@ pub(crate) struct ReportSpace {
 impl<G: Gate> Preallocated<G> {
     /// For `count` workers.
     pub(crate) fn new(alloc: Global, count: usize) -> Result<Preallocated<G>, AllocError>
-        ensures children { IfOk result (λ r.
-            (vec_len r.children ≡ 0) × (count ≤ vec_capacity r.children)) }
-        ensures results { IfOk result (λ r. (vec_len r.results ≡ 0) × (count ≤ vec_capacity r.results)) }
-        ensures items { IfOk result (λ r. (vec_len r.space.items ≡ 0) × (count ≤ vec_capacity r.space.items)) }
+        ensures children { IfOk result (λ r. IsRoomFor count r.children) }
+        ensures results { IfOk result (λ r. IsRoomFor count r.results) }
+        ensures items { IfOk result (λ r. IsRoomFor count r.space.items) }
         ensures posted { IfOk result (λ r. r.space.posted.items ≡ replicate count 0) }
     {
         Ok(Preallocated {

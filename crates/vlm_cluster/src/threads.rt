@@ -5,6 +5,7 @@ ghost use Rattle.vlm_ports.specs.Ports.{AreNew, posted, taken};
 ghost use Rattle.vlm_cluster.specs.Gates.{moves};
 ghost use Rattle.vlm_cluster.specs.Posts.{AreListsOfPosts, ArePostsOf};
 ghost use Rattle.vlm_cluster.specs.Works.{IsGatedWork, IsWorkOn, work_of};
+ghost use Rattle.vlm_cluster.specs.Assembly.{HaveGates, HaveInputs};
 
 use crate::client::Client;
 use crate::gate::Gate;
@@ -68,14 +69,9 @@ pub(crate) fn start_all<
     requires new { AreNew inputs.ports.items }
     requires posts { AreListsOfPosts inputs.lists.items }
     ensures few { vec_len children.new ≤ vec_len inputs.ports }
-    ensures gates { (k : ℕ) (h : _) (g : _) → k < vec_len children.new
-        → (slice_index_or children.new.items k h).promise.gate.value
-        ≡ slice_index_or inputs.gates.items k g }
-    ensures each { (k : ℕ) (h : _) (p : _) (l : _) → k < vec_len children.new
-        → ((slice_index_or children.new.items k h).promise.port.value
-        ≡ slice_index_or inputs.ports.items k p)
-        × ((slice_index_or children.new.items k h).promise.list.value
-        ≡ slice_index_or inputs.lists.items k l) }
+    ensures gates { HaveGates (vec_len children.new) children.new.items inputs.gates.items }
+    ensures each { HaveInputs (vec_len children.new) children.new.items inputs.ports.items
+        inputs.lists.items }
 {
     let WorkerInputs {
         mut gates,

@@ -1,5 +1,5 @@
 -- The conversion of a granted lock.
-use Rattle.std.specs.Prelude.{◌≡◌, true, List, map}
+use Rattle.std.specs.Prelude.{◌≡◌, true, IfSome, List, map}
 use Rattle.vlm_words.specs.declared.locks.Request.{Request}
 use Rattle.vlm_words.specs.declared.locks.LockRow.{LockRow}
 use Rattle.vlm_words.specs.declared.resources.Queue.{Queue}
@@ -12,9 +12,10 @@ use Rattle.vlm_words.specs.State.{Process}
 use Rattle.vlm_model.specs.StatusBlocks.{processes_after_acceptance}
 use Rattle.vlm_records.specs.declared.handles.Place.TheVariants.{Queued}
 use Rattle.vlm_store.specs.Plain.{plain_processes, plain_resource, plain_resources}
-use Rattle.vlm_store.specs.Records.{Records, StoredResource, moving, resource_with}
+use Rattle.vlm_store.specs.Records.{Records, StoredResource, moving, resource_at, resource_with}
 use Rattle.vlm_locks.specs.declared.located_locks.LocatedLock.{LocatedLock}
-use Rattle.vlm_locks.specs.Rest.{IsReplaced}
+use Rattle.vlm_locks.specs.Owing.{IsPaid}
+use Rattle.vlm_locks.specs.Rest.{IsReplaced, LeavesOthers, OwnLocksStay}
 
 -- the conversion of the lock on its resource, as the plain machine admits it
 abbrev pub admission_on : LocatedLock → Request → StoredResource → ConversionAdmission
@@ -49,3 +50,11 @@ blocks_granted row r accepted = blocks_after (grant_endings true row) (blocks_wi
 pub record IsConvertedAtOnce (f : LocatedLock) (row : LockRow) (accepted : List Process) (r : StoredResource) (old new : Records) : Type 0 where
   pub replaced : IsReplaced f.res r (record (moved_in f (granted_row row) Granted r) { value_block = (blocks_granted row r accepted).value_block }) old new
   pub statuses : plain_processes new ≡ (blocks_granted row r accepted).processes
+
+-- the located lock is converted, the other locks are left alone, and each process is owed the ASTs due to it
+pub record HasConverted (f : LocatedLock) (asked : Request) (old new : Records) : Type 0 where
+  pub converted : IfSome (resource_at f.res old.resources)
+      (λ r. IsConverted f asked (processes_converting f asked old) r old new)
+  pub beside : LeavesOthers f.res f.lock old new
+  pub own_locks : OwnLocksStay old new
+  pub paid : IsPaid new

@@ -1,5 +1,5 @@
 -- What becomes of the records where processes end.
-use Rattle.std.specs.Prelude.{◌≡◌, ◌≤◌, ◌+◌, ℕ, Bool, true, length, map, None}
+use Rattle.std.specs.Prelude.{◌≡◌, ◌==◌, ◌≤◌, ◌+◌, ℕ, Bool, true, length, map, None}
 use Rattle.vlm_words.specs.declared.locks.LockRow.{LockRow}
 use Rattle.vlm_words.specs.declared.resources.Queue.TheVariants.{Granted}
 use Rattle.vlm_words.specs.State.{Resource}
@@ -7,7 +7,7 @@ use Rattle.vlm_collections.specs.Lists.{IsIn}
 use Rattle.vlm_records.specs.declared.handles.Place.{Place}
 use Rattle.vlm_records.specs.declared.handles.Place.TheVariants.{Queued}
 use Rattle.vlm_store.specs.Plain.{plain_processes, plain_resources}
-use Rattle.vlm_store.specs.Records.{Records, StoredLock, Stores, locks_at}
+use Rattle.vlm_store.specs.Records.{HasNoLocks, IsProcess, Records, StoredLock, Stores, locks_at}
 use Rattle.vlm_store.specs.Total.{lock_total}
 use Rattle.vlm_model.specs.Rundown.{processes_but}
 use Rattle.vlm_locks.specs.Left.{resource_left}
@@ -48,3 +48,14 @@ pub record AreEnded (is_one : ℕ → Bool) (old new : Records) (before after : 
   pub kept : AreStillNoted before.noted after.noted
   pub only_touched : OnlyTouched after.noted old new
   pub same_room : after.room ≡ before.room
+
+-- the process has no locks any more, and each resource that changed is noted
+pub record HasRunDown (owner pid : ℕ) (old new : Records) (before after : Touches) : Type 0 where
+  pub resources : plain_resources new ≡ map (resource_after_rundown (λ p. p == pid)) (plain_resources old)
+  pub statuses : plain_processes new ≡ plain_processes old
+  pub lives : IsProcess owner pid new
+  pub gone : HasNoLocks owner new
+  pub kept : AreStillNoted before.noted after.noted
+  pub only_touched : OnlyTouched after.noted old new
+  pub same_room : after.room ≡ before.room
+  pub can_end : CanEndProcesses after new

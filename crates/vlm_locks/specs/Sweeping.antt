@@ -3,10 +3,11 @@ use Rattle.std.specs.Prelude.{◌≡◌, ◌==◌, ⊤, ℕ, not, List, [], ◌�
 use Rattle.std.specs.List.{list_any}
 use Rattle.vlm_collections.specs.Lists.{IsIn}
 use Rattle.vlm_model.specs.Settled.{IsSettled, unless_vacant}
-use Rattle.vlm_model.specs.Sweeps.{blocks_after_service, resource_after_service}
-use Rattle.vlm_store.specs.Plain.{plain_processes, plain_resource}
+use Rattle.vlm_model.specs.Sweeps.{blocks_after_service, processes_after_service, resource_after_service, resources_after_sweep}
+use Rattle.vlm_store.specs.Plain.{plain_processes, plain_resource, plain_resources}
 use Rattle.vlm_store.specs.Records.{Records, StoredResource}
-use Rattle.vlm_locks.specs.Rest.{OwnLocksStay, but_service}
+use Rattle.vlm_locks.specs.Owing.{IsPaid}
+use Rattle.vlm_locks.specs.Rest.{IsAtRest, OwnLocksStay, but_service}
 use Rattle.vlm_locks.specs.Staying.{LocksStayAmong}
 
 -- a resource of this handle, with those made before and after it
@@ -40,3 +41,14 @@ pub record IsSwept (res : ℕ) (old new : Records) (was : Parted res old.resourc
   pub none_join : LocksStayAmong left (was.own ∷ [])
   pub statuses : plain_processes new ≡ (blocks_after_service (plain_processes old) (plain_resource was.own)).processes
   pub processes : OwnLocksStay old new
+
+-- the touched resources are swept, as the plain machine sweeps all
+pub record HasSwept (touched : List ℕ) (old new : Records) : Type 0 where
+  pub resources : plain_resources new ≡ resources_after_sweep (plain_processes old) (plain_resources old)
+  pub statuses : plain_processes new ≡ processes_after_service (plain_processes old) (plain_resources old)
+  pub others : but_touched touched new.resources ≡ but_touched touched old.resources
+  pub locks : LocksStayAmong old.resources new.resources
+  pub none_join : LocksStayAmong new.resources old.resources
+  pub own_locks : OwnLocksStay old new
+  pub rest : IsAtRest new
+  pub paid : IsPaid new

@@ -1,14 +1,17 @@
 -- The steps in which a lock is withdrawn.
-use Rattle.std.specs.Prelude.{◌≡◌, ℕ, Bool, true, false, List, map}
+use Rattle.std.specs.Prelude.{◌≡◌, ℕ, Bool, true, false, List, [], ◌∷◌, flat_map, map}
 use Rattle.vlm_words.specs.declared.locks.LockRow.{LockRow}
 use Rattle.vlm_words.specs.declared.resources.Queue.{Queue}
 use Rattle.vlm_words.specs.declared.resources.Queue.TheVariants.{Granted, Conversion, Waiting}
-use Rattle.vlm_model.specs.Withdrawals.{is_writer}
+use Rattle.vlm_model.specs.Withdrawals.{is_writer, processes_after, resource_after_withdrawals, withdrawal_endings}
 use Rattle.vlm_words.specs.State.{Resource}
 use Rattle.vlm_store.specs.Plain.{plain_processes, plain_resources}
-use Rattle.vlm_store.specs.Records.{HasResource, Records, StoredProcess, process_without_lock}
+use Rattle.vlm_store.specs.Records.{HasResource, Records, StoredProcess, but_notices, process_without_lock}
 use Rattle.vlm_locks.specs.declared.located_locks.LocatedLock.{LocatedLock}
-use Rattle.vlm_locks.specs.Rest.{IsAtRest, OtherLocksStay, OthersStay}
+use Rattle.vlm_locks.specs.declared.withdrawals.Withdrawal.{Withdrawal}
+use Rattle.vlm_locks.specs.Owing.{IsPaid, LosesOne}
+use Rattle.vlm_locks.specs.Rest.{IsAtRest, LeavesOthers, OtherLocksStay, OthersStay}
+use Rattle.vlm_locks.specs.Withdrawals.{plain_withdrawal}
 
 -- a lock in this queue may write the value block when it goes: it holds PW or EX, granted or converting
 abbrev pub may_write : Queue → LockRow → Bool
@@ -42,3 +45,20 @@ pub record IsPartDone (f : LocatedLock) (change : Resource → Resource) (gone :
   pub made : IsChange f.res change old new
   pub locks : OtherLocksStay f.lock old new
   pub own_locks : new.processes ≡ owned_after gone f.lock old.processes
+
+-- the lock is gone, and the value block of its resource is changed as the withdrawal says
+pub record HasGivenUp (f : LocatedLock) (w : Withdrawal) (old new : Records) : Type 0 where
+  pub resources : plain_resources new ≡ map (resource_after_withdrawals (plain_withdrawal w ∷ [])) (plain_resources old)
+  pub statuses : plain_processes new ≡ plain_processes old
+  pub beside : LeavesOthers f.res f.lock old new
+  pub own_locks : new.processes ≡ owned_after true f.lock old.processes
+  pub loses : LosesOne (record { at = f.lock; row = f.row }) old new
+
+-- the lock is withdrawn, and its request has ended
+pub record HasWithdrawn (f : LocatedLock) (w : Withdrawal) (old new : Records) : Type 0 where
+  pub resources : plain_resources new ≡ map (resource_after_withdrawals (plain_withdrawal w ∷ [])) (plain_resources old)
+  pub statuses : plain_processes new
+      ≡ processes_after (flat_map (withdrawal_endings (plain_withdrawal w)) (plain_resources old)) (plain_processes old)
+  pub beside : LeavesOthers f.res f.lock old new
+  pub own_locks : map but_notices new.processes ≡ map but_notices (owned_after (goes w.stays f.queue) f.lock old.processes)
+  pub paid : IsPaid new

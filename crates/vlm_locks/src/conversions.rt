@@ -4,13 +4,13 @@ ghost use Rattle.std.specs.Prelude.{◌≡◌, ◌≤◌, None, Some, IfSome, Is
 ghost use Rattle.vlm_words.specs.declared.locks.Request.{Request};
 ghost use Rattle.vlm_words.specs.declared.resources.Queue.{Queue};
 ghost use Rattle.vlm_model.specs.Convert.{converts_at_once};
-ghost use Rattle.vlm_words.specs.Rows.{wanting_row, fits, granted_row, rows_without};
+ghost use Rattle.vlm_words.specs.Rows.{fits, granted_row, rows_without};
 ghost use Rattle.vlm_words.specs.Dues.{routines_of, row_due};
 ghost use Rattle.vlm_store.specs.Plain.{plain_processes, plain_resource};
 ghost use Rattle.vlm_store.specs.Records.{DuesStay, IsSameLock, StoredResource, due_of, resource_at, rows_of_locks};
-ghost use Rattle.vlm_locks.specs.Converting.{IsConverted, IsConvertedAtOnce, moved_in, processes_converting};
+ghost use Rattle.vlm_locks.specs.Converting.{IsConvertedAtOnce, moved_in, processes_converting, HasConverted};
 ghost use Rattle.vlm_locks.specs.Owing.{DueMoves, IsPaid, OwedMoves, OwesMore};
-ghost use Rattle.vlm_locks.specs.Rest.{IsAtRest, IsReplaced, LeavesOthers, OtherLocksStay, OwnLocksStay};
+ghost use Rattle.vlm_locks.specs.Rest.{IsAtRest, IsReplaced, OtherLocksStay};
 ghost use Rattle.vlm_locks.specs.Standing.{IsLocated};
 
 use crate::endings::{end_by_grant, grant_without_value_block};
@@ -109,12 +109,7 @@ fn convert_owed(store: &mut Store, located: &LocatedLock, asked: &Request, at_on
         (λ r. at_once ≡ converts_at_once asked.now located.now.row.lkid (plain_resource r)) }
     requires wants_nothing { located.now.row.want ≡ None }
     requires owed { OwesMore located.now.row.pid (routines_of (Some asked.now)) store.old }
-    ensures converted { let accepted = processes_converting located.now asked.now store.old
-        in IfSome (resource_at located.now.res store.old.resources)
-        (λ r. IsConverted located.now asked.now accepted r store.old store.new) }
-    ensures beside { LeavesOthers located.now.res located.now.lock store.old store.new }
-    ensures own_locks { OwnLocksStay store.old store.new }
-    ensures paid { IsPaid store.new }
+    ensures { HasConverted located.now asked.now store.old store.new }
 {
     law_records_are_sound(store);
     let row = located.row.wanting(asked);
@@ -141,13 +136,7 @@ pub fn convert(
         (λ r. at_once ≡ converts_at_once asked.now located.now.row.lkid (plain_resource r)) }
     requires wants_nothing { located.now.row.want ≡ None }
     requires paid { IsPaid store.old }
-    ensures converted { OnOk result (IfSome (resource_at located.now.res store.old.resources)
-        (λ r. IsConverted located.now asked.now
-        (processes_converting located.now asked.now store.old) r store.old store.new)) }
-    ensures beside { OnOk result
-        (LeavesOthers located.now.res located.now.lock store.old store.new) }
-    ensures own_locks { OnOk result (OwnLocksStay store.old store.new) }
-    ensures paid { OnOk result (IsPaid store.new) }
+    ensures done { OnOk result (HasConverted located.now asked.now store.old store.new) }
     ensures refused { OnErr result (store.new ≡ store.old) }
     ensures succeeds { routines_of (Some asked.now) ≡ 0 → IsOk result }
 {

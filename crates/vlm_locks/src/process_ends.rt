@@ -1,14 +1,9 @@
 //! Ends processes: all their locks go.
 
-ghost use Rattle.std.specs.Prelude.{◌≡◌, ◌==◌, ◌≤◌, ◌+◌, ℕ, ◌++◌, [], length, map};
-ghost use Rattle.vlm_store.specs.Plain.{plain_processes, plain_resources};
-ghost use Rattle.vlm_store.specs.Records.{HasNoLocks, IsProcess};
-ghost use Rattle.vlm_store.specs.Total.{lock_total};
+ghost use Rattle.std.specs.Prelude.{◌==◌, ◌≤◌};
+ghost use Rattle.vlm_store.specs.Records.{IsProcess};
 ghost use Rattle.vlm_words.specs.Steps.{is_of_node};
-ghost use Rattle.vlm_locks.specs.Owing.{IsPaid};
-ghost use Rattle.vlm_locks.specs.Rest.{IsAtRest};
-ghost use Rattle.vlm_locks.specs.RunningDown.{AreEnded, CanEndProcesses, GrantedWantNothing, SublocksAreOwn, WereThere, resource_after_rundown};
-ghost use Rattle.vlm_locks.specs.Touched.{AreStillNoted, AreThere, OnlyTouched};
+ghost use Rattle.vlm_locks.specs.RunningDown.{AreEnded, CanEndProcesses, HasRunDown};
 
 use crate::located_locks::located_lock;
 use crate::releases::withdraw;
@@ -21,28 +16,9 @@ use vlm_store::{ProcAt, Store};
 // resource on which one is held at PW or EX is marked invalid. The last lock goes first, so that sublocks go before
 // their parents. The touched resources are noted. The cost grows with the locks that go.
 fn run_down(store: &mut Store, touched: &mut Touched, owner: ProcAt, pid: u32)
-    requires rest { IsAtRest store.old }
     requires owner { IsProcess owner pid store.old }
-    requires together { SublocksAreOwn store.old }
-    requires granted { GrantedWantNothing store.old }
-    requires paid { IsPaid store.old }
-    requires room { length touched.old.noted + lock_total store.old ≤ touched.old.room }
-    requires noted { AreThere touched.old.noted store.old }
-    ensures resources { plain_resources store.new
-        ≡ map (resource_after_rundown (λ p. p == pid)) (plain_resources store.old) }
-    ensures statuses { plain_processes store.new ≡ plain_processes store.old }
-    ensures owner { IsProcess owner pid store.new }
-    ensures gone { HasNoLocks owner store.new }
-    ensures were_there { WereThere store.old store.new }
-    ensures rest { IsAtRest store.new }
-    ensures paid { IsPaid store.new }
-    ensures noted { AreThere touched.new.noted store.new }
-    ensures only_touched { OnlyTouched touched.new.noted store.old store.new }
-    ensures kept { AreStillNoted touched.old.noted touched.new.noted }
-    ensures together { SublocksAreOwn store.new }
-    ensures granted { GrantedWantNothing store.new }
-    ensures room { length touched.new.noted + lock_total store.new ≤ touched.new.room }
-    ensures same_room { touched.new.room ≡ touched.old.room }
+    requires can_end { CanEndProcesses touched.old store.old }
+    ensures { HasRunDown owner pid store.old store.new touched.old touched.new }
 {
     law_records_are_sound(store);
     while let Some(lock) = store.last_own(owner) {

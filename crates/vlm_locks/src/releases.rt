@@ -1,19 +1,19 @@
 //! Withdraws a lock, or only its request.
 
-ghost use Rattle.std.specs.Prelude.{◌≡◌, ◌≤◌, ℕ, None, Some, true, false, [], ◌∷◌, flat_map, map};
-ghost use Rattle.vlm_model.specs.Withdrawals.{is_writer, processes_after, resource_after_cancel, resource_after_withdrawals, resource_after_writer, resource_without, value_block_after_writer, withdrawal_endings};
+ghost use Rattle.std.specs.Prelude.{◌≡◌, ◌≤◌, None, Some, true, false, flat_map};
+ghost use Rattle.vlm_model.specs.Withdrawals.{is_writer, processes_after, resource_after_cancel, resource_after_writer, resource_without, value_block_after_writer, withdrawal_endings};
 ghost use Rattle.vlm_model.specs.Asts.{completion_asts, processes_after_asts};
 ghost use Rattle.vlm_model.specs.StatusBlocks.{processes_after_status};
 ghost use Rattle.vlm_words.specs.Dues.{one_where, row_due};
 ghost use Rattle.vlm_model.specs.Endings.{row_endings};
 ghost use Rattle.vlm_words.specs.declared.resources.Queue.{Queue};
 ghost use Rattle.vlm_store.specs.Plain.{plain_processes, plain_resources};
-ghost use Rattle.vlm_store.specs.Records.{HasNoSublocks, SameButNotices, but_notices, due_of};
-ghost use Rattle.vlm_locks.specs.Owing.{DueMoves, IsPaid, LosesOne, OwedMoves, WeighsTheSame, left_row, row_after_end, row_at_end};
-ghost use Rattle.vlm_locks.specs.Rest.{IsAtRest, LeavesOthers};
+ghost use Rattle.vlm_store.specs.Records.{HasNoSublocks, SameButNotices, due_of};
+ghost use Rattle.vlm_locks.specs.Owing.{DueMoves, IsPaid, LosesOne, OwedMoves, WeighsTheSame, left_row, row_after_end};
+ghost use Rattle.vlm_locks.specs.Rest.{IsAtRest};
 ghost use Rattle.vlm_locks.specs.Standing.{IsLocated};
 ghost use Rattle.vlm_locks.specs.Withdrawals.{how_ended, plain_withdrawal};
-ghost use Rattle.vlm_locks.specs.Withdrawing.{IsPartDone, goes, may_write, owned_after};
+ghost use Rattle.vlm_locks.specs.Withdrawing.{IsPartDone, goes, may_write, HasGivenUp, HasWithdrawn};
 
 use crate::endings::complete;
 use crate::located_locks::LocatedLock;
@@ -259,15 +259,7 @@ pub(crate) fn give_up(store: &mut Store, located: &LocatedLock, withdrawal: &Wit
     requires named { withdrawal.now.lkid ≡ located.now.row.lkid }
     requires goes { withdrawal.now.stays ≡ false }
     requires childless { HasNoSublocks located.now.lock store.old }
-    ensures resources { plain_resources store.new
-        ≡ map (resource_after_withdrawals (plain_withdrawal withdrawal.now ∷ []))
-        (plain_resources store.old) }
-    ensures statuses { plain_processes store.new ≡ plain_processes store.old }
-    ensures beside { LeavesOthers located.now.res located.now.lock store.old store.new }
-    ensures own_locks { store.new.processes
-        ≡ owned_after true located.now.lock store.old.processes }
-    ensures loses { LosesOne (record { at = located.now.lock; row = located.now.row })
-        store.old store.new }
+    ensures { HasGivenUp located.now withdrawal.now store.old store.new }
 {
     law_records_are_sound(store);
     leave_value(store, located, withdrawal);
@@ -289,18 +281,7 @@ pub fn withdraw(store: &mut Store, located: &LocatedLock, withdrawal: &Withdrawa
         → HasNoSublocks located.now.lock store.old }
     requires granted { located.now.queue ≡ Queue.Granted → located.now.row.want ≡ None }
     requires paid { IsPaid store.old }
-    ensures resources { plain_resources store.new
-        ≡ map (resource_after_withdrawals (plain_withdrawal withdrawal.now ∷ []))
-        (plain_resources store.old) }
-    ensures statuses { plain_processes store.new ≡ processes_after
-        (flat_map (withdrawal_endings (plain_withdrawal withdrawal.now))
-        (plain_resources store.old))
-        (plain_processes store.old) }
-    ensures beside { LeavesOthers located.now.res located.now.lock store.old store.new }
-    ensures own_locks { map but_notices store.new.processes ≡ map but_notices
-        (owned_after (goes withdrawal.now.stays located.now.queue) located.now.lock
-        store.old.processes) }
-    ensures paid { IsPaid store.new }
+    ensures { HasWithdrawn located.now withdrawal.now store.old store.new }
 {
     law_records_are_sound(store);
     end_notices(store, located, withdrawal);

@@ -5,9 +5,8 @@ ghost use Rattle.vlm_model.specs.Sweeps.{processes_after_service, resources_afte
 ghost use Rattle.vlm_store.specs.Plain.{plain_processes, plain_resources};
 ghost use Rattle.vlm_store.specs.Records.{HasResource};
 ghost use Rattle.vlm_locks.specs.Owing.{IsPaid};
-ghost use Rattle.vlm_locks.specs.Rest.{IsAtRest, OwnLocksStay};
-ghost use Rattle.vlm_locks.specs.Staying.{LocksStayAmong};
-ghost use Rattle.vlm_locks.specs.Sweeping.{AreSettledBut, IsSwept, Parted, StandInOrder, but_touched};
+ghost use Rattle.vlm_locks.specs.Rest.{IsAtRest};
+ghost use Rattle.vlm_locks.specs.Sweeping.{AreSettledBut, IsSwept, Parted, StandInOrder, HasSwept};
 ghost use Rattle.vlm_locks.specs.Touched.{touched_handles};
 
 use crate::services::serve;
@@ -61,17 +60,7 @@ pub fn sweep(store: &mut Store, touches: &[Note])
     requires in_order { StandInOrder (touched_handles touches.now) store.old.resources }
     requires settled { AreSettledBut (touched_handles touches.now) store.old.resources }
     requires paid { IsPaid store.old }
-    ensures resources { plain_resources store.new
-        ≡ resources_after_sweep (plain_processes store.old) (plain_resources store.old) }
-    ensures statuses { plain_processes store.new
-        ≡ processes_after_service (plain_processes store.old) (plain_resources store.old) }
-    ensures others { but_touched (touched_handles touches.now) store.new.resources
-        ≡ but_touched (touched_handles touches.now) store.old.resources }
-    ensures locks { LocksStayAmong store.old.resources store.new.resources }
-    ensures none_join { LocksStayAmong store.new.resources store.old.resources }
-    ensures own_locks { OwnLocksStay store.old store.new }
-    ensures rest { IsAtRest store.new }
-    ensures paid { IsPaid store.new }
+    ensures { HasSwept (touched_handles touches.now) store.old store.new }
 {
     law_a_sweep_touches_only_what_is_not_settled();
     law_records_are_sound(store);

@@ -71,8 +71,7 @@ impl Machine {
         scratch: &mut Scratch,
         declaration: &Declaration,
     ) -> Result<u32, AllocError>
-        requires first { 1 ≤ declaration.now.node }
-        requires last { declaration.now.node ≤ 8 }
+        requires node { (1 ≤ declaration.now.node) × (declaration.now.node ≤ 8) }
         requires ordinal { (node_at self.old.nodes declaration.now.node).declared < 65535 }
         requires new { let pid = next_pid (plain_state self.old) declaration.now.node
             in IsNewProcess pid self.old.records }

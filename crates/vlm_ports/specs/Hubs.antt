@@ -74,11 +74,21 @@ KeepsKnown old new = (node : ℕ) → 0 < node → node ≤ nodes old
 abbrev pub KnowsTheSame : ℕ → Hub → Hub → Type 0
 KnowsTheSame node old new = (waiting new node ≡ waiting old node) × (free_for new node ≡ free_for old node)
 
+-- the hub knows the same about all nodes
+abbrev pub KnowsAllTheSame : Hub → Hub → Type 0
+KnowsAllTheSame old new = (waiting new ≡ waiting old) × (free_for new ≡ free_for old)
+
+-- the entries of the journal count now as made before the last cut
+abbrev pub PutsBeforeCut : Hub → Hub → Type 0
+PutsBeforeCut old new = (node : ℕ) → 0 < node → node ≤ nodes old
+    → (asked_before new node ≡ asked_before old node ++ asked node (journal old))
+    × (told_before new node ≡ told_before old node ++ told node (journal old))
+
 -- the hub knows the same about each node except one
 abbrev pub OthersLast : ℕ → Hub → Hub → Type 0
 OthersLast own old new = (node : ℕ) → 0 < node → (node ≡ own → ⊥) → KnowsTheSame node old new
 
--- no line forgets anything
+-- the rings of no node forget anything
 abbrev pub AllNodeRingsLast : Hub → Hub → Type 0
 AllNodeRingsLast old new = (k : ℕ) (d : NodeRings) → Lasts (slice_index_or old.all_node_rings.items k d) (slice_index_or new.all_node_rings.items k d)
 

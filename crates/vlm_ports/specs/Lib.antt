@@ -3,5 +3,6 @@ pub mod Rings
 pub mod Ports
 pub mod Links
 pub mod Hubs
+pub mod Settling
 pub mod Turns
 pub mod Watched

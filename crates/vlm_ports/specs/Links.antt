@@ -28,13 +28,13 @@ knows l = map (λ step. on_behalf l.node step) (known_items l.requests)
 abbrev pub places : NodeRings → ℕ
 places l = known_free l.items
 
--- a line forgets nothing: each known post is taken or still known, and each place that was known to be free has an item
+-- the ends of a node's rings forget nothing: each known post is taken or still known, and each place that was known to be free has an item
 -- or is still known to be free
 pub record Lasts (was l : NodeRings) : Type 0 where
   pub posts : IsPrefix (has_taken was ++ knows was) (has_taken l ++ knows l)
   pub places : length (has_told was) + places was ≤ length (has_told l) + places l
 
--- the node of a line, and its rings
+-- the node, and its two rings
 abbrev pub node_rings_identity : NodeRings → ℕ × RingName × RingName
 node_rings_identity l = (l.node, pop_ring l.requests, push_ring l.items)
 

@@ -1,7 +1,6 @@
 //! The hub, which owns the core and its journal.
 
-ghost use Rattle.std.specs.Prelude.{◌≡◌, ◌⊎◌, ◌≤◌, ◌<◌, ◌+◌, ◌*◌, ◌∷◌, ◌++◌, ◌-◌, ◌^◌, [], length, min, vec_len, IfOk, OnErr, OnOk, IsFalse, All, map, ℕ};
-ghost use mathlib.Core.List.{IsPrefix};
+ghost use Rattle.std.specs.Prelude.{◌≡◌, ◌⊎◌, ◌≤◌, ◌<◌, ◌+◌, ◌*◌, ◌∷◌, ◌++◌, ◌-◌, [], length, vec_len, IfOk, OnErr, OnOk, IsFalse, All, map};
 ghost use Rattle.vlm_ports.specs.Links.{AreFresh, AreLinked, node_rings_identity};
 ghost use Rattle.vlm_ports.specs.Ports.{AreNew as AreNewPorts, identity as port_identity};
 
@@ -10,8 +9,8 @@ use crate::port::Port;
 use std::alloc::{AllocError, Global};
 use std::sync::Wait;
 use vlm_core::Core;
-use vlm_journal::journaled_core::JournaledCore;
 use vlm_journal::entries::{Entry, Item, Part};
+use vlm_journal::journaled_core::JournaledCore;
 use vlm_watch::Board;
 use vlm_words::conditions::Cond;
 use vlm_words::steps::Answer;
@@ -53,11 +52,11 @@ impl Hub {
     ghost use Rattle.vlm_words.specs.declared.conditions.Cond.TheVariants.{Departed, Normal};
     ghost use Rattle.vlm_model.specs.Stepped.{Outcome};
     ghost use Rattle.vlm_journal.specs.Accounts.{GoesOn, made};
-    ghost use Rattle.vlm_journal.specs.Told.{asked, told};
     ghost use Rattle.vlm_ports.specs.Turns.{IsIdleTurn, IsServedTurn, turn_entries};
-    ghost use Rattle.vlm_ports.specs.Hubs.{EachAsksOnce, HubGrew, IsAsWritten, IsDeliveredAt, IsNewHub, IsPortOf, IsSameBut, KeepsKnown, AllNodeRingsLast, MayIdle, MayRestAt, NoneAsks, OneAsks, OthersLast, asked_before, base, bases, free_for, journal, nodes, rings, state, told_before, waiting};
-    ghost use Rattle.vlm_ports.specs.Ports.{AreNew, arrived, free_places, identity, posted, taken};
+    ghost use Rattle.vlm_ports.specs.Hubs.{EachAsksOnce, HubGrew, KnowsAllTheSame, PutsBeforeCut, IsAsWritten, IsDeliveredAt, IsNewHub, IsPortOf, IsSameBut, KeepsKnown, AllNodeRingsLast, MayIdle, MayRestAt, NoneAsks, OneAsks, base, bases, journal, nodes, rings, state};
+    ghost use Rattle.vlm_ports.specs.Ports.{AreNew, identity, posted, taken};
     ghost use Rattle.vlm_ports.specs.Watched.{IsUnwatched, board};
+    ghost use Rattle.vlm_ports.specs.Settling.{HasSettled};
 
     /// How many nodes it serves.
     pub fn nodes(&self) -> usize
@@ -145,8 +144,7 @@ impl Hub {
         ensures rings { rings self.new ≡ rings self.old }
         ensures base { (base self.new ≡ base self.old) × (bases self.new ≡ bases self.old) }
         ensures board { board self.new ≡ board self.old }
-        ensures waiting { waiting self.new ≡ waiting self.old }
-        ensures free { free_for self.new ≡ free_for self.old }
+        ensures known { KnowsAllTheSame self.old self.new }
         ensures lost { IfOk result (λ cond. journal self.new ≡ journal self.old
             ++ record { sender = 0; step = Leave node; answer = Plain cond } ∷ []) }
         ensures outcome { IfOk result (λ cond.
@@ -165,25 +163,7 @@ impl Hub {
     /// those items.
     pub fn settle(&mut self, port: &mut Port) -> Settled
         requires { IsPortOf self.old port.old }
-        ensures rings { rings self.new ≡ rings self.old }
-        ensures base { (base self.new ≡ base self.old) × (bases self.new ≡ bases self.old) }
-        ensures board { board self.new ≡ board self.old }
-        ensures journal { journal self.new ≡ journal self.old }
-        ensures state { state self.new ≡ state self.old }
-        ensures same { (identity port.new ≡ identity port.old) × (posted port.new ≡ posted port.old)
-            × (taken port.new ≡ taken port.old) }
-        ensures posted { posted port.new ≡ asked_before self.new port.new.node
-            ++ asked port.new.node (journal self.new) ++ waiting self.new port.new.node }
-        ensures steps { (result.steps ≡ length (waiting self.new port.new.node)) × (result.steps ≤ 64) }
-        ensures told { told_before self.new port.new.node ++ told port.new.node (journal self.new)
-            ≡ taken port.new ++ arrived port.new }
-        ensures items { (result.items ≡ length (arrived port.new)) × (result.items ≤ 64) }
-        ensures places { 64 ≤ free_for self.new port.new.node + result.items }
-        ensures free { 64 ≤ free_places port.new + result.steps }
-        ensures lasts { IsPrefix (arrived port.old) (arrived port.new)
-            × (free_places port.old ≤ free_places port.new) }
-        ensures known { KeepsKnown self.old self.new }
-        ensures others { OthersLast port.new.node self.old self.new }
+        ensures { HasSettled result port.old port.new self.old self.new }
     {
         let node_rings = &mut self.all_node_rings[port.node as usize - 1];
         node_rings.settle(port)
@@ -199,13 +179,8 @@ impl Hub {
         ensures left { journal self.new ≡ [] }
         ensures next { base self.new ≡ made self.old.journaled }
         ensures state { state self.new ≡ state self.old }
-        ensures waiting { waiting self.new ≡ waiting self.old }
-        ensures free { free_for self.new ≡ free_for self.old }
-        ensures before { (node : ℕ) → 0 < node → node ≤ nodes self.old
-            → (asked_before self.new node
-            ≡ asked_before self.old node ++ asked node (journal self.old))
-            × (told_before self.new node
-            ≡ told_before self.old node ++ told node (journal self.old)) }
+        ensures known { KnowsAllTheSame self.old self.new }
+        ensures before { PutsBeforeCut self.old self.new }
     {
         self.journaled.cut()
     }

@@ -51,15 +51,15 @@ returns-then-finished-clause-serving g c =
     record {
       served =
           served g.G.Gate.never_stops ports lists results r c.requires.new.0 as_many fewer works noted all items posted
-          c.finish-finished.ensures.legal c.finish-finished.ensures.numbered c.finish-finished.ensures.takes c.law_departed.ensures.answered
+          c.finish-finished.ensures.sound.legal c.finish-finished.ensures.sound.numbered c.finish-finished.ensures.sound.takes c.law_departed.ensures.answered
           (λ k d v lt. c.finish-finished.ensures.whole c.if-finished.true k d v (omega arith));
       whole = λ never.
           all_posted g.G.Gate.never_stops ports lists results r c.requires.new.0 as_many fewer works noted all items posted
-          c.finish-finished.ensures.legal c.finish-finished.ensures.numbered c.finish-finished.ensures.takes c.law_departed.ensures.answered never
+          c.finish-finished.ensures.sound.legal c.finish-finished.ensures.sound.numbered c.finish-finished.ensures.sound.takes c.law_departed.ensures.answered never
           (λ k d v lt. c.finish-finished.ensures.whole c.if-finished.true k d v (omega arith));
-      modes = c.law_modes_stay_compatible.ensures _ _ c.finish-finished.ensures.legal;
-      once = c.law_requests_end_once.ensures _ _ c.finish-finished.ensures.legal;
-      order = c.law_grants_keep_order.ensures _ _ c.finish-finished.ensures.legal;
+      modes = c.law_modes_stay_compatible.ensures _ _ c.finish-finished.ensures.sound.legal;
+      once = c.law_requests_end_once.ensures _ _ c.finish-finished.ensures.sound.legal;
+      order = c.law_grants_keep_order.ensures _ _ c.finish-finished.ensures.sound.legal;
       cut_short = tt;
     }
 
@@ -90,7 +90,7 @@ returns-clause-serving g c =
       order = tt;
       cut_short =
           begun g.G.Gate.never_stops ports lists results r c.requires.new.0 as_many fewer works noted all items posted
-          c.finish-finished.ensures.legal c.finish-finished.ensures.numbered c.finish-finished.ensures.takes c.law_departed.ensures.answered
+          c.finish-finished.ensures.sound.legal c.finish-finished.ensures.sound.numbered c.finish-finished.ensures.sound.takes c.law_departed.ensures.answered
           (λ k d v lt. c.finish-finished.ensures.begun k d v (omega arith));
     }
 
@@ -122,7 +122,7 @@ returns-then-started-count-clause-serving g c =
       order = tt;
       cut_short =
           given_up g.G.Gate.never_stops ports lists results r c.requires.new.0 as_many fewer works noted
-          c.give_up-report.ensures.entries (omega arith) (omega arith) c.give_up-report.ensures.legal c.give_up-report.ensures.numbered c.give_up-report.ensures.takes c.law_departed.ensures.answered
+          c.give_up-report.ensures.entries (omega arith) (omega arith) c.give_up-report.ensures.sound.legal c.give_up-report.ensures.sound.numbered c.give_up-report.ensures.sound.takes c.law_departed.ensures.answered
           (λ k v lt. c.give_up-report.ensures.items k v (omega arith))
           (λ k above. c.give_up-report.ensures.others k (omega (arith, long, above)));
     }
@@ -132,7 +132,7 @@ pub returns-then-finished-clause-parts : goal.returns-then-finished-clause-parts
 returns-then-finished-clause-parts g c =
     let r : Report = c.finish-finished.result.report in
     let every = c.serve.ensures.every in record {
-      parts = subst (λ (n : ℕ). HaveEnough n r.parts.items) every c.finish-finished.ensures.enough;
+      parts = subst (λ (n : ℕ). HaveEnough n r.parts.items) every c.finish-finished.ensures.sound.enough;
       rest = subst (λ (n : ℕ). length r.rest.entries.items < n) every (c.finish-finished.ensures.rest c.if-finished.true);
     }
 

@@ -1,4 +1,4 @@
-use Rattle.std.proofs.Common.{◌≡◌, IfSome, Some, sym, ap, ◌∙◌, subst}
+use Rattle.std.proofs.Common.{◌≡◌, IfSome, Some, sym, ap, ◌∙◌, subst, rules}
 use Rattle.vlm_model.specs.Convert.{converts_at_once}
 use Rattle.vlm_words.specs.Dues.{routines_of}
 use Rattle.vlm_model.specs.StatusBlocks.{processes_after_acceptance}
@@ -40,27 +40,26 @@ convert_owed-requires-clause-owed c =
     (c.in_ok-owe_routines.ensures.owed f.row.pid c.requires.located.owner)
     c.in_ok-owe_routines.ensures.only_notices
 
-pub returns-clause-converted : goal.returns-clause-converted
-returns-clause-converted c =
-    let f = c.args.located.now in
-    converted_accepted f c.args.asked.now c.args.store.now c.owe_routines.new.store c.convert_owed.new.store c.in_ok-owe_routines.ensures.only_notices
-    (ap (processes_after_acceptance f.row.pid c.args.asked.now.block f.row.lkid) c.in_ok-owe_routines.ensures.processes)
-    c.convert_owed.ensures.converted
-
-pub returns-clause-beside : goal.returns-clause-beside
-returns-clause-beside c =
-    let s = c.args.store.now in
-    let f = c.args.located.now in
-    let beside = c.convert_owed.ensures.beside in
-    let same = c.in_ok-owe_routines.ensures.only_notices in
-    record {
-      others = beside.others ∙ ap (without_resource f.res) same.resources;
-      locks = locks_stay_over f.lock s c.owe_routines.new.store c.convert_owed.new.store (statuses_alone f.lock s c.owe_routines.new.store same) beside.locks;
-      there = beside.there;
-      rest = beside.rest;
-    }
-
-pub returns-clause-own_locks : goal.returns-clause-own_locks
-returns-clause-own_locks c =
-    c.convert_owed.ensures.own_locks
-    ∙ c.in_ok-owe_routines.ensures.only_notices.processes
+pub returns-clause-done : goal.returns-clause-done
+returns-clause-done c = record {
+  converted =
+      let f = c.args.located.now in
+      converted_accepted f c.args.asked.now c.args.store.now c.owe_routines.new.store c.convert_owed.new.store c.in_ok-owe_routines.ensures.only_notices
+      (ap (processes_after_acceptance f.row.pid c.args.asked.now.block f.row.lkid) c.in_ok-owe_routines.ensures.processes)
+      c.convert_owed.ensures.converted;
+  beside =
+      let s = c.args.store.now in
+      let f = c.args.located.now in
+      let beside = c.convert_owed.ensures.beside in
+      let same = c.in_ok-owe_routines.ensures.only_notices in
+      record {
+        others = beside.others ∙ ap (without_resource f.res) same.resources;
+        locks = locks_stay_over f.lock s c.owe_routines.new.store c.convert_owed.new.store (statuses_alone f.lock s c.owe_routines.new.store same) beside.locks;
+        there = beside.there;
+        rest = beside.rest;
+      };
+  own_locks =
+      c.convert_owed.ensures.own_locks
+      ∙ c.in_ok-owe_routines.ensures.only_notices.processes;
+  paid = search rules;
+}

@@ -1,4 +1,4 @@
-use Rattle.std.proofs.Common.{◌≡◌, ℕ, [], ◌∷◌, ◌++◌, sym, ap, ◌∙◌, subst, arith, map, true, eq-eqb}
+use Rattle.std.proofs.Common.{◌≡◌, ℕ, [], ◌∷◌, ◌++◌, sym, ap, ◌∙◌, subst, arith, map, true, eq-eqb, rules}
 use Rattle.vlm_collections.specs.Lists.{IsIn}
 use Rattle.vlm_records.specs.declared.handles.Place.TheVariants.{Queued}
 use Rattle.vlm_store.specs.Records.{locks_at, own_handles_at, but_notices}
@@ -109,13 +109,26 @@ loop-lock-preserved c =
       paid = c.withdraw.ensures.paid;
     }
 
-pub returns-clause-resources : goal.returns-clause-resources
-returns-clause-resources c =
-    sym (all_left c.args.owner c.args.pid c.loop-lock.store c.loop-lock.invariant.so_far.sound c.loop-lock.invariant.so_far.lives
-    (none_at_all (own_handles_at c.args.owner c.loop-lock.store) (sym c.last_own.ensures ∙ c.in_default.is)))
-    ∙ c.loop-lock.invariant.so_far.resources
-
-pub returns-clause-gone : goal.returns-clause-gone
-returns-clause-gone c =
-    no_locks c.args.owner c.args.pid c.loop-lock.store c.loop-lock.invariant.so_far.sound c.loop-lock.invariant.so_far.lives
-    (none_at_all (own_handles_at c.args.owner c.loop-lock.store) (sym c.last_own.ensures ∙ c.in_default.is))
+pub returns : goal.returns
+returns c = record {
+  resources =
+      sym (all_left c.args.owner c.args.pid c.loop-lock.store c.loop-lock.invariant.so_far.sound c.loop-lock.invariant.so_far.lives
+      (none_at_all (own_handles_at c.args.owner c.loop-lock.store) (sym c.last_own.ensures ∙ c.in_default.is)))
+      ∙ c.loop-lock.invariant.so_far.resources;
+  statuses = c.loop-lock.invariant.so_far.statuses;
+  lives = c.loop-lock.invariant.so_far.lives;
+  gone =
+      no_locks c.args.owner c.args.pid c.loop-lock.store c.loop-lock.invariant.so_far.sound c.loop-lock.invariant.so_far.lives
+      (none_at_all (own_handles_at c.args.owner c.loop-lock.store) (sym c.last_own.ensures ∙ c.in_default.is));
+  kept = c.loop-lock.invariant.so_far.kept;
+  only_touched = c.loop-lock.invariant.so_far.only_touched;
+  same_room = c.loop-lock.invariant.so_far.same_room;
+  can_end = record {
+    rest = c.loop-lock.invariant.so_far.rest;
+    together = c.loop-lock.invariant.so_far.together;
+    granted = c.loop-lock.invariant.so_far.granted;
+    paid = c.loop-lock.invariant.paid;
+    noted = c.loop-lock.invariant.so_far.noted;
+    room = c.loop-lock.invariant.so_far.room;
+  };
+}

@@ -12,33 +12,27 @@ use Rattle.vlm_locks.proofs.releases.give_up.Goals as goal
 pub remove-requires-clause-childless : goal.remove-requires-clause-childless
 remove-requires-clause-childless c p own among here = c.requires.childless p own (subst (IsIn p) c.leave_value.ensures.left.own_locks among) here
 
-pub returns-clause-resources : goal.returns-clause-resources
-returns-clause-resources c =
-    let w = plain_withdrawal c.args.withdrawal.now in
-    let lkid = c.args.located.now.row.lkid in
-    c.remove.ensures.done.made.resources
-    ∙ ap (map (resource_without lkid)) c.leave_value.ensures.left.made.resources
-    ∙ left_without w lkid c.requires.named c.requires.goes (plain_resources c.args.store.now)
-
-pub returns-clause-statuses : goal.returns-clause-statuses
-returns-clause-statuses c = c.remove.ensures.done.made.statuses ∙ c.leave_value.ensures.left.made.statuses
-
-pub returns-clause-beside : goal.returns-clause-beside
-returns-clause-beside c =
-    let f = c.args.located.now in
-    let left = c.leave_value.ensures.left in
-    let made = c.remove.ensures.done.made in
-    record {
-      others = stay_over f.res c.args.store.now c.leave_value.new.store c.remove.new.store left.made.others made.others;
-      locks = locks_stay_over f.lock c.args.store.now c.leave_value.new.store c.remove.new.store left.locks c.remove.ensures.done.locks;
-      there = made.there;
-      rest = made.rest;
-    }
-
-pub returns-clause-own_locks : goal.returns-clause-own_locks
-returns-clause-own_locks c =
-    let f = c.args.located.now in
-    c.remove.ensures.done.own_locks ∙ ap (owned_after true f.lock) c.leave_value.ensures.left.own_locks
-
-pub returns-clause-loses : goal.returns-clause-loses
-returns-clause-loses c measure = omega (arith, c.remove.ensures.loses measure, c.leave_value.ensures.weighs measure)
+pub returns : goal.returns
+returns c = record {
+  resources =
+      let w = plain_withdrawal c.args.withdrawal.now in
+      let lkid = c.args.located.now.row.lkid in
+      c.remove.ensures.done.made.resources
+      ∙ ap (map (resource_without lkid)) c.leave_value.ensures.left.made.resources
+      ∙ left_without w lkid c.requires.named c.requires.goes (plain_resources c.args.store.now);
+  statuses = c.remove.ensures.done.made.statuses ∙ c.leave_value.ensures.left.made.statuses;
+  beside =
+      let f = c.args.located.now in
+      let left = c.leave_value.ensures.left in
+      let made = c.remove.ensures.done.made in
+      record {
+        others = stay_over f.res c.args.store.now c.leave_value.new.store c.remove.new.store left.made.others made.others;
+        locks = locks_stay_over f.lock c.args.store.now c.leave_value.new.store c.remove.new.store left.locks c.remove.ensures.done.locks;
+        there = made.there;
+        rest = made.rest;
+      };
+  own_locks =
+      let f = c.args.located.now in
+      c.remove.ensures.done.own_locks ∙ ap (owned_after true f.lock) c.leave_value.ensures.left.own_locks;
+  loses = λ measure. omega (arith, c.remove.ensures.loses measure, c.leave_value.ensures.weighs measure);
+}

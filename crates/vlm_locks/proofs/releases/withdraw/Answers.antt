@@ -1,5 +1,5 @@
 use Rattle.vlm_locks.proofs.OtherLocks.{locks_stay_over, owned_alike, statuses_alone}
-use Rattle.std.proofs.Common.{true, [], ◌∷◌, map, ap, ◌∙◌, refl, subst, sym}
+use Rattle.std.proofs.Common.{true, [], ◌∷◌, map, ap, ◌∙◌, refl, subst, sym, rules}
 use Rattle.vlm_model.specs.Withdrawals.{resource_after_cancel, resource_after_withdrawals}
 use Rattle.vlm_collections.specs.Lists.{IsIn}
 use Rattle.vlm_store.specs.Plain.{plain_resource, plain_resources}
@@ -47,85 +47,79 @@ give_up-requires-clause-childless c =
     (c.requires.childless (ap (λ b. goes b f.queue) c.if-withdrawal.false))
 
 -- the lock stays
-pub returns-then-withdrawal-clause-resources : goal.returns-then-withdrawal-clause-resources
-returns-then-withdrawal-clause-resources c =
-    let w = plain_withdrawal c.args.withdrawal.now in
-    let lkid = c.args.located.now.row.lkid in
-    c.cancel.ensures.done.made.resources
-    ∙ ap (map (resource_after_cancel lkid)) c.leave_value.ensures.left.made.resources
-    ∙ left_staying w lkid c.requires.named c.if-withdrawal.true (plain_resources c.end_notices.new.store)
-    ∙ ap (λ rs. map (resource_after_withdrawals (w ∷ [])) (map plain_resource rs)) c.end_notices.ensures.only_notices.resources
-
-pub returns-then-withdrawal-clause-beside : goal.returns-then-withdrawal-clause-beside
-returns-then-withdrawal-clause-beside c =
-    let s = c.args.store.now in
-    let ended = c.end_notices.new.store in
-    let left = c.leave_value.new.store in
-    let new = c.cancel.new.store in
-    let f = c.args.located.now in
-    let made = c.cancel.ensures.done.made in
-    record {
-      others = stay_over f.res ended left new c.leave_value.ensures.left.made.others made.others ∙ ap (without_resource f.res) c.end_notices.ensures.only_notices.resources;
-      locks = locks_stay_over f.lock s ended new (statuses_alone f.lock s ended c.end_notices.ensures.only_notices) (locks_stay_over f.lock ended left new c.leave_value.ensures.left.locks c.cancel.ensures.done.locks);
-      there = made.there;
-      rest = made.rest;
-    }
+pub returns-then-withdrawal : goal.returns-then-withdrawal
+returns-then-withdrawal c = record {
+  resources =
+      let w = plain_withdrawal c.args.withdrawal.now in
+      let lkid = c.args.located.now.row.lkid in
+      c.cancel.ensures.done.made.resources
+      ∙ ap (map (resource_after_cancel lkid)) c.leave_value.ensures.left.made.resources
+      ∙ left_staying w lkid c.requires.named c.if-withdrawal.true (plain_resources c.end_notices.new.store)
+      ∙ ap (λ rs. map (resource_after_withdrawals (w ∷ [])) (map plain_resource rs)) c.end_notices.ensures.only_notices.resources;
+  statuses = search rules;
+  beside =
+      let s = c.args.store.now in
+      let ended = c.end_notices.new.store in
+      let left = c.leave_value.new.store in
+      let new = c.cancel.new.store in
+      let f = c.args.located.now in
+      let made = c.cancel.ensures.done.made in
+      record {
+        others = stay_over f.res ended left new c.leave_value.ensures.left.made.others made.others ∙ ap (without_resource f.res) c.end_notices.ensures.only_notices.resources;
+        locks = locks_stay_over f.lock s ended new (statuses_alone f.lock s ended c.end_notices.ensures.only_notices) (locks_stay_over f.lock ended left new c.leave_value.ensures.left.locks c.cancel.ensures.done.locks);
+        there = made.there;
+        rest = made.rest;
+      };
+  own_locks =
+      let f = c.args.located.now in
+      ap (map but_notices) (c.cancel.ensures.done.own_locks ∙ ap (owned_after (goes true f.queue) f.lock) c.leave_value.ensures.left.own_locks)
+      ∙ owned_alike (goes true f.queue) f.lock c.end_notices.new.store.processes c.args.store.now.processes c.end_notices.ensures.only_notices.processes
+      ∙ ap (λ stays. map but_notices (owned_after (goes stays f.queue) f.lock c.args.store.now.processes)) (sym c.if-withdrawal.true);
+  paid =
+      let f = c.args.located.now in
+      paid_withdrawn f.row (left_row (goes true f.queue) f.row) (goes true f.queue) f.lock c.args.store.now c.end_notices.new.store c.leave_value.new.store c.cancel.new.store
+      c.requires.paid
+      (subst (λ stays. OwedMoves f.row (left_row (goes stays f.queue) f.row) c.args.store.now c.end_notices.new.store) c.if-withdrawal.true c.end_notices.ensures.owed)
+      c.end_notices.ensures.only_notices c.leave_value.ensures.left.own_locks c.leave_value.ensures.weighs c.cancel.ensures.done.own_locks c.cancel.ensures.due;
+}
 
 -- the lock goes
-pub returns-else-withdrawal-clause-resources : goal.returns-else-withdrawal-clause-resources
-returns-else-withdrawal-clause-resources c =
-    let w = plain_withdrawal c.args.withdrawal.now in
-    c.give_up.ensures.resources
-    ∙ ap (λ rs. map (resource_after_withdrawals (w ∷ [])) (map plain_resource rs)) c.end_notices.ensures.only_notices.resources
-
-pub returns-else-withdrawal-clause-beside : goal.returns-else-withdrawal-clause-beside
-returns-else-withdrawal-clause-beside c =
-    let s = c.args.store.now in
-    let ended = c.end_notices.new.store in
-    let f = c.args.located.now in
-    let beside = c.give_up.ensures.beside in
-    record {
-      others = beside.others ∙ ap (without_resource f.res) c.end_notices.ensures.only_notices.resources;
-      locks = locks_stay_over f.lock s ended c.give_up.new.store (statuses_alone f.lock s ended c.end_notices.ensures.only_notices) beside.locks;
-      there = beside.there;
-      rest = beside.rest;
-    }
+pub returns-else-withdrawal : goal.returns-else-withdrawal
+returns-else-withdrawal c = record {
+  resources =
+      let w = plain_withdrawal c.args.withdrawal.now in
+      c.give_up.ensures.resources
+      ∙ ap (λ rs. map (resource_after_withdrawals (w ∷ [])) (map plain_resource rs)) c.end_notices.ensures.only_notices.resources;
+  statuses = search rules;
+  beside =
+      let s = c.args.store.now in
+      let ended = c.end_notices.new.store in
+      let f = c.args.located.now in
+      let beside = c.give_up.ensures.beside in
+      record {
+        others = beside.others ∙ ap (without_resource f.res) c.end_notices.ensures.only_notices.resources;
+        locks = locks_stay_over f.lock s ended c.give_up.new.store (statuses_alone f.lock s ended c.end_notices.ensures.only_notices) beside.locks;
+        there = beside.there;
+        rest = beside.rest;
+      };
+  own_locks =
+      let f = c.args.located.now in
+      ap (map but_notices) c.give_up.ensures.own_locks
+      ∙ owned_alike true f.lock c.end_notices.new.store.processes c.args.store.now.processes c.end_notices.ensures.only_notices.processes
+      ∙ ap (λ stays. map but_notices (owned_after (goes stays f.queue) f.lock c.args.store.now.processes)) (sym c.if-withdrawal.false);
+  paid =
+      let f = c.args.located.now in
+      let ended = c.end_notices.new.store in
+      paid_withdrawn f.row (row_at_end f.row) true f.lock c.args.store.now ended ended c.give_up.new.store c.requires.paid
+      (subst (λ stays. OwedMoves f.row (left_row (goes stays f.queue) f.row) c.args.store.now ended) c.if-withdrawal.false c.end_notices.ensures.owed)
+      c.end_notices.ensures.only_notices refl (λ measure. refl) c.give_up.ensures.own_locks
+      (due_gone f.lock f.row ended c.give_up.new.store c.give_up.ensures.loses);
+}
 
 -- what becomes of the process's own locks, and of those below the parent
-pub returns-then-withdrawal-clause-own_locks : goal.returns-then-withdrawal-clause-own_locks
-returns-then-withdrawal-clause-own_locks c =
-    let f = c.args.located.now in
-    ap (map but_notices) (c.cancel.ensures.done.own_locks ∙ ap (owned_after (goes true f.queue) f.lock) c.leave_value.ensures.left.own_locks)
-    ∙ owned_alike (goes true f.queue) f.lock c.end_notices.new.store.processes c.args.store.now.processes c.end_notices.ensures.only_notices.processes
-    ∙ ap (λ stays. map but_notices (owned_after (goes stays f.queue) f.lock c.args.store.now.processes)) (sym c.if-withdrawal.true)
-
-pub returns-else-withdrawal-clause-own_locks : goal.returns-else-withdrawal-clause-own_locks
-returns-else-withdrawal-clause-own_locks c =
-    let f = c.args.located.now in
-    ap (map but_notices) c.give_up.ensures.own_locks
-    ∙ owned_alike true f.lock c.end_notices.new.store.processes c.args.store.now.processes c.end_notices.ensures.only_notices.processes
-    ∙ ap (λ stays. map but_notices (owned_after (goes stays f.queue) f.lock c.args.store.now.processes)) (sym c.if-withdrawal.false)
-
 -- ---- what is due is owed
 
 pub end_notices-requires-clause-owed : goal.end_notices-requires-clause-owed
 end_notices-requires-clause-owed c =
     let f = c.args.located.now in
     due_fits c.args.store.now c.law_records_are_sound.ensures c.requires.paid f.lock f.row (stored c.args.store.now f c.requires.located)
-
-pub returns-then-withdrawal-clause-paid : goal.returns-then-withdrawal-clause-paid
-returns-then-withdrawal-clause-paid c =
-    let f = c.args.located.now in
-    paid_withdrawn f.row (left_row (goes true f.queue) f.row) (goes true f.queue) f.lock c.args.store.now c.end_notices.new.store c.leave_value.new.store c.cancel.new.store
-    c.requires.paid
-    (subst (λ stays. OwedMoves f.row (left_row (goes stays f.queue) f.row) c.args.store.now c.end_notices.new.store) c.if-withdrawal.true c.end_notices.ensures.owed)
-    c.end_notices.ensures.only_notices c.leave_value.ensures.left.own_locks c.leave_value.ensures.weighs c.cancel.ensures.done.own_locks c.cancel.ensures.due
-
-pub returns-else-withdrawal-clause-paid : goal.returns-else-withdrawal-clause-paid
-returns-else-withdrawal-clause-paid c =
-    let f = c.args.located.now in
-    let ended = c.end_notices.new.store in
-    paid_withdrawn f.row (row_at_end f.row) true f.lock c.args.store.now ended ended c.give_up.new.store c.requires.paid
-    (subst (λ stays. OwedMoves f.row (left_row (goes stays f.queue) f.row) c.args.store.now ended) c.if-withdrawal.false c.end_notices.ensures.owed)
-    c.end_notices.ensures.only_notices refl (λ measure. refl) c.give_up.ensures.own_locks
-    (due_gone f.lock f.row ended c.give_up.new.store c.give_up.ensures.loses)

@@ -30,30 +30,18 @@ loop-touch-preserved c =
       c.sweep_one.ensures.paid,
     )
 
-pub returns-clause-resources : goal.returns-clause-resources
-returns-clause-resources c =
-    let so_far = sweeping_over (touched_handles c.args.touches.now) c.loop-touch.touch-index c.args.store.now c.loop-touch.store (omega (arith, length-map c.args.touches.now (λ (x : Note). x.at))) c.loop-touch.invariant.0 in
-    swept_resources (touched_handles c.args.touches.now) c.args.store.now c.loop-touch.store so_far c.law_a_sweep_touches_only_what_is_not_settled.ensures.done
-
-pub returns-clause-statuses : goal.returns-clause-statuses
-returns-clause-statuses c =
-    let so_far = sweeping_over (touched_handles c.args.touches.now) c.loop-touch.touch-index c.args.store.now c.loop-touch.store (omega (arith, length-map c.args.touches.now (λ (x : Note). x.at))) c.loop-touch.invariant.0 in
-    swept_statuses (touched_handles c.args.touches.now) c.args.store.now c.loop-touch.store so_far c.law_a_sweep_touches_only_what_is_not_settled.ensures.done
-
-pub returns-clause-others : goal.returns-clause-others
-returns-clause-others c = c.loop-touch.invariant.0.others
-
-pub returns-clause-own_locks : goal.returns-clause-own_locks
-returns-clause-own_locks c = c.loop-touch.invariant.0.processes
-
-pub returns-clause-rest : goal.returns-clause-rest
-returns-clause-rest c = c.loop-touch.invariant.0.rest
-
-pub returns-clause-locks : goal.returns-clause-locks
-returns-clause-locks c = c.loop-touch.invariant.0.stay
-
-pub returns-clause-none_join : goal.returns-clause-none_join
-returns-clause-none_join c = c.loop-touch.invariant.0.none_join
-
-pub returns-clause-paid : goal.returns-clause-paid
-returns-clause-paid c = c.loop-touch.invariant.1
+pub returns : goal.returns
+returns c = record {
+  resources =
+      let so_far = sweeping_over (touched_handles c.args.touches.now) c.loop-touch.touch-index c.args.store.now c.loop-touch.store (omega (arith, length-map c.args.touches.now (λ (x : Note). x.at))) c.loop-touch.invariant.0 in
+      swept_resources (touched_handles c.args.touches.now) c.args.store.now c.loop-touch.store so_far c.law_a_sweep_touches_only_what_is_not_settled.ensures.done;
+  statuses =
+      let so_far = sweeping_over (touched_handles c.args.touches.now) c.loop-touch.touch-index c.args.store.now c.loop-touch.store (omega (arith, length-map c.args.touches.now (λ (x : Note). x.at))) c.loop-touch.invariant.0 in
+      swept_statuses (touched_handles c.args.touches.now) c.args.store.now c.loop-touch.store so_far c.law_a_sweep_touches_only_what_is_not_settled.ensures.done;
+  others = c.loop-touch.invariant.0.others;
+  locks = c.loop-touch.invariant.0.stay;
+  none_join = c.loop-touch.invariant.0.none_join;
+  own_locks = c.loop-touch.invariant.0.processes;
+  rest = c.loop-touch.invariant.0.rest;
+  paid = c.loop-touch.invariant.1;
+}

@@ -44,8 +44,8 @@ returns-clause-change c = λ there found.
     let asked = subst (λ (m : MachineState). request ≡ convert_request (plain_state m) c.args.conversion.now) c.self.view_is
     (asked_as (plain_state (kept c.self.inside)) c.args.conversion.now c.args.flags c.requires.flags) in
     ap (λ (m : MachineState). plain_state (record m { records = c.convert.new.store; next_request = m.next_request + 1 })) c.self.view_is
-    ∙ state_converted c.args.self.now c.args.conversion.now c.args.located.now c.args.at_once c.requires.admitted request asked c.convert.new.store (rw (← c.self.view_is) c.in_ok-convert.ensures.converted) there found
+    ∙ state_converted c.args.self.now c.args.conversion.now c.args.located.now c.args.at_once c.requires.admitted request asked c.convert.new.store (rw (← c.self.view_is) c.in_ok-convert.ensures.done.converted) there found
 
 -- the other resources stay
 pub returns-clause-others : goal.returns-clause-others
-returns-clause-others c = rw (← c.self.view_is) c.in_ok-convert.ensures.beside.others
+returns-clause-others c = rw (← c.self.view_is) c.in_ok-convert.ensures.done.beside.others
