@@ -29,18 +29,6 @@ pub struct Queues {
     pub resources: Slab<Resource>,
 }
 
-fn is_same_grant(from: &Place, to: &Place) -> bool
-    ensures { OnTrue result (from.now ≡ to.now) }
-{
-    let Place::Queued(from, Queue::Granted) = *from else {
-        return false;
-    };
-    let Place::Queued(to, Queue::Granted) = *to else {
-        return false;
-    };
-    from == to
-}
-
 impl Queues {
     /// The list of a place; an empty list if the resource does not exist.
     pub fn list(&self, place: Place) -> LinkedList<InQueue>
@@ -140,9 +128,13 @@ impl Queues {
         ensures armed { OnTrue result (armed_rank (rows self.now at) ≡ armed_rank row.now) }
     {
         let lock = &self.locks[at];
-        is_same_grant(&lock.place, to)
-            && lock.row.armed_rank() == row.armed_rank()
-            && self.is_last(at)
+        let Place::Queued(from, Queue::Granted) = lock.place else {
+            return false;
+        };
+        let Place::Queued(res, Queue::Granted) = *to else {
+            return false;
+        };
+        from == res && lock.row.armed_rank() == row.armed_rank() && self.is_last(at)
     }
 
     // Gives a lock another row in its place. The lists of armed locks must not change.
