@@ -1,4 +1,5 @@
+pub mod After
 pub mod FirstPending
 pub mod Making
 pub mod Reaching
-pub mod Rooted
+pub mod Keyed

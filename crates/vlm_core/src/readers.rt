@@ -1,23 +1,35 @@
 //! The readers. They show processes with their status blocks and pending ASTs, resources with their queues, and how a
 //! root is used. They take no memory, and change nothing.
 
-ghost use Rattle.std.specs.Prelude.{◌≡◌, length, slice_get};
+ghost use Rattle.std.specs.Prelude.{◌≡◌, ◌==◌, IfSome, IsNone, find, length, slice_get};
 ghost use Rattle.std.specs.Option.{option_map};
 ghost use Rattle.vlm_model.specs.Pending.{first_pending};
 ghost use Rattle.vlm_words.specs.State.{process_of};
 ghost use Rattle.vlm_model.specs.StatusBlocks.{status_block_at};
 ghost use Rattle.vlm_procs.specs.Views.{process_view};
 ghost use Rattle.vlm_queue.specs.Views.{resource_view, row_shown, usage};
-ghost use Rattle.vlm_core.specs.Readers.{root_of};
+ghost use Rattle.vlm_core.specs.Readers.{IsFirstPending, NonePendingBelow, after_first, key_of, root_of};
+ghost use Rattle.vlm_words.specs.Resources.{is_at};
 
 use crate::public::Core;
 use vlm_machine::living;
 use vlm_model::laws::law_identifications_of_processes_rise;
 use vlm_procs::{ProcessView, pending, process_at, status_block};
-use vlm_queue::{ResourceView, RowView, Usage, resource_at, row_at, usage_of};
+use vlm_queue::{ResourceView, RowView, Usage, resource_at, resource_view, row_at, usage_of};
 use vlm_words::blocks::Block;
 use vlm_words::names::Name;
 use vlm_words::resources::{Domain, Key, Queue};
+
+// The key of a resource: with parent 0 of a root.
+fn key_of(parent: u32, domain: Domain, name: Name) -> Key
+    ensures { result ≡ key_of parent domain name }
+{
+    if parent == 0 {
+        Key::Root(domain, name)
+    } else {
+        Key::Below(parent, name)
+    }
+}
 
 impl Core {
     /// The status block of this number, from 1, of a process: its status, its lock, its value part and its tail. `None`
@@ -48,6 +60,20 @@ impl Core {
         self.machine.store.pending_of(node)
     }
 
+    /// The first process that has an AST pending: of the first node with such a process, the first in order of making.
+    /// `None` if no AST is pending. It takes constant time, however many processes there are.
+    pub fn first_pending(&self) -> Option<u32>
+        ensures some { IfSome result (λ pid. IsFirstPending pid self.now.processes) }
+        ensures none { IsNone result → NonePendingBelow 9 self.now.processes }
+    {
+        for node in 1..9 {
+            if let Some(pid) = self.pending_of(node) {
+                return Some(pid);
+            }
+        }
+        None
+    }
+
     /// How many processes live.
     pub fn process_count(&self) -> usize
         ensures { result ≡ length self.now.processes }
@@ -63,6 +89,20 @@ impl Core {
         process_at(&self.machine.store, index)
     }
 
+    /// The next living process, in order of making, after the one with this identification. `None` if no living process
+    /// has it; `Some(None)` if it is the last one. It takes constant time.
+    pub fn process_after(&self, pid: u32) -> Option<Option<ProcessView>>
+        ensures { result ≡ option_map (λ rest. option_map process_view (slice_get rest 0))
+            (after_first (λ p. p.pid == pid) self.now.processes) }
+    {
+        let store = &self.machine.store;
+        let at = store.process(pid)?;
+        match store.next_process(at) {
+            Some(process) => Some(Some(ProcessView::of(process))),
+            None => Some(None),
+        }
+    }
+
     /// How many resources have locks.
     pub fn resource_count(&self) -> usize
         ensures { result ≡ length self.now.resources }
@@ -76,6 +116,38 @@ impl Core {
         ensures { result ≡ option_map resource_view (slice_get self.now.resources index) }
     {
         resource_at(&self.machine.store, index)
+    }
+
+    /// The resource of this name, with its value block and tail: below the resource with the serial `parent`, or with
+    /// `parent` 0 the root in the domain. `None` if it has no locks. It takes constant time.
+    pub fn resource(&self, parent: u32, domain: Domain, name: Name) -> Option<ResourceView>
+        ensures { result ≡ option_map resource_view
+            (find (is_at (key_of parent domain name)) self.now.resources) }
+    {
+        let store = &self.machine.store;
+        let key = key_of(parent, domain, name);
+        let res = store.resource(&key, store.hash_of(&key))?;
+        Some(resource_view(store, res))
+    }
+
+    /// The next resource by serial after the one that [`Core::resource`] answers. `None` if there is no such resource;
+    /// `Some(None)` if it is the last one. It takes constant time.
+    pub fn resource_after(
+        &self,
+        parent: u32,
+        domain: Domain,
+        name: Name,
+    ) -> Option<Option<ResourceView>>
+        ensures { result ≡ option_map (λ rest. option_map resource_view (slice_get rest 0))
+            (after_first (is_at (key_of parent domain name)) self.now.resources) }
+    {
+        let store = &self.machine.store;
+        let key = key_of(parent, domain, name);
+        let res = store.resource(&key, store.hash_of(&key))?;
+        match store.next_resource(res) {
+            Some(next) => Some(Some(resource_view(store, next))),
+            None => Some(None),
+        }
     }
 
     /// The lock at an index, from 0, of a queue of the resource at an index, from 0. `None` if one of them is after the

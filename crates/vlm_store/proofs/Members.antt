@@ -1,13 +1,13 @@
 -- What a caller sees of the processes and their locks, and how it changes as the tables do.
-use Rattle.std.proofs.Common.{◌≡◌, ◌≢◌, ℕ, List, [], ◌∷◌, ◌++◌, map, filter, not, Option, None, Some, IsSome, slice_get, refl, sym, ap, ◌∙◌, subst, inl, inr, eq-eqb, ne_eqb}
+use Rattle.std.proofs.Common.{◌≡◌, ◌≢◌, ℕ, true, false, cond, List, [], ◌∷◌, ◌++◌, map, filter, not, Option, None, Some, IsSome, slice_get, refl, sym, ap, ◌∙◌, subst, inl, inr, eq-eqb, ne_eqb}
 use Rattle.std.specs.Prelude.{◌==◌, if◌then◌else◌}
 use Rattle.std.proofs.lemmas.Bool.{cases_eq}
 use Rattle.std.specs.Option.{option_map}
 use Rattle.std.proofs.lemmas.Option.{same_Some, slice_get-map}
-use Rattle.vlm_collections.specs.Lists.{IsApart, IsIn, without}
+use Rattle.vlm_collections.specs.Lists.{IsApart, IsIn, first_handle, handle_after, without}
 use Rattle.vlm_collections.proofs.Images.{IsIn-image, IsIn-told}
 use Rattle.vlm_collections.proofs.HandleLists.{without_head, without_past}
-use Rattle.vlm_store.specs.Records.{AreProcessesApart, OwnLock, StoredProcess, new_own, on_stored, process_at, process_with_lock, process_without_lock, with_sublock, without_process, without_sublock}
+use Rattle.vlm_store.specs.Records.{AreProcessesApart, OwnLock, StoredProcess, new_own, on_stored, process_after, process_at, process_with_lock, process_without_lock, with_sublock, without_process, without_sublock}
 use Rattle.vlm_store.specs.Holdings.{Holding, faced, own_of, process_under, processes_of}
 
 -- ---- what is seen
@@ -219,6 +219,24 @@ module _ (old new : Holding) (at : ℕ) (faces : (p : ℕ) → new.faces p ≡ o
       each : (ps : List ℕ) → map (process_under new) ps ≡ map (process_without_lock at) (map (process_under old) ps)
       each [] = refl
       each (p ∷ ps) = ap (λ x. x ∷ map (process_under new) ps) (one p) ∙ ap (λ rest. process_without_lock at (process_under old p) ∷ rest) (each ps)
+
+-- the process after another is the one under the handle after its own
+after_under : (h : Holding) (at : ℕ) (ps : List ℕ) → process_after at (map (process_under h) ps) ≡ option_map (λ k. (h.faces k).plain) (handle_after at ps)
+after_under h at [] = refl
+after_under h at (p ∷ rest) =
+    elim (p == at) as (λ b. cond b (option_map (λ (x : StoredProcess). x.process) (slice_get (map (process_under h) rest) 0)) (process_after at (map (process_under h) rest))
+    ≡ option_map (λ k. (h.faces k).plain) (cond b (first_handle rest) (handle_after at rest))) [
+      | true ↦ first_under rest
+      | false ↦ after_under h at rest
+    ]
+  where
+    first_under : (ks : List ℕ) → option_map (λ (x : StoredProcess). x.process) (slice_get (map (process_under h) ks) 0) ≡ option_map (λ k. (h.faces k).plain) (first_handle ks)
+    first_under [] = refl
+    first_under (k ∷ ks) = refl
+
+pub process_after-is : (h : Holding) (at : ℕ) → process_after at (processes_of h) ≡ option_map (λ k. (h.faces k).plain) (handle_after at h.order)
+unfolding processes_of
+process_after-is h at = after_under h at h.order
 
 -- the process at an index is what stands under the handle at that index
 pub process_at-index : (h : Holding) (index : ℕ) → slice_get (map (λ (p : StoredProcess). p.process) (processes_of h)) index ≡ option_map (λ at. (h.faces at).plain) (slice_get h.order index)

@@ -1,7 +1,7 @@
 -- What the store shows to a caller: resources with their queues of locks, and processes with their own locks, each
 -- with its handle.
-use Rattle.std.specs.Prelude.{◌≡◌, ◌<◌, ◌≤◌, ◌/◌, ℕ, Bool, true, false, not, ◌==◌, ◌&&◌, ◌+◌, ◌-◌, count_by, sum_by, List, [], ◌∷◌, ◌++◌, map, filter, find, flat_map, Option, None, Some, IsSome, if◌then◌else◌}
-use Rattle.std.specs.Option.{option_map_or}
+use Rattle.std.specs.Prelude.{◌≡◌, ◌<◌, ◌≤◌, ◌/◌, ℕ, Bool, true, false, not, ◌==◌, ◌&&◌, ◌+◌, ◌-◌, count_by, sum_by, List, [], ◌∷◌, ◌++◌, map, filter, slice_get, find, flat_map, Option, None, Some, IsSome, if◌then◌else◌}
+use Rattle.std.specs.Option.{option_map, option_map_or}
 use Rattle.vlm_collections.specs.declared.hashers.HashKeys.{HashKeys}
 use Rattle.vlm_words.specs.declared.asts.Ast.{Ast}
 use Rattle.vlm_words.specs.declared.locks.LockRow.{LockRow}
@@ -266,6 +266,11 @@ joined_by Waiting lock r = record r { waiting = r.waiting ++ lock ∷ [] }
 -- the process with this handle, if there is one
 abbrev pub process_at : ℕ → List StoredProcess → Option StoredProcess
 process_at at processes = find (λ p. p.at == at) processes
+
+-- the process after the one with this handle
+abbrev pub process_after : ℕ → List StoredProcess → Option Process
+process_after at [] = None
+process_after at (p ∷ rest) = if p.at == at then option_map (λ x. x.process) (slice_get rest 0) else process_after at rest
 
 -- the process with this handle exists
 abbrev pub HasProcess : ℕ → Records → Type 0

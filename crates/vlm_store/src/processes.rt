@@ -8,7 +8,7 @@ ghost use Rattle.vlm_records.specs.Kin.{plain_process};
 ghost use Rattle.vlm_records.specs.StatusBlocks.{requested, with_changed_block, with_status};
 ghost use Rattle.vlm_store.specs.Pending.{IsFirstLiving};
 ghost use Rattle.vlm_store.specs.Plain.{plain_processes};
-ghost use Rattle.vlm_store.specs.Records.{FindsProcess, HasNoLocks, HasNoSublocks, HasProcess, HasRoomForProcess, IsGivenBack, IsNewProcess, IsProcess, IsSound, IsStored, IsTaken, IsUnchanged, authorization_of, new_stored_process, on_process, on_stored, owed_less, owed_more, own_at, owned_by, process_at, with_owed_ast, with_process_room, without_process};
+ghost use Rattle.vlm_store.specs.Records.{FindsProcess, HasNoLocks, HasNoSublocks, HasProcess, HasRoomForProcess, IsGivenBack, IsNewProcess, IsProcess, IsSound, IsStored, IsTaken, IsUnchanged, authorization_of, new_stored_process, on_process, on_stored, owed_less, owed_more, own_at, owned_by, process_after, process_at, with_owed_ast, with_process_room, without_process};
 
 use crate::store::Store;
 use std::alloc::AllocError;
@@ -109,6 +109,15 @@ impl Store {
     {
         let at = self.process_order.nth(&self.processes, index)?;
         Some(&self.processes[at])
+    }
+
+    /// The process after this one in the order of making, if there is one.
+    pub fn next_process(&self, at: ProcAt) -> Option<&Process>
+        requires { HasProcess at self.now }
+        ensures { option_map (λ p. plain_process p.now) result ≡ process_after at self.now.processes }
+    {
+        let next = self.process_order.next(&self.processes, at.slot())?;
+        Some(&self.processes[next])
     }
 
     /// Replaces the status block with this number, from 1, if there is one.

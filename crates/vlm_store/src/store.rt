@@ -415,7 +415,9 @@ impl Store {
             ≡ (list_any (λ row. blocks_request held row.want) (rows_of_locks r.converting)
             || list_any (λ row. blocks_request held row.want) (rows_of_locks r.waiting))) }
     {
-        self.queues.resources[res.slot()].tally.blocks_a_request(held)
+        self.queues.resources[res.slot()]
+            .tally
+            .blocks_a_request(held)
     }
 
     /// How many locks of the resource hold each mode, from NL to EX, granted or converting. It reads counts, not

@@ -22,14 +22,6 @@ fn letter(yes: bool) -> u8 {
     if yes { b'Y' } else { b'N' }
 }
 
-fn action(act: Act) -> u8 {
-    match act {
-        Act::Nothing => b'-',
-        Act::Return => b'R',
-        Act::Write => b'W',
-    }
-}
-
 // Compares a table with the answers for each pair of modes.
 fn compare<R: Abort, F: Fn(Mode, Mode) -> u8>(rt: &R, table: &[[u8; 6]; 6], answered: F)
     requires { F.IsAlwaysCallable answered }
@@ -45,9 +37,15 @@ fn compare<R: Abort, F: Fn(Mode, Mode) -> u8>(rt: &R, table: &[[u8; 6]; 6], answ
 #[test]
 fn tables(rt: HostRuntime) {
     compare(&rt, &COMPATIBLE, |a, b| letter(compatible(a, b)));
-    compare(&rt, &VALUE_ACTIONS, |held, want| {
-        action(value_action(held, want))
-    });
+    compare(
+        &rt,
+        &VALUE_ACTIONS,
+        |held, want| match value_action(held, want) {
+            Act::Nothing => b'-',
+            Act::Return => b'R',
+            Act::Write => b'W',
+        },
+    );
     compare(&rt, &QUEUED_LEGALLY, |held, want| {
         letter(quecvt_legal(held, want))
     });

@@ -170,15 +170,6 @@ fn queues_keep_their_order(rt: HostRuntime) -> Result<(), Fail> {
     Ok(())
 }
 
-// The locks of the resource leave one by one; it is not idle before the last leaves.
-fn empty(rt: &impl Abort, store: &mut Store, key: &Key) {
-    leave(rt, store, 1);
-    leave(rt, store, 2);
-    leave(rt, store, 3);
-    assert!(rt; !is_idle(store, resource(rt, store, key)));
-    leave(rt, store, 4);
-}
-
 // Removes the resource, which is idle; the other one is the first from then on.
 fn remove(rt: &impl Abort, store: &mut Store, key: &Key, other: &Key) {
     let res = resource(rt, store, key);
@@ -198,16 +189,13 @@ fn an_emptied_resource_leaves_the_order_of_the_others(rt: HostRuntime) -> Result
     let mut store = Store::new(rt.alloc());
     fill(&rt, &mut store, &a)?;
     open(&rt, &mut store, 2, &b)?;
-    empty(&rt, &mut store, &a);
+    leave(&rt, &mut store, 1);
+    leave(&rt, &mut store, 2);
+    leave(&rt, &mut store, 3);
+    assert!(&rt; !is_idle(&store, resource(&rt, &store, &a)));
+    leave(&rt, &mut store, 4);
     remove(&rt, &mut store, &a, &b);
     Ok(())
-}
-
-// The lock is the first that is granted, and no conversion waits.
-fn check_served(rt: &impl Abort, store: &Store, key: &Key, lkid: u32) {
-    let res = resource(rt, store, key);
-    assert_eq!(rt; head(store, res, Queue::Granted), store.lock(lkid));
-    assert!(rt; head(store, res, Queue::Conversion).is_none());
 }
 
 #[test]
@@ -217,7 +205,9 @@ fn a_served_lock_is_granted_and_holds_its_mode(rt: HostRuntime) -> Result<(), Fa
     fill(&rt, &mut store, &key)?;
     leave(&rt, &mut store, 1);
     serve(&rt, &mut store, &key, 2, Mode::Pr);
-    check_served(&rt, &store, &key, 2);
+    let res = resource(&rt, &store, &key);
+    assert_eq!(&rt; head(&store, res, Queue::Granted), store.lock(2));
+    assert!(&rt; head(&store, res, Queue::Conversion).is_none());
     assert!(rt; !fits(&rt, &store, &key, Mode::Pw, None));
     assert!(rt; fits(&rt, &store, &key, Mode::Pw, Some(2)));
     leave(&rt, &mut store, 2);

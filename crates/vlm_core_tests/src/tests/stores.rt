@@ -79,20 +79,16 @@ pub fn open(store: &mut Store, serial: u32, key: &Key) -> Result<(), AllocError>
     }
 }
 
-// The queue of a lock with these held and wanted modes.
-fn queue_of(row: &LockRow) -> Queue {
-    match (row.held.is_some(), row.want.is_some()) {
-        (_, false) => Queue::Granted,
-        (true, true) => Queue::Conversion,
-        (false, true) => Queue::Waiting,
-    }
-}
-
-/// The queue of a resource for such a lock. The resource has to exist.
+/// The queue of a resource for a lock with the row's held and wanted modes. The resource has to exist.
 pub fn place(rt: &impl Abort, store: &Store, key: &Key, row: &LockRow) -> Place
     ensures { HasPlace result store.now }
 {
-    Place::Queued(resource(rt, store, key), queue_of(row))
+    let queue = match (row.held.is_some(), row.want.is_some()) {
+        (_, false) => Queue::Granted,
+        (true, true) => Queue::Conversion,
+        (false, true) => Queue::Waiting,
+    };
+    Place::Queued(resource(rt, store, key), queue)
 }
 
 /// Adds a lock without a parent at the end of its queue of the resource, unless it is there.
