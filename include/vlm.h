@@ -12,12 +12,20 @@
  * - The library and this header are of one version.
  * All else that is passed is checked, and answered by a condition value.
  *
- * A struct that is passed in has its size as its first member and 0 in each reserved word. The size of one that is
- * written is set before the call; it is written whole, its reserved words as 0, or not at all. With another size, a
- * reserved word that is not 0, a mark (syslck, has_ast, has_bast, has_value, has_tail) that is neither 0 nor 1, a mode
- * that is none, or a node, group, quota, number of status blocks, status block or flags past what the core's field
- * holds, a call answers VLM_BADPARAM and changes nothing in the lock manager. So does each call on a handle with no lock
- * manager. *pid, *lkid and *victim are written by each call that has them, with 0 where there is nothing to tell.
+ * Set `size` of every struct before a call. A struct that is passed in has 0 in each reserved word. A struct that a call
+ * writes is written whole, its reserved words as 0, or not at all; its reserved words are not read. A call answers
+ * VLM_BADPARAM and changes nothing in the lock manager
+ * - with a struct of another size, or a reserved word that is not 0;
+ * - with a mark (syslck, has_ast, has_bast, has_value, has_tail) that is neither 0 nor 1, or a mode that does not exist;
+ * - with a node, group, quota, number of status blocks, status block or flags above what the core's field holds;
+ * - with both `lock` and `lock_block` of a struct;
+ * - on a handle with no lock manager.
+ * Status blocks are numbered from 1: block 0 does not exist, and lock_block 0 names no block. *pid, *lkid and *victim are
+ * written by each call that has them, with 0 where there is nothing to tell.
+ *
+ * The ASTs of a process come in the order in which they are queued. A step queues the completions of a resource before the
+ * blocking ASTs of its granted locks. So a process learns of a grant before it learns that the granted lock blocks
+ * somebody, and a converting lock gets no blocking AST. A cache protocol over blocking ASTs needs no more.
  *
  * Where strangers choose the names of resources, open by vlm_open_with_keys with 16 bytes that nobody can foresee:
  * vlm_open hashes by fixed keys, and then names can be chosen that meet in the index.
@@ -339,6 +347,11 @@ uint32_t vlm_deq(vlm *handle, const vlm_dequeue *dequeue);
  * BADPARAM; *ast is written with NORMAL alone. The program runs the routine. */
 uint32_t vlm_take(vlm *handle, uint32_t pid, vlm_ast *ast);
 
+/* Takes the oldest pending AST of the first process that has one: of the first node with such a process, the first in
+ * order of making. *pid is that process, or 0 where no AST is pending: then the kind is VLM_NO_AST. It takes constant
+ * time, however many processes there are. NORMAL, BADPARAM. */
+uint32_t vlm_take_any(vlm *handle, uint32_t *pid, vlm_ast *ast);
+
 /* Ends a process, with all that it has. NORMAL, DEPARTED, NONEXPR, BADPARAM on a handle with no lock manager. */
 uint32_t vlm_rundown(vlm *handle, uint32_t pid);
 
@@ -349,7 +362,8 @@ uint32_t vlm_leave(vlm *handle, uint32_t node);
  * DEPARTED. */
 uint32_t vlm_search(vlm *handle, uint32_t node, uint32_t *victim);
 
-/* The readings: they change nothing. NORMAL, or BADPARAM and nothing is written. Places are numbered from 0. */
+/* The readings: they change nothing. NORMAL, or BADPARAM and nothing is written. Places are numbered from 0, and a call
+ * that names one takes time that grows with it: walk by the calls below. */
 uint32_t vlm_block(vlm *handle, uint32_t pid, uint32_t block, vlm_lksb *lksb);
 uint32_t vlm_pending(vlm *handle, uint32_t pid, size_t *count);
 size_t vlm_process_count(vlm *handle); /* 0 also on a handle with no lock manager */
@@ -357,6 +371,22 @@ uint32_t vlm_process(vlm *handle, size_t place, struct vlm_process *process);
 size_t vlm_resource_count(vlm *handle); /* 0 also on a handle with no lock manager */
 uint32_t vlm_resource(vlm *handle, size_t place, struct vlm_resource *resource);
 uint32_t vlm_row(vlm *handle, size_t resource, uint32_t queue, size_t place, struct vlm_row *row);
+
+/* The readings that walk and look up, each in constant time. NORMAL, or BADPARAM and nothing is written: there is no such
+ * process or resource, or not any more.
+ *
+ * vlm_next_process reads the living process that was made after `pid`, or with 0 the first one. vlm_next_resource reads
+ * the resource that was made after the one in *resource, or the first one where its serial is 0. After the last one
+ * they write a struct with pid 0 or serial 0. So a walk is
+ *
+ *     struct vlm_resource resource = {.size = sizeof resource};
+ *     while (vlm_next_resource(&handle, &resource) == VLM_NORMAL && resource.serial != 0) ...
+ *
+ * vlm_find reads the resource of a name. The caller sets name and name_len, 1 to 31, and either parent, the serial of the
+ * parent resource, or parent 0 with is_system or group. These members name the resource for vlm_next_resource too. */
+uint32_t vlm_next_process(vlm *handle, uint32_t pid, struct vlm_process *process);
+uint32_t vlm_next_resource(vlm *handle, struct vlm_resource *resource);
+uint32_t vlm_find(vlm *handle, struct vlm_resource *resource);
 
 /* The name of a condition value as the manual has it, of this library's own the plain one; null for a number that is
  * none. */

@@ -1,5 +1,5 @@
 -- What the calls that make a step do.
-use Rattle.std.specs.Prelude.{◌≡◌, ℕ, Bool, true, false, Option, Some, None, replicate}
+use Rattle.std.specs.Prelude.{◌≡◌, ◌⊎◌, ℕ, Bool, true, false, Option, Some, None, replicate}
 use Rattle.vlm_words.specs.declared.asts.Ast.{Ast}
 use Rattle.vlm_words.specs.declared.asts.AstKind.{AstKind}
 use Rattle.vlm_words.specs.declared.asts.AstKind.TheVariants.{Completion, Blocking}
@@ -8,7 +8,9 @@ use Rattle.vlm_words.specs.declared.steps.Answer.TheVariants.{Process as process
 use Rattle.vlm_words.specs.declared.steps.Answer.{Answer}
 use Rattle.vlm_words.specs.declared.steps.Step.{Step}
 use Rattle.vlm_words.specs.Conditions.{condition_number}
+use Rattle.vlm_words.specs.declared.steps.Step.TheVariants.{Take}
 use Rattle.vlm_words.specs.State.{State, start}
+use Rattle.vlm_core.specs.Readers.{IsFirstPending, NonePendingBelow}
 use Rattle.vlm_model.specs.Stepped.{Outcome}
 use Rattle.vlm_c.specs.declared.replies.VlmAst.{VlmAst}
 
@@ -102,3 +104,22 @@ Opened None None status = status ≡ condition_number Insfmem
 abbrev pub OpenedIf : Bool → Option State → Option State → ℕ → Type 0
 OpenedIf true before after status = Opened before after status
 OpenedIf false before after status = (after ≡ before) × (status ≡ condition_number Badparam)
+
+-- the oldest AST of the first process that has one is taken; with no pending AST nothing changes
+abbrev pub TakesFirst : State → Option (ℕ × Answer) → State → Type 0
+TakesFirst s None s' = NonePendingBelow 9 s.processes × (s' ≡ s)
+TakesFirst s (Some (pid, answer)) s' = IsFirstPending pid s.processes × Outcome s (Take pid) s' answer
+
+-- an AST of the first process that has one was taken and written with the process; or none is pending, and 0 and no AST
+-- are written; or there is no core, with BADPARAM
+abbrev pub TookAny : Option State → Option State → ℕ → ℕ → VlmAst → VlmAst → Type 0
+TookAny None after status pid old new = (after ≡ None) × (status ≡ condition_number Badparam) × (pid ≡ 0) × (new ≡ old)
+TookAny (Some s) after status pid old new =
+    (NonePendingBelow 9 s.processes × (after ≡ Some s) × (status ≡ condition_number Normal) × (pid ≡ 0) × (new ≡ no_ast))
+    ⊎ (IsFirstPending pid s.processes × AstReplied (Some s) (Some (Take pid)) after status old new)
+
+-- the caller's struct has its size; otherwise nothing changes, with BADPARAM
+abbrev pub TookAnyIf : Bool → Option State → Option State → ℕ → ℕ → VlmAst → VlmAst → Type 0
+TookAnyIf true before after status pid old new = TookAny before after status pid old new
+TookAnyIf false before after status pid old new =
+    (after ≡ before) × (status ≡ condition_number Badparam) × (pid ≡ 0) × (new ≡ old)

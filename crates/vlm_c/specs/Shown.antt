@@ -1,5 +1,5 @@
 -- What the calls that read write for C.
-use Rattle.std.specs.Prelude.{◌≡◌, ℕ, Bool, true, false, length, replicate, slice_get, Option, Some, None, nat_le, if◌then◌else◌}
+use Rattle.std.specs.Prelude.{◌≡◌, ℕ, Bool, true, false, length, replicate, slice_get, Option, Some, None, nat_le, find, ◌==◌, if◌then◌else◌}
 use Rattle.std.specs.Option.{option_map}
 use Rattle.vlm_words.specs.declared.blocks.Block.{Block}
 use Rattle.vlm_words.specs.declared.conditions.Cond.TheVariants.{Normal, Badparam}
@@ -21,6 +21,9 @@ use Rattle.vlm_c.specs.declared.shown.VlmLksb.{VlmLksb}
 use Rattle.vlm_c.specs.declared.shown.VlmProcess.{VlmProcess}
 use Rattle.vlm_c.specs.declared.shown.VlmResource.{VlmResource}
 use Rattle.vlm_c.specs.declared.shown.VlmRow.{VlmRow}
+use Rattle.vlm_words.specs.Resources.{is_at}
+use Rattle.vlm_core.specs.Readers.{after_first, key_of as core_key}
+use Rattle.vlm_c.specs.declared.arguments.ResourceKey.{ResourceKey}
 use Rattle.vlm_c.specs.Words.{queue_of}
 
 -- a reader answers what the core shows, and the core stays
@@ -148,3 +151,58 @@ resource_of r = record {
 abbrev pub resource_shown : Option State → ℕ → Option ResourceView
 resource_shown None place = None
 resource_shown (Some s) place = option_map resource_view (slice_get s.resources place)
+
+-- the resource with the key
+abbrev pub found_shown : Option State → Option ResourceKey → Option ResourceView
+found_shown None key = None
+found_shown (Some s) None = None
+found_shown (Some s) (Some key) = option_map resource_view (find (is_at (core_key key.parent key.domain key.name)) s.resources)
+
+-- the resource after the one with the key, or the first one at the start of a walk; nothing if no resource has the key
+abbrev pub next_resource_shown : Option State → Bool → Option ResourceKey → Option (Option ResourceView)
+next_resource_shown None starts key = None
+next_resource_shown (Some s) true key = Some (option_map resource_view (slice_get s.resources 0))
+next_resource_shown (Some s) false None = None
+next_resource_shown (Some s) false (Some key) =
+    option_map (λ rest. option_map resource_view (slice_get rest 0)) (after_first (is_at (core_key key.parent key.domain key.name)) s.resources)
+
+-- the living process after another, or the first one at the start of a walk; nothing if no living process has the
+-- identification
+abbrev pub next_process_shown : Option State → Bool → ℕ → Option (Option ProcessView)
+next_process_shown None starts pid = None
+next_process_shown (Some s) true pid = Some (option_map process_view (slice_get s.processes 0))
+next_process_shown (Some s) false pid =
+    option_map (λ rest. option_map process_view (slice_get rest 0)) (after_first (λ p. p.pid == pid) s.processes)
+
+-- what C reads of a resource, or after the last one
+abbrev pub resource_or_none : Option ResourceView → VlmResource
+resource_or_none (Some r) = resource_of r
+resource_or_none None = record {
+  size = 144;
+  serial = 0;
+  parent = 0;
+  is_system = 0;
+  group = 0;
+  value_valid = 0;
+  tail_valid = 0;
+  name_len = 0;
+  name = replicate 32 0;
+  value = replicate 16 0;
+  tail = replicate 48 0;
+  reserved = replicate 4 0;
+}
+
+-- what C reads of a process, or after the last one
+abbrev pub process_or_none : Option ProcessView → VlmProcess
+process_or_none (Some p) = process_of p
+process_or_none None = record {
+  size = 64;
+  pid = 0;
+  node = 0;
+  group = 0;
+  syslck = 0;
+  quota = 0;
+  blocks = 0;
+  pending = 0;
+  reserved = replicate 6 0;
+}

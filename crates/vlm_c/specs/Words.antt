@@ -1,6 +1,7 @@
 -- The steps that the structs and numbers of C name.
 use Rattle.std.specs.Prelude.{ℕ, List, Bool, ◌==◌, ◌&&◌, nat_lt, nat_le, take, Option, Some, None, if◌then◌else◌}
 use Rattle.std.specs.List.{list_all}
+use Rattle.std.specs.Result.{result_ok}
 use Rattle.vlm_words.specs.declared.modes.Mode.{Mode}
 use Rattle.vlm_words.specs.declared.modes.Mode.TheVariants.{Nl, Cr, Cw, Pr, Pw, Ex}
 use Rattle.vlm_words.specs.declared.resources.Queue.{Queue}
@@ -15,7 +16,12 @@ use Rattle.vlm_words.specs.declared.steps.ValueSetting.{ValueSetting}
 use Rattle.vlm_c.specs.declared.arguments.VlmDeclaration.{VlmDeclaration}
 use Rattle.vlm_c.specs.declared.arguments.VlmSetting.{VlmSetting}
 use Rattle.vlm_c.specs.declared.arguments.VlmRequest.{VlmRequest}
+use Rattle.vlm_words.specs.declared.resources.Domain.{Domain}
+use Rattle.vlm_words.specs.declared.resources.Domain.TheVariants.{Group, System}
+use Rattle.vlm_words.specs.Names.{name_of}
+use Rattle.vlm_c.specs.declared.arguments.ResourceKey.{ResourceKey}
 use Rattle.vlm_c.specs.declared.arguments.VlmDequeue.{VlmDequeue}
+use Rattle.vlm_c.specs.declared.shown.VlmResource.{VlmResource}
 
 unfoldable pub mode_of : ℕ → Option Mode
 mode_of n =
@@ -128,3 +134,18 @@ unfoldable pub dequeue_of : VlmDequeue → Option Dequeue
 dequeue_of w =
     if (w.size == 128) && is_blank w.reserved && nat_le w.flags 65535 && nat_le w.has_value 1 && nat_le w.has_tail 1
     then dequeue_with w (which_of w.lock w.lock_block) else None
+
+-- the domain of a resource: the system's, or a group's
+abbrev pub domain_of : ℕ → ℕ → Domain
+domain_of is_system group = if is_system == 1 then System else Group group
+
+-- the key with this name, if it is one
+abbrev pub key_with : VlmResource → Option (List ℕ) → Option ResourceKey
+key_with w None = None
+key_with w (Some name) = Some (record { parent = w.parent; domain = domain_of w.is_system w.group; name = name })
+
+-- the struct has its size, and its numbers fit
+unfoldable pub key_of : VlmResource → Option ResourceKey
+key_of w =
+    if (w.size == 144) && nat_le w.is_system 1 && nat_le w.group 65535 && nat_le w.name_len 32
+    then key_with w (result_ok (name_of (take 32 (take w.name_len w.name)))) else None

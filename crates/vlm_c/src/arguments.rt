@@ -3,13 +3,14 @@
 //! A struct names no step if it has another size, a reserved word that is not 0, or a number that does not fit.
 
 ghost use Rattle.std.specs.Prelude.{◌≡◌};
-ghost use Rattle.vlm_c.specs.Words.{conversion_of, declaration_of, dequeue_of, given, is_blank, is_request, mode_of, node_of, queue_of, request_of, setting_of, take_of, which_of};
+ghost use Rattle.vlm_c.specs.Words.{key_of, conversion_of, declaration_of, dequeue_of, given, is_blank, is_request, mode_of, node_of, queue_of, request_of, setting_of, take_of, which_of};
 
 use crate::replies::AST_SIZE;
+use crate::shown::{RESOURCE_SIZE, VlmResource};
 use std::mem::size_of;
 use vlm_words::modes::Mode;
-use vlm_words::names::NameArg;
-use vlm_words::resources::Queue;
+use vlm_words::names::{Name, NameArg};
+use vlm_words::resources::{Domain, Queue};
 use vlm_words::steps::{Conversion, Declaration, Dequeue, NewRequest, ValueSetting, Which};
 
 // The `size` that C writes into each struct.
@@ -131,6 +132,41 @@ pub(crate) fn queue_of(number: u32) -> Option<Queue>
         2 => Some(Queue::Waiting),
         _ => None,
     }
+}
+
+/// What a resource is found by: its parent resource or 0, the domain of its root, and its name.
+#[derive(Clone, Copy)]
+pub(crate) struct ResourceKey {
+    pub(crate) parent: u32,
+    pub(crate) domain: Domain,
+    pub(crate) name: Name,
+}
+
+/// The key that the words of a resource name.
+#[tactic(auto, unfolding(crate::specs::Words::key_of))]
+pub(crate) fn key_of(words: &VlmResource) -> Option<ResourceKey>
+    ensures { result ≡ key_of words.now }
+{
+    if words.size != RESOURCE_SIZE
+        || words.is_system > 1
+        || words.group > 65_535
+        || words.name_len > 32
+    {
+        return None;
+    }
+    let name = NameArg::of(&words.name[..words.name_len as usize])
+        .name()
+        .ok()?;
+    let domain = if words.is_system == 1 {
+        Domain::System
+    } else {
+        Domain::Group(words.group as u16)
+    };
+    Some(ResourceKey {
+        parent: words.parent,
+        domain,
+        name,
+    })
 }
 
 /// Every byte passes. The core checks that it is a node.

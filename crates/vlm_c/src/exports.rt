@@ -6,19 +6,19 @@
 ghost use Rattle.std.specs.Prelude.{◌≡◌, ◌==◌, None, Some, length};
 ghost use Rattle.std.specs.Option.{option_map};
 ghost use Rattle.vlm_words.specs.declared.steps.Step.TheVariants.{Convert, Declare, Deq, Enq, Leave, Rundown, Search, SetValue, Take};
-ghost use Rattle.vlm_c.specs.Served.{AstReplied, Opened, OpenedIf, Replied, StatusReplied};
-ghost use Rattle.vlm_c.specs.Shown.{Told, block_shown, count_shown, lksb_of, pending_shown, process_count_shown, process_of, process_shown, resource_of, resource_shown, row_of, row_shown_at, sized};
-ghost use Rattle.vlm_c.specs.Words.{conversion_of, declaration_of, dequeue_of, node_of, request_of, setting_of, take_of};
+ghost use Rattle.vlm_c.specs.Served.{AstReplied, Opened, OpenedIf, Replied, StatusReplied, TookAnyIf};
+ghost use Rattle.vlm_c.specs.Shown.{Told, block_shown, count_shown, found_shown, lksb_of, next_process_shown, next_resource_shown, pending_shown, process_count_shown, process_of, process_or_none, process_shown, resource_of, resource_or_none, resource_shown, row_of, row_shown_at, sized};
+ghost use Rattle.vlm_c.specs.Words.{conversion_of, declaration_of, dequeue_of, key_of, node_of, request_of, setting_of, take_of};
 
 use crate::arguments::{
     VlmDeclaration, VlmDequeue, VlmRequest, VlmSetting, conversion_of, declaration_of, dequeue_of,
     node_of, request_of, setting_of, take_of,
 };
 use crate::handle::Vlm;
-use crate::replies::{VlmAst, answer_number, answer_status, status, write_ast};
+use crate::replies::{AST_SIZE, VlmAst, answer_number, answer_status, no_ast, status, write_ast};
 use crate::shown::{
     LKSB_SIZE, PROCESS_SIZE, RESOURCE_SIZE, ROW_SIZE, VlmLksb, VlmProcess, VlmResource, VlmRow,
-    lksb_of, process_of, resource_of, row_of,
+    lksb_of, process_of, process_or_none, resource_of, resource_or_none, row_of,
 };
 use std::alloc::Global;
 use vlm_core::{Core, HashKeys};
@@ -152,6 +152,30 @@ pub extern "C" fn vlm_take(handle: &mut Vlm, pid: u32, out: &mut VlmAst) -> u32
     answer_status(&answer)
 }
 
+/// Takes the oldest AST of the first process that has one, and writes that process, or 0 if no AST is pending.
+#[unsafe(no_mangle)]
+pub extern "C" fn vlm_take_any(handle: &mut Vlm, pid: &mut u32, out: &mut VlmAst) -> u32
+    ensures { TookAnyIf (out.old.size == 32) handle.old.slot.core handle.new.slot.core result
+        pid.new out.old out.new }
+{
+    *pid = 0;
+    if out.size != AST_SIZE {
+        return status(Cond::Badparam);
+    }
+    match handle.take_first() {
+        Some(Some((taker, answer))) => {
+            *pid = taker;
+            write_ast(&answer, out);
+            answer_status(&answer)
+        }
+        Some(None) => {
+            *out = no_ast();
+            status(Cond::Normal)
+        }
+        None => status(Cond::Badparam),
+    }
+}
+
 /// Ends a process, with its locks, requests and ASTs.
 #[unsafe(no_mangle)]
 pub extern "C" fn vlm_rundown(handle: &mut Vlm, pid: u32) -> u32
@@ -235,6 +259,20 @@ pub extern "C" fn vlm_process(handle: &mut Vlm, place: usize, out: &mut VlmProce
     copy_out(sized(out.size == PROCESS_SIZE, shown), out)
 }
 
+/// Copies the living process after the one with this identification, or with 0 the first one. After the last one it
+/// copies a process with identification 0.
+#[unsafe(no_mangle)]
+pub extern "C" fn vlm_next_process(handle: &mut Vlm, pid: u32, out: &mut VlmProcess) -> u32
+    ensures told { Told (sized (out.old.size == 64)
+        (option_map process_or_none (next_process_shown handle.old.slot.core (pid == 0) pid))) out.old out.new result }
+    ensures same { handle.new.slot.core ≡ handle.old.slot.core }
+{
+    let shown = handle
+        .next_process(pid)
+        .map(|process| process_or_none(&process));
+    copy_out(sized(out.size == PROCESS_SIZE, shown), out)
+}
+
 #[unsafe(no_mangle)]
 pub extern "C" fn vlm_resource_count(handle: &mut Vlm) -> usize
     ensures told { result ≡ count_shown handle.old.slot.core }
@@ -254,6 +292,32 @@ pub extern "C" fn vlm_resource(handle: &mut Vlm, place: usize, out: &mut VlmReso
         .resource(place)
         .map(|resource| resource_of(&resource));
     copy_out(sized(out.size == RESOURCE_SIZE, shown), out)
+}
+
+/// Copies the resource that parent, domain and name of the struct name.
+#[unsafe(no_mangle)]
+pub extern "C" fn vlm_find(handle: &mut Vlm, resource: &mut VlmResource) -> u32
+    ensures told { Told (option_map resource_of (found_shown handle.old.slot.core (key_of resource.old)))
+        resource.old resource.new result }
+    ensures same { handle.new.slot.core ≡ handle.old.slot.core }
+{
+    let shown = handle.find(resource).map(|found| resource_of(&found));
+    copy_out(shown, resource)
+}
+
+/// Copies the resource after the one that the struct names, or with serial 0 the first one. After the last one it
+/// copies a resource with serial 0.
+#[unsafe(no_mangle)]
+pub extern "C" fn vlm_next_resource(handle: &mut Vlm, resource: &mut VlmResource) -> u32
+    ensures told { Told (sized (resource.old.size == 144) (option_map resource_or_none
+        (next_resource_shown handle.old.slot.core (resource.old.serial == 0) (key_of resource.old))))
+        resource.old resource.new result }
+    ensures same { handle.new.slot.core ≡ handle.old.slot.core }
+{
+    let shown = handle
+        .next_resource(resource)
+        .map(|next| resource_or_none(&next));
+    copy_out(sized(resource.size == RESOURCE_SIZE, shown), resource)
 }
 
 /// Copies a lock in a queue of a resource. Places start at 0; the cost grows with both.

@@ -1,13 +1,15 @@
 //! The handle of a core, in memory that C holds. It lends its core to one call at a time.
 
-ghost use Rattle.std.specs.Prelude.{◌≡◌, None, Some};
+ghost use Rattle.std.specs.Prelude.{◌≡◌, ◌==◌, None, Some};
 ghost use Rattle.std.specs.Option.{is_some, option_map};
 ghost use Rattle.std.specs.Fn.{FnOnceReturnsAtMut};
-ghost use Rattle.vlm_c.specs.Served.{Called, Served};
-ghost use Rattle.vlm_c.specs.Shown.{Tells, block_shown, count_shown, pending_shown, process_count_shown, process_shown, resource_shown, row_shown_at};
+ghost use Rattle.vlm_c.specs.Served.{Called, Served, TakesFirst};
+ghost use Rattle.vlm_c.specs.Shown.{Tells, block_shown, count_shown, found_shown, next_process_shown, next_resource_shown, pending_shown, process_count_shown, process_shown, resource_shown, row_shown_at};
+ghost use Rattle.vlm_c.specs.Words.{key_of};
 
-use crate::arguments::queue_of;
+use crate::arguments::{key_of, queue_of};
 use crate::loose::Loose;
+use crate::shown::VlmResource;
 use crate::slot::Slot;
 use std::alloc::Global;
 use std::mem::replace;
@@ -111,6 +113,14 @@ impl Vlm {
         self.with_core(|core| core.block(pid, number))?
     }
 
+    /// Takes the oldest AST of the first process that has one, and answers that process with the answer of the Take.
+    /// `Some(None)` if no AST is pending, `None` with no core.
+    pub(crate) fn take_first(&mut self) -> Option<Option<(u32, Answer)>>
+        ensures { Called TakesFirst self.old.slot.core result self.new.slot.core }
+    {
+        self.with_core(|core| take_first(core))
+    }
+
     /// How many ASTs are pending for a process.
     pub(crate) fn pending(&mut self, pid: u32) -> Option<usize>
         ensures { Tells (pending_shown self.old.slot.core pid) result
@@ -134,6 +144,18 @@ impl Vlm {
         self.with_core(|core| core.process_at(place))?
     }
 
+    /// The living process after the one with this identification, or with 0 the first one. `Some(None)` after the last
+    /// one, `None` if no living process has the identification.
+    pub(crate) fn next_process(&mut self, pid: u32) -> Option<Option<ProcessView>>
+        ensures { Tells (next_process_shown self.old.slot.core (pid == 0) pid) result
+            self.old.slot.core self.new.slot.core }
+    {
+        if pid == 0 {
+            return self.with_core(|core| core.process_at(0));
+        }
+        self.with_core(|core| core.process_after(pid))?
+    }
+
     pub(crate) fn resource_count(&mut self) -> usize
         ensures { Tells (count_shown self.old.slot.core) result
             self.old.slot.core self.new.slot.core }
@@ -149,6 +171,28 @@ impl Vlm {
         self.with_core(|core| core.resource_at(place))?
     }
 
+    /// The resource that the words name.
+    pub(crate) fn find(&mut self, words: &VlmResource) -> Option<ResourceView>
+        ensures { Tells (found_shown self.old.slot.core (key_of words.now)) result
+            self.old.slot.core self.new.slot.core }
+    {
+        let key = key_of(words)?;
+        self.with_core(|core| core.resource(key.parent, key.domain, key.name))?
+    }
+
+    /// The resource after the one that the words name, or with serial 0 the first one. `Some(None)` after the last one,
+    /// `None` if there is no such resource.
+    pub(crate) fn next_resource(&mut self, words: &VlmResource) -> Option<Option<ResourceView>>
+        ensures { Tells (next_resource_shown self.old.slot.core (words.now.serial == 0) (key_of words.now)) result
+            self.old.slot.core self.new.slot.core }
+    {
+        if words.serial == 0 {
+            return self.with_core(|core| core.resource_at(0));
+        }
+        let key = key_of(words)?;
+        self.with_core(|core| core.resource_after(key.parent, key.domain, key.name))?
+    }
+
     /// The lock at a place in a queue of a resource, each from 0.
     pub(crate) fn row(&mut self, resource: usize, queue: u32, place: usize) -> Option<RowView>
         ensures { Tells (row_shown_at self.old.slot.core resource queue place) result
@@ -157,6 +201,14 @@ impl Vlm {
         let queue = queue_of(queue)?;
         self.with_core(|core| core.row_at(resource, queue, place))?
     }
+}
+
+// Takes the oldest AST of the first process that has one.
+fn take_first(core: &mut Core) -> Option<(u32, Answer)>
+    ensures { TakesFirst core.old result core.new }
+{
+    let pid = core.first_pending()?;
+    Some((pid, core.take(pid)))
 }
 
 // Its bound proves `Send`: C may use a handle in any thread.

@@ -74,8 +74,8 @@ fn ast_of(ast: &Ast) -> VlmAst
     }
 }
 
-// What C reads if no AST is pending.
-fn no_ast() -> VlmAst
+/// What C reads if no AST is pending.
+pub(crate) fn no_ast() -> VlmAst
     ensures { result ≡ no_ast }
 {
     VlmAst {

@@ -2,7 +2,7 @@
 
 ghost use Rattle.std.specs.Prelude.{◌≡◌, ◌≤◌, length};
 ghost use Rattle.vlm_words.specs.Padding.{padded};
-ghost use Rattle.vlm_c.specs.Shown.{lksb_of, mode_number, process_of, resource_of, row_of};
+ghost use Rattle.vlm_c.specs.Shown.{lksb_of, mode_number, process_of, process_or_none, resource_of, resource_or_none, row_of};
 
 use std::mem::size_of;
 use vlm_core::{ProcessView, ResourceView, RowView};
@@ -192,5 +192,48 @@ pub(crate) fn resource_of(resource: &ResourceView) -> VlmResource
         value: resource.value,
         tail: resource.tail,
         reserved: [0; 4],
+    }
+}
+
+/// The struct of a resource, or all 0 after the last one.
+pub(crate) fn resource_or_none(resource: &Option<ResourceView>) -> VlmResource
+    ensures { result ≡ resource_or_none resource.now }
+{
+    match resource {
+        Some(resource) => resource_of(resource),
+        None => VlmResource {
+            size: RESOURCE_SIZE,
+            serial: 0,
+            parent: 0,
+            is_system: 0,
+            group: 0,
+            value_valid: 0,
+            tail_valid: 0,
+            name_len: 0,
+            name: [0; 32],
+            value: [0; 16],
+            tail: [0; 48],
+            reserved: [0; 4],
+        },
+    }
+}
+
+/// The struct of a process, or all 0 after the last one.
+pub(crate) fn process_or_none(process: &Option<ProcessView>) -> VlmProcess
+    ensures { result ≡ process_or_none process.now }
+{
+    match process {
+        Some(process) => process_of(process),
+        None => VlmProcess {
+            size: PROCESS_SIZE,
+            pid: 0,
+            node: 0,
+            group: 0,
+            syslck: 0,
+            quota: 0,
+            blocks: 0,
+            pending: 0,
+            reserved: [0; 6],
+        },
     }
 }

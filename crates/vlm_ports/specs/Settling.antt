@@ -7,7 +7,7 @@ use Rattle.vlm_ports.specs.declared.node_rings.NodeRings.{NodeRings}
 use Rattle.vlm_ports.specs.declared.node_rings.Settled.{Settled}
 use Rattle.vlm_ports.specs.declared.port.Port.{Port}
 use Rattle.vlm_ports.specs.Hubs.{KeepsKnown, OthersLast, asked_before, base, bases, free_for, journal, rings, state, told_before, waiting}
-use Rattle.vlm_ports.specs.Links.{Lasts, has_taken, has_told, knows, node_rings_identity, places}
+use Rattle.vlm_ports.specs.Links.{has_taken, has_told}
 use Rattle.vlm_ports.specs.Ports.{arrived, free_places, identity, posted, taken}
 use Rattle.vlm_ports.specs.Watched.{board}
 
@@ -19,20 +19,9 @@ IsSamePort was port = (identity port ≡ identity was) × (posted port ≡ poste
 abbrev pub PortKnowsMore : Port → Port → Type 0
 PortKnowsMore was port = IsPrefix (arrived was) (arrived port) × (free_places was ≤ free_places port)
 
--- the rings of a node are settled: what is on them is counted, and both ends know of it
-pub record HasSettledRings (settled : Settled) (was port : Port) (old new : NodeRings) : Type 0 where
-  pub rings : node_rings_identity new ≡ node_rings_identity old
-  pub same : IsSamePort was port
-  pub posted : posted port ≡ has_taken new ++ knows new
-  pub steps : (settled.steps ≡ length (knows new)) × (settled.steps ≤ 64)
-  pub items : (settled.items ≡ length (arrived port)) × (settled.items ≤ 64)
-  pub arrived : has_told new ≡ taken port ++ arrived port
-  pub taken : has_taken new ≡ has_taken old
-  pub told : has_told new ≡ has_told old
-  pub places : 64 ≤ places new + settled.items
-  pub free : 64 ≤ free_places port + settled.steps
-  pub lasts : Lasts old new
-  pub known : PortKnowsMore was port
+-- the hub has taken no post and sent no item
+abbrev pub HaveMovedNothing : NodeRings → NodeRings → Type 0
+HaveMovedNothing old new = (has_taken new ≡ has_taken old) × (has_told new ≡ has_told old)
 
 -- a port of the hub is settled: what is on its rings is counted, and hub and port know of it
 pub record HasSettled (settled : Settled) (was port : Port) (old new : Hub) : Type 0 where

@@ -1,6 +1,6 @@
 //! The hub's ends of the two rings of a node.
 
-ghost use Rattle.std.specs.Prelude.{◌≡◌, ◌+◌, ◌<◌, ◌∷◌, ◌++◌, [], length, IsTrue, IsFalse, IfOk};
+ghost use Rattle.std.specs.Prelude.{◌≡◌, ◌+◌, ◌<◌, ◌≤◌, ◌∷◌, ◌++◌, [], length, IsTrue, IsFalse, IfOk};
 ghost use Rattle.rtrb.specs.Ring.{producer_capacity};
 ghost use Rattle.vlm_journal.specs.Journals.{IsPostOf};
 
@@ -37,8 +37,8 @@ pub struct Settled {
 
 impl NodeRings {
     ghost use Rattle.vlm_ports.specs.Links.{Lasts, has_taken, has_told, knows, node_rings_identity, places};
-    ghost use Rattle.vlm_ports.specs.Ports.{identity, posted, taken};
-    ghost use Rattle.vlm_ports.specs.Settling.{HasSettledRings};
+    ghost use Rattle.vlm_ports.specs.Ports.{arrived, free_places, identity, posted, taken};
+    ghost use Rattle.vlm_ports.specs.Settling.{HaveMovedNothing, IsSamePort, PortKnowsMore};
 
     /// The rings of a node, for the hub and for the node.
     pub(crate) fn make(alloc: Global, node: u8) -> Result<(NodeRings, Port), AllocError>
@@ -126,7 +126,17 @@ impl NodeRings {
     /// 64 each. Then each empty place is known to be free.
     pub(crate) fn settle(&mut self, port: &mut Port) -> Settled
         requires { node_rings_identity self.old ≡ identity port.old }
-        ensures { HasSettledRings result port.old port.new self.old self.new }
+        ensures rings { node_rings_identity self.new ≡ node_rings_identity self.old }
+        ensures unmoved { HaveMovedNothing self.old self.new }
+        ensures same { IsSamePort port.old port.new }
+        ensures posted { posted port.new ≡ has_taken self.new ++ knows self.new }
+        ensures steps { (result.steps ≡ length (knows self.new)) × (result.steps ≤ 64) }
+        ensures arrived { has_told self.new ≡ taken port.new ++ arrived port.new }
+        ensures items { (result.items ≡ length (arrived port.new)) × (result.items ≤ 64) }
+        ensures places { 64 ≤ places self.new + result.items }
+        ensures free { 64 ≤ free_places port.new + result.steps }
+        ensures lasts { Lasts self.old self.new }
+        ensures known { PortKnowsMore port.old port.new }
     {
         let _places = port.requests.slots_beside(&mut self.requests);
         let steps = self.requests.slots_beside(&mut port.requests);
