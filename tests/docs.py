@@ -147,9 +147,10 @@ def calls(_program):
 
 
 def version(_program):
-    """One version, in the program, the package for Rust, the changes and the manual pages."""
+    """One version, in the program, the packages for Rust and Python, the changes and the manual pages."""
     wanted = help_texts()["VERSION"]
     for name, pattern in (("bindings/rust/Cargo.toml", r'^version = "([^"]+)"'), ("CHANGELOG.md", r"^## ([\d.]+)"),
+                          ("bindings/python/pyproject.toml", r'^version = "([^"]+)"'),
                           ("man/vlm.1", r'^\.TH VLM 1 "[^"]*" "vlm ([^"]+)"'),
                           ("man/vlm.3", r'^\.TH VLM 3 "[^"]*" "vlm ([^"]+)"')):
         found = re.search(pattern, text_of(name), re.M)

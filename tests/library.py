@@ -1,7 +1,7 @@
-"""What `./vlm install` leaves, and programs in C and Rust over it. The programs of examples/c and tests/c are
+"""What `./vlm install` leaves, and programs in C, Rust and Python over it. The programs of examples/c and tests/c are
 compiled by each C compiler that is there, plain and with each sanitizer that it links, and run, under valgrind too. One
 finds the libraries by pkg-config and by CMake. The header is compiled as C++. The tests of bindings/rust run where
-cargo is. Each missing tool is named."""
+cargo is, those of bindings/python by the Python that runs this. Each missing tool is named."""
 
 import functools
 import os
@@ -9,6 +9,7 @@ import re
 import shlex
 import shutil
 import subprocess
+import sys
 import tempfile
 from functools import partial
 from pathlib import Path
@@ -289,6 +290,25 @@ def rust(_program):
                    env={**os.environ, "VLM_PREFIX": str(prefix())})
 
 
+def python(_program):
+    """What is wrong with the package for Python: its tests, what pages show of it, and an installation by pip without a
+    network."""
+    copy = room() / "python"
+    shutil.copytree(TOP / "bindings" / "python", copy / "bindings" / "python",
+                    ignore=shutil.ignore_patterns("__pycache__", "build", "*.egg-info"))
+    shutil.copytree(TOP / "tests" / "scripts", copy / "tests" / "scripts")
+    package, env = copy / "bindings" / "python", {**os.environ, "VLM_PREFIX": str(prefix())}
+    yield from ran(sys.executable, "-m", "unittest", "discover", "-s", "tests", cwd=package, seconds=600, env=env)
+    for page in (TOP / "docs" / "LIBRARY.md", package / "README.md"):
+        for block in re.findall(r"^```python\n(.*?)^```", page.read_text(), re.M | re.S):
+            yield from ran(sys.executable, "-c", block, cwd=package, env=env)
+    if not subprocess.run([sys.executable, "-m", "pip", "--version"], capture_output=True).returncode:
+        there = room() / "installed by pip"
+        yield from ran(sys.executable, "-m", "pip", "install", "--no-index", "--quiet", "--target", there, package)
+        yield from ran(sys.executable, "-c", "import vlm; vlm.LockManager().close()", cwd=room(),
+                       env={**env, "PYTHONPATH": str(there)})
+
+
 def first():
     """Tests that come before all others: the rest use what they leave."""
     return [Test("./vlm install", installed), Test("an installation that is refused", refused),
@@ -304,7 +324,7 @@ def once():
               for compiler in ("g++", "clang++") if shutil.which(compiler)]
     found += [Test(f"two heaps in a program by {compiler}", partial(two_heaps, compiler))
               for compiler in COMPILERS if shutil.which(compiler)]
-    found += [Test("the names that the libraries show", names_shown)]
+    found += [Test("the names that the libraries show", names_shown), Test("the tests of bindings/python", python)]
     if any(map(shutil.which, COMPILERS)):
         found.append(Test("the lines of C in the README", readme))
         found += [Test("the manual page of the library", manual)] * bool(shutil.which("man"))
