@@ -137,11 +137,22 @@ def flags(_program):
                 yield f"{name} has no {word}"
 
 
+def calls(_program):
+    """The manual page of the library has one line for each call of the header."""
+    there = re.findall(r"^(?:static inline )?(?:uint32_t|size_t|void|const char \*) ?(vlm_\w+)\(",
+                       text_of("include/vlm.h"), re.M)
+    named = re.findall(r"^(vlm_\w+)\t", text_of("man/vlm.3").partition(".SH CALLS")[2].partition(".SH ")[0], re.M)
+    if len(there) < 20 or sorted(there) != sorted(named):
+        yield f"the header and man/vlm.3 differ in {sorted(set(there) ^ set(named)) or 'a call that is named twice'}"
+
+
 def version(_program):
-    """One version, in the program, the package for Rust, the changes and the manual page."""
+    """One version, in the program, the packages for Rust and Python, the changes and the manual pages."""
     wanted = help_texts()["VERSION"]
     for name, pattern in (("bindings/rust/Cargo.toml", r'^version = "([^"]+)"'), ("CHANGELOG.md", r"^## ([\d.]+)"),
-                          ("man/vlm.1", r'^\.TH VLM 1 "[^"]*" "vlm ([^"]+)"')):
+                          ("bindings/python/pyproject.toml", r'^version = "([^"]+)"'),
+                          ("man/vlm.1", r'^\.TH VLM 1 "[^"]*" "vlm ([^"]+)"'),
+                          ("man/vlm.3", r'^\.TH VLM 3 "[^"]*" "vlm ([^"]+)"')):
         found = re.search(pattern, text_of(name), re.M)
         if not found or found[1] != wanted:
             yield f"{name} has no version {wanted}"
@@ -210,7 +221,8 @@ def functions(_program):
 
 
 def checks():
-    return (functions, short_readme, crate_table, laws, refusals, sizes, help_forms, flags, version, kit, links, files, parts)
+    return (functions, short_readme, crate_table, laws, refusals, sizes, help_forms, flags, calls, version, kit,
+            links, files, parts)
 
 
 def blocks():

@@ -1,6 +1,7 @@
-"""What `./vlm install` leaves, and programs in C and Rust over it. The programs of examples/c and tests/c are compiled
-by each C compiler that is there, plain and with each sanitizer that it links, and run, under valgrind too. The header
-is compiled as C++. The tests of bindings/rust run where cargo is. Each missing tool is named."""
+"""What `./vlm install` leaves, and programs in C, Rust and Python over it. The programs of examples/c and tests/c are
+compiled by each C compiler that is there, plain and with each sanitizer that it links, and run, under valgrind too. One
+finds the libraries by pkg-config and by CMake. The header is compiled as C++. The tests of bindings/rust run where
+cargo is, those of bindings/python by the Python that runs this. Each missing tool is named."""
 
 import functools
 import os
@@ -8,19 +9,24 @@ import re
 import shlex
 import shutil
 import subprocess
+import sys
 import tempfile
 from functools import partial
 from pathlib import Path
 
-from harness import ROOM, Test, TOP, difference
+from harness import ROOM, Test, TOP, difference, kit_folder
 
 # The longest run of a test program, and of an installation, which may prove the library first.
 SECONDS, INSTALL_SECONDS = 120, 3_600
 SOURCES = sorted((TOP / "examples" / "c").glob("*.c")) + sorted((TOP / "tests" / "c").glob("*.c"))
 COMPILERS = ("gcc", "clang")
 SANITIZERS = ("none", "address,undefined", "thread")
-TOOLS = (*COMPILERS, "g++", "clang++", "valgrind", "pkg-config", "cargo")
+TOOLS = (*COMPILERS, "g++", "clang++", "valgrind", "pkg-config", "cmake", "man", "cargo")
 STRICT = ["-Wall", "-Wextra", "-Wpedantic", "-Werror"]
+# What an installation leaves, beside the shared library.
+FILES = ("bin/vlm", *(f"include/{it.name}" for it in (TOP / "include").glob("*.h")),
+         "lib/cmake/vlm/vlm-config-version.cmake", "lib/cmake/vlm/vlm-config.cmake", "lib/libvlm.a",
+         "lib/pkgconfig/vlm.pc", "share/man/man1/vlm.1", "share/man/man3/vlm.3")
 VALGRIND = ["valgrind", "-q", "--leak-check=full", "--show-leak-kinds=all", "--error-exitcode=9"]
 
 
@@ -45,11 +51,13 @@ def ran(*words, seconds=SECONDS, **how):
 
 
 def installed(_program):
-    """The installation leaves four files."""
+    """The installation leaves its files, with the shared library under three names."""
     yield from ran(TOP / "vlm", "install", prefix(), seconds=INSTALL_SECONDS)
-    files = sorted(str(it.relative_to(prefix())) for it in prefix().rglob("*") if it.is_file())
-    yield from difference(files, sorted(["bin/vlm", "include/vlm.h", "lib/libvlm.a", "lib/pkgconfig/vlm.pc"]
-                                        + (["share/man/man1/vlm.1"] if (TOP / "man" / "vlm.1").exists() else [])))
+    left = {str(it.relative_to(prefix())): it for it in prefix().rglob("*") if it.is_symlink() or not it.is_dir()}
+    links = {name: os.readlink(it) for name, it in left.items() if it.is_symlink()}
+    shared = "libvlm.so." + version()
+    yield from difference(sorted(left), sorted([*FILES, f"lib/{shared}", *links]))
+    yield from difference(links, {"lib/libvlm.so.0": shared, "lib/libvlm.so": "libvlm.so.0"})
 
 
 def refused(_program):
@@ -63,6 +71,49 @@ def refused(_program):
         yield f"{ended} leaves {left}"
 
 
+def uncompiled(_program):
+    """An installation without a C compiler says so, and leaves nothing."""
+    absent = room() / "no compiler"
+    ended = subprocess.run([TOP / "vlm", "install", absent], capture_output=True, text=True, timeout=SECONDS,
+                           env={**os.environ, "CC": "no-compiler"})
+    if ended.returncode != 4 or "vlm: there is no C compiler no-compiler: " not in ended.stderr or absent.exists():
+        yield f"{ended}"
+
+
+def version():
+    """The version that the installed program tells."""
+    told = subprocess.run([prefix() / "bin" / "vlm", "--version"], capture_output=True, text=True).stdout
+    return told.removeprefix("vlm ").strip()
+
+
+def told_by_kit(tool, *words):
+    """What a tool of the kit says. One program is all of LLVM's tools, by the name that it is called by."""
+    clang = kit_folder() / "toolchain" / "bin" / "clang"
+    return subprocess.run([tool, *map(str, words)], executable=clang, capture_output=True, text=True, check=True).stdout
+
+
+def calls():
+    """The calls that the installed headers declare, except those that they define."""
+    text = "".join(it.read_text() for it in (prefix() / "include").glob("*.h"))
+    text = re.sub(r"/\*.*?\*/", "", text, flags=re.S)
+    return set(re.findall(r"\b(vlm_\w+)\(", text)) - set(re.findall(r"\bstatic inline [^;{]*?(vlm_\w+)\(", text))
+
+
+def shown_names(library, *words):
+    """What is wrong with the names that a library shows: they are the calls of the headers."""
+    told = told_by_kit("llvm-nm", "--defined-only", "--extern-only", "-j", *words, prefix() / "lib" / library)
+    # (of an archive it tells each member too, with a colon)
+    yield from difference({word for word in told.split() if not word.endswith(":")}, calls())
+
+
+def names_shown(_program):
+    """Each library shows the calls alone, and the shared one has its name for the loader."""
+    yield from shown_names("libvlm.a")
+    yield from shown_names("libvlm.so", "-D")
+    if "Library soname: [libvlm.so.0]" not in told_by_kit("llvm-readelf", "-d", prefix() / "lib" / "libvlm.so"):
+        yield "the shared library has no soname libvlm.so.0"
+
+
 def told_by_package(*words):
     """What pkg-config says of the package."""
     env = {**os.environ, "PKG_CONFIG_PATH": str(prefix() / "lib" / "pkgconfig")}
@@ -71,17 +122,12 @@ def told_by_package(*words):
 
 def versions(_program):
     """The program and the package have one version."""
-    program = subprocess.run([prefix() / "bin" / "vlm", "--version"], capture_output=True, text=True).stdout
-    yield from difference(program, "vlm " + told_by_package("--modversion"))
+    yield from difference(version() + "\n", told_by_package("--modversion"))
 
 
-@functools.lru_cache(maxsize=None)
 def package():
-    """The words by which a program is compiled over the library."""
-    if shutil.which("pkg-config"):
-        # (pkg-config writes a backslash before a blank, as a shell takes it)
-        return shlex.split(told_by_package("--cflags", "--libs"))
-    return [f"-I{prefix()}/include", f"-L{prefix()}/lib", "-lvlm"]
+    """The words by which a program is compiled over the static library."""
+    return [f"-I{prefix()}/include", prefix() / "lib" / "libvlm.a"]
 
 
 def options(sanitizer):
@@ -90,20 +136,20 @@ def options(sanitizer):
 
 
 @functools.lru_cache(maxsize=None)
-def links(compiler, sanitizer):
-    """Whether the compiler is there, and links with a sanitizer."""
+def links(compiler, sanitizer, *words):
+    """Whether the compiler is there, and links with a sanitizer and with these words."""
     if not shutil.which(compiler):
         return False
     with tempfile.TemporaryDirectory() as folder:
         source = Path(folder) / "empty.c"
         source.write_text("int main(void) { return 0; }\n")
-        return not subprocess.run([compiler, *options(sanitizer), source, "-o", f"{folder}/empty"],
+        return not subprocess.run([compiler, *options(sanitizer), *words, source, "-o", f"{folder}/empty"],
                                   capture_output=True).returncode
 
 
-def printed(source, *words):
+def printed(source, *words, **how):
     """What is wrong with what a program prints."""
-    ended = subprocess.run([str(word) for word in words], capture_output=True, timeout=SECONDS)
+    ended = subprocess.run([str(word) for word in words], capture_output=True, timeout=SECONDS, **how)
     yield from difference((ended.returncode, ended.stdout), (0, source.with_suffix(".out").read_bytes()))
 
 
@@ -130,6 +176,103 @@ def readme(_program):
     yield from ran(room() / "readme")
 
 
+FIRST = TOP / "examples" / "c" / "two.c"
+
+
+def needed(program):
+    """The shared libraries that a program needs."""
+    return re.findall(r"Shared library: \[([^]]+)\]", told_by_kit("llvm-readelf", "-d", program))
+
+
+def by_package(compiler, _program):
+    """What is wrong with programs that pkg-config links: with the shared library, and with all static."""
+    # (pkg-config writes a backslash before a blank, as a shell takes it)
+    shared, static = room() / f"shared {compiler}", room() / f"static {compiler}"
+    words = shlex.split(told_by_package("--cflags", "--libs"))
+    wrong = list(ran(compiler, "-std=c11", FIRST, *words, "-o", shared))
+    yield from wrong or printed(FIRST, shared, env={**os.environ, "LD_LIBRARY_PATH": str(prefix() / "lib")})
+    if not wrong and "libvlm.so.0" not in needed(shared):
+        yield f"it needs {needed(shared)}"
+    if links(compiler, "none", "-static"):
+        words = shlex.split(told_by_package("--static", "--cflags", "--libs"))
+        wrong = list(ran(compiler, "-std=c11", "-static", FIRST, *words, "-o", static))
+        yield from wrong or printed(FIRST, static)
+
+
+PROJECT = """cmake_minimum_required(VERSION 3.10)
+project(example C)
+set(CMAKE_C_STANDARD 11)
+find_package(vlm @VERSION@ EXACT REQUIRED)
+find_package(vlm 0.1 REQUIRED)
+add_executable(shared two.c)
+target_link_libraries(shared vlm::vlm)
+add_executable(static two.c)
+target_link_libraries(static vlm::static)
+"""
+
+
+def by_cmake(_program):
+    """What is wrong with programs that CMake links, from a copy of the prefix in another place."""
+    moved, project, built = room() / "a moved prefix", room() / "a project", room() / "built by CMake"
+    shutil.copytree(prefix(), moved, symlinks=True)
+    project.mkdir()
+    shutil.copy(FIRST, project)
+    (project / "CMakeLists.txt").write_text(PROJECT.replace("@VERSION@", version()))
+    wrong = [*ran("cmake", "-S", project, "-B", built, f"-DCMAKE_PREFIX_PATH={moved}"), *ran("cmake", "--build", built)]
+    yield from wrong
+    for name, wanted in () if wrong else (("shared", True), ("static", False)):
+        yield from printed(FIRST, built / name)
+        if ("libvlm.so.0" in needed(built / name)) != wanted:
+            yield f"{name} needs {needed(built / name)}"
+
+
+# A second library with a heap of the same names, and a program over both.
+SECOND = """#include <stddef.h>
+int calls;
+void *rattle_alloc(size_t a, size_t b) { calls++; return NULL; }
+void *rattle_realloc(void *a, size_t b, size_t c) { calls++; return NULL; }
+void rattle_dealloc(void *a, size_t b) { calls++; }
+"""
+OVER_BOTH = """#include <stddef.h>
+#include <vlm.h>
+extern int calls;
+void *rattle_alloc(size_t a, size_t b);
+int main(void) {
+    vlm handle = VLM_CLOSED;
+    uint32_t status = vlm_open(&handle);
+    vlm_close(&handle);
+    return status != VLM_NORMAL || rattle_alloc(1, 1) != NULL || calls != 1;
+}
+"""
+
+
+def two_heaps(compiler, _program):
+    """What is wrong with a program over this library and another that Rattle made: each is to use its own heap."""
+    folder = room() / f"two heaps {compiler}"
+    folder.mkdir()
+    (folder / "second.c").write_text(SECOND)
+    (folder / "both.c").write_text(OVER_BOTH)
+    yield from ran(compiler, "-c", folder / "second.c", "-o", folder / "second.o")
+    told_by_kit("llvm-ar", "qcs", folder / "libsecond.a", folder / "second.o")
+    include, library = package()
+    for archives in ([library, folder / "libsecond.a"], [folder / "libsecond.a", library]):
+        wrong = list(ran(compiler, "-std=c11", include, folder / "both.c", *archives, "-o", folder / "both"))
+        yield from wrong or ran(folder / "both")
+
+
+def manual(_program):
+    """What is wrong with the manual page of the library: man shows it without a warning, and its example runs."""
+    page = prefix() / "share" / "man" / "man3" / "vlm.3"
+    ended = subprocess.run(["man", "--warnings", "-l", page], capture_output=True, text=True, timeout=SECONDS)
+    yield from difference((ended.returncode, ended.stderr), (0, ""))
+    source = room() / "manual.c"
+    source.write_text(re.search(r"^\.EX\n(.*?)^\.EE", page.read_text(), re.M | re.S)[1].replace("\\e", "\\"))
+    source.with_suffix(".out").write_text("lock 1: SS$_NORMAL\n")
+    compiler = next(it for it in COMPILERS if shutil.which(it))
+    wrong = list(ran(compiler, "-std=c11", *STRICT, source, *package(), "-o", room() / "manual"))
+    yield from wrong or printed(source, room() / "manual")
+
+
 def header(compiler, _program):
     """What is wrong with the header as C++."""
     source = room() / f"header {compiler}.cc"
@@ -147,9 +290,29 @@ def rust(_program):
                    env={**os.environ, "VLM_PREFIX": str(prefix())})
 
 
+def python(_program):
+    """What is wrong with the package for Python: its tests, what pages show of it, and an installation by pip without a
+    network."""
+    copy = room() / "python"
+    shutil.copytree(TOP / "bindings" / "python", copy / "bindings" / "python",
+                    ignore=shutil.ignore_patterns("__pycache__", "build", "*.egg-info"))
+    shutil.copytree(TOP / "tests" / "scripts", copy / "tests" / "scripts")
+    package, env = copy / "bindings" / "python", {**os.environ, "VLM_PREFIX": str(prefix())}
+    yield from ran(sys.executable, "-m", "unittest", "discover", "-s", "tests", cwd=package, seconds=600, env=env)
+    for page in (TOP / "docs" / "LIBRARY.md", package / "README.md"):
+        for block in re.findall(r"^```python\n(.*?)^```", page.read_text(), re.M | re.S):
+            yield from ran(sys.executable, "-c", block, cwd=package, env=env)
+    if not subprocess.run([sys.executable, "-m", "pip", "--version"], capture_output=True).returncode:
+        there = room() / "installed by pip"
+        yield from ran(sys.executable, "-m", "pip", "install", "--no-index", "--quiet", "--target", there, package)
+        yield from ran(sys.executable, "-c", "import vlm; vlm.LockManager().close()", cwd=room(),
+                       env={**env, "PYTHONPATH": str(there)})
+
+
 def first():
     """Tests that come before all others: the rest use what they leave."""
-    return [Test("./vlm install", installed), Test("an installation that is refused", refused)]
+    return [Test("./vlm install", installed), Test("an installation that is refused", refused),
+            Test("an installation without a C compiler", uncompiled)]
 
 
 def once():
@@ -159,10 +322,18 @@ def once():
              for compiler in COMPILERS for sanitizer in SANITIZERS if links(compiler, sanitizer) for source in SOURCES]
     found += [Test(f"the header by {compiler}", partial(header, compiler))
               for compiler in ("g++", "clang++") if shutil.which(compiler)]
+    found += [Test(f"two heaps in a program by {compiler}", partial(two_heaps, compiler))
+              for compiler in COMPILERS if shutil.which(compiler)]
+    found += [Test("the names that the libraries show", names_shown), Test("the tests of bindings/python", python)]
     if any(map(shutil.which, COMPILERS)):
         found.append(Test("the lines of C in the README", readme))
+        found += [Test("the manual page of the library", manual)] * bool(shutil.which("man"))
     if shutil.which("pkg-config"):
         found.append(Test("the versions of the program and the package", versions))
+        found += [Test(f"pkg-config and {compiler}", partial(by_package, compiler))
+                  for compiler in COMPILERS if shutil.which(compiler)]
+    if shutil.which("cmake"):
+        found.append(Test("CMake", by_cmake))
     if shutil.which("cargo"):
         found.append(Test("cargo test of bindings/rust", rust))
     return found

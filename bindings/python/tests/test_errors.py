@@ -1,0 +1,119 @@
+"""Each exception once."""
+
+import os
+import pickle
+import subprocess
+import sys
+import unittest
+from pathlib import Path
+
+import vlm
+from vlm import Condition, DequeueFlags, Flags, InBlock, LockManager, Mode, VlmError
+
+# Fills the lock manager until memory is refused. The program itself needs little more.
+FILLS = """
+import resource
+from vlm import InsfMem, LockManager, Mode
+with open("/proc/self/statm") as statm:
+    taken = int(statm.read().split()[0]) * resource.getpagesize()
+manager = LockManager()
+resource.setrlimit(resource.RLIMIT_AS, (taken + (48 << 20),) * 2)
+try:
+    for node in range(1, 9):
+        process = manager.declare(node, blocks=1)
+        for number in range(65535):
+            process.enq(b"%d" % number, Mode.NL, 1)
+except InsfMem:
+    print("refused")
+"""
+
+
+class Errors(unittest.TestCase):
+    def setUp(self):
+        self.manager = LockManager()
+        self.addCleanup(self.manager.close)
+        self.p = self.manager.declare(node=1, quota=40, blocks=2)
+        self.q = self.manager.declare(node=2, quota=40, blocks=2)
+
+    def refused(self, error, call, *arguments, **named):
+        with self.assertRaises(error) as raised:
+            call(*arguments, **named)
+        self.assertEqual(raised.exception.condition.name.lower(), error.__name__.lower())
+
+    def test_not_queued(self):
+        self.p.enq("A", Mode.EX, 1)
+        self.refused(vlm.NotQueued, self.q.enq, "A", Mode.EX, 1, Flags.NOQUEUE)
+        self.refused(vlm.NotQueued, self.q.lock, "A", Mode.EX, flags=Flags.NOQUEUE)
+
+    def test_cancel_grant(self):
+        self.refused(vlm.CancelGrant, self.p.cancel, self.p.enq("A", Mode.EX, 1).lock)
+
+    def test_sub_locks(self):
+        root = self.p.enq("A", Mode.EX, 1).lock
+        self.p.enq("B", Mode.EX, 2, parent=root)
+        self.refused(vlm.SubLocks, self.p.deq, root)
+
+    def test_iv_lock_id(self):
+        self.refused(vlm.IvLockId, self.p.deq, 77)
+        self.refused(vlm.IvLockId, self.p.convert, self.q.enq("A", Mode.NL, 1).lock, Mode.EX, 1)
+
+    def test_waiting_locks(self):
+        self.p.enq("A", Mode.EX, 1)
+        waiting = self.q.enq("A", Mode.EX, 1).lock
+        self.refused(vlm.CvtUngrant, self.q.convert, waiting, Mode.PR, 1)
+        self.refused(vlm.ParNotGrant, self.q.enq, "B", Mode.EX, 2, parent=InBlock(1))
+
+    def test_ex_depth(self):
+        lock = 0
+        for level in range(16):
+            lock = self.p.enq(f"{level}", Mode.NL, 1, parent=lock).lock
+        self.refused(vlm.ExDepth, self.p.enq, "16", Mode.NL, 1, parent=lock)
+
+    def test_ex_enq_lm(self):
+        self.refused(vlm.ExEnqLm, self.manager.declare(quota=0, blocks=1).enq, "A", Mode.NL, 1)
+
+    def test_malformed_requests(self):
+        self.refused(vlm.IvBufLen, self.p.enq, "", Mode.EX, 1)
+        self.refused(vlm.IvBufLen, self.p.enq, 32 * "x", Mode.EX, 1)
+        self.refused(vlm.Unsupported, self.p.enq, "A", Mode.EX, 1, Flags.EXPEDITE)
+        self.refused(vlm.NoSysLck, self.p.enq, "A", Mode.EX, 1, Flags.SYSTEM)
+        self.refused(vlm.AccVio, self.p.enq, "A", Mode.EX, 3)
+        self.refused(vlm.BadParam, self.p.enq, "A", 6, 1)
+        self.refused(vlm.BadParam, self.p.enq, "A", Mode.EX, 1, 1 << 15)
+        self.refused(vlm.BadParam, self.p.deq, 0, DequeueFlags.DEQALL | DequeueFlags.CANCEL)
+        self.refused(vlm.BadParam, self.manager.declare, 9)
+        self.refused(vlm.BadParam, self.manager.declare, blocks=256)
+
+    def test_ended_processes(self):
+        self.p.rundown()
+        self.manager.leave(2)
+        self.refused(vlm.NonExpr, self.p.enq, "A", Mode.EX, 1)
+        self.refused(vlm.NonExpr, self.p.wait_for_ast)
+        self.refused(vlm.Departed, self.q.take)
+        self.refused(vlm.Departed, self.manager.search, 2)
+        self.refused(vlm.BadParam, self.p.pending)
+
+    def test_insf_mem(self):
+        ended = subprocess.run([sys.executable, "-c", FILLS], capture_output=True, text=True, timeout=120,
+                               env={**os.environ, "PYTHONPATH": str(Path(vlm.__file__).parents[1])})
+        self.assertEqual((ended.stdout, ended.stderr), ("refused\n", ""))
+
+    def test_there_is_one_for_each_condition_that_is_no_success(self):
+        grants = {Condition.NORMAL, Condition.SYNCH, Condition.VALNOTVALID, Condition.WIDENOTVALID}
+        self.assertEqual(set(VlmError.by_condition), set(Condition) - grants)
+        for condition, error in VlmError.by_condition.items():
+            self.assertEqual(error.condition, condition)
+            self.assertIs(getattr(vlm, error.__name__), error)
+            self.assertIn(condition.name, str(error()))
+            self.assertIs(type(pickle.loads(pickle.dumps(error()))), error)
+
+    def test_a_program_names_its_own(self):
+        class Busy(vlm.NotQueued):
+            pass
+
+        self.assertEqual(Busy.condition, Condition.NOTQUEUED)
+        self.assertIs(VlmError.by_condition[Condition.NOTQUEUED], vlm.NotQueued)
+
+
+if __name__ == "__main__":
+    unittest.main()

@@ -1,0 +1,26 @@
+"""The lock manager of OpenVMS ($ENQ, $DEQ): its proved library, for Python. Nothing of this package is proved.
+
+    with LockManager() as manager:
+        process = manager.declare(node=1, quota=9, blocks=1)
+        with process.lock("A", Mode.EX, timeout=1.0) as held:
+            held.write(b"version 7")
+
+docs/LIBRARY.md of the repository says what each call answers. Importing this finds the shared library: the file that
+the environment variable VLM_LIBRARY names, else libvlm.so.0 in the folder lib of VLM_PREFIX, else where the loader
+looks.
+"""
+
+from .errors import (Abort, AccVio, BadParam, Cancel, CancelGrant, CvtUngrant, Deadlock, Departed, ExDepth, ExEnqLm,
+                     InsfMem, IvBufLen, IvLockId, NoLockId, NoSysLck, NonExpr, NotQueued, ParNotGrant, SubLocks,
+                     TimedOut, Unsupported, VlmError)
+from .held import Held
+from .manager import LockManager
+from .process import Process
+from .values import (Accepted, Ast, AstKind, Condition, DequeueFlags, Flags, InBlock, Mode, ProcessView, Queue,
+                     Resource, Row, StatusBlock)
+
+__all__ = ["Abort", "AccVio", "Accepted", "Ast", "AstKind", "BadParam", "Cancel", "CancelGrant", "Condition",
+           "CvtUngrant", "Deadlock", "Departed", "DequeueFlags", "ExDepth", "ExEnqLm", "Flags", "Held", "InBlock",
+           "InsfMem", "IvBufLen", "IvLockId", "LockManager", "Mode", "NoLockId", "NoSysLck", "NonExpr", "NotQueued",
+           "ParNotGrant", "Process", "ProcessView", "Queue", "Resource", "Row", "StatusBlock", "SubLocks", "TimedOut",
+           "Unsupported", "VlmError"]

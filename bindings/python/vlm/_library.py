@@ -1,0 +1,112 @@
+"""Finds the shared library, and declares its structs and calls as include/vlm.h has them."""
+
+import ctypes
+import os
+from ctypes import POINTER, c_bool, c_char_p, c_size_t, c_uint8, c_uint32, c_uint64, c_void_p
+from pathlib import Path
+from typing import TYPE_CHECKING, Any, List, Tuple, Type
+
+FILE = "libvlm.so.0"
+
+
+class Handle(ctypes.Structure):
+    """A handle of a lock manager, or of none."""
+
+    _fields_ = [("core", c_void_p), ("is_held", c_bool)]
+
+
+class Sized(ctypes.Structure):
+    """A struct of the library. Its first member is its size, which is set when it is made."""
+
+    def __init__(self, **members: Any) -> None:
+        super().__init__(ctypes.sizeof(type(self)), **members)
+
+    if TYPE_CHECKING:
+        def __getattr__(self, name: str) -> Any: ...
+
+
+def _struct(name: str, size: int, *fields: Tuple[str, Any]) -> Type[Sized]:
+    """A struct with these members after its size. The size is the one that the header asserts."""
+    made = type(name, (Sized,), {"_fields_": [("size", c_uint32), *fields], "__module__": __name__})
+    if ctypes.sizeof(made) != size:
+        raise ImportError(f"{name} has {ctypes.sizeof(made)} bytes on this platform, and not {size}")
+    return made
+
+
+def _words(text: str) -> List[Tuple[str, Any]]:
+    return [(name, c_uint32) for name in text.split()]
+
+
+_VALUE = ("value", c_uint8 * 16)
+_TAIL = ("tail", c_uint8 * 48)
+
+
+def _reserved(count: int) -> Tuple[str, Any]:
+    return ("reserved", c_uint32 * count)
+
+
+Declaration = _struct("Declaration", 32, *_words("node group syslck quota blocks"), _reserved(2))
+Setting = _struct("Setting", 96, *_words("pid block has_tail"), _VALUE, _TAIL, _reserved(4))
+Request = _struct("Request", 128, *_words("pid mode flags block lock lock_block has_ast ast has_bast bast param"),
+                  _reserved(20))
+Dequeue = _struct("Dequeue", 128, *_words("pid flags lock lock_block has_value has_tail"), _VALUE, _TAIL, _reserved(9))
+Lksb = _struct("Lksb", 80, *_words("status lkid reserved"), _VALUE, _TAIL)
+Process = _struct("Process", 64, *_words("pid node group syslck quota"), ("blocks", c_uint64), ("pending", c_uint64),
+                  _reserved(6))
+Resource = _struct("Resource", 144, *_words("serial parent is_system group value_valid tail_valid name_len"),
+                   ("name", c_uint8 * 32), _VALUE, _TAIL, _reserved(4))
+Row = _struct("Row", 32, *_words("lkid pid held want"), _reserved(3))
+Ast = _struct("Ast", 32, *_words("kind routine param lkid"), _reserved(3))
+
+_NUMBER = POINTER(c_uint32)
+# What each call takes after the handle. All but three answer a condition value.
+_CALLS = {
+    "vlm_open_with_keys": [c_char_p, c_size_t],
+    "vlm_close": [],
+    "vlm_declare": [POINTER(Declaration), _NUMBER],
+    "vlm_set_value": [POINTER(Setting)],
+    "vlm_enq": [POINTER(Request), c_char_p, c_size_t, _NUMBER],
+    "vlm_convert": [POINTER(Request), _NUMBER],
+    "vlm_deq": [POINTER(Dequeue)],
+    "vlm_take": [c_uint32, POINTER(Ast)],
+    "vlm_rundown": [c_uint32],
+    "vlm_leave": [c_uint32],
+    "vlm_search": [c_uint32, _NUMBER],
+    "vlm_block": [c_uint32, c_uint32, POINTER(Lksb)],
+    "vlm_pending": [c_uint32, POINTER(c_size_t)],
+    "vlm_process_count": [],
+    "vlm_process": [c_size_t, POINTER(Process)],
+    "vlm_resource_count": [],
+    "vlm_resource": [c_size_t, POINTER(Resource)],
+    "vlm_row": [c_size_t, c_uint32, c_size_t, POINTER(Row)],
+}
+_ANSWERS = {"vlm_close": None, "vlm_process_count": c_size_t, "vlm_resource_count": c_size_t}
+
+
+def _place() -> str:
+    """The file of the library. A plain name is looked for where the loader looks."""
+    installed = Path(os.environ.get("VLM_PREFIX", ""), "lib", FILE)
+    is_there = "VLM_PREFIX" in os.environ and installed.exists()
+    return os.environ.get("VLM_LIBRARY") or (str(installed) if is_there else FILE)
+
+
+def _declared(library: ctypes.CDLL) -> ctypes.CDLL:
+    """The library, with the types of its calls."""
+    for name, arguments in _CALLS.items():
+        call = getattr(library, name)
+        call.argtypes = [POINTER(Handle), *arguments]
+        call.restype = _ANSWERS.get(name, c_uint32)
+    return library
+
+
+def _loaded() -> ctypes.CDLL:
+    place = _place()
+    try:
+        return _declared(ctypes.CDLL(place))
+    except (OSError, AttributeError) as failed:
+        raise ImportError(
+            f"the library {place} of the lock manager can't be used: {failed}. Install it by ./vlm install PREFIX, and "
+            f"name the folder PREFIX by VLM_PREFIX, or the file itself by VLM_LIBRARY") from None
+
+
+LIBRARY = _loaded()

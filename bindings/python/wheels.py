@@ -1,0 +1,45 @@
+"""Packs the package vlm for pip, by what pyproject.toml says of it. It is Python alone, so nothing is built."""
+
+import base64
+import hashlib
+import re
+from pathlib import Path
+from typing import Any, Dict, Optional
+from zipfile import ZIP_DEFLATED, ZipFile
+
+HERE = Path(__file__).resolve().parent
+WHEEL = "Wheel-Version: 1.0\nGenerator: vlm\nRoot-Is-Purelib: true\nTag: py3-none-any\n"
+METADATA = ("Metadata-Version: 2.1\nName: {name}\nVersion: {version}\nSummary: {description}\n"
+            "Requires-Python: {python}\n")
+
+
+def _project() -> Dict[str, str]:
+    """The lines of pyproject.toml that name one text."""
+    return dict(re.findall(r'^([\w-]+) = "(.*)"$', (HERE / "pyproject.toml").read_text(), re.M))
+
+
+def _files(project: Dict[str, str], info: str) -> Dict[str, bytes]:
+    """The files of the wheel, except the list of them."""
+    metadata = METADATA.format(python=project["requires-python"], **project)
+    modules = {f"vlm/{it.name}": it.read_bytes() for it in sorted((HERE / "vlm").iterdir()) if it.is_file()}
+    return {**modules, f"{info}/METADATA": metadata.encode(), f"{info}/WHEEL": WHEEL.encode()}
+
+
+def _row(name: str, text: bytes) -> str:
+    """The row of a file in the list."""
+    digest = base64.urlsafe_b64encode(hashlib.sha256(text).digest()).rstrip(b"=").decode()
+    return f"{name},sha256={digest},{len(text)}\n"
+
+
+def build_wheel(wheel_directory: str, config_settings: Optional[Dict[str, Any]] = None,
+                metadata_directory: Optional[str] = None) -> str:
+    """What pip calls (PEP 517): makes the wheel in a folder, and returns its name."""
+    project = _project()
+    info = f"{project['name']}-{project['version']}.dist-info"
+    files = _files(project, info)
+    files[f"{info}/RECORD"] = "".join([*(_row(*it) for it in files.items()), f"{info}/RECORD,,\n"]).encode()
+    wheel = f"{project['name']}-{project['version']}-py3-none-any.whl"
+    with ZipFile(Path(wheel_directory) / wheel, "w", ZIP_DEFLATED) as packed:
+        for name, text in files.items():
+            packed.writestr(name, text)
+    return wheel

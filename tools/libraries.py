@@ -1,0 +1,103 @@
+"""Makes the libraries for programs in C: libvlm.a and libvlm.so, from the archive of the proved crate and the layer for
+threads. The kit's tools link and pack. The C compiler of the system compiles the layer and makes the shared library, so
+that both fit its C library."""
+
+import os
+import shlex
+import shutil
+import subprocess
+import tempfile
+from pathlib import Path
+
+from project import MISSING, TOP, fail
+
+# The sources of the layer for threads.
+LAYER = sorted((TOP / "bindings" / "c").glob("*.c"))
+SONAME = "libvlm.so.0"
+# The names that both libraries show. All others are local to them.
+SHOWN = "vlm_*"
+COMPILE = ["-std=c11", "-O2", "-fPIC", "-pthread", f"-I{TOP / 'include'}", "-c"]
+SHARE = ["-shared", "-pthread", "-Wl,-Bsymbolic", "-Wl,-z,defs", "-Wl,-z,now", "-Wl,-z,relro", f"-Wl,-soname,{SONAME}"]
+
+
+def kit():
+    return Path(shutil.which("rt")).resolve().parent.parent
+
+
+def compiler():
+    """The words that call the C compiler."""
+    return shlex.split(os.environ.get("CC", "")) or ["cc"]
+
+
+def need_compiler():
+    """Wants a C compiler, before anything that takes long."""
+    if not shutil.which(compiler()[0]):
+        fail(MISSING, f"there is no C compiler {compiler()[0]}: install gcc or clang, or name one by CC")
+
+
+def make(file, *words, **how):
+    """Makes a file by a command."""
+    made = subprocess.run([str(word) for word in words], capture_output=True, text=True, **how)
+    if made.returncode:
+        fail(MISSING, f"{words[0]} can't make {file.name}: {made.stderr.strip()[:300] or 'it does not say why'}")
+
+
+def make_by_kit(file, tool, *words):
+    """Makes a file by a tool of the kit. One program is all of LLVM's tools, by the name that it is called by."""
+    make(file, tool, *words, executable=kit() / "toolchain" / "bin" / "clang")
+
+
+def hide_names(made):
+    """Makes all names of an object local, except those that are shown."""
+    make_by_kit(made, "llvm-objcopy", "--wildcard", f"--keep-global-symbol={SHOWN}", made)
+
+
+def make_core(made, archive):
+    """Makes one object of the proved crate's archive and the kit's heap. Two libraries that Rattle made fit in one
+    program, since each has a heap that no other sees."""
+    make_by_kit(made, "ld.lld", "-r", "--whole-archive", archive, kit() / "c" / "liblibc_c.a", "-o", made)
+    hide_names(made)
+
+
+def make_layer(made):
+    """Makes one object of the layer for threads. It is a member of its own: only who calls it needs threads."""
+    parts = [made.with_name(f"{source.stem}.part.o") for source in LAYER]
+    for source, part in zip(LAYER, parts):
+        make(part, *compiler(), *COMPILE, source, "-o", part)
+    make_by_kit(made, "ld.lld", "-r", *parts, "-o", made)
+    hide_names(made)
+
+
+def make_objects(folder, archive):
+    """Makes the objects of both libraries in a folder."""
+    core, layer = folder / "vlm.o", folder / "vlm_threads.o"
+    make_core(core, archive)
+    # MERGE: with the sources in bindings/c the layer is a fixed part: these two lines go.
+    if not LAYER:
+        return [core]
+    make_layer(layer)
+    return [core, layer]
+
+
+def make_shared(made, objects, folder):
+    """Makes the shared library. Its calls of itself stay in it."""
+    names = folder / "names.map"
+    names.write_text(f"{{ global: {SHOWN}; local: *; }};\n")
+    make(made, *compiler(), *SHARE, f"-Wl,--version-script={names}", *objects, "-o", made)
+
+
+def link(name, file):
+    """Makes a link of this name beside a file."""
+    (file.parent / name).symlink_to(file.name)
+    return file.parent / name
+
+
+def make_libraries(lib, archive, version):
+    """Makes both libraries in the folder lib, from the archive that the proof of vlm_c left."""
+    with tempfile.TemporaryDirectory() as room:
+        folder = Path(room)
+        objects = make_objects(folder, archive)
+        make_by_kit(lib / "libvlm.a", "llvm-ar", "qcs", lib / "libvlm.a", *objects)
+        shared = lib / f"libvlm.so.{version}"
+        make_shared(shared, objects, folder)
+        link("libvlm.so", link(SONAME, shared))

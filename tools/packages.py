@@ -1,0 +1,57 @@
+"""What tells other build tools of the libraries: the package for pkg-config, and the one for CMake."""
+
+from libraries import SONAME
+
+PKG_CONFIG = """prefix={prefix}
+libdir=${{prefix}}/lib
+includedir=${{prefix}}/include
+
+Name: vlm
+Description: The lock manager of OpenVMS, proved: a library for programs in C
+Version: {version}
+Libs: -L"${{libdir}}" -lvlm
+Libs.private: -pthread
+Cflags: -I"${{includedir}}"
+"""
+
+# It finds its files from its own place, so the whole prefix can be moved.
+CMAKE = """# The lock manager vlm: the targets vlm::vlm, the shared library, and vlm::static.
+include(CMakeFindDependencyMacro)
+find_dependency(Threads)
+get_filename_component(_vlm_prefix "${{CMAKE_CURRENT_LIST_DIR}}/../../.." ABSOLUTE)
+if(NOT TARGET vlm::vlm)
+  add_library(vlm::vlm SHARED IMPORTED)
+  set_target_properties(vlm::vlm PROPERTIES
+    IMPORTED_LOCATION "${{_vlm_prefix}}/lib/libvlm.so.{version}"
+    IMPORTED_SONAME "{soname}"
+    INTERFACE_INCLUDE_DIRECTORIES "${{_vlm_prefix}}/include")
+  add_library(vlm::static STATIC IMPORTED)
+  set_target_properties(vlm::static PROPERTIES
+    IMPORTED_LOCATION "${{_vlm_prefix}}/lib/libvlm.a"
+    INTERFACE_INCLUDE_DIRECTORIES "${{_vlm_prefix}}/include"
+    INTERFACE_LINK_LIBRARIES Threads::Threads)
+endif()
+unset(_vlm_prefix)
+"""
+
+# A version fits a program that asks for one that is not later, with the same first number.
+CMAKE_VERSION = """set(PACKAGE_VERSION "{version}")
+string(REGEX MATCH "^[0-9]+" _vlm_major "${{PACKAGE_FIND_VERSION}}")
+if(NOT CMAKE_SIZEOF_VOID_P EQUAL 8)
+  set(PACKAGE_VERSION_UNSUITABLE TRUE)
+elseif(PACKAGE_FIND_VERSION VERSION_EQUAL PACKAGE_VERSION)
+  set(PACKAGE_VERSION_EXACT TRUE)
+  set(PACKAGE_VERSION_COMPATIBLE TRUE)
+elseif(PACKAGE_FIND_VERSION VERSION_LESS PACKAGE_VERSION AND _vlm_major EQUAL {major})
+  set(PACKAGE_VERSION_COMPATIBLE TRUE)
+endif()
+unset(_vlm_major)
+"""
+
+
+def write_packages(lib, prefix, version):
+    """Writes both packages into the folder lib, of libraries that are to be in this prefix."""
+    values = {"prefix": prefix, "version": version, "soname": SONAME, "major": version.partition(".")[0]}
+    for name, text in (("pkgconfig/vlm.pc", PKG_CONFIG), ("cmake/vlm/vlm-config.cmake", CMAKE),
+                       ("cmake/vlm/vlm-config-version.cmake", CMAKE_VERSION)):
+        (lib / name).write_text(text.format(**values))
