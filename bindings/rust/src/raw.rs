@@ -1,7 +1,7 @@
 //! The library's structs and calls as C has them, and a handle that owns a lock manager. All that is unsafe stands here.
 
+use std::cell::UnsafeCell;
 use std::ffi::c_void;
-use std::marker::PhantomData;
 use std::mem::size_of;
 use std::ptr;
 
@@ -76,6 +76,7 @@ extern "C" {
     fn vlm_convert(handle: *mut Vlm, request: *const Request, lkid: *mut u32) -> u32;
     fn vlm_deq(handle: *mut Vlm, dequeue: *const Dequeue) -> u32;
     fn vlm_take(handle: *mut Vlm, pid: u32, ast: *mut Ast) -> u32;
+    fn vlm_take_any(handle: *mut Vlm, pid: *mut u32, ast: *mut Ast) -> u32;
     fn vlm_rundown(handle: *mut Vlm, pid: u32) -> u32;
     fn vlm_leave(handle: *mut Vlm, node: u32) -> u32;
     fn vlm_search(handle: *mut Vlm, node: u32, victim: *mut u32) -> u32;
@@ -86,69 +87,79 @@ extern "C" {
     fn vlm_resource_count(handle: *mut Vlm) -> usize;
     fn vlm_resource(handle: *mut Vlm, place: usize, resource: *mut Resource) -> u32;
     fn vlm_row(handle: *mut Vlm, resource: usize, queue: u32, place: usize, row: *mut Row) -> u32;
+    fn vlm_next_process(handle: *mut Vlm, pid: u32, process: *mut Process) -> u32;
+    fn vlm_next_resource(handle: *mut Vlm, resource: *mut Resource) -> u32;
+    fn vlm_find(handle: *mut Vlm, resource: *mut Resource) -> u32;
 }
 
-/// A handle that owns its lock manager. Its calls take it by `&mut`, so that one at a time has it; it is no `Sync`.
+/// A handle that owns its lock manager. Steps take it by `&mut`. Readings take it by `&`, though C wants to write to it
+/// for the length of a call: so it is no `Sync`, and one call at a time has it.
 pub struct Handle {
-    raw: Vlm,
-    // (a raw pointer is neither `Send` nor `Sync`; what may be is said below)
-    _one_thread_at_a_time: PhantomData<*mut ()>,
+    // (neither a raw pointer nor an `UnsafeCell` is `Sync`, and the pointer is not `Send`: see below)
+    raw: UnsafeCell<Vlm>,
 }
 
-// SAFETY: a handle is proved to be one that may go from thread to thread; `&mut self` orders its calls.
+// SAFETY: a handle is proved to be one that may go from thread to thread, and no two threads have it at once.
 unsafe impl Send for Handle {}
 
 impl Drop for Handle {
     fn drop(&mut self) {
         // SAFETY: the handle is as a call left it, and this is the only one that has it.
-        unsafe { vlm_close(&mut self.raw) }
+        unsafe { vlm_close(self.raw.get()) }
     }
 }
 
 /// Defines safe calls of the handle: each passes references to initialized values that don't overlap.
 macro_rules! calls {
-    ($($name:ident = $call:ident($($arg:ident: $kind:ty),*) -> $answer:ty;)*) => {
-        impl Handle { $(
-            pub fn $name(&mut self, $($arg: $kind),*) -> $answer {
-                // SAFETY: the handle is as a call left it, and `&mut self` gives it to this call alone. Each reference
-                // points to an initialized value of its type, and no two overlap.
-                unsafe { $call(&mut self.raw, $($arg),*) }
+    ($(by $handle:ty { $($name:ident = $call:ident($($arg:ident: $kind:ty),*) -> $answer:ty;)* })*) => {
+        impl Handle { $($(
+            pub fn $name(self: $handle, $($arg: $kind),*) -> $answer {
+                // SAFETY: the handle is as a call left it. It is no `Sync`, and no call runs code of this crate, so it
+                // is in no other call. Each reference points to an initialized value of its type, and no two overlap.
+                unsafe { $call(self.raw.get(), $($arg),*) }
             }
-        )* }
+        )*)* }
     };
 }
 
 calls! {
-    declare = vlm_declare(declaration: &Declaration, pid: &mut u32) -> u32;
-    set_value = vlm_set_value(setting: &Setting) -> u32;
-    convert = vlm_convert(request: &Request, lkid: &mut u32) -> u32;
-    deq = vlm_deq(dequeue: &Dequeue) -> u32;
-    take = vlm_take(pid: u32, ast: &mut Ast) -> u32;
-    rundown = vlm_rundown(pid: u32) -> u32;
-    leave = vlm_leave(node: u32) -> u32;
-    search = vlm_search(node: u32, victim: &mut u32) -> u32;
-    block = vlm_block(pid: u32, block: u32, lksb: &mut Lksb) -> u32;
-    pending = vlm_pending(pid: u32, count: &mut usize) -> u32;
-    process_count = vlm_process_count() -> usize;
-    process = vlm_process(place: usize, process: &mut Process) -> u32;
-    resource_count = vlm_resource_count() -> usize;
-    resource = vlm_resource(place: usize, resource: &mut Resource) -> u32;
-    row = vlm_row(resource: usize, queue: u32, place: usize, row: &mut Row) -> u32;
+    by &mut Handle {
+        declare = vlm_declare(declaration: &Declaration, pid: &mut u32) -> u32;
+        set_value = vlm_set_value(setting: &Setting) -> u32;
+        convert = vlm_convert(request: &Request, lkid: &mut u32) -> u32;
+        deq = vlm_deq(dequeue: &Dequeue) -> u32;
+        take = vlm_take(pid: u32, ast: &mut Ast) -> u32;
+        take_any = vlm_take_any(pid: &mut u32, ast: &mut Ast) -> u32;
+        rundown = vlm_rundown(pid: u32) -> u32;
+        leave = vlm_leave(node: u32) -> u32;
+        search = vlm_search(node: u32, victim: &mut u32) -> u32;
+    }
+    by &Handle {
+        block = vlm_block(pid: u32, block: u32, lksb: &mut Lksb) -> u32;
+        pending = vlm_pending(pid: u32, count: &mut usize) -> u32;
+        process_count = vlm_process_count() -> usize;
+        process = vlm_process(place: usize, process: &mut Process) -> u32;
+        resource_count = vlm_resource_count() -> usize;
+        resource = vlm_resource(place: usize, resource: &mut Resource) -> u32;
+        row = vlm_row(resource: usize, queue: u32, place: usize, row: &mut Row) -> u32;
+        next_process = vlm_next_process(pid: u32, process: &mut Process) -> u32;
+        next_resource = vlm_next_resource(resource: &mut Resource) -> u32;
+        find = vlm_find(resource: &mut Resource) -> u32;
+    }
 }
 
 impl Handle {
     /// A handle whose lock manager hashes names by these keys, or the condition value that refused it.
     pub fn open(keys: [u8; 16]) -> Result<Handle, u32> {
-        let raw = Vlm {
+        let mut raw = Vlm {
             core: ptr::null_mut(),
             is_held: false,
         };
-        let mut handle = Handle {
-            raw,
-            _one_thread_at_a_time: PhantomData,
-        };
         // SAFETY: a handle of zeros has no lock manager, and the keys are as many as is said.
-        let status = unsafe { vlm_open_with_keys(&mut handle.raw, keys.as_ptr(), keys.len()) };
+        let status = unsafe { vlm_open_with_keys(&mut raw, keys.as_ptr(), keys.len()) };
+        let handle = Handle {
+            raw: UnsafeCell::new(raw),
+        };
         if status == 1 {
             Ok(handle)
         } else {
@@ -158,6 +169,6 @@ impl Handle {
 
     pub fn enq(&mut self, request: &Request, name: &[u8], lkid: &mut u32) -> u32 {
         // SAFETY: as in the calls above; a slice's pointer is not null where it is empty, too.
-        unsafe { vlm_enq(&mut self.raw, request, name.as_ptr(), name.len(), lkid) }
+        unsafe { vlm_enq(self.raw.get(), request, name.as_ptr(), name.len(), lkid) }
     }
 }

@@ -1,157 +1,18 @@
 //! Plays the worked scripts of the program through the wrapper, and compares what they print: docs/SCRIPT.md says what
 //! a line does. A script that names the status block 0, which no call of the library can, is left out.
 
+mod words;
+
 use std::collections::HashMap;
 use std::fmt::Write;
 use std::fs;
 use std::path::Path;
 
 use vlm::{
-    Accepted, AstKind, Condition, Declaration, DeqFlags, Dequeue, Domain, EnqFlags, LockId,
-    LockManager, Mode, ProcessId, Queue, Request, Resource, Setting, Which,
+    Accepted, AstKind, Condition, Declaration, Dequeue, Domain, LockId, LockManager, ProcessId,
+    Queue, Request, Resource, Setting, Which,
 };
-
-/// The words of a line behind its command, those with a `key=` by their key.
-struct Words<'a> {
-    plain: Vec<&'a str>,
-    keyed: HashMap<&'a str, &'a str>,
-}
-
-impl<'a> Words<'a> {
-    fn of(line: &'a str) -> Words<'a> {
-        let mut words = Words {
-            plain: Vec::new(),
-            keyed: HashMap::new(),
-        };
-        for word in line.split_ascii_whitespace().skip(1) {
-            match word.split_once('=') {
-                Some((key, value)) => {
-                    words.keyed.insert(key, value);
-                }
-                None => words.plain.push(word),
-            }
-        }
-        words
-    }
-
-    fn number(&self, key: &str) -> Option<u32> {
-        self.keyed
-            .get(key)
-            .map(|digits| digits.parse().expect("a number"))
-    }
-
-    fn small<T: TryFrom<u32>>(&self, key: &str) -> T {
-        T::try_from(self.number(key).unwrap_or(0))
-            .ok()
-            .expect("a number in its range")
-    }
-
-    fn has(&self, flag: &str) -> bool {
-        self.plain.contains(&flag)
-    }
-
-    fn bytes<const N: usize>(&self, key: &str) -> Option<[u8; N]> {
-        self.keyed
-            .get(key)
-            .map(|digits| bytes_of(digits).try_into().expect("so many bytes"))
-    }
-
-    fn name(&self) -> Vec<u8> {
-        let text = self.keyed["name"];
-        text.strip_prefix("x:")
-            .map_or_else(|| text.as_bytes().to_vec(), bytes_of)
-    }
-
-    fn enq_flags(&self) -> EnqFlags {
-        let known = [
-            ("valblk", EnqFlags::VALBLK),
-            ("noqueue", EnqFlags::NOQUEUE),
-            ("syncsts", EnqFlags::SYNCSTS),
-            ("system", EnqFlags::SYSTEM),
-            ("expedite", EnqFlags::EXPEDITE),
-            ("quecvt", EnqFlags::QUECVT),
-            ("nodlckwt", EnqFlags::NODLCKWT),
-            ("nodlckblk", EnqFlags::NODLCKBLK),
-            ("wide", EnqFlags::WIDE),
-        ];
-        let given = known.into_iter().filter(|(word, _)| self.has(word));
-        given.fold(
-            EnqFlags::from_bits(self.small("bits")),
-            |flags, (_, flag)| flags | flag,
-        )
-    }
-
-    fn deq_flags(&self) -> DeqFlags {
-        let known = [
-            ("deqall", DeqFlags::DEQALL),
-            ("cancel", DeqFlags::CANCEL),
-            ("invvalblk", DeqFlags::INVVALBLK),
-        ];
-        let given = known.into_iter().filter(|(word, _)| self.has(word));
-        given.fold(
-            DeqFlags::from_bits(self.small("bits")),
-            |flags, (_, flag)| flags | flag,
-        )
-    }
-}
-
-fn bytes_of(digits: &str) -> Vec<u8> {
-    let pairs = digits.as_bytes().chunks(2);
-    pairs
-        .map(|pair| u8::from_str_radix(std::str::from_utf8(pair).unwrap(), 16).expect("two digits"))
-        .collect()
-}
-
-fn hex(bytes: &[u8]) -> String {
-    bytes.iter().map(|byte| format!("{byte:02x}")).collect()
-}
-
-fn mode(word: &str) -> Mode {
-    match word {
-        "NL" => Mode::Nl,
-        "CR" => Mode::Cr,
-        "CW" => Mode::Cw,
-        "PR" => Mode::Pr,
-        "PW" => Mode::Pw,
-        "EX" => Mode::Ex,
-        _ => panic!("no mode: {word}"),
-    }
-}
-
-fn mode_text(mode: Option<Mode>) -> String {
-    format!("{:?}", mode.expect("a mode")).to_uppercase()
-}
-
-/// The lock that a word names; none for 0.
-fn which(word: &str) -> Option<Which> {
-    match word.strip_prefix('@') {
-        Some(number) => Some(Which::Block(number.parse().expect("a status block"))),
-        None => Some(word.parse().expect("a lock"))
-            .filter(|lkid| *lkid != 0)
-            .map(|lkid| Which::Lock(LockId(lkid))),
-    }
-}
-
-fn text(condition: Condition) -> &'static str {
-    condition.name().trim_start_matches("SS$_")
-}
-
-fn valid(so: bool) -> &'static str {
-    if so {
-        "valid"
-    } else {
-        "invalid"
-    }
-}
-
-fn shown_name(name: &[u8]) -> String {
-    let plain = name.iter().all(u8::is_ascii_graphic) && !name.starts_with(b"x:");
-    if plain {
-        String::from_utf8(name.to_vec()).unwrap()
-    } else {
-        format!("x:{}", hex(name))
-    }
-}
+use words::{hex, mode, mode_text, shown_name, text, valid, which, Words};
 
 /// A run of a script: what it has printed, and the processes that its names are bound to.
 struct Play {
@@ -277,7 +138,7 @@ impl Play {
         if command == "tail" {
             return format!("tail {number} {}", hex(&block.tail));
         }
-        let status = block.status.map_or(0, |condition| condition as u32 + 1);
+        let status = block.status.map_or(0, Condition::number);
         let lock = block.lock.map_or(0, |lock| lock.0);
         format!(
             "block {number} status {status} lock {lock} value {}",
@@ -285,10 +146,8 @@ impl Play {
         )
     }
 
-    fn resources(&mut self) -> Vec<Resource> {
-        (0..self.manager.resource_count())
-            .map(|place| self.manager.resource(place).expect("a resource"))
-            .collect()
+    fn resources(&self) -> Vec<Resource> {
+        self.manager.resources().collect()
     }
 
     fn show(&mut self) {
@@ -296,7 +155,7 @@ impl Play {
         if resources.is_empty() {
             self.say("no resources".to_owned());
         }
-        for (place, resource) in resources.iter().enumerate() {
+        for resource in &resources {
             let domain = match resource.domain {
                 Domain::Group(group) => format!("group {group}"),
                 Domain::System => "system".to_owned(),
@@ -310,16 +169,14 @@ impl Play {
                 valid(resource.value_valid)
             ));
             for queue in [Queue::Granted, Queue::Conversion, Queue::Waiting] {
-                self.show_queue(place, queue);
+                self.show_queue(resource, queue);
             }
         }
     }
 
-    fn show_queue(&mut self, resource: usize, queue: Queue) {
-        for place in 0.. {
-            let Some(row) = self.manager.row(resource, queue, place) else {
-                return;
-            };
+    fn show_queue(&mut self, resource: &Resource, queue: Queue) {
+        let rows: Vec<_> = self.manager.rows(resource, queue).collect();
+        for row in rows {
             let (word, modes) = match queue {
                 Queue::Granted => ("granted", mode_text(row.held)),
                 Queue::Conversion => (
@@ -413,38 +270,4 @@ fn the_worked_scripts_print_what_the_program_prints() {
         played_scripts += 1;
     }
     assert!(played_scripts >= 60, "{played_scripts} scripts were played");
-}
-
-/// A lock manager goes to another thread, which makes the next step there.
-#[test]
-fn a_lock_manager_goes_to_another_thread() {
-    let mut manager = LockManager::new().expect("memory");
-    let declaration = Declaration {
-        node: 1,
-        quota: 1,
-        blocks: 1,
-        ..Declaration::default()
-    };
-    let process = manager.declare(&declaration).expect("a process");
-    let mut manager = std::thread::spawn(move || {
-        let request = Request::new(process, Mode::Ex, 1);
-        manager.enq(&request, b"A").expect("a lock");
-        manager
-    })
-    .join()
-    .expect("the thread");
-    assert_eq!(manager.resource_count(), 1);
-    assert_eq!(manager.process_count(), 1);
-    let shown = manager.process(0).expect("a process");
-    assert_eq!(
-        (
-            shown.id,
-            shown.node,
-            shown.quota,
-            shown.blocks,
-            shown.pending
-        ),
-        (process, 1, 1, 1, 0)
-    );
-    assert_eq!(manager.pending(process), Some(0));
 }

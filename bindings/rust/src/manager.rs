@@ -1,0 +1,169 @@
+//! A lock manager and its steps.
+
+use std::collections::hash_map::RandomState;
+use std::hash::{BuildHasher, Hasher};
+
+use crate::condition::{answered, Condition};
+use crate::names::{lock_named, LockId, ProcessId, Which};
+use crate::raw;
+use crate::requests::{bit, Accepted, Declaration, Dequeue, Request, Setting};
+use crate::views::Ast;
+
+/// A lock manager of its own: two of them share nothing. No call waits. It may go to another thread; threads that share
+/// one do so by [`Shared`](crate::Shared), which also waits for grants, or by a lock of the program's own.
+///
+/// ```compile_fail
+/// fn shared<T: Sync>(_: T) {}
+/// shared(vlm::LockManager::new());
+/// ```
+pub struct LockManager {
+    pub(crate) handle: raw::Handle,
+}
+
+impl LockManager {
+    /// A lock manager with nothing in it. Its index of names hashes by keys of the standard library's own, which nobody
+    /// can foresee. INSFMEM where memory is refused.
+    pub fn new() -> Result<LockManager, Condition> {
+        let mut keys = [0; 16];
+        for half in keys.chunks_mut(8) {
+            half.copy_from_slice(&RandomState::new().build_hasher().finish().to_le_bytes());
+        }
+        LockManager::with_keys(keys)
+    }
+
+    /// A lock manager whose index of names hashes by these keys. INSFMEM where memory is refused.
+    pub fn with_keys(keys: [u8; 16]) -> Result<LockManager, Condition> {
+        match raw::Handle::open(keys) {
+            Ok(handle) => Ok(LockManager { handle }),
+            Err(status) => Err(Condition::of(status)),
+        }
+    }
+
+    /// Declares a process. BADPARAM, DEPARTED, INSFMEM.
+    pub fn declare(&mut self, declaration: &Declaration) -> Result<ProcessId, Condition> {
+        let words = raw::Declaration {
+            node: u32::from(declaration.node),
+            group: u32::from(declaration.group),
+            syslck: bit(declaration.syslck),
+            quota: u32::from(declaration.quota),
+            blocks: u32::from(declaration.blocks),
+            ..raw::Declaration::new()
+        };
+        let mut pid = 0;
+        answered(self.handle.declare(&words, &mut pid))?;
+        Ok(ProcessId(pid))
+    }
+
+    /// Sets the value part of a status block of the process, and its tail where one is given. DEPARTED, NONEXPR, ACCVIO.
+    pub fn set_value(&mut self, setting: &Setting) -> Result<(), Condition> {
+        let words = raw::Setting {
+            pid: setting.process.0,
+            block: u32::from(setting.block),
+            has_tail: bit(setting.tail.is_some()),
+            value: setting.value,
+            tail: setting.tail.unwrap_or([0; 48]),
+            ..raw::Setting::new()
+        };
+        answered(self.handle.set_value(&words))?;
+        Ok(())
+    }
+
+    /// Asks for a new lock ($ENQ) on the resource of a name, below the lock that the request names, if it names one. A
+    /// request that waits is accepted too: its status block is pending. DEPARTED, NONEXPR, BADPARAM, ACCVIO, IVBUFLEN,
+    /// UNSUPPORTED, IVLOCKID, PARNOTGRANT, EXDEPTH, NOSYSLCK, EXENQLM, NOLOCKID, NOTQUEUED, INSFMEM.
+    pub fn enq(&mut self, request: &Request, name: &[u8]) -> Result<Accepted, Condition> {
+        let mut lkid = 0;
+        let status = self
+            .handle
+            .enq(&request.words(request.parent), name, &mut lkid);
+        Ok(Accepted {
+            lock: LockId(lkid),
+            at_once: answered(status)? == Condition::Synch,
+        })
+    }
+
+    /// Asks for another mode of a granted lock ($ENQ with CONVERT). DEPARTED, NONEXPR, BADPARAM, ACCVIO, IVLOCKID,
+    /// CVTUNGRANT, NOLOCKID, NOTQUEUED, INSFMEM.
+    pub fn convert(
+        &mut self,
+        request: &Request,
+        lock: impl Into<Which>,
+    ) -> Result<Accepted, Condition> {
+        let mut lkid = 0;
+        let status = self
+            .handle
+            .convert(&request.words(Some(lock.into())), &mut lkid);
+        Ok(Accepted {
+            lock: LockId(lkid),
+            at_once: answered(status)? == Condition::Synch,
+        })
+    }
+
+    /// Gives a lock up ($DEQ): what [`LockManager::dequeue`] does without flags and without a value.
+    pub fn deq(&mut self, process: ProcessId, lock: impl Into<Which>) -> Result<(), Condition> {
+        self.dequeue(&Dequeue::new(process, Some(lock.into())))
+    }
+
+    /// Gives locks up, or cancels a request ($DEQ). DEPARTED, NONEXPR, BADPARAM, ACCVIO, IVLOCKID, CANCELGRANT, SUBLOCKS.
+    pub fn dequeue(&mut self, dequeue: &Dequeue) -> Result<(), Condition> {
+        let (lock, lock_block) = lock_named(dequeue.lock);
+        let words = raw::Dequeue {
+            pid: dequeue.process.0,
+            flags: u32::from(dequeue.flags.0),
+            lock,
+            lock_block,
+            has_value: bit(dequeue.value.is_some()),
+            has_tail: bit(dequeue.tail.is_some()),
+            value: dequeue.value.unwrap_or([0; 16]),
+            tail: dequeue.tail.unwrap_or([0; 48]),
+            ..raw::Dequeue::new()
+        };
+        answered(self.handle.deq(&words))?;
+        Ok(())
+    }
+
+    /// Takes the oldest AST that is pending for a process, if there is one. DEPARTED, NONEXPR.
+    pub fn take(&mut self, process: ProcessId) -> Result<Option<Ast>, Condition> {
+        let mut words = raw::Ast::new();
+        answered(self.handle.take(process.0, &mut words))?;
+        Ok(Ast::of(&words))
+    }
+
+    /// Takes the oldest AST of the first process that has one: of the first node with such a process, the first in order
+    /// of making. It takes constant time, so one loop of it delivers everything. A lock manager that is open refuses it
+    /// never.
+    ///
+    /// ```
+    /// # fn main() -> Result<(), vlm::Condition> {
+    /// # let mut manager = vlm::LockManager::new()?;
+    /// while let Some((process, ast)) = manager.take_any()? {
+    ///     println!("{process:?}: routine {} for lock {:?}", ast.routine, ast.lock);
+    /// }
+    /// # Ok(())
+    /// # }
+    /// ```
+    pub fn take_any(&mut self) -> Result<Option<(ProcessId, Ast)>, Condition> {
+        let (mut pid, mut words) = (0, raw::Ast::new());
+        answered(self.handle.take_any(&mut pid, &mut words))?;
+        Ok(Ast::of(&words).map(|ast| (ProcessId(pid), ast)))
+    }
+
+    /// Ends a process, with all that it has. DEPARTED, NONEXPR.
+    pub fn rundown(&mut self, process: ProcessId) -> Result<(), Condition> {
+        answered(self.handle.rundown(process.0))?;
+        Ok(())
+    }
+
+    /// A node departs, with all its processes. BADPARAM, DEPARTED.
+    pub fn leave(&mut self, node: u8) -> Result<(), Condition> {
+        answered(self.handle.leave(u32::from(node)))?;
+        Ok(())
+    }
+
+    /// Searches for a deadlock, and ends the request of its victim, whose lock it tells. BADPARAM, DEPARTED.
+    pub fn search(&mut self, node: u8) -> Result<Option<LockId>, Condition> {
+        let mut victim = 0;
+        answered(self.handle.search(u32::from(node), &mut victim))?;
+        Ok(Some(LockId(victim)).filter(|victim| victim.0 != 0))
+    }
+}

@@ -1,0 +1,79 @@
+//! The names of processes, locks, modes, queues and domains.
+
+use std::num::NonZeroU8;
+
+/// The identification of a process.
+#[derive(Clone, Copy, Debug, PartialEq, Eq, PartialOrd, Ord, Hash)]
+pub struct ProcessId(pub u32);
+
+/// The identification of a lock.
+#[derive(Clone, Copy, Debug, PartialEq, Eq, PartialOrd, Ord, Hash)]
+pub struct LockId(pub u32);
+
+/// The mode of a lock ($ENQ, lkmode).
+#[derive(Clone, Copy, Debug, PartialEq, Eq, PartialOrd, Ord, Hash)]
+pub enum Mode {
+    /// Null.
+    Nl,
+    /// Concurrent read.
+    Cr,
+    /// Concurrent write.
+    Cw,
+    /// Protected read.
+    Pr,
+    /// Protected write.
+    Pw,
+    /// Exclusive.
+    Ex,
+}
+
+/// The mode of a number; none for 255.
+pub(crate) fn mode_of(number: u32) -> Option<Mode> {
+    [Mode::Nl, Mode::Cr, Mode::Cw, Mode::Pr, Mode::Pw, Mode::Ex]
+        .get(number as usize)
+        .copied()
+}
+
+/// A queue of a resource.
+#[derive(Clone, Copy, Debug, PartialEq, Eq, Hash)]
+pub enum Queue {
+    /// Locks that hold a mode and want no other.
+    Granted,
+    /// Locks that hold a mode and wait for another.
+    Conversion,
+    /// Locks that hold nothing yet.
+    Waiting,
+}
+
+/// A lock that a process names: by its identification, or by the number of a status block in which it stands.
+#[derive(Clone, Copy, Debug, PartialEq, Eq, Hash)]
+pub enum Which {
+    /// The lock of this identification.
+    Lock(LockId),
+    /// The lock in the status block of this number of the caller.
+    Block(NonZeroU8),
+}
+
+impl From<LockId> for Which {
+    fn from(lock: LockId) -> Which {
+        Which::Lock(lock)
+    }
+}
+
+/// The two words by which the library names a lock.
+pub(crate) fn lock_named(lock: Option<Which>) -> (u32, u32) {
+    match lock {
+        None => (0, 0),
+        Some(Which::Lock(lock)) => (lock.0, 0),
+        Some(Which::Block(number)) => (0, u32::from(number.get())),
+    }
+}
+
+/// The space of names that a root resource is in.
+#[derive(Clone, Copy, Debug, PartialEq, Eq, Hash)]
+pub enum Domain {
+    /// The names of one UIC group.
+    Group(u16),
+    /// The names of the whole system.
+    System,
+}

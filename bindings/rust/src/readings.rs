@@ -1,0 +1,98 @@
+//! The readings of a lock manager. They change nothing.
+
+use crate::condition::answered;
+use crate::manager::LockManager;
+use crate::names::{Domain, ProcessId, Queue};
+use crate::raw;
+use crate::views::{Process, Resource, Row, StatusBlock};
+
+impl LockManager {
+    /// The status block of this number, from 1, of a process. None where there is none.
+    pub fn block(&self, process: ProcessId, number: u8) -> Option<StatusBlock> {
+        let mut words = raw::Lksb::new();
+        answered(self.handle.block(process.0, u32::from(number), &mut words)).ok()?;
+        Some(StatusBlock::of(&words))
+    }
+
+    /// How many ASTs are pending for a process. None where no living process has the identification.
+    pub fn pending(&self, process: ProcessId) -> Option<usize> {
+        let mut count = 0;
+        answered(self.handle.pending(process.0, &mut count)).ok()?;
+        Some(count)
+    }
+
+    /// How many processes live.
+    pub fn process_count(&self) -> usize {
+        self.handle.process_count()
+    }
+
+    /// The living process at a place, from 0, in order of making. The cost grows with the place.
+    pub fn process(&self, place: usize) -> Option<Process> {
+        let mut words = raw::Process::new();
+        answered(self.handle.process(place, &mut words)).ok()?;
+        Some(Process::of(&words))
+    }
+
+    /// How many resources have locks.
+    pub fn resource_count(&self) -> usize {
+        self.handle.resource_count()
+    }
+
+    /// The resource at a place, from 0, by rising serial. The cost grows with the place.
+    pub fn resource(&self, place: usize) -> Option<Resource> {
+        let mut words = raw::Resource::new();
+        answered(self.handle.resource(place, &mut words)).ok()?;
+        Some(Resource::of(&words))
+    }
+
+    /// The resource of a root's name in a domain. None where there is none. It takes constant time.
+    ///
+    /// ```
+    /// use vlm::{Declaration, Domain, LockManager, Mode, Request};
+    ///
+    /// # fn main() -> Result<(), vlm::Condition> {
+    /// let mut manager = LockManager::new()?;
+    /// let p = manager.declare(&Declaration { node: 1, group: 7, quota: 9, blocks: 1, ..Declaration::default() })?;
+    /// manager.enq(&Request::new(p, Mode::Ex, 1), b"A")?;
+    /// assert!(manager.find(Domain::Group(7), b"A").is_some());
+    /// assert!(manager.find(Domain::System, b"A").is_none());
+    /// # Ok(())
+    /// # }
+    /// ```
+    pub fn find(&self, domain: Domain, name: &[u8]) -> Option<Resource> {
+        let (is_system, group) = match domain {
+            Domain::System => (1, 0),
+            Domain::Group(group) => (0, u32::from(group)),
+        };
+        self.found(0, is_system, group, name)
+    }
+
+    /// The resource of this name below the resource with the serial `parent`. None where there is none. It takes constant
+    /// time.
+    pub fn find_below(&self, parent: u32, name: &[u8]) -> Option<Resource> {
+        if parent == 0 {
+            return None;
+        }
+        self.found(parent, 0, 0, name)
+    }
+
+    fn found(&self, parent: u32, is_system: u32, group: u32, name: &[u8]) -> Option<Resource> {
+        let mut words = raw::Resource {
+            parent,
+            is_system,
+            group,
+            name_len: u32::try_from(name.len()).ok()?,
+            ..raw::Resource::new()
+        };
+        words.name.get_mut(..name.len())?.copy_from_slice(name);
+        answered(self.handle.find(&mut words)).ok()?;
+        Some(Resource::of(&words))
+    }
+
+    /// The lock at a place of a queue of the resource at its place, each from 0. The cost grows with both.
+    pub fn row(&self, resource: usize, queue: Queue, place: usize) -> Option<Row> {
+        let mut words = raw::Row::new();
+        answered(self.handle.row(resource, queue as u32, place, &mut words)).ok()?;
+        Some(Row::of(&words))
+    }
+}

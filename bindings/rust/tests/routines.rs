@@ -1,0 +1,203 @@
+//! Closures that are told of ends and warnings.
+
+use std::sync::atomic::{AtomicUsize, Ordering::SeqCst};
+use std::sync::mpsc::channel;
+use std::sync::{Arc, Mutex};
+use std::time::Duration;
+
+use vlm::{
+    AstKind, Condition, Declaration, DeqFlags, Dequeue, LockId, Mode, ProcessId, Shared, Terms,
+};
+
+fn two() -> (Shared, ProcessId, ProcessId) {
+    let shared = Shared::new().expect("memory");
+    let declare = |node| {
+        shared.declare(&Declaration {
+            node,
+            quota: 9,
+            blocks: 3,
+            ..Declaration::default()
+        })
+    };
+    let (p, q) = (
+        declare(1).expect("a process"),
+        declare(2).expect("a process"),
+    );
+    (shared, p, q)
+}
+
+fn resources(shared: &Shared) -> usize {
+    shared.look(|manager| manager.resource_count())
+}
+
+#[test]
+fn a_blocking_routine_gives_way() {
+    let (shared, p, q) = two();
+    let told = Arc::new(AtomicUsize::new(0));
+    let (count, clone) = (Arc::clone(&told), shared.clone());
+    let terms = Terms::new().blocking(move |event| {
+        assert_eq!(
+            (event.kind, event.process, event.status),
+            (AstKind::Blocking, p, None)
+        );
+        count.fetch_add(1, SeqCst);
+        // (a delivery in a routine runs nothing)
+        assert_eq!(clone.deliver(), 0);
+        clone.deq(p, event.lock).expect("the lock");
+    });
+    shared
+        .lock_with(p, b"A", Mode::Ex, terms)
+        .expect("a lock")
+        .keep();
+    assert!(!shared.wait_event(Some(Duration::ZERO)));
+    let clone = shared.clone();
+    let thread = std::thread::spawn(move || clone.lock(q, b"A", Mode::Ex).map(drop));
+    assert!(shared.wait_event(None));
+    assert_eq!((shared.deliver(), shared.deliver()), (1, 0));
+    assert_eq!(thread.join().expect("a thread"), Ok(()));
+    assert_eq!(told.load(SeqCst), 1);
+    assert_eq!(Arc::strong_count(&told), 1);
+}
+
+#[test]
+fn a_completion_comes_before_the_warning_of_its_grant() {
+    let (shared, p, q) = two();
+    let (note, noted) = channel();
+    let ended = note.clone();
+    let held = shared.lock(p, b"A", Mode::Ex).expect("a lock");
+    let terms = Terms::new()
+        .blocking(move |event| note.send((event.kind, event.status)).expect("a listener"));
+    let completion = move |event: vlm::Event| {
+        assert_eq!((event.value, event.tail), (Some([0; 16]), Some([0; 48])));
+        ended.send((event.kind, event.status)).expect("a listener");
+    };
+    let first = shared
+        .start(q, b"A", Mode::Ex, terms, completion)
+        .expect("a lock");
+    let second = shared
+        .start(p, b"A", Mode::Ex, Terms::new(), |_| ())
+        .expect("a lock");
+    assert_eq!(shared.deliver(), 0);
+    drop(held);
+    assert_eq!(shared.deliver(), 2);
+    let granted = (AstKind::Completion, Some(Condition::Normal));
+    assert_eq!(
+        noted.try_iter().collect::<Vec<_>>(),
+        [granted, (AstKind::Blocking, None)]
+    );
+    assert_eq!(
+        (shared.deq(q, first), shared.deq(p, second)),
+        (Ok(()), Ok(()))
+    );
+    assert_eq!(noted.recv().ok(), None, "both routines are gone");
+    assert_eq!(shared.deliver(), 1);
+}
+
+#[test]
+fn warnings_of_grants_that_are_over_are_dropped() {
+    let (shared, p, q) = two();
+    let told = Arc::new(AtomicUsize::new(0));
+    let count = Arc::clone(&told);
+    let terms = Terms::new().blocking(move |_| {
+        count.fetch_add(1, SeqCst);
+    });
+    let mut guard = shared.lock_with(p, b"A", Mode::Ex, terms).expect("a lock");
+    shared
+        .start(q, b"A", Mode::Pr, Terms::new(), |_| ())
+        .expect("a lock");
+    assert!(shared.wait_event(None));
+    assert_eq!(guard.convert(Mode::Nl), Ok(()));
+    assert_eq!(
+        (shared.deliver(), told.load(SeqCst)),
+        (1, 0),
+        "the completion alone"
+    );
+    // The routine is armed again by the next grant.
+    assert_eq!(guard.convert(Mode::Pr), Ok(()));
+    let waits = shared
+        .start(q, b"A", Mode::Ex, Terms::new(), |_| ())
+        .expect("a lock");
+    assert_eq!((shared.deliver(), told.load(SeqCst)), (1, 1));
+    assert_eq!(shared.cancel(q, waits), Ok(()));
+    drop(guard);
+    assert_eq!(
+        Arc::strong_count(&told),
+        1,
+        "the routine goes with its lock"
+    );
+}
+
+#[test]
+fn all_locks_of_a_process_go_with_their_routines() {
+    let (shared, p, _) = two();
+    let alive = Arc::new(());
+    let keep = |parent: Option<LockId>, name: &[u8]| {
+        let held = Arc::clone(&alive);
+        let terms = Terms::new().blocking(move |_| drop(Arc::clone(&held)));
+        let terms = parent.into_iter().fold(terms, Terms::below);
+        shared
+            .lock_with(p, name, Mode::Nl, terms)
+            .expect("a lock")
+            .keep()
+    };
+    let root = keep(None, b"A");
+    let below = keep(Some(root), b"B");
+    keep(Some(below), b"C");
+    let deqall = |lock: Option<LockId>| Dequeue {
+        flags: DeqFlags::DEQALL,
+        ..Dequeue::new(p, lock.map(Into::into))
+    };
+    assert_eq!(shared.dequeue(&deqall(Some(below))), Ok(()));
+    assert_eq!(Arc::strong_count(&alive), 3);
+    assert_eq!(shared.dequeue(&deqall(None)), Ok(()));
+    assert_eq!((Arc::strong_count(&alive), resources(&shared)), (1, 0));
+    keep(None, b"A");
+    assert_eq!(shared.leave(1), Ok(()));
+    assert_eq!(shared.leave(1), Err(Condition::Departed));
+    assert_eq!(Arc::strong_count(&alive), 1);
+    assert_eq!(
+        shared.lock(p, b"A", Mode::Ex).err(),
+        Some(Condition::Departed)
+    );
+}
+
+#[test]
+fn a_routine_that_is_dropped_may_call() {
+    let (shared, p, q) = two();
+    let guard = shared.lock(q, b"B", Mode::Ex).expect("a lock");
+    let guard = Mutex::new(Some(guard));
+    let terms = Terms::new().blocking(move |_| drop(guard.lock().map(|mut it| it.take())));
+    // (the guard in the routine gives its lock up, as the routine goes)
+    shared
+        .lock_with(p, b"A", Mode::Ex, terms)
+        .expect("a lock")
+        .release()
+        .expect("the lock");
+    assert_eq!(resources(&shared), 0);
+}
+
+#[test]
+fn a_panic_of_a_routine_leaves_the_rest_in_order() {
+    let (shared, p, _) = two();
+    let first = shared
+        .start(p, b"A", Mode::Ex, Terms::new(), |_| {
+            std::panic::resume_unwind(Box::new(()))
+        })
+        .expect("a lock");
+    let (ended, ends) = channel();
+    let second = shared
+        .start(p, b"B", Mode::Ex, Terms::new(), move |_| {
+            ended.send(()).expect("a listener")
+        })
+        .expect("a lock");
+    let clone = shared.clone();
+    std::thread::spawn(move || clone.deliver())
+        .join()
+        .expect_err("a panic");
+    assert_eq!(shared.deliver(), 1);
+    assert_eq!(ends.recv(), Ok(()));
+    assert_eq!(
+        (shared.deq(p, first), shared.deq(p, second)),
+        (Ok(()), Ok(()))
+    );
+}

@@ -1,0 +1,200 @@
+//! Each call of `Shared` and `Guard` once, with what it refuses.
+
+use std::time::Duration;
+
+use vlm::{Condition, Declaration, EnqFlags, LockId, Mode, ProcessId, Shared, Terms, WaitError};
+
+const NOBODY: ProcessId = ProcessId(12345);
+
+fn declaration(node: u8) -> Declaration {
+    Declaration {
+        node,
+        quota: 9,
+        blocks: 3,
+        ..Declaration::default()
+    }
+}
+
+fn two() -> (Shared, ProcessId, ProcessId) {
+    let shared = Shared::with_keys([7; 16]).expect("memory");
+    let p = shared.declare(&declaration(1)).expect("a process");
+    let q = shared.declare(&declaration(2)).expect("a process");
+    (shared, p, q)
+}
+
+fn resources(shared: &Shared) -> usize {
+    shared.look(|manager| manager.resource_count())
+}
+
+#[test]
+fn shared_and_guards_go_between_threads() {
+    fn goes<T: Send + Sync>() {}
+    goes::<Shared>();
+    goes::<vlm::Guard>();
+}
+
+#[test]
+fn a_guard_gives_its_lock_up() {
+    let (shared, p, _) = two();
+    let guard = shared.lock(p, b"A", Mode::Ex).expect("a lock");
+    assert_eq!(
+        (guard.process(), guard.lock(), guard.mode()),
+        (p, LockId(1), Mode::Ex)
+    );
+    assert!(format!("{guard:?}").contains("Ex"));
+    assert_eq!(resources(&shared), 1);
+    drop(guard);
+    assert_eq!(resources(&shared), 0);
+    let kept = shared.lock(p, b"A", Mode::Ex).expect("a lock").keep();
+    assert_eq!(resources(&shared), 1);
+    assert_eq!(shared.deq(p, kept), Ok(()));
+    assert_eq!(shared.deq(p, kept), Err(Condition::Ivlockid));
+}
+
+#[test]
+fn requests_are_refused() {
+    let (shared, p, q) = two();
+    let _held = shared.lock(p, b"A", Mode::Ex).expect("a lock");
+    let noqueue = || Terms::new().flags(EnqFlags::NOQUEUE).blocking(|_| ());
+    let refused =
+        |process, name: &[u8], terms| shared.lock_with(process, name, Mode::Ex, terms).err();
+    assert_eq!(
+        refused(q, b"A", noqueue()),
+        Some(Condition::Notqueued.into())
+    );
+    assert_eq!(refused(q, b"", noqueue()), Some(Condition::Ivbuflen.into()));
+    assert_eq!(
+        refused(q, b"B", noqueue().below(LockId(9))),
+        Some(Condition::Ivlockid.into())
+    );
+    assert_eq!(
+        refused(NOBODY, b"A", noqueue()),
+        Some(Condition::Nonexpr.into())
+    );
+    assert_eq!(
+        shared.start(NOBODY, b"A", Mode::Ex, noqueue(), |_| ()),
+        Err(Condition::Nonexpr)
+    );
+    assert_eq!(
+        shared.start(q, b"A", Mode::Ex, noqueue(), |_| ()),
+        Err(Condition::Notqueued)
+    );
+    assert_eq!(shared.cancel(q, LockId(2)), Err(Condition::Ivlockid));
+    assert_eq!(shared.cancel(p, LockId(1)), Err(Condition::Cancelgrant));
+}
+
+#[test]
+fn each_request_takes_a_status_block() {
+    let shared = Shared::new().expect("memory");
+    let process = shared
+        .declare(&Declaration {
+            blocks: 1,
+            ..declaration(1)
+        })
+        .expect("a process");
+    for _ in 0..9 {
+        shared.lock(process, b"A", Mode::Ex).expect("a lock");
+        shared.lock(process, b"", Mode::Ex).expect_err("no name");
+    }
+    let _held = shared.lock(process, b"A", Mode::Ex).expect("a lock");
+    let waits = shared
+        .start(process, b"A", Mode::Ex, Terms::new(), |_| ())
+        .expect("a lock");
+    assert_eq!(
+        shared.lock(process, b"B", Mode::Ex).err(),
+        Some(Condition::Exenqlm)
+    );
+    assert_eq!(shared.cancel(process, waits), Ok(()));
+    shared.lock(process, b"B", Mode::Ex).expect("a lock");
+    let none = shared
+        .declare(&Declaration {
+            blocks: 0,
+            ..declaration(1)
+        })
+        .expect("a process");
+    assert_eq!(
+        shared.lock(none, b"A", Mode::Ex).err(),
+        Some(Condition::Exenqlm)
+    );
+}
+
+#[test]
+fn the_value_block_goes_from_lock_to_lock() {
+    let (shared, p, q) = two();
+    let mut reader = shared.lock(p, b"A", Mode::Nl).expect("a lock");
+    let mut writer = shared.lock(q, b"A", Mode::Ex).expect("a lock");
+    assert_eq!(
+        (
+            writer.value(),
+            writer.tail(),
+            writer.is_valid(),
+            writer.is_tail_valid()
+        ),
+        (&[0; 16], None, true, false)
+    );
+    writer.write_wide([1; 16], [2; 48]);
+    assert_eq!(writer.convert(Mode::Cr), Ok(()));
+    let wide = || Terms::new().flags(EnqFlags::WIDE);
+    assert_eq!(reader.convert_with(Mode::Pr, wide()), Ok(()));
+    assert_eq!(
+        (reader.value(), reader.tail(), reader.is_tail_valid()),
+        (&[1; 16], Some(&[2; 48]), true)
+    );
+    assert_eq!(reader.convert(Mode::Nl), Ok(()));
+    assert_eq!(writer.convert_timeout(Mode::Pw, Duration::ZERO), Ok(()));
+    writer.write([3; 16]);
+    assert_eq!(writer.release(), Ok(()));
+    assert_eq!(writer.release(), Ok(()));
+    assert_eq!(reader.convert_with(Mode::Pr, wide()), Ok(()));
+    assert_eq!(
+        (reader.value(), reader.is_valid(), reader.is_tail_valid()),
+        (&[3; 16], true, false)
+    );
+}
+
+#[test]
+fn an_ended_writer_leaves_an_invalid_value() {
+    let (shared, p, q) = two();
+    let mut reader = shared.lock(p, b"A", Mode::Nl).expect("a lock");
+    let mut writer = shared.lock(q, b"A", Mode::Ex).expect("a lock");
+    assert_eq!(shared.rundown(q), Ok(()));
+    assert_eq!(shared.rundown(q), Err(Condition::Nonexpr));
+    assert_eq!(writer.release(), Err(Condition::Nonexpr));
+    assert_eq!(writer.convert(Mode::Nl), Err(Condition::Nonexpr));
+    assert_eq!(reader.convert(Mode::Pr), Ok(()));
+    assert!(!reader.is_valid());
+}
+
+#[test]
+fn a_guard_of_a_lock_with_sublocks_is_refused() {
+    let (shared, p, _) = two();
+    let mut parent = shared.lock(p, b"A", Mode::Nl).expect("a lock");
+    let below = Terms::new().below(parent.lock());
+    let mut child = shared.lock_with(p, b"B", Mode::Ex, below).expect("a lock");
+    assert_eq!(parent.release(), Err(Condition::Sublocks));
+    assert_eq!(child.release(), Ok(()));
+    assert_eq!(parent.release(), Ok(()));
+    assert_eq!(resources(&shared), 0);
+}
+
+#[test]
+fn a_guard_that_is_dropped_in_a_panic_writes_nothing() {
+    let (shared, p, q) = two();
+    let mut reader = shared.lock(p, b"A", Mode::Nl).expect("a lock");
+    let clone = shared.clone();
+    let thread = std::thread::spawn(move || {
+        let mut writer = clone.lock(q, b"A", Mode::Ex).expect("a lock");
+        writer.write([1; 16]);
+        std::panic::resume_unwind(Box::new(()));
+    });
+    thread.join().expect_err("a panic");
+    assert_eq!(reader.convert(Mode::Pr), Ok(()));
+    assert_eq!((reader.value(), reader.is_valid()), (&[0; 16], true));
+}
+
+#[test]
+fn errors_have_texts() {
+    assert_eq!(WaitError::TimedOut.to_string(), "timed out");
+    assert_eq!(WaitError::from(Condition::Abort).to_string(), "SS$_ABORT");
+    assert_eq!(WaitError::TimedOut.condition(), Condition::Cancel);
+}

@@ -1,0 +1,102 @@
+//! Walks over resources and their queues, and what is found by name.
+
+use vlm::{Declaration, DeqFlags, Dequeue, Domain, LockManager, Mode, ProcessId, Queue, Request};
+
+/// A lock manager with a process of node 1 and one of node 2.
+fn two() -> (LockManager, ProcessId, ProcessId) {
+    let mut manager = LockManager::new().expect("memory");
+    let mut declare = |node| {
+        let declaration = Declaration {
+            node,
+            group: 7,
+            quota: 20_000,
+            blocks: 2,
+            ..Declaration::default()
+        };
+        manager.declare(&declaration).expect("a process")
+    };
+    let (p, q) = (declare(1), declare(2));
+    (manager, p, q)
+}
+
+#[test]
+fn resources_are_walked_and_found() {
+    let (mut manager, p, q) = two();
+    let root = manager
+        .enq(&Request::new(p, Mode::Nl, 1), b"A")
+        .expect("a lock")
+        .lock;
+    let below = Request {
+        parent: Some(root.into()),
+        ..Request::new(p, Mode::Ex, 2)
+    };
+    manager.enq(&below, b"\0\xff").expect("a lock");
+    manager
+        .enq(&Request::new(q, Mode::Pr, 1), b"A")
+        .expect("a lock");
+    let walked: Vec<_> = manager.resources().collect();
+    assert_eq!((manager.resource_count(), manager.resource(2)), (2, None));
+    assert_eq!(
+        walked,
+        [0, 1].map(|place| manager.resource(place).expect("a resource"))
+    );
+    assert_eq!(
+        (walked[0].parent, &walked[0].name[..], walked[0].domain),
+        (None, &b"A"[..], Domain::Group(7))
+    );
+    assert_eq!(
+        (walked[1].parent, &walked[1].name[..]),
+        (Some(1), &b"\0\xff"[..])
+    );
+    assert_eq!(
+        manager.find(Domain::Group(7), b"A").as_ref(),
+        Some(&walked[0])
+    );
+    assert_eq!(manager.find_below(1, b"\0\xff").as_ref(), Some(&walked[1]));
+    for name in [&b""[..], b"B", &[1; 31], &[1; 32], &[1; 33], &[1; 1000]] {
+        assert_eq!(
+            (
+                manager.find(Domain::System, name),
+                manager.find_below(1, name)
+            ),
+            (None, None)
+        );
+    }
+    assert_eq!(
+        (
+            manager.find_below(0, b"A"),
+            manager.find_below(u32::MAX, b"A")
+        ),
+        (None, None)
+    );
+    let rows: Vec<_> = manager
+        .rows(&walked[0], Queue::Granted)
+        .map(|it| (it.process, it.held, it.want))
+        .collect();
+    assert_eq!(rows, [(p, Some(Mode::Nl), None), (q, Some(Mode::Pr), None)]);
+    assert_eq!(
+        manager.row(0, Queue::Granted, 1),
+        manager.rows(&walked[0], Queue::Granted).nth(1)
+    );
+    manager
+        .dequeue(&Dequeue {
+            flags: DeqFlags::DEQALL,
+            ..Dequeue::new(p, None)
+        })
+        .expect("a step");
+    assert_eq!(manager.rows(&walked[1], Queue::Granted).count(), 0);
+    assert_eq!(manager.row(usize::MAX, Queue::Waiting, usize::MAX), None);
+}
+
+#[test]
+fn a_walk_takes_constant_time_a_step() {
+    let (mut manager, p, _) = two();
+    for number in 0..20_000_u32 {
+        manager
+            .enq(&Request::new(p, Mode::Nl, 1), &number.to_le_bytes())
+            .expect("a lock");
+    }
+    // (a walk by place would take minutes)
+    let serials = manager.resources().map(|resource| resource.serial);
+    assert!(serials.eq(1..=20_000));
+}
