@@ -29,7 +29,8 @@ def calls_of(manager, process):
     return [
         (manager.declare, [(1, 2)], {"group": NUMBERS, "quota": NUMBERS, "blocks": BLOCKS, "syslck": (True, False)}),
         (manager.search, [(1, 2)], {}), (manager.rows, [[*manager.resources(), None], tuple(Queue)], {}),
-        (manager.forget, [(repr, len)], {}), (manager.deliver, [(process, None)], {}),
+        (manager.forget, [(repr, len)], {}), (manager.deliver, [(process, None)], {}), (manager.take_any, [], {}),
+        (manager.find, [NAMES], {"group": NUMBERS, "parent": NUMBERS}),
         (process.enq, [NAMES, MODES, BLOCKS], {**REQUEST, "parent": LOCKS}),
         (process.convert, [LOCKS, MODES, BLOCKS], REQUEST), (tried, [NAMES, MODES], {"flags": tuple(Flags)}),
         (process.deq, [LOCKS], {"flags": tuple(DequeueFlags), "value": TEXTS, "tail": TEXTS}),
@@ -60,7 +61,7 @@ class Arguments(unittest.TestCase):
                     except REFUSALS:
                         pass
                 self.shows_all(manager)
-        self.assertEqual(len(made), 16)
+        self.assertEqual(len(made), 18)
 
     def shows_all(self, manager):
         for resource in manager.resources():
@@ -87,10 +88,12 @@ class Arguments(unittest.TestCase):
             process = manager.declare(blocks=1)
             process.enq("A", Mode.EX, 1)
             resource, = manager.resources()
-            for place, serial in ((-1, 1), (0, 2), (1 << 70, 9), (1 << 70, 0)):
+            for place, serial in ((-1, 9), (0, 2), (1 << 70, 9), (1 << 70, 0), (None, 2)):
                 moved = Resource(place, serial, None, 0, b"A", b"", True, b"", True)
                 self.assertEqual(list(manager.rows(moved, Queue.GRANTED)), [])
-            self.assertEqual(len(list(manager.rows(resource, Queue.GRANTED))), 1)
+            for place in (None, 0, -1, 7, 1 << 70):
+                moved = Resource(place, resource.serial, None, 0, b"A", b"", True, b"", True)
+                self.assertEqual(len(list(manager.rows(moved, Queue.GRANTED))), 1)
             self.assertRaises(ValueError, manager.rows, resource, 3)
 
     def test_a_process_that_nobody_declared(self):

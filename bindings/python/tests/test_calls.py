@@ -62,6 +62,40 @@ class Calls(unittest.TestCase):
         self.p.deq(2)
         self.assertEqual(list(self.manager.rows(own, Queue.GRANTED)), [])
 
+    def test_resources_are_found(self):
+        root = self.q.enq("A", Mode.NL, 1, Flags.SYSTEM).lock
+        self.p.enq("A", Mode.EX, 1)
+        self.q.enq(b"\0\xff", Mode.EX, 2, parent=root)
+        self.assertEqual([it.serial for it in self.manager.resources()], [1, 2, 3])
+        system, own = self.manager.find("A"), self.manager.find("A", group=7)
+        below = self.manager.find(b"\0\xff", parent=system.serial)
+        self.assertEqual([(it.serial, it.place) for it in (system, own, below)], [(1, None), (2, None), (3, None)])
+        self.assertEqual((below.parent, below.group), (1, None))
+        self.assertEqual(list(self.manager.rows(own, Queue.GRANTED)), [Row(2, self.p.pid, Mode.EX, None)])
+        absent = [("B", {}), ("A", {"group": 8}), ("A", {"group": 1 << 31}), ("A", {"parent": 1}), ("A", {"parent": 0}),
+                  ("", {}), ("A" * 32, {}), ("A" * 33, {})]
+        self.assertEqual([self.manager.find(name, **where) for name, where in absent], [None] * len(absent))
+        self.p.deq(2)
+        self.assertEqual(self.manager.find("A", group=7), None)
+        self.assertEqual(list(self.manager.rows(own, Queue.GRANTED)), [])
+
+    def test_a_walk_takes_constant_time_a_step(self):
+        process = self.manager.declare(blocks=1)
+        for number in range(20_000):
+            process.enq(number.to_bytes(4, "little"), Mode.NL, 1)
+        # (a walk by place would take minutes)
+        self.assertEqual([it.serial for it in self.manager.resources()], list(range(1, 20_001)))
+
+    def test_asts_of_any_process_are_taken(self):
+        told = []
+        self.q.enq("A", Mode.NL, 1, completion=told.append, param=1)
+        self.p.enq("A", Mode.NL, 1, completion=8, param=2)
+        self.assertEqual(self.manager.take_any(), (self.p.pid, Ast(AstKind.COMPLETION, 8, 2, 2)))
+        self.p.enq("A", Mode.NL, 1, completion=told.append, param=3)
+        self.assertEqual(self.manager.deliver(), 2)
+        self.assertEqual([it.param for it in told], [3, 1])
+        self.assertEqual((self.manager.take_any(), self.manager.deliver()), (None, 0))
+
     def test_routines_are_called(self):
         told = []
         self.p.enq("A", Mode.EX, 1, completion=told.append, blocking=told.append, param=5)
@@ -162,6 +196,9 @@ class Calls(unittest.TestCase):
         self.assertTrue(manager.is_closed)
         self.assertRaises(BadParam, process.pending)
         self.assertRaises(BadParam, manager.declare)
+        self.assertRaises(BadParam, manager.deliver)
+        self.assertRaises(BadParam, manager.take_any)
+        self.assertEqual(manager.find("A"), None)
         self.assertEqual(list(manager.processes()), list(manager.resources()))
 
     def test_keys_have_16_bytes(self):

@@ -69,6 +69,7 @@ _CALLS = {
     "vlm_convert": [POINTER(Request), _NUMBER],
     "vlm_deq": [POINTER(Dequeue)],
     "vlm_take": [c_uint32, POINTER(Ast)],
+    "vlm_take_any": [_NUMBER, POINTER(Ast)],
     "vlm_rundown": [c_uint32],
     "vlm_leave": [c_uint32],
     "vlm_search": [c_uint32, _NUMBER],
@@ -79,6 +80,9 @@ _CALLS = {
     "vlm_resource_count": [],
     "vlm_resource": [c_size_t, POINTER(Resource)],
     "vlm_row": [c_size_t, c_uint32, c_size_t, POINTER(Row)],
+    "vlm_next_process": [c_uint32, POINTER(Process)],
+    "vlm_next_resource": [POINTER(Resource)],
+    "vlm_find": [POINTER(Resource)],
 }
 _ANSWERS = {"vlm_close": None, "vlm_process_count": c_size_t, "vlm_resource_count": c_size_t}
 

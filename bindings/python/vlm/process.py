@@ -86,7 +86,7 @@ class Process:
         """Takes the oldest pending AST, if there is one."""
         words = raw.Ast()
         checked(self.manager._call("vlm_take", self.pid, words))
-        return Ast(AstKind(words.kind), words.routine, words.param, words.lkid) if words.kind else None
+        return ast_of(words) if words.kind else None
 
     def rundown(self) -> None:
         """Ends the process, with all that it has."""
@@ -132,3 +132,8 @@ class Process:
                 with suppress(VlmError):
                     self.deq(lkid)
                 raise
+
+
+def ast_of(words: raw.Sized) -> Ast:
+    """The AST of these words."""
+    return Ast(AstKind(words.kind), words.routine, words.param, words.lkid)

@@ -139,8 +139,8 @@ class ProcessView:
 class Resource:
     """A resource, without its queues."""
 
-    # Its place among the resources when it was read, from 0.
-    place: int
+    # Its place among the resources when it was read, from 0. None if `find` read it.
+    place: Optional[int]
     # Counts the resources from 1, in the order in which they were made.
     serial: int
     # The serial of the parent resource, or None for a root.
