@@ -143,7 +143,12 @@ static void wrong_readings(vlm *handle) {
         EXPECT(vlm_row(handle, (size_t)is_sized, VLM_GRANTED, 0, &row), VLM_BADPARAM);
         EXPECT(vlm_row(handle, 0, VLM_GRANTED, (size_t)is_sized, &row), VLM_BADPARAM);
         EXPECT(vlm_row(handle, 0, 3, 0, &row), VLM_BADPARAM);
+        EXPECT(vlm_next_process(handle, is_sized ? 12345 : 0, &process), VLM_BADPARAM);
+        EXPECT(vlm_next_resource(handle, &resource), VLM_BADPARAM);
+        EXPECT(vlm_find(handle, &resource), VLM_BADPARAM);
         EXPECT(vlm_take(handle, p, &ast), VLM_BADPARAM);
+        EXPECT(vlm_take_any(handle, &number, &ast), VLM_BADPARAM);
+        HOLD(number == 0);
         HOLD(memcmp(&lksb, &lksb_before, sizeof lksb) == 0);
         HOLD(memcmp(&ast, &ast_before, sizeof ast) == 0);
         HOLD(memcmp(&process, &process_before, sizeof process) == 0);
@@ -170,6 +175,7 @@ static void closed_calls(vlm *handle) {
     EXPECT(CONVERT, VLM_BADPARAM);
     EXPECT(DEQ, VLM_BADPARAM);
     EXPECT(vlm_take(handle, p, &ast), VLM_BADPARAM);
+    EXPECT(vlm_take_any(handle, &number, &ast), VLM_BADPARAM);
     EXPECT(vlm_rundown(handle, p), VLM_BADPARAM);
     EXPECT(vlm_leave(handle, 1), VLM_BADPARAM);
     EXPECT(vlm_search(handle, 1, &number), VLM_BADPARAM);
@@ -178,6 +184,9 @@ static void closed_calls(vlm *handle) {
     EXPECT(vlm_process(handle, 0, &process), VLM_BADPARAM);
     EXPECT(vlm_resource(handle, 0, &resource), VLM_BADPARAM);
     EXPECT(vlm_row(handle, 0, VLM_GRANTED, 0, &row), VLM_BADPARAM);
+    EXPECT(vlm_next_process(handle, 0, &process), VLM_BADPARAM);
+    EXPECT(vlm_next_resource(handle, &resource), VLM_BADPARAM);
+    EXPECT(vlm_find(handle, &resource), VLM_BADPARAM);
     HOLD(vlm_process_count(handle) == 0 && vlm_resource_count(handle) == 0 && ast.kind == 9 && count == 99);
     HOLD(!handle->is_held && handle->core == NULL);
 }

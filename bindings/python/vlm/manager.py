@@ -139,8 +139,8 @@ class LockManager:
         return _resource(words, None)
 
     def rows(self, resource: Resource, queue: Queue) -> Iterator[Row]:
-        """The locks in a queue of a resource, as they are at the call. A resource that is gone has none. Each costs time
-        that grows with the place of the resource and the place in the queue."""
+        """The locks in a queue of a resource, as they are at the call. A resource that is gone has none. Each row costs
+        time that grows with the place of the resource and the place in the queue."""
         with self._changed:
             place = self._place_of(resource)
             return iter([] if place is None else list(self._rows(place, Queue(queue))))
