@@ -130,8 +130,7 @@ impl LockManager {
     }
 
     /// Takes the oldest AST of the first process that has one: of the first node with such a process, the first in order
-    /// of making. It takes constant time, so one loop of it delivers everything. A lock manager that is open refuses it
-    /// never.
+    /// of making. It takes constant time, so one loop of it delivers everything. It is never refused.
     ///
     /// ```
     /// # fn main() -> Result<(), vlm::Condition> {
