@@ -128,7 +128,7 @@ static void test_values(void) {
     EXPECT(deq(layer, q, other.lkid, 0), VLM_NORMAL);
     request.mode = VLM_EX;
     EXPECT(vlm_threads_convert(layer, &request), VLM_NORMAL);
-    vlm_threads_dequeue dequeue = {.size = sizeof dequeue, .pid = p, .lock = request.lkid, .value = (const uint8_t *)"sixteen letters.!"};
+    vlm_threads_dequeue dequeue = {.size = sizeof dequeue, .pid = p, .lock = request.lkid, .value = value};
     EXPECT(vlm_threads_deq(layer, &dequeue), VLM_NORMAL);
 }
 
