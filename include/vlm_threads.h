@@ -1,6 +1,7 @@
 /* The lock manager for programs with threads: a layer over vlm.h that waits, wakes, calls back and counts.
  *
- * The steps are vlm.h's, and proved. The layer is plain C11 over pthreads and Linux's eventfd. It is tested, not proved.
+ * The steps are vlm.h's, and proved. The layer is plain C11 over pthreads and Linux's eventfd. It is tested, not
+ * proved.
  *
  *     vlm_threads_options options = {.size = sizeof options, .search_milliseconds = 100};
  *     vlm_threads *layer;
@@ -76,13 +77,14 @@ typedef struct vlm_threads_options {
     uint32_t reserved[8];
 } vlm_threads_options;
 
-/* Makes a layer with a lock manager, and starts its threads: one that runs routines (VLM_THREADS_BY_LAYER), and one that
- * searches (search_milliseconds not 0). *layer is null unless it answers NORMAL.
+/* Makes a layer with a lock manager, and starts its threads: one that runs routines (VLM_THREADS_BY_LAYER), and one
+ * that searches (search_milliseconds not 0). *layer is null unless it answers NORMAL.
  * INSFMEM: memory, a thread or an eventfd was refused. BADPARAM: options are malformed. */
 uint32_t vlm_threads_open(const vlm_threads_options *options, vlm_threads **layer);
 
-/* Ends all processes, as vlm_threads_leave of all nodes does. A call that waits answers DEPARTED, and so does each later
- * call for a process; pending events are dropped, and no routine begins any more. The answer is NORMAL. Does not wait. */
+/* Ends all processes, as vlm_threads_leave of all nodes does. A call that waits answers DEPARTED, and so does each
+ * later call for a process; pending events are dropped, and no routine begins any more. The answer is NORMAL. Does not
+ * wait. */
 uint32_t vlm_threads_stop(vlm_threads *layer);
 
 /* Stops the layer, waits until the calls that were waiting and the routine that was running have returned, ends the
@@ -116,8 +118,8 @@ uint32_t vlm_threads_declare(vlm_threads *layer, const vlm_threads_declaration *
  * NONEXPR: there is no such process. DEPARTED: its node has departed. */
 uint32_t vlm_threads_rundown(vlm_threads *layer, uint32_t pid);
 
-/* A node departs: all its processes end, as by vlm_threads_rundown, and it declares no more. A call that waits for one of
- * them answers DEPARTED.
+/* A node departs: all its processes end, as by vlm_threads_rundown, and it declares no more. A call that waits for one
+ * of them answers DEPARTED.
  * BADPARAM: the node is not 1 to 8. DEPARTED: it has departed before. */
 uint32_t vlm_threads_leave(vlm_threads *layer, uint32_t node);
 
@@ -161,8 +163,9 @@ typedef struct vlm_threads_request {
  * NORMAL: granted, at once or later; SYNCH instead, with VLM_SYNCSTS, if it was granted at once. `lkid` is the lock.
  * `status` is NORMAL; with VLM_VALBLK it may be VALNOTVALID (the value block is invalid), or with VLM_WIDE WIDENOTVALID
  * (bytes 16 to 63 are). With VLM_VALBLK, `value` has the value block, also when it is invalid.
- * TIMEOUT: not granted in time, and cancelled; a grant that comes before the cancelling is a grant. DEADLOCK: it was the
- * victim of a search. ABORT: another thread cancelled it or gave its lock up. NONEXPR or DEPARTED: the process ended.
+ * TIMEOUT: not granted in time, and cancelled; a grant that comes before the cancelling is a grant. DEADLOCK: it was
+ * the victim of a search. ABORT: another thread cancelled it or gave its lock up. NONEXPR or DEPARTED: the process
+ * ended.
  * With all of these there is no lock, `lkid` is 0, and `status` is the answer.
  * Refused, with nothing changed and `lkid` and `status` 0:
  * BADPARAM: the request is malformed: a mode, flag or mark that does not exist, VLM_VALBLK with a null value, a
@@ -172,19 +175,19 @@ typedef struct vlm_threads_request {
  * The blocking routine may run before the call returns. */
 uint32_t vlm_threads_enq(vlm_threads *layer, vlm_threads_request *request, const uint8_t *name, size_t name_len);
 
-/* Asks for another mode of a granted lock, and waits until the request has ended. With VLM_VALBLK, `value` is written to
- * the value block if the conversion writes (from PW or EX to a mode that is not higher), else it is read from it if the
- * conversion reads. Answers as vlm_threads_enq; the lock stays in each case except ABORT, NONEXPR and DEPARTED, and holds
- * what it held unless the request was granted. CANCEL: another thread cancelled it. ABORT: another thread gave the lock
- * up. Refused also with CVTUNGRANT: the lock has a request that has not ended; BADPARAM: VLM_QUECVT does not go with the
- * two modes. Not refused with EXENQLM because of the quota. `lkid` is the lock, unless refused or gone.
+/* Asks for another mode of a granted lock, and waits until the request has ended. With VLM_VALBLK, `value` is written
+ * to the value block if the conversion writes (from PW or EX to a mode that is not higher), else it is read from it if
+ * the conversion reads. Answers as vlm_threads_enq; the lock stays in each case except ABORT, NONEXPR and DEPARTED, and
+ * holds what it held unless the request was granted. CANCEL: another thread cancelled it. ABORT: another thread gave
+ * the lock up. Refused also with CVTUNGRANT: the lock has a request that has not ended; BADPARAM: VLM_QUECVT does not
+ * go with the two modes. Not refused with EXENQLM because of the quota. `lkid` is the lock, unless refused or gone.
  * The routine of the lock is the old one until the conversion is granted, and then the one that this request names. */
 uint32_t vlm_threads_convert(vlm_threads *layer, vlm_threads_request *request);
 
-/* The same requests without waiting. NORMAL: accepted, and the completion routine will be told how it ended, also when it
- * was granted at once. SYNCH: with VLM_SYNCSTS, granted at once, and the completion routine is not called; `value` is
- * written then. `value` is read during the call; the event brings what a grant returns. `lkid` is the lock. `status` is 0,
- * or how it ended if that is known at once. The completion routine may run before the call returns.
+/* The same requests without waiting. NORMAL: accepted, and the completion routine will be told how it ended, also when
+ * it was granted at once. SYNCH: with VLM_SYNCSTS, granted at once, and the completion routine is not called; `value`
+ * is written then. `value` is read during the call; the event brings what a grant returns. `lkid` is the lock. `status`
+ * is 0, or how it ended if that is known at once. The completion routine may run before the call returns.
  * Refused as the forms that wait; BADPARAM: no completion routine. */
 uint32_t vlm_threads_start_enq(vlm_threads *layer, vlm_threads_request *request, const uint8_t *name, size_t name_len);
 uint32_t vlm_threads_start_convert(vlm_threads *layer, vlm_threads_request *request);
@@ -199,24 +202,24 @@ typedef struct vlm_threads_dequeue {
     uint32_t reserved[7];
 } vlm_threads_dequeue;
 
-/* Gives a lock up. With VLM_DEQALL all locks below it, or all of the process with lock 0. With VLM_DEQ_CANCEL its request
- * only: a new request goes with its lock by ABORT, a conversion ends by CANCEL and the lock stays. A call that waits for
- * such a request answers that. Never waits, and needs no memory. While no request waits anywhere it costs a step of the
- * core; else see vlm_threads_search on what a step costs.
- * Refused: BADPARAM: malformed, or flags that don't go together; IVLOCKID: no such lock of the process; SUBLOCKS: it has
- * sublocks; CANCELGRANT: it has no request to cancel; NONEXPR; DEPARTED. */
+/* Gives a lock up. With VLM_DEQALL all locks below it, or all of the process with lock 0. With VLM_DEQ_CANCEL its
+ * request only: a new request goes with its lock by ABORT, a conversion ends by CANCEL and the lock stays. A call that
+ * waits for such a request answers that. Never waits, and needs no memory. While no request waits anywhere it costs a
+ * step of the core; else see vlm_threads_search on what a step costs.
+ * Refused: BADPARAM: malformed, or flags that don't go together; IVLOCKID: no such lock of the process; SUBLOCKS: it
+ * has sublocks; CANCELGRANT: it has no request to cancel; NONEXPR; DEPARTED. */
 uint32_t vlm_threads_deq(vlm_threads *layer, const vlm_threads_dequeue *dequeue);
 
-/* Delivery. Routines run one at a time, without the layer's mutex, oldest event first: so the events of a process come in
- * the order of the core, the completion of a request before the warning of its lock. A completion is told once, unless
- * its process has ended. A warning is dropped if the grant that it belongs to is over: the lock has gone, or has another
- * mode.
+/* Delivery. Routines run one at a time, without the layer's mutex, oldest event first: so the events of a process come
+ * in the order of the core, the completion of a request before the warning of its lock. A completion is told once,
+ * unless its process has ended. A warning is dropped if the grant that it belongs to is over: the lock has gone, or has
+ * another mode.
  * A routine may make any call except vlm_threads_close. If it waits, no other routine runs until it returns; the call
  * that waits is woken all the same, since the thread that makes the granting step wakes it. But a wait for a lock that
  * another routine would have to give up lasts until its time is over: use `milliseconds`, or the start forms. */
 
-/* The file descriptor, *descriptor, that is readable while an event is pending; for poll, select and epoll. Only the layer
- * reads and writes it, and closes it. BADPARAM, with -1: the layer runs the routines itself. */
+/* The file descriptor, *descriptor, that is readable while an event is pending; for poll, select and epoll. Only the
+ * layer reads and writes it, and closes it. BADPARAM, with -1: the layer runs the routines itself. */
 uint32_t vlm_threads_fd(vlm_threads *layer, int *descriptor);
 
 /* Runs the routines of the events that were pending at the call, in the calling thread. *delivered is how many; 0 also
@@ -224,9 +227,9 @@ uint32_t vlm_threads_fd(vlm_threads *layer, int *descriptor);
  * BADPARAM, with 0: the layer runs the routines itself. */
 uint32_t vlm_threads_dispatch(vlm_threads *layer, uint32_t *delivered);
 
-/* Waits until the routine that runs at the call, if one does, has returned. After a lock has been given up, or a process
- * run down, no routine that belongs to it begins; after vlm_threads_settle none runs either, and its context can go.
- * (A completion routine of a living process is told first, whatever becomes of the lock.)
+/* Waits until the routine that runs at the call, if one does, has returned. After a lock has been given up, or a
+ * process run down, no routine that belongs to it begins; after vlm_threads_settle none runs either, and its context
+ * can go. (A completion routine of a living process is told first, whatever becomes of the lock.)
  * BADPARAM: it is called from a routine. */
 uint32_t vlm_threads_settle(vlm_threads *layer);
 
@@ -235,17 +238,17 @@ uint32_t vlm_threads_settle(vlm_threads *layer);
 /* Searches now, until no request is deadlocked: *victims is how many ended by DEADLOCK, the latest request first. The
  * layer's own thread does the same each search_milliseconds if a request waits. No other call works meanwhile; a search
  * costs the more, the more requests wait (docs/PERFORMANCE.md).
- * After a step, here and elsewhere, the layer asks the core for ASTs. It skips that if no request waits, and after a new
- * request that is granted at once. Else it asks each process that has a waiting request, or a lock with a blocking routine
- * that has not been called: some 20 ns for each. */
+ * After a step, here and elsewhere, the layer asks the core for ASTs. It skips that if no request waits, and after a
+ * new request that is granted at once. Else it asks each process that has a waiting request, or a lock with a blocking
+ * routine that has not been called: some 20 ns for each. */
 uint32_t vlm_threads_search(vlm_threads *layer, uint32_t *victims);
 
 /* Looking. */
 
 typedef void (*vlm_threads_reader)(void *context, vlm *handle);
 
-/* Calls the reader with the handle of the lock manager, for vlm_process, vlm_resource, vlm_row and the other readings of
- * vlm.h. No other call works meanwhile. NORMAL. */
+/* Calls the reader with the handle of the lock manager, for vlm_process, vlm_resource, vlm_row and the other readings
+ * of vlm.h. No other call works meanwhile. NORMAL. */
 uint32_t vlm_threads_look(vlm_threads *layer, vlm_threads_reader reader, void *context);
 
 /* Counters. Times are of a monotonic clock. */

@@ -1,9 +1,10 @@
 /* What the files of the layer for threads share. Not a header of programs.
  *
- * The layer has one mutex, which guards everything. Each call makes a step of the core, then takes all ASTs that the step
- * queued, so between two calls none is pending in the core. A request has a record here. Its place in the table of
- * records is the parameter of both its ASTs, so an AST finds its request at once. An AST wakes the one thread that waits
- * for its request, or becomes an event in the layer's own queue, from which routines are called without the mutex.
+ * The layer has one mutex, which guards everything. Each call makes a step of the core, then takes all ASTs that the
+ * step queued, so between two calls none is pending in the core. A request has a record here. Its place in the table of
+ * records is the parameter of both its ASTs, so an AST finds its request at once. An AST wakes the one thread that
+ * waits for its request, or becomes an event in the layer's own queue, from which routines are called without the
+ * mutex.
  *
  * vlm_threads.c            opening, closing, searches, counters
  * vlm_threads_processes.c  declare, rundown, leave, the ends of threads

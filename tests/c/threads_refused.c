@@ -1,5 +1,5 @@
-/* Each allocation, thread and eventfd of the layer for threads refused in turn, and the key for data of threads: the call
- * answers INSFMEM and changes nothing, and is made again. Linked with -Wl,--wrap= of malloc, calloc, realloc,
+/* Each allocation, thread and eventfd of the layer for threads refused in turn, and the key for data of threads: the
+ * call answers INSFMEM and changes nothing, and is made again. Linked with -Wl,--wrap= of malloc, calloc, realloc,
  * pthread_create and eventfd. */
 #include "threads_test.h"
 
@@ -93,9 +93,10 @@ static vlm_threads *opened_at_last(uint32_t delivery) {
 static void use(vlm_threads *layer) {
     enum { MANY = 40 };
     uint32_t status, pids[MANY], granted = 0, delivered;
-    vlm_threads_declaration declaration = {.size = sizeof declaration, .node = 1, .group = 1, .quota = 9, .requests = 2};
+    vlm_threads_declaration declaration = {.size = sizeof declaration, .node = 1, .quota = 9, .requests = 2};
     vlm_threads_request holds = {.size = sizeof holds, .mode = VLM_EX, .blocking = note, .blocking_context = &granted};
-    vlm_threads_request waits = {.size = sizeof waits, .mode = VLM_PR, .completion = note, .completion_context = &granted};
+    vlm_threads_request waits = {.size = sizeof waits, .mode = VLM_PR, .completion = note};
+    waits.completion_context = &granted;
     for (uint32_t i = 0; i < MANY; i++) {
         declaration.tied = i % 2;
         MADE(vlm_threads_declare(layer, &declaration, &pids[i]));
