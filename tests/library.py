@@ -90,7 +90,8 @@ def package():
 
 
 def options(sanitizer):
-    words = ["-std=c11", "-O1", "-g", *STRICT, "-pthread"]
+    # (valgrind reads what clang tells a debugger by DWARF 4, and not by 5)
+    words = ["-std=c11", "-O1", "-gdwarf-4", *STRICT, "-pthread"]
     return words if sanitizer == "none" else [*words, f"-fsanitize={sanitizer}", "-fno-sanitize-recover=all"]
 
 

@@ -187,11 +187,11 @@ bool vlmt_is_in_routine(const vlm_threads *layer);
 /* Waits until the routine that runs has returned. */
 void vlmt_settle(vlm_threads *layer);
 
-static inline bool all_zero(const void *bytes, size_t count) {
-    const uint8_t *byte = bytes;
-    while (count && !byte[count - 1])
-        count--;
-    return count == 0;
+static inline bool all_zero(const uint32_t *words, size_t bytes) {
+    uint32_t any = 0;
+    for (size_t i = 0; i < bytes / sizeof *words; i++)
+        any |= words[i];
+    return !any;
 }
 
 static inline uint64_t now(void) {
