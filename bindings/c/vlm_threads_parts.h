@@ -154,6 +154,7 @@ bool vlmt_table_is_made(struct table *table, uint32_t bits);
 bool vlmt_table_has_room(struct table *table);
 void *vlmt_array_with_room(void *array, uint32_t count, uint32_t *room);
 bool vlmt_has_room_for_request(vlm_threads *layer);
+bool vlmt_has_room_for_lock(vlm_threads *layer);
 
 /* vlm_threads_ends.c: events. */
 void vlmt_queue_event(vlm_threads *layer, struct event *event);

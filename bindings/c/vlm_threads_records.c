@@ -69,7 +69,7 @@ void *vlmt_array_with_room(void *array, uint32_t count, uint32_t *room) {
     return moved;
 }
 
-static bool has_free_request(vlm_threads *layer) {
+bool vlmt_has_room_for_request(vlm_threads *layer) {
     if (layer->free_requests)
         return true;
     void *array = vlmt_array_with_room(layer->requests, layer->request_count, &layer->request_room);
@@ -93,6 +93,4 @@ static bool has_free_lock(vlm_threads *layer) {
     return layer->free_locks;
 }
 
-bool vlmt_has_room_for_request(vlm_threads *layer) {
-    return has_free_request(layer) && has_free_lock(layer) && vlmt_table_has_room(&layer->locks);
-}
+bool vlmt_has_room_for_lock(vlm_threads *layer) { return has_free_lock(layer) && vlmt_table_has_room(&layer->locks); }

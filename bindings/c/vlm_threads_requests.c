@@ -116,7 +116,7 @@ static uint32_t make_request(vlm_threads *layer, const struct asked *asked, stru
         return refusal(layer, words->pid);
     if (!process->free_count)
         return VLM_EXENQLM;
-    if (!vlmt_has_room_for_request(layer))
+    if (!vlmt_has_room_for_request(layer) || !(asked->is_conversion || vlmt_has_room_for_lock(layer)))
         return VLM_INSFMEM;
     struct request *request = layer->free_requests;
     request->process = process;
@@ -187,7 +187,7 @@ static uint32_t ask(vlm_threads *layer, const struct asked *asked) {
     layer->counters.requests++;
     bool is_right = words->size == sizeof *words && is_right_request(asked);
     uint32_t status = is_right ? make_request(layer, asked, &waiter) : VLM_BADPARAM;
-    if (status != VLM_NORMAL && status != VLM_SYNCH)
+    if (status != VLM_NORMAL && status != VLM_SYNCH && status < VLM_THREADS_CONDITIONS)
         layer->counters.refused[status]++;
     if (waiter.request) {
         status = awaited(layer, &waiter);
