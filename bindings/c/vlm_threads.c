@@ -53,9 +53,11 @@ uint32_t vlm_threads_search(vlm_threads *layer, uint32_t *victims) {
 }
 
 uint32_t vlm_threads_look(vlm_threads *layer, vlm_threads_reader reader, void *context) {
+    int before = cancels_off();
     pthread_mutex_lock(&layer->mutex);
     reader(context, &layer->handle);
     pthread_mutex_unlock(&layer->mutex);
+    cancels_back(before);
     return VLM_NORMAL;
 }
 
@@ -173,14 +175,8 @@ static void free_primitives(vlm_threads *layer) {
     pthread_mutex_destroy(&layer->mutex);
 }
 
-uint32_t vlm_threads_close(vlm_threads *layer) {
-    if (!layer)
-        return VLM_NORMAL;
-    pthread_mutex_lock(&layer->mutex);
-    if (vlmt_is_in_routine(layer)) {
-        pthread_mutex_unlock(&layer->mutex);
-        return VLM_BADPARAM;
-    }
+/* Stops the layer, and waits until nobody sleeps in it and no routine runs. */
+static void empty(vlm_threads *layer) {
     stop(layer);
     layer->is_closing = true;
     pthread_cond_signal(&layer->pending);
@@ -188,13 +184,29 @@ uint32_t vlm_threads_close(vlm_threads *layer) {
     vlmt_settle(layer);
     while (layer->sleepers)
         pthread_cond_wait(&layer->calm, &layer->mutex);
-    pthread_mutex_unlock(&layer->mutex);
+}
+
+static void free_layer(vlm_threads *layer) {
     join_threads(layer);
     vlm_close(&layer->handle);
     free_records(layer);
     free_primitives(layer);
     free(layer);
-    return VLM_NORMAL;
+}
+
+uint32_t vlm_threads_close(vlm_threads *layer) {
+    if (!layer)
+        return VLM_NORMAL;
+    int before = cancels_off();
+    pthread_mutex_lock(&layer->mutex);
+    bool is_allowed = !vlmt_is_in_routine(layer);
+    if (is_allowed)
+        empty(layer);
+    pthread_mutex_unlock(&layer->mutex);
+    if (is_allowed)
+        free_layer(layer);
+    cancels_back(before);
+    return is_allowed ? VLM_NORMAL : VLM_BADPARAM;
 }
 
 /* Counters. */

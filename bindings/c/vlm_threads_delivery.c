@@ -56,10 +56,12 @@ bool vlmt_is_in_routine(const vlm_threads *layer) {
 /* Waits until the routine that runs has returned. */
 void vlmt_settle(vlm_threads *layer) {
     uint64_t called = layer->called;
+    int before = cancels_off();
     layer->settling++;
     while (layer->is_calling && layer->called == called)
         pthread_cond_wait(&layer->calm, &layer->mutex);
     layer->settling--;
+    cancels_back(before);
 }
 
 void *vlmt_dispatch(void *given) {
@@ -83,10 +85,12 @@ uint32_t vlm_threads_dispatch(vlm_threads *layer, uint32_t *delivered) {
     *delivered = 0;
     if (layer->descriptor < 0)
         return VLM_BADPARAM;
+    int before = cancels_off();
     pthread_mutex_lock(&layer->mutex);
     if (!layer->is_delivering)
         *delivered = deliver(layer, layer->counters.events);
     pthread_mutex_unlock(&layer->mutex);
+    cancels_back(before);
     return VLM_NORMAL;
 }
 

@@ -6,6 +6,16 @@
 
 /* Events. */
 
+static void set_readable(int descriptor, bool is_readable) {
+    eventfd_t count;
+    int before = cancels_off();
+    if (is_readable)
+        eventfd_write(descriptor, 1);
+    else
+        eventfd_read(descriptor, &count);
+    cancels_back(before);
+}
+
 void vlmt_queue_event(vlm_threads *layer, struct event *event) {
     event->is_pending = true;
     event->next = NULL;
@@ -15,7 +25,7 @@ void vlmt_queue_event(vlm_threads *layer, struct event *event) {
     if (layer->counters.events++)
         return;
     if (layer->descriptor >= 0)
-        eventfd_write(layer->descriptor, 1);
+        set_readable(layer->descriptor, true);
     else
         pthread_cond_signal(&layer->pending);
 }
@@ -24,9 +34,8 @@ void vlmt_unqueue_event(vlm_threads *layer, struct event *event) {
     event->is_pending = false;
     *(event->previous ? &event->previous->next : &layer->first) = event->next;
     *(event->next ? &event->next->previous : &layer->last) = event->previous;
-    eventfd_t count;
     if (--layer->counters.events == 0 && layer->descriptor >= 0)
-        eventfd_read(layer->descriptor, &count);
+        set_readable(layer->descriptor, false);
 }
 
 void vlmt_drop_event(vlm_threads *layer, struct event *event) {

@@ -206,6 +206,15 @@ static inline struct timespec after(uint64_t since, uint32_t milliseconds) {
     return (struct timespec){.tv_sec = (time_t)(moment / NANOSECONDS), .tv_nsec = (long)(moment % NANOSECONDS)};
 }
 
+/* Between these two the thread is not cancelled: it would leave the mutex locked, or a delivery unfinished. */
+static inline int cancels_off(void) {
+    int before;
+    pthread_setcancelstate(PTHREAD_CANCEL_DISABLE, &before);
+    return before;
+}
+
+static inline void cancels_back(int before) { pthread_setcancelstate(before, NULL); }
+
 static inline bool is_grant(uint32_t status) {
     return status == VLM_NORMAL || status == VLM_VALNOTVALID || status == VLM_WIDENOTVALID;
 }

@@ -159,17 +159,16 @@ static void sleep_until_ended(vlm_threads *layer, struct waiter *waiter) {
     }
 }
 
-/* Waits for the end of a queued request. The thread is not cancelled meanwhile: it would leave the mutex locked. */
+/* Waits for the end of a queued request. */
 static uint32_t awaited(vlm_threads *layer, struct waiter *waiter) {
-    int before;
-    pthread_setcancelstate(PTHREAD_CANCEL_DISABLE, &before);
+    int before = cancels_off();
     layer->sleepers++;
     sleep_until_ended(layer, waiter);
     layer->sleepers--;
     if (layer->is_closing)
         pthread_cond_broadcast(&layer->calm);
     pthread_cond_destroy(&waiter->ended);
-    pthread_setcancelstate(before, NULL);
+    cancels_back(before);
     return is_grant(waiter->status) ? VLM_NORMAL : waiter->status;
 }
 
