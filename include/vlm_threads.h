@@ -187,7 +187,8 @@ uint32_t vlm_threads_enq(vlm_threads *layer, vlm_threads_request *request, const
  * differences. The lock stays, and `lkid` is written, also with TIMEOUT and DEADLOCK, and with CANCEL: another thread
  * cancelled the request. It holds what it held then. With ABORT, NONEXPR and DEPARTED it has gone.
  * With VLM_VALBLK, a conversion from PW or EX writes `value` to the value block, except from PW to EX. That one, and a
- * conversion from a lower mode to the same or a higher one, return it. Others do neither; docs/MACHINE.md has the table.
+ * conversion from a lower mode to the same or a higher one, return it. Others do neither; docs/MACHINE.md has the
+ * table.
  * Refused also with CVTUNGRANT: the lock has a request that has not ended; and BADPARAM: VLM_QUECVT does not go with
  * the two modes. The quota of locks is not looked at.
  * Until the grant the old blocking routine counts, then that of this request. */

@@ -204,6 +204,8 @@ def functions(_program):
     there = {name for file in sources() for name in re.findall(r"\bfn (\w+)", file.read_text())}
     for file in (TOP / "crates").glob("*/specs/*.antt"):
         there |= set(re.findall(r"^(?:abbrev|unfoldable) pub (\w+) :", file.read_text(), re.M))
+    for file in (TOP / "include").glob("*.h"):
+        there |= set(re.findall(r"^[\w *]*\b(vlm_\w+)\(", file.read_text(), re.M))
     for page in PAGES:
         for name in sorted(set(re.findall(r"`([a-z]+(?:_[a-z0-9]+){3,})`", page.read_text())) - there):
             yield f"{page.name}: no function {name}"
