@@ -111,20 +111,21 @@ static void test_refused_enq(void) {
 }
 
 static void test_values(void) {
-    uint8_t value[64] = {0}, read[64];
+    uint8_t value[64] = {0}, read[64], written[64];
     vlm_threads_request request = asked(p, VLM_EX), other = asked(q, VLM_CR);
     request.flags = VLM_VALBLK | VLM_WIDE;
     request.value = value;
     EXPECT(enq(layer, &request, "A"), VLM_NORMAL);
     HOLD(request.lkid == 1 && request.status == VLM_NORMAL);
-    memset(value, 'v', sizeof value);
+    memset(written, 'v', sizeof written);
+    memcpy(value, written, sizeof value);
     request.lock = request.lkid;
     request.mode = VLM_CR;
     EXPECT(vlm_threads_convert(layer, &request), VLM_NORMAL);
     other.flags = VLM_VALBLK | VLM_WIDE | VLM_SYNCSTS;
     other.value = read;
     EXPECT(enq(layer, &other, "A"), VLM_SYNCH);
-    HOLD(memcmp(value, read, sizeof read) == 0);
+    HOLD(memcmp(written, read, sizeof read) == 0 && memcmp(written, value, sizeof value) == 0);
     EXPECT(deq(layer, q, other.lkid, 0), VLM_NORMAL);
     request.mode = VLM_EX;
     EXPECT(vlm_threads_convert(layer, &request), VLM_NORMAL);

@@ -157,7 +157,7 @@ static void test_stop(void) {
 static void test_close(void) {
     struct wait waits[WAITERS];
     pthread_t threads[WAITERS];
-    layer = opened(VLM_THREADS_BY_LAYER, 1000);
+    layer = opened(VLM_THREADS_BY_PROGRAM, 0);
     wait_for_holder(waits, threads);
     EXPECT(vlm_threads_close(layer), VLM_NORMAL);
     expect_ends(waits, threads, VLM_DEPARTED);

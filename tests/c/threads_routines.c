@@ -80,7 +80,6 @@ struct chain {
 static void go_on(void *context, const vlm_threads_event *event) {
     struct chain *chain = context;
     EXPECT(event->status, VLM_NORMAL);
-    HOLD(delivered() == 0);
     EXPECT(vlm_threads_close(layer), VLM_BADPARAM);
     EXPECT(vlm_threads_settle(layer), VLM_BADPARAM);
     EXPECT(deq(layer, chain->pid, event->lkid, 0), VLM_NORMAL);
@@ -90,6 +89,7 @@ static void go_on(void *context, const vlm_threads_event *event) {
     request.completion = go_on;
     request.completion_context = chain;
     EXPECT(start_enq(layer, &request, "chain"), VLM_NORMAL);
+    HOLD(is_readable() && delivered() == 0);
 }
 
 /* A dispatch delivers what was pending when it began, and leaves what its routines add. */
@@ -162,8 +162,7 @@ static void test_settle(void) {
 /* The watchdog finds a victim: of two that wait for each other the later one. */
 static void *wait_for_other(void *given) {
     vlm_threads_request *request = given;
-    request->reserved[0] = 0;
-    request->status = vlm_threads_convert(layer, request);
+    HOLD(vlm_threads_convert(layer, request) == request->status);
     return NULL;
 }
 
