@@ -89,6 +89,8 @@ uint32_t vlm_threads_dispatch(vlm_threads *layer, uint32_t *delivered) {
     pthread_mutex_lock(&layer->mutex);
     if (!layer->is_delivering)
         *delivered = deliver(layer, layer->counters.events);
+    if (*delivered && layer->first) /* (for those who are told of a change alone, as by EPOLLET) */
+        vlmt_set_readable(layer, true);
     pthread_mutex_unlock(&layer->mutex);
     cancels_back(before);
     return VLM_NORMAL;

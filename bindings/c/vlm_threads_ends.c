@@ -6,13 +6,13 @@
 
 /* Events. */
 
-static void set_readable(int descriptor, bool is_readable) {
+void vlmt_set_readable(vlm_threads *layer, bool is_readable) {
     eventfd_t count;
     int before = cancels_off();
     if (is_readable)
-        eventfd_write(descriptor, 1);
+        eventfd_write(layer->descriptor, 1);
     else
-        eventfd_read(descriptor, &count);
+        eventfd_read(layer->descriptor, &count);
     cancels_back(before);
 }
 
@@ -25,7 +25,7 @@ void vlmt_queue_event(vlm_threads *layer, struct event *event) {
     if (layer->counters.events++)
         return;
     if (layer->descriptor >= 0)
-        set_readable(layer->descriptor, true);
+        vlmt_set_readable(layer, true);
     else
         pthread_cond_signal(&layer->pending);
 }
@@ -35,7 +35,7 @@ void vlmt_unqueue_event(vlm_threads *layer, struct event *event) {
     *(event->previous ? &event->previous->next : &layer->first) = event->next;
     *(event->next ? &event->next->previous : &layer->last) = event->previous;
     if (--layer->counters.events == 0 && layer->descriptor >= 0)
-        set_readable(layer->descriptor, false);
+        vlmt_set_readable(layer, false);
 }
 
 void vlmt_drop_event(vlm_threads *layer, struct event *event) {

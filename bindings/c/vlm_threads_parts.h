@@ -120,22 +120,22 @@ struct vlm_threads {
     struct table processes, locks;
     struct process **expecting; /* those that expect ASTs, with room for all */
     uint32_t expecting_count, expecting_room;
-    struct request **requests;
+    struct request **requests; /* all records, by index */
     uint32_t request_count, request_room;
     struct request *free_requests;
     struct lock *free_locks;
 
-    struct event *first, *last;
-    int descriptor; /* the eventfd, or -1 */
-    bool is_delivering;
-    bool is_calling; /* a routine runs */
+    struct event *first, *last; /* the pending ones */
+    int descriptor;             /* the eventfd, or -1 */
+    bool is_delivering;         /* a thread, the deliverer, is in a delivery */
+    bool is_calling;            /* and runs a routine */
     pthread_t deliverer;
-    uint64_t called; /* how many routines were called */
-    uint32_t settling;
+    uint64_t called;   /* how many routines have returned */
+    uint32_t settling; /* threads that wait for the end of a routine */
 
-    pthread_key_t key;
+    pthread_key_t key; /* of a thread's bond */
     bool has_key;
-    struct bond *bonds;
+    struct bond *bonds; /* of all threads with a tied process */
 
     pthread_t dispatcher, watchdog;
     bool has_dispatcher, has_watchdog, is_closing;
@@ -156,7 +156,8 @@ void *vlmt_array_with_room(void *array, uint32_t count, uint32_t *room);
 bool vlmt_has_room_for_request(vlm_threads *layer);
 bool vlmt_has_room_for_lock(vlm_threads *layer);
 
-/* vlm_threads_ends.c: events. */
+/* vlm_threads_ends.c: the eventfd, and events. */
+void vlmt_set_readable(vlm_threads *layer, bool is_readable);
 void vlmt_queue_event(vlm_threads *layer, struct event *event);
 void vlmt_unqueue_event(vlm_threads *layer, struct event *event);
 void vlmt_drop_event(vlm_threads *layer, struct event *event);

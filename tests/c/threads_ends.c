@@ -86,6 +86,33 @@ static void test_cancelled_in_wait(void) {
     HOLD(counters_of(layer).processes == 0 && counters_of(layer).locks == 0);
 }
 
+static void ignore(void *context, const vlm_threads_event *event) {
+    (void)context;
+    (void)event;
+}
+
+static void *start_and_end(void *given) {
+    vlm_threads_request request = asked(declared_tied(), VLM_NL);
+    uint32_t delivered;
+    request.completion = ignore;
+    pthread_cancel(pthread_self());
+    EXPECT(start_enq(layer, &request, "A"), VLM_NORMAL);
+    EXPECT(vlm_threads_dispatch(layer, &delivered), VLM_NORMAL);
+    atomic_store((atomic_int *)given, 1);
+    pthread_testcancel();
+    atomic_store((atomic_int *)given, 2);
+    return NULL;
+}
+
+/* A thread that was cancelled before a call ends after it, though the call writes to the eventfd. */
+static void test_cancelled_before_call(void) {
+    atomic_int reached = 0;
+    layer = opened(VLM_THREADS_BY_PROGRAM, 0);
+    pthread_join(started(start_and_end, &reached), NULL);
+    HOLD(atomic_load(&reached) == 1 && counters_of(layer).processes == 0);
+    EXPECT(vlm_threads_close(layer), VLM_NORMAL);
+}
+
 struct wait {
     uint32_t pid;
     vlm_threads_request request;
@@ -219,6 +246,8 @@ int main(void) {
     test_close();
     test_outlived();
     test_close_in_routine();
+    if (CANCELS)
+        test_cancelled_before_call();
     printf("ends: %u wrong\n", wrong);
     return wrong != 0;
 }
