@@ -22,9 +22,13 @@
 struct worker {
     uint32_t id; /* a process, or a locker */
     uint8_t name[2];
+    void *(*run)(void *worker);
 };
 
 static long pairs;
+
+/* All threads begin together, and the clock with them. */
+static pthread_barrier_t begin;
 
 static void must(int fact, const char *what) {
     if (fact)
@@ -149,6 +153,12 @@ static double seconds(void) {
     return (double)time.tv_sec + 1e-9 * (double)time.tv_nsec;
 }
 
+static void *run_with_others(void *given) {
+    struct worker *worker = given;
+    pthread_barrier_wait(&begin);
+    return worker->run(worker);
+}
+
 int main(int count, char **words) {
     enum { MOST = 64 };
     static struct worker workers[MOST];
@@ -159,10 +169,13 @@ int main(int count, char **words) {
     pairs = atol(words[4]);
     manager->open();
     for (int i = 0; i < all; i++)
-        workers[i] = (struct worker){manager->process(), {'R', words[3][0] == 's' ? '0' : (uint8_t)('0' + i)}};
-    double start = seconds();
+        workers[i] = (struct worker){manager->process(), {'R', words[3][0] == 's' ? '0' : (uint8_t)('0' + i)},
+                                     manager->run};
+    pthread_barrier_init(&begin, NULL, (unsigned)all + 1);
     for (int i = 0; i < all; i++)
-        must(!pthread_create(&threads[i], NULL, manager->run, &workers[i]), "pthread_create");
+        must(!pthread_create(&threads[i], NULL, run_with_others, &workers[i]), "pthread_create");
+    pthread_barrier_wait(&begin);
+    double start = seconds();
     for (int i = 0; i < all; i++)
         pthread_join(threads[i], NULL);
     printf("%.0f\n", (double)(all * pairs) / (seconds() - start));
