@@ -110,13 +110,41 @@ static void test_refused_enq(void) {
 #undef REFUSED
 }
 
+/* The refusals of a conversion, which leave the lock as it was. */
+static void test_refused_convert(void) {
+    vlm_threads_request holds = asked(p, VLM_PR), other = asked(q, VLM_PR), request;
+    EXPECT(enq(layer, &holds, "C"), VLM_NORMAL);
+    EXPECT(enq(layer, &other, "C"), VLM_NORMAL);
+#define REFUSED(want, ...)                                                                               \
+    do {                                                                                                 \
+        request = (vlm_threads_request){.size = sizeof request, .pid = p, .lock = holds.lkid, __VA_ARGS__}; \
+        request.lkid = request.status = 7;                                                               \
+        EXPECT(vlm_threads_convert(layer, &request), want);                                              \
+        HOLD(request.lkid == 0 && request.status == 0);                                                  \
+    } while (0)
+    REFUSED(VLM_BADPARAM, .reserved[0] = 1);
+    REFUSED(VLM_BADPARAM, .completion = note);
+    REFUSED(VLM_BADPARAM, .flags = VLM_VALBLK);
+    REFUSED(VLM_BADPARAM, .flags = VLM_QUECVT);
+    REFUSED(VLM_BADPARAM, .mode = 6);
+    REFUSED(VLM_NOTQUEUED, .mode = VLM_EX, .flags = VLM_NOQUEUE);
+#undef REFUSED
+    request = asked(p, VLM_EX);
+    request.lock = other.lkid;
+    EXPECT(vlm_threads_convert(layer, &request), VLM_IVLOCKID);
+    request.pid = 65536 + 77;
+    EXPECT(vlm_threads_convert(layer, &request), VLM_NONEXPR);
+    EXPECT(deq(layer, p, holds.lkid, 0), VLM_NORMAL);
+    EXPECT(deq(layer, q, other.lkid, 0), VLM_NORMAL);
+}
+
 static void test_values(void) {
     uint8_t value[64] = {0}, read[64], written[64];
     vlm_threads_request request = asked(p, VLM_EX), other = asked(q, VLM_CR);
     request.flags = VLM_VALBLK | VLM_WIDE;
     request.value = value;
     EXPECT(enq(layer, &request, "A"), VLM_NORMAL);
-    HOLD(request.lkid == 1 && request.status == VLM_NORMAL);
+    HOLD(request.lkid && request.status == VLM_NORMAL);
     memset(written, 'v', sizeof written);
     memcpy(value, written, sizeof value);
     request.lock = request.lkid;
@@ -352,6 +380,7 @@ int main(void) {
     layer = opened(VLM_THREADS_BY_PROGRAM, 0);
     test_declare();
     test_refused_enq();
+    test_refused_convert();
     test_values();
     test_validity();
     test_dequeue();
