@@ -194,8 +194,8 @@ uint32_t vlm_threads_enq(vlm_threads *layer, vlm_threads_request *request, const
  * Until the grant the old blocking routine counts, then that of this request. */
 uint32_t vlm_threads_convert(vlm_threads *layer, vlm_threads_request *request);
 
-/* The same requests without waiting. `value` is read during the call. The completion routine may run before the call
- * returns.
+/* The start forms: the same requests without waiting. `value` is read during the call. The completion routine may run
+ * before the call returns.
  * NORMAL: accepted. The completion routine will be told how the request ended, also if it was granted at once; `status`
  * is not 0 then. The event brings the value block.
  * SYNCH: with VLM_SYNCSTS, granted at once. The completion routine is not called, and `value` is written.
@@ -238,9 +238,9 @@ uint32_t vlm_threads_fd(vlm_threads *layer, int *descriptor);
  * BADPARAM: the layer runs the routines itself; *delivered is 0. */
 uint32_t vlm_threads_dispatch(vlm_threads *layer, uint32_t *delivered);
 
-/* Waits until the routine that runs, if one does, has returned. When to free a context: give the lock up, or run the
- * process down; then call this; then no blocking routine of the lock, or no routine of the process, runs or will run. A
- * completion routine of a living process still runs once.
+/* Waits until the routine that runs, if one does, has returned. To free the context of a blocking routine, give its
+ * lock up and then call this. To free all contexts of a process, run it down and then call this. No such routine runs
+ * then, or will run. A completion routine of a living process is called once in any case.
  * BADPARAM: a routine calls it. */
 uint32_t vlm_threads_settle(vlm_threads *layer);
 
@@ -251,9 +251,9 @@ uint32_t vlm_threads_settle(vlm_threads *layer);
  * more the more requests wait (docs/PERFORMANCE.md).
  * DEPARTED: all nodes have departed.
  *
- * What a step costs besides. If no request waits, nothing: the core can't have queued an AST. If one does, each
- * call that changes a lock asks the core once for each process that has a waiting request, or a lock with a blocking
- * routine that was not called since its grant: some 30 nanoseconds each. */
+ * The cost of ASTs. If no request waits, a call asks the core for none. If one waits, each call that changes a lock
+ * asks the core once for each process that has a waiting request, or a lock with a blocking routine that was not called
+ * since its grant: some 30 nanoseconds each. */
 uint32_t vlm_threads_search(vlm_threads *layer, uint32_t *victims);
 
 /* Looking. */
