@@ -253,7 +253,7 @@ uint32_t vlm_threads_settle(vlm_threads *layer);
  *
  * The cost of ASTs. If no request waits, a call asks the core for none. If one waits, each call that changes a lock
  * asks the core once for each process that has a waiting request, or a lock with a blocking routine that was not called
- * since its grant: some 30 nanoseconds each. */
+ * since its grant: some 60 nanoseconds each. */
 uint32_t vlm_threads_search(vlm_threads *layer, uint32_t *victims);
 
 /* Looking. */
