@@ -130,8 +130,8 @@ impl Core {
         Some(resource_view(store, res))
     }
 
-    /// The next resource by serial after the one that [`Core::resource`] answers. `None` if there is no such resource;
-    /// `Some(None)` if it is the last one. It takes constant time.
+    /// The next resource by serial after the resource of this name, named as in [`Core::resource`]. `None` if there is no
+    /// such resource; `Some(None)` if it is the last one. It takes constant time.
     pub fn resource_after(
         &self,
         parent: u32,
