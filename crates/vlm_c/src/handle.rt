@@ -144,8 +144,8 @@ impl Vlm {
         self.with_core(|core| core.process_at(place))?
     }
 
-    /// The living process after the one with this identification, or with 0 the first one. `Some(None)` after the last
-    /// one, `None` if no living process has the identification.
+    /// The living process after the process with this identification, or with 0 the first one. `Some(None)` after the
+    /// last one, `None` if no living process has the identification.
     pub(crate) fn next_process(&mut self, pid: u32) -> Option<Option<ProcessView>>
         ensures { Tells (next_process_shown self.old.slot.core (pid == 0) pid) result
             self.old.slot.core self.new.slot.core }
