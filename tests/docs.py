@@ -215,6 +215,8 @@ def functions(_program):
     there = {name for file in sources() for name in re.findall(r"\bfn (\w+)", file.read_text())}
     for file in (TOP / "crates").glob("*/specs/*.antt"):
         there |= set(re.findall(r"^(?:abbrev|unfoldable) pub (\w+) :", file.read_text(), re.M))
+    for file in (TOP / "include").glob("*.h"):
+        there |= set(re.findall(r"^[\w *]*\b(vlm_\w+)\(", file.read_text(), re.M))
     for page in PAGES:
         for name in sorted(set(re.findall(r"`([a-z]+(?:_[a-z0-9]+){3,})`", page.read_text())) - there):
             yield f"{page.name}: no function {name}"
@@ -289,6 +291,14 @@ def shown_programs(_program):
                 yield f"{page.name}: the output of {source.name}"
 
 
+def shown_calls(_program):
+    """docs/THREADS.md names each call of the layer for threads, and no other."""
+    there = set(re.findall(r"^[\w *]*\b(vlm_threads_\w+)\(", text_of("include/vlm_threads.h"), re.M))
+    named = set(re.findall(r"`(vlm_threads_\w+)`", text_of("docs/THREADS.md")))
+    if len(there) < 20 or there != named:
+        yield f"docs/THREADS.md and the header differ in {sorted(there ^ named)}"
+
+
 def stripped(text):
     """The lines of a source without their margins, those of an example in a comment too."""
     return [re.sub(r"^//!\s*", "", line.strip()) for line in text.splitlines()]
@@ -343,7 +353,7 @@ def statement(check):
 
 
 def once():
-    shown = (shown_programs, shown_code, shown_changes, shown_tools)
+    shown = (shown_programs, shown_calls, shown_code, shown_changes, shown_tools)
     return [statement(check) for check in (*checks(), *shown)]
 
 

@@ -28,6 +28,11 @@ FILES = ("bin/vlm", *(f"include/{it.name}" for it in (TOP / "include").glob("*.h
          "lib/cmake/vlm/vlm-config-version.cmake", "lib/cmake/vlm/vlm-config.cmake", "lib/libvlm.a",
          "lib/pkgconfig/vlm.pc", "share/man/man1/vlm.1", "share/man/man3/vlm.3")
 VALGRIND = ["valgrind", "-q", "--leak-check=full", "--show-leak-kinds=all", "--error-exitcode=9"]
+HELGRIND = ["valgrind", "-q", "--tool=helgrind", f"--suppressions={TOP}/tests/c/helgrind.supp", "--error-exitcode=9"]
+# The layer for threads, and the functions that some tests put their own in the place of.
+LAYER_SOURCES = sorted((TOP / "bindings" / "c").glob("*.c"))
+WRAPPED = {"refused": ("malloc", "realloc"),
+           "threads_refused": ("malloc", "realloc", "calloc", "pthread_create", "eventfd")}
 
 
 def missing():
@@ -131,7 +136,8 @@ def package():
 
 
 def options(sanitizer):
-    words = ["-std=c11", "-O1", "-g", *STRICT, "-pthread"]
+    # (valgrind reads what clang tells a debugger by DWARF 4, and not by 5)
+    words = ["-std=c11", "-O1", "-gdwarf-4", *STRICT, "-pthread"]
     return words if sanitizer == "none" else [*words, f"-fsanitize={sanitizer}", "-fno-sanitize-recover=all"]
 
 
@@ -153,16 +159,37 @@ def printed(source, *words, **how):
     yield from difference((ended.returncode, ended.stdout), (0, source.with_suffix(".out").read_bytes()))
 
 
+def uses_layer(source):
+    return re.search(r'#include ["<](vlm_threads|threads_test)\.h', source.read_text()) is not None
+
+
+def layer(source, sanitizer):
+    """The words by which a program has the layer for threads. A sanitizer is to see into it; else it comes with the
+    library, if that has it."""
+    if not uses_layer(source) or (sanitizer == "none" and (prefix() / "include" / "vlm_threads.h").exists()):
+        return []
+    return [f"-I{TOP}/include", *LAYER_SOURCES]
+
+
+def shortened(share):
+    """The words before those of a program that make its long tests do this share of their rounds."""
+    return ["env", f"VLM_TEST_SHARE={share}"]
+
+
 def over_library(source, compiler, sanitizer, _program):
     """What is wrong with a program over the library, and with its run. A plain one runs under valgrind too."""
     built = room() / f"{source.stem} {compiler} {sanitizer}"
-    wrapped = ["-Wl,--wrap=malloc,--wrap=realloc"] if source.stem == "refused" else []
-    wrong = list(ran(compiler, *options(sanitizer), *wrapped, source, *package(), "-o", built))
+    wrapped = [f"-Wl,--wrap={name}" for name in WRAPPED.get(source.stem, ())]
+    words = [*options(sanitizer), *wrapped, source, *layer(source, sanitizer), *package()]
+    wrong = list(ran(compiler, *words, "-o", built))
     yield from wrong
-    if not wrong:
-        yield from printed(source, built)
-        if sanitizer == "none" and shutil.which("valgrind"):
-            yield from printed(source, *VALGRIND, built)
+    if wrong:
+        return
+    yield from printed(source, *([] if sanitizer == "none" else shortened(50)), built)
+    if sanitizer == "none" and shutil.which("valgrind"):
+        yield from printed(source, *shortened(200), *VALGRIND, built)
+        if uses_layer(source):
+            yield from printed(source, *shortened(200), *HELGRIND, built)
 
 
 def readme(_program):
@@ -276,8 +303,8 @@ def manual(_program):
 def header(compiler, _program):
     """What is wrong with the header as C++."""
     source = room() / f"header {compiler}.cc"
-    source.write_text('#include "vlm.h"\n')
-    yield from ran(compiler, "-std=c++17", *STRICT, "-fsyntax-only", f"-I{prefix()}/include", source)
+    source.write_text('#include "vlm.h"\n#include "vlm_threads.h"\n')
+    yield from ran(compiler, "-std=c++17", *STRICT, "-fsyntax-only", f"-I{prefix()}/include", f"-I{TOP}/include", source)
 
 
 def rust(_program):

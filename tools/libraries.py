@@ -72,9 +72,6 @@ def make_objects(folder, archive):
     """Makes the objects of both libraries in a folder."""
     core, layer = folder / "vlm.o", folder / "vlm_threads.o"
     make_core(core, archive)
-    # MERGE: with the sources in bindings/c the layer is a fixed part: these two lines go.
-    if not LAYER:
-        return [core]
     make_layer(layer)
     return [core, layer]
 

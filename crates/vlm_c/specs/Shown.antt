@@ -1,5 +1,5 @@
 -- What the calls that read write for C.
-use Rattle.std.specs.Prelude.{◌≡◌, ℕ, Bool, true, false, length, replicate, slice_get, Option, Some, None, nat_le, find, ◌==◌, if◌then◌else◌}
+use Rattle.std.specs.Prelude.{◌≡◌, ℕ, Bool, true, false, length, replicate, slice_get, Option, Some, None, nat_le, find, if◌then◌else◌}
 use Rattle.std.specs.Option.{option_map}
 use Rattle.vlm_words.specs.declared.blocks.Block.{Block}
 use Rattle.vlm_words.specs.declared.conditions.Cond.TheVariants.{Normal, Badparam}
@@ -22,7 +22,7 @@ use Rattle.vlm_c.specs.declared.shown.VlmProcess.{VlmProcess}
 use Rattle.vlm_c.specs.declared.shown.VlmResource.{VlmResource}
 use Rattle.vlm_c.specs.declared.shown.VlmRow.{VlmRow}
 use Rattle.vlm_words.specs.Resources.{is_at}
-use Rattle.vlm_core.specs.Readers.{after_first, key_of as core_key}
+use Rattle.vlm_core.specs.Readers.{after_first, has_pid, key_of as core_key}
 use Rattle.vlm_c.specs.declared.arguments.ResourceKey.{ResourceKey}
 use Rattle.vlm_c.specs.Words.{queue_of}
 
@@ -172,7 +172,7 @@ abbrev pub next_process_shown : Option State → Bool → ℕ → Option (Option
 next_process_shown None starts pid = None
 next_process_shown (Some s) true pid = Some (option_map process_view (slice_get s.processes 0))
 next_process_shown (Some s) false pid =
-    option_map (λ rest. option_map process_view (slice_get rest 0)) (after_first (λ p. p.pid == pid) s.processes)
+    option_map (λ rest. option_map process_view (slice_get rest 0)) (after_first (has_pid pid) s.processes)
 
 -- what C reads of a resource, or after the last one
 abbrev pub resource_or_none : Option ResourceView → VlmResource

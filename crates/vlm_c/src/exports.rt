@@ -259,7 +259,7 @@ pub extern "C" fn vlm_process(handle: &mut Vlm, place: usize, out: &mut VlmProce
     copy_out(sized(out.size == PROCESS_SIZE, shown), out)
 }
 
-/// Copies the living process after the one with this identification, or with 0 the first one. After the last one it
+/// Copies the living process after the process with this identification, or with 0 the first one. After the last one it
 /// copies a process with identification 0.
 #[unsafe(no_mangle)]
 pub extern "C" fn vlm_next_process(handle: &mut Vlm, pid: u32, out: &mut VlmProcess) -> u32
@@ -305,8 +305,8 @@ pub extern "C" fn vlm_find(handle: &mut Vlm, resource: &mut VlmResource) -> u32
     copy_out(shown, resource)
 }
 
-/// Copies the resource after the one that the struct names, or with serial 0 the first one. After the last one it
-/// copies a resource with serial 0.
+/// Copies the resource after the named resource, or with serial 0 the first one. After the last one it copies a
+/// resource with serial 0.
 #[unsafe(no_mangle)]
 pub extern "C" fn vlm_next_resource(handle: &mut Vlm, resource: &mut VlmResource) -> u32
     ensures told { Told (sized (resource.old.size == 144) (option_map resource_or_none

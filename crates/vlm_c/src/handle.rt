@@ -144,8 +144,8 @@ impl Vlm {
         self.with_core(|core| core.process_at(place))?
     }
 
-    /// The living process after the one with this identification, or with 0 the first one. `Some(None)` after the last
-    /// one, `None` if no living process has the identification.
+    /// The living process after the process with this identification, or with 0 the first one. `Some(None)` after the
+    /// last one, `None` if no living process has the identification.
     pub(crate) fn next_process(&mut self, pid: u32) -> Option<Option<ProcessView>>
         ensures { Tells (next_process_shown self.old.slot.core (pid == 0) pid) result
             self.old.slot.core self.new.slot.core }
@@ -180,8 +180,8 @@ impl Vlm {
         self.with_core(|core| core.resource(key.parent, key.domain, key.name))?
     }
 
-    /// The resource after the one that the words name, or with serial 0 the first one. `Some(None)` after the last one,
-    /// `None` if there is no such resource.
+    /// The resource after the named resource, or with serial 0 the first one. `Some(None)` after the last one, `None` if
+    /// there is no such resource.
     pub(crate) fn next_resource(&mut self, words: &VlmResource) -> Option<Option<ResourceView>>
         ensures { Tells (next_resource_shown self.old.slot.core (words.now.serial == 0) (key_of words.now)) result
             self.old.slot.core self.new.slot.core }

@@ -1,5 +1,5 @@
 -- What a run starts with, and the report that is made from the results of its workers.
-use Rattle.std.specs.Prelude.{◌≡◌, ◌<◌, ◌≤◌, ℕ, List, Result, length, MatchResult, slice_index, slice_index_or, vec_capacity, vec_len}
+use Rattle.std.specs.Prelude.{◌≡◌, ◌<◌, ◌≤◌, ℕ, List, Result, MatchResult, slice_index, slice_index_or, vec_capacity, vec_len}
 use Rattle.std.specs.declared.alloc.Global.{Global}
 use Rattle.std.specs.declared.thread.PromisedHandle.{PromisedHandle}
 use Rattle.std.specs.declared.vec.Vec.{Vec}

@@ -18,7 +18,7 @@ use Rattle.vlm_queue.specs.Views.{resource_view}
 use Rattle.vlm_queue.specs.Walks.{plain_resource_at}
 use Rattle.vlm_locks.specs.Rest.{IsAtRest}
 use Rattle.vlm_locks.proofs.Keyed.{AreKeyed, IsKeyFree, key_cases}
-use Rattle.vlm_core.specs.Readers.{after_first}
+use Rattle.vlm_core.specs.Readers.{after_first, has_pid}
 
 -- what comes after the resource with the key, in the store and in the plain machine
 record NextOf (key : Key) (res : ℕ) (rs : List StoredResource) : Type 0 where
@@ -137,7 +137,7 @@ module _ (domain : Domain) (key : Key) (keyed : IsKeyed domain key) (s : Records
 
 -- what is shown of the process after the one with an identification
 abbrev shown_process : ℕ → List Process → Option (Option ProcessView)
-shown_process pid ps = option_map (λ (rest : List Process). option_map process_view (slice_get rest 0)) (after_first (λ (p : Process). p.pid == pid) ps)
+shown_process pid ps = option_map (λ (rest : List Process). option_map process_view (slice_get rest 0)) (after_first (has_pid pid) ps)
 
 module _ (p : StoredProcess) where
   after_stored : (ps : List StoredProcess) → AreProcessesApart ps → IsIn p ps

@@ -1,14 +1,14 @@
 //! The readers. They show processes with their status blocks and pending ASTs, resources with their queues, and how a
 //! root is used. They take no memory, and change nothing.
 
-ghost use Rattle.std.specs.Prelude.{◌≡◌, ◌==◌, IfSome, IsNone, find, length, slice_get};
+ghost use Rattle.std.specs.Prelude.{◌≡◌, IfSome, IsNone, find, length, slice_get};
 ghost use Rattle.std.specs.Option.{option_map};
 ghost use Rattle.vlm_model.specs.Pending.{first_pending};
 ghost use Rattle.vlm_words.specs.State.{process_of};
 ghost use Rattle.vlm_model.specs.StatusBlocks.{status_block_at};
 ghost use Rattle.vlm_procs.specs.Views.{process_view};
 ghost use Rattle.vlm_queue.specs.Views.{resource_view, row_shown, usage};
-ghost use Rattle.vlm_core.specs.Readers.{IsFirstPending, NonePendingBelow, after_first, key_of, root_of};
+ghost use Rattle.vlm_core.specs.Readers.{IsFirstPending, NonePendingBelow, after_first, has_pid, key_of, root_of};
 ghost use Rattle.vlm_words.specs.Resources.{is_at};
 
 use crate::public::Core;
@@ -93,7 +93,7 @@ impl Core {
     /// has it; `Some(None)` if it is the last one. It takes constant time.
     pub fn process_after(&self, pid: u32) -> Option<Option<ProcessView>>
         ensures { result ≡ option_map (λ rest. option_map process_view (slice_get rest 0))
-            (after_first (λ p. p.pid == pid) self.now.processes) }
+            (after_first (has_pid pid) self.now.processes) }
     {
         let store = &self.machine.store;
         let at = store.process(pid)?;
@@ -130,8 +130,8 @@ impl Core {
         Some(resource_view(store, res))
     }
 
-    /// The next resource by serial after the one that [`Core::resource`] answers. `None` if there is no such resource;
-    /// `Some(None)` if it is the last one. It takes constant time.
+    /// The next resource by serial after the resource of this name, named as in [`Core::resource`]. `None` if there is no
+    /// such resource; `Some(None)` if it is the last one. It takes constant time.
     pub fn resource_after(
         &self,
         parent: u32,

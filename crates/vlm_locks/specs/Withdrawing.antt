@@ -46,9 +46,13 @@ pub record IsPartDone (f : LocatedLock) (change : Resource → Resource) (gone :
   pub locks : OtherLocksStay f.lock old new
   pub own_locks : new.processes ≡ owned_after gone f.lock old.processes
 
+-- the resources are those that the withdrawal leaves
+abbrev pub IsLeftBy : Withdrawal → Records → Records → Type 0
+IsLeftBy w old new = plain_resources new ≡ map (resource_after_withdrawals (plain_withdrawal w ∷ [])) (plain_resources old)
+
 -- the lock is gone, and the value block of its resource is changed as the withdrawal says
 pub record HasGivenUp (f : LocatedLock) (w : Withdrawal) (old new : Records) : Type 0 where
-  pub resources : plain_resources new ≡ map (resource_after_withdrawals (plain_withdrawal w ∷ [])) (plain_resources old)
+  pub resources : IsLeftBy w old new
   pub statuses : plain_processes new ≡ plain_processes old
   pub beside : LeavesOthers f.res f.lock old new
   pub own_locks : new.processes ≡ owned_after true f.lock old.processes
@@ -56,7 +60,7 @@ pub record HasGivenUp (f : LocatedLock) (w : Withdrawal) (old new : Records) : T
 
 -- the lock is withdrawn, and its request has ended
 pub record HasWithdrawn (f : LocatedLock) (w : Withdrawal) (old new : Records) : Type 0 where
-  pub resources : plain_resources new ≡ map (resource_after_withdrawals (plain_withdrawal w ∷ [])) (plain_resources old)
+  pub resources : IsLeftBy w old new
   pub statuses : plain_processes new
       ≡ processes_after (flat_map (withdrawal_endings (plain_withdrawal w)) (plain_resources old)) (plain_processes old)
   pub beside : LeavesOthers f.res f.lock old new

@@ -12,7 +12,7 @@ use Rattle.vlm_records.specs.declared.processes.Process.{Process}
 use Rattle.vlm_records.specs.declared.queues.Queues.{Queues}
 use Rattle.vlm_records.specs.declared.resources.InOrder.{InOrder}
 use Rattle.vlm_records.specs.Armed.{IsLaidOut}
-use Rattle.vlm_records.specs.Kept.{HandlesStay, Keeps}
+use Rattle.vlm_records.specs.Kept.{ComesLast, HandlesStay, Keeps, LeavesElsewhere}
 use Rattle.vlm_records.specs.Kin.{IsBelow, IsOwned, below_handles, but_below, but_order, but_own, own_handles, owner_in, parent_in, process_links, with_own_links}
 use Rattle.vlm_records.specs.Shown.{Face, SameBut, but_queued, but_queues, face_of, handles_at, order_links, room_in, rows}
 use Rattle.vlm_records.specs.WaitList.{wait_list_links}
@@ -28,8 +28,8 @@ OtherRowsStay at old new = (other : ℕ) → other ≢ at → rows new other ≡
 -- a lock has another row, and is at the end of a queue
 pub record Moves (at : ℕ) (now : LockRow) (to : Place) (old new : Queues) : Type 0 where
   pub laid_out : IsLaidOut new
-  pub here : handles_at new to ≡ without at (handles_at old to) ++ at ∷ []
-  pub elsewhere : (other : Place) → other ≢ to → handles_at new other ≡ without at (handles_at old other)
+  pub here : ComesLast at to old new
+  pub elsewhere : LeavesElsewhere at to old new
   pub row : rows new at ≡ now
   pub rows : OtherRowsStay at old new
   pub kept : Keeps but_queued but_queues old new

@@ -58,12 +58,20 @@ pub record Rewrites (at : ℕ) (now : LockRow) (old new : Queues) : Type 0 where
   pub rows : (other : ℕ) → other ≢ at → rows new other ≡ rows old other
   pub kept : Keeps but_requeued but_counted old new
 
+-- the lock is the last one of the queue
+abbrev pub ComesLast : ℕ → Place → Queues → Queues → Type 0
+ComesLast at to old new = handles_at new to ≡ without at (handles_at old to) ++ at ∷ []
+
+-- the lock has left every other queue
+abbrev pub LeavesElsewhere : ℕ → Place → Queues → Queues → Type 0
+LeavesElsewhere at to old new = (other : Place) → other ≢ to → handles_at new other ≡ without at (handles_at old other)
+
 -- one lock has another row and is at the end of a queue
 pub record Requeues (at : ℕ) (now : LockRow) (to : Place) (old new : Queues) : Type 0 where
   pub placed : IsPlaced new None
   pub tallied : IsTallied new None
-  pub here : handles_at new to ≡ without at (handles_at old to) ++ at ∷ []
-  pub elsewhere : (other : Place) → other ≢ to → handles_at new other ≡ without at (handles_at old other)
+  pub here : ComesLast at to old new
+  pub elsewhere : LeavesElsewhere at to old new
   pub row : rows new at ≡ now
   pub rows : (other : ℕ) → other ≢ at → rows new other ≡ rows old other
   pub kept : Keeps but_requeued but_counted old new

@@ -1,0 +1,237 @@
+/* What the files of the layer for threads share. Not a header of programs.
+ *
+ * The layer has one mutex, which guards everything. Each call makes a step of the core, then takes all ASTs that the
+ * step queued, so between two calls none is pending in the core. A request has a record here. Its place in the table of
+ * records is the parameter of both its ASTs, so an AST finds its request at once. An AST wakes the one thread that
+ * waits for its request, or becomes an event in the layer's own queue, from which routines are called without the
+ * mutex.
+ *
+ * vlm_threads.c            opening, closing, searches, counters
+ * vlm_threads_processes.c  declare, rundown, leave, the ends of threads
+ * vlm_threads_requests.c   enq, convert, deq, and the wait for a grant
+ * vlm_threads_delivery.c   calls of routines
+ * vlm_threads_ends.c       the ASTs of the core, the ends of requests, the queue of events
+ * vlm_threads_records.c    tables, and the room that a call makes before its step
+ * vlm_threads_print.c      counters as text
+ *
+ * Every function that is declared here wants the mutex held.
+ */
+#ifndef VLM_THREADS_PARTS_H
+#define VLM_THREADS_PARTS_H
+
+#define _POSIX_C_SOURCE 200809L
+
+#include "vlm_threads.h"
+
+#include <pthread.h>
+#include <time.h>
+
+enum { NODES = 8, MOST_BLOCKS = 255, SHORT_VALUE = 16, WHOLE_VALUE = 64 };
+
+static const uint64_t NANOSECONDS = 1000000000;
+
+/* What a table finds by its number: the first member of a process and of a lock. */
+struct entry {
+    uint32_t id;
+    struct entry *next;
+};
+
+/* Chains of entries. There are at least as many chains as entries. */
+struct table {
+    struct entry **chains;
+    uint32_t bits; /* there are 2^bits chains */
+    uint32_t count;
+};
+
+struct event {
+    struct event *next, *previous;
+    struct request *request;
+    uint32_t kind;
+    bool is_pending; /* it is in the layer's queue */
+};
+
+/* A thread that waits for the end of a request. It stands on that thread's stack. */
+struct waiter {
+    pthread_cond_t ended;
+    vlm_threads_request *words;
+    struct request *request; /* null where nothing waits */
+    uint32_t status;         /* 0 until the request has ended */
+};
+
+/* A request that was accepted. It is in use while it is queued, while it is that by which its lock holds its mode, and
+ * while an event of it is pending. */
+struct request {
+    struct request *next_free;
+    struct process *process;
+    struct lock *lock;
+    uint32_t index; /* its place in the layer's table */
+    uint32_t lkid;
+    uint32_t flags;
+    uint32_t status; /* how it ended */
+    uint8_t block;   /* its status block while it is queued */
+    bool is_queued;
+    bool is_held;  /* its lock holds its mode by it */
+    bool is_armed; /* the core may still warn it */
+    bool is_late;  /* its time is over */
+    uint64_t since;
+    struct waiter *waiter; /* null with a completion routine */
+    vlm_threads_routine completion, blocking;
+    void *completion_context, *blocking_context;
+    struct event ended, warned;
+    uint8_t value[WHOLE_VALUE];
+};
+
+struct lock {
+    struct entry entry;
+    struct process *process;
+    struct lock *sublocks;
+    struct lock *next, **link; /* among the sublocks of its parent, or the roots of its process */
+    struct request *held;      /* null while the lock waits */
+    struct request *queued;
+};
+
+struct process {
+    struct entry entry;
+    struct lock *locks;     /* those without a parent */
+    uint32_t expected;      /* how many ASTs the core may queue for it: one by each queued request and each armed one */
+    uint32_t place;         /* among the expecting ones, if `expected` is not 0 */
+    struct bond *bond;      /* the thread that it is tied to, or null */
+    struct process *next_tied;
+    uint32_t free_count;
+    uint8_t free_blocks[]; /* the status blocks that no queued request has */
+};
+
+/* A thread with the processes that are tied to it. */
+struct bond {
+    vlm_threads *layer;
+    struct bond *next, **link;
+    struct process *processes;
+};
+
+struct vlm_threads {
+    pthread_mutex_t mutex;
+    pthread_condattr_t monotonic;
+    pthread_cond_t pending; /* the dispatcher sleeps: an event is pending, or it is to end */
+    pthread_cond_t watched; /* the watchdog sleeps: it is to end */
+    pthread_cond_t calm;    /* a close or a settle sleeps: a wait or a routine has returned */
+    vlm handle;
+    uint32_t departed; /* bit n: node n has departed */
+
+    struct table processes, locks;
+    struct process **expecting; /* those that expect ASTs, with room for all */
+    uint32_t expecting_count, expecting_room;
+    struct request **requests; /* all records, by index */
+    uint32_t request_count, request_room;
+    struct request *free_requests;
+    struct lock *free_locks;
+
+    struct event *first, *last; /* the pending ones */
+    int descriptor;             /* the eventfd, or -1 */
+    bool is_delivering;         /* a thread, the deliverer, is in a delivery */
+    bool is_calling;            /* and runs a routine */
+    pthread_t deliverer;
+    uint64_t called;   /* how many routines have returned */
+    uint32_t settling; /* threads that wait for the end of a routine */
+
+    pthread_key_t key; /* of a thread's bond */
+    bool has_key;
+    struct bond *bonds; /* of all threads with a tied process */
+
+    pthread_t dispatcher, watchdog;
+    bool has_dispatcher, has_watchdog, is_closing;
+    uint32_t search_milliseconds;
+    uint32_t sleepers; /* threads that wait for a grant */
+    vlm_threads_counters counters;
+};
+
+/* vlm_threads_records.c: an entry of a table, or null. */
+struct entry *vlmt_found(const struct table *table, uint32_t id);
+void vlmt_put(struct table *table, struct entry *entry);
+void vlmt_take_out(struct table *table, struct entry *entry);
+
+/* Room: whether it could be made. An array of pointers comes back, perhaps at another place, with room for one more. */
+bool vlmt_table_is_made(struct table *table, uint32_t bits);
+bool vlmt_table_has_room(struct table *table);
+void *vlmt_array_with_room(void *array, uint32_t count, uint32_t *room);
+bool vlmt_has_room_for_request(vlm_threads *layer);
+bool vlmt_has_room_for_lock(vlm_threads *layer);
+
+/* vlm_threads_ends.c: the eventfd, and events. */
+void vlmt_set_readable(vlm_threads *layer, bool is_readable);
+void vlmt_queue_event(vlm_threads *layer, struct event *event);
+void vlmt_unqueue_event(vlm_threads *layer, struct event *event);
+void vlmt_drop_event(vlm_threads *layer, struct event *event);
+
+/* The beginning and the end of a grant, of a wait, of a lock, and of a record. */
+void vlmt_expect_more(vlm_threads *layer, struct process *process);
+void vlmt_hold(vlm_threads *layer, struct request *request);
+void vlmt_leave_queue(vlm_threads *layer, struct request *request);
+void vlmt_tell(vlm_threads *layer, struct request *request);
+void vlmt_remove_lock(vlm_threads *layer, struct lock *lock);
+void vlmt_remove_locks(vlm_threads *layer, struct lock **locks);
+void vlmt_release(vlm_threads *layer, struct request *request);
+
+/* How a request ended: the bytes that were returned, the reading from its status block, the writing for the caller. */
+uint32_t vlmt_value_len(const struct request *request);
+void vlmt_read_block(vlm_threads *layer, struct request *request);
+void vlmt_write_words(const struct request *request, vlm_threads_request *words);
+
+/* Does all that the ASTs of a step ask for. Comes after each step. */
+void vlmt_take_asts(vlm_threads *layer);
+
+/* vlm_threads_processes.c: all processes of a node have ended in the core, or of all nodes with 0. */
+void vlmt_forget_node(vlm_threads *layer, uint32_t node);
+
+/* vlm_threads_delivery.c: the start routine of the layer's thread, which takes the mutex itself. */
+void *vlmt_dispatch(void *layer);
+bool vlmt_is_in_routine(const vlm_threads *layer);
+
+/* Waits until the routine that runs has returned. */
+void vlmt_settle(vlm_threads *layer);
+
+static inline bool all_zero(const uint32_t *words, size_t bytes) {
+    uint32_t any = 0;
+    for (size_t i = 0; i < bytes / sizeof *words; i++)
+        any |= words[i];
+    return !any;
+}
+
+static inline uint64_t now(void) {
+    struct timespec time;
+    clock_gettime(CLOCK_MONOTONIC, &time);
+    return (uint64_t)time.tv_sec * NANOSECONDS + (uint64_t)time.tv_nsec;
+}
+
+static inline struct timespec after(uint64_t since, uint32_t milliseconds) {
+    uint64_t moment = since + (uint64_t)milliseconds * 1000000;
+    return (struct timespec){.tv_sec = (time_t)(moment / NANOSECONDS), .tv_nsec = (long)(moment % NANOSECONDS)};
+}
+
+/* Between these two the thread is not cancelled: it would leave the mutex locked, or a delivery unfinished. */
+static inline int cancels_off(void) {
+    int before;
+    pthread_setcancelstate(PTHREAD_CANCEL_DISABLE, &before);
+    return before;
+}
+
+static inline void cancels_back(int before) { pthread_setcancelstate(before, NULL); }
+
+static inline bool is_grant(uint32_t status) {
+    return status == VLM_NORMAL || status == VLM_VALNOTVALID || status == VLM_WIDENOTVALID;
+}
+
+static inline struct process *process_of(vlm_threads *layer, uint32_t pid) {
+    return (struct process *)vlmt_found(&layer->processes, pid);
+}
+
+static inline struct lock *lock_of(vlm_threads *layer, uint32_t lkid) {
+    return (struct lock *)vlmt_found(&layer->locks, lkid);
+}
+
+static inline struct lock *lowest(struct lock *lock) {
+    while (lock->sublocks)
+        lock = lock->sublocks;
+    return lock;
+}
+
+#endif

@@ -1,0 +1,171 @@
+/* Processes: their beginning and end, and the threads that they are tied to. */
+#include "vlm_threads_parts.h"
+
+#include <stdlib.h>
+
+static void drop_events_of(vlm_threads *layer, const struct process *process) {
+    for (struct event *event = layer->first, *next; event; event = next) {
+        next = event->next;
+        if (event->request->process != process)
+            continue;
+        vlmt_drop_event(layer, event);
+        vlmt_release(layer, event->request);
+    }
+}
+
+/* The request of a process that has ended: the thread that waits for it is told, a routine is not. */
+static void run_down_request(vlm_threads *layer, struct request *request, uint32_t status) {
+    vlmt_leave_queue(layer, request);
+    layer->counters.run_down++;
+    request->status = status;
+    if (request->waiter)
+        vlmt_tell(layer, request);
+    vlmt_release(layer, request);
+}
+
+static void untie(struct process *process) {
+    if (!process->bond)
+        return;
+    struct process **link = &process->bond->processes;
+    while (*link != process)
+        link = &(*link)->next_tied;
+    *link = process->next_tied;
+}
+
+/* Removes what the layer has of a process that has ended in the core. */
+static void forget(vlm_threads *layer, struct process *process, uint32_t status) {
+    drop_events_of(layer, process);
+    while (process->locks) {
+        struct lock *lock = lowest(process->locks);
+        if (lock->queued)
+            run_down_request(layer, lock->queued, status);
+        vlmt_remove_lock(layer, lock);
+    }
+    untie(process);
+    vlmt_take_out(&layer->processes, &process->entry);
+    free(process);
+}
+
+static uint32_t run_down(vlm_threads *layer, uint32_t pid) {
+    uint32_t status = vlm_rundown(&layer->handle, pid);
+    if (status != VLM_NORMAL)
+        return status;
+    forget(layer, process_of(layer, pid), VLM_NONEXPR);
+    vlmt_take_asts(layer);
+    return VLM_NORMAL;
+}
+
+uint32_t vlm_threads_rundown(vlm_threads *layer, uint32_t pid) {
+    pthread_mutex_lock(&layer->mutex);
+    uint32_t status = run_down(layer, pid);
+    pthread_mutex_unlock(&layer->mutex);
+    return status;
+}
+
+/* Forgets the processes of a node, or of all nodes with 0. */
+void vlmt_forget_node(vlm_threads *layer, uint32_t node) {
+    for (size_t chain = 0; chain < (size_t)1 << layer->processes.bits; chain++)
+        for (struct entry *entry = layer->processes.chains[chain], *next; entry; entry = next) {
+            next = entry->next;
+            if (!node || entry->id >> 16 == node)
+                forget(layer, (struct process *)entry, VLM_DEPARTED);
+        }
+}
+
+uint32_t vlm_threads_leave(vlm_threads *layer, uint32_t node) {
+    pthread_mutex_lock(&layer->mutex);
+    uint32_t status = vlm_leave(&layer->handle, node);
+    if (status == VLM_NORMAL) {
+        layer->departed |= UINT32_C(1) << node;
+        vlmt_forget_node(layer, node);
+        vlmt_take_asts(layer);
+    }
+    pthread_mutex_unlock(&layer->mutex);
+    return status;
+}
+
+/* A thread with tied processes has ended. */
+static void thread_ended(void *given) {
+    struct bond *bond = given;
+    vlm_threads *layer = bond->layer;
+    pthread_mutex_lock(&layer->mutex);
+    while (bond->processes)
+        run_down(layer, bond->processes->entry.id);
+    *bond->link = bond->next;
+    if (bond->next)
+        bond->next->link = bond->link;
+    pthread_mutex_unlock(&layer->mutex);
+    free(bond);
+}
+
+/* The bond of the calling thread, or null where memory or the key is refused. */
+static struct bond *bond_of_thread(vlm_threads *layer) {
+    if (!layer->has_key)
+        layer->has_key = !pthread_key_create(&layer->key, thread_ended);
+    if (!layer->has_key)
+        return NULL;
+    struct bond *bond = pthread_getspecific(layer->key);
+    if (bond)
+        return bond;
+    bond = calloc(1, sizeof *bond);
+    if (!bond || pthread_setspecific(layer->key, bond)) {
+        free(bond);
+        return NULL;
+    }
+    *bond = (struct bond){.layer = layer, .next = layer->bonds, .link = &layer->bonds};
+    if (bond->next)
+        bond->next->link = &bond->next;
+    layer->bonds = bond;
+    return bond;
+}
+
+/* A process with its status blocks and, where it is tied, its bond, before the core knows of it; or null. */
+static struct process *made_process(vlm_threads *layer, const vlm_threads_declaration *words) {
+    void *array = vlmt_array_with_room(layer->expecting, layer->processes.count, &layer->expecting_room);
+    if (!array)
+        return NULL;
+    layer->expecting = array;
+    struct bond *bond = words->tied ? bond_of_thread(layer) : NULL;
+    if ((words->tied && !bond) || !vlmt_table_has_room(&layer->processes))
+        return NULL;
+    struct process *process = calloc(1, sizeof *process + words->requests);
+    if (!process)
+        return NULL;
+    process->bond = bond;
+    while (process->free_count < words->requests) {
+        process->free_blocks[process->free_count] = (uint8_t)(words->requests - process->free_count);
+        process->free_count++;
+    }
+    return process;
+}
+
+static uint32_t declare(vlm_threads *layer, const vlm_threads_declaration *words, uint32_t *pid) {
+    vlm_declaration step = {.size = sizeof step, .node = words->node, .group = words->group, .syslck = words->syslck,
+                            .quota = words->quota, .blocks = words->requests};
+    struct process *process = made_process(layer, words);
+    if (!process)
+        return VLM_INSFMEM;
+    uint32_t status = vlm_declare(&layer->handle, &step, pid);
+    if (status != VLM_NORMAL) {
+        free(process);
+        return status;
+    }
+    process->entry.id = *pid;
+    vlmt_put(&layer->processes, &process->entry);
+    if (process->bond) {
+        process->next_tied = process->bond->processes;
+        process->bond->processes = process;
+    }
+    return VLM_NORMAL;
+}
+
+uint32_t vlm_threads_declare(vlm_threads *layer, const vlm_threads_declaration *declaration, uint32_t *pid) {
+    *pid = 0;
+    if (declaration->size != sizeof *declaration || !all_zero(declaration->reserved, sizeof declaration->reserved)
+        || declaration->requests < 1 || declaration->requests > MOST_BLOCKS || declaration->tied > 1)
+        return VLM_BADPARAM;
+    pthread_mutex_lock(&layer->mutex);
+    uint32_t status = declare(layer, declaration, pid);
+    pthread_mutex_unlock(&layer->mutex);
+    return status;
+}

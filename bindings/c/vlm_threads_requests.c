@@ -1,0 +1,258 @@
+/* Requests and dequeues. */
+#include "vlm_threads_parts.h"
+
+#include <errno.h>
+#include <string.h>
+
+/* Requests. */
+
+/* The routines of the core's ASTs. Their kind tells them apart; the numbers are for whoever looks at the core. */
+enum { COMPLETION_ROUTINE = 1, BLOCKING_ROUTINE = 2 };
+
+/* What a call of a request is given. */
+struct asked {
+    vlm_threads_request *words;
+    const uint8_t *name;
+    size_t name_len;
+    bool is_conversion;
+    bool waits;
+};
+
+static bool is_right_request(const struct asked *asked) {
+    const vlm_threads_request *words = asked->words;
+    return all_zero(words->reserved, sizeof words->reserved) && (words->value || !(words->flags & VLM_VALBLK))
+           && !words->completion == asked->waits;
+}
+
+/* The answer about a process that does not live: that of the core. */
+static uint32_t refusal(vlm_threads *layer, uint32_t pid) {
+    vlm_ast ast = {.size = sizeof ast};
+    return vlm_take(&layer->handle, pid, &ast);
+}
+
+/* A conversion may write the value block from its status block. */
+static void set_value(vlm_threads *layer, const vlm_threads_request *words, uint32_t block) {
+    vlm_setting setting = {.size = sizeof setting, .pid = words->pid, .block = block};
+    setting.has_tail = (words->flags & VLM_WIDE) != 0;
+    memcpy(setting.value, words->value, sizeof setting.value);
+    if (setting.has_tail)
+        memcpy(setting.tail, words->value + SHORT_VALUE, sizeof setting.tail);
+    vlm_set_value(&layer->handle, &setting);
+}
+
+/* The core's step: SYNCH if it is granted at once, NORMAL if it is queued, or a refusal. */
+static uint32_t core_step(vlm_threads *layer, const struct asked *asked, struct request *request) {
+    const vlm_threads_request *words = asked->words;
+    vlm_request step = {.size = sizeof step, .pid = words->pid, .mode = words->mode,
+                        .flags = words->flags | VLM_SYNCSTS, .block = request->block, .lock = words->lock,
+                        .has_ast = 1, .ast = COMPLETION_ROUTINE, .has_bast = words->blocking != NULL,
+                        .bast = BLOCKING_ROUTINE, .param = request->index};
+    if (!asked->is_conversion)
+        return vlm_enq(&layer->handle, &step, asked->name, asked->name_len, &request->lkid);
+    if (words->flags & VLM_VALBLK)
+        set_value(layer, words, request->block);
+    return vlm_convert(&layer->handle, &step, &request->lkid);
+}
+
+static struct lock *made_lock(vlm_threads *layer, const struct request *request, uint32_t parent) {
+    struct lock *lock = layer->free_locks;
+    struct lock *above = parent ? lock_of(layer, parent) : NULL;
+    struct lock **head = above ? &above->sublocks : &request->process->locks;
+    layer->free_locks = lock->next;
+    *lock = (struct lock){.entry.id = request->lkid, .process = request->process, .next = *head, .link = head};
+    if (lock->next)
+        lock->next->link = &lock->next;
+    *head = lock;
+    vlmt_put(&layer->locks, &lock->entry);
+    return lock;
+}
+
+static void fill(struct request *request, const vlm_threads_request *words) {
+    request->flags = words->flags;
+    request->status = 0;
+    request->is_late = false;
+    request->waiter = NULL;
+    request->completion = words->completion;
+    request->completion_context = words->completion_context;
+    request->blocking = words->blocking;
+    request->blocking_context = words->blocking_context;
+}
+
+static void grant_at_once(vlm_threads *layer, struct request *request, const struct asked *asked) {
+    request->status = VLM_NORMAL;
+    if (request->flags & VLM_VALBLK)
+        vlmt_read_block(layer, request);
+    vlmt_hold(layer, request);
+    layer->counters.granted_at_once++;
+    asked->words->status = request->status;
+    if (asked->waits || request->flags & VLM_SYNCSTS)
+        vlmt_write_words(request, asked->words);
+    else
+        vlmt_queue_event(layer, &request->ended);
+}
+
+static void join_queue(vlm_threads *layer, struct request *request, struct waiter *waiter) {
+    vlm_threads_counters *counters = &layer->counters;
+    request->process->free_count--;
+    request->is_queued = true;
+    request->lock->queued = request;
+    request->since = now();
+    vlmt_expect_more(layer, request->process);
+    counters->waited++;
+    if (++counters->waiting > counters->most_waiting)
+        counters->most_waiting = counters->waiting;
+    if (!waiter)
+        return;
+    request->waiter = waiter;
+    waiter->request = request;
+    pthread_cond_init(&waiter->ended, &layer->monotonic);
+}
+
+/* Makes the step with all that follows, except the wait. */
+static uint32_t make_request(vlm_threads *layer, const struct asked *asked, struct waiter *waiter) {
+    vlm_threads_request *words = asked->words;
+    struct process *process = process_of(layer, words->pid);
+    if (!process)
+        return refusal(layer, words->pid);
+    if (!process->free_count)
+        return VLM_EXENQLM;
+    if (!vlmt_has_room_for_request(layer) || !(asked->is_conversion || vlmt_has_room_for_lock(layer)))
+        return VLM_INSFMEM;
+    struct request *request = layer->free_requests;
+    request->process = process;
+    request->block = process->free_blocks[process->free_count - 1];
+    uint32_t status = core_step(layer, asked, request);
+    if (status != VLM_NORMAL && status != VLM_SYNCH)
+        return status;
+    layer->free_requests = request->next_free;
+    fill(request, words);
+    words->lkid = request->lkid;
+    request->lock = asked->is_conversion ? lock_of(layer, words->lock) : made_lock(layer, request, words->lock);
+    if (status == VLM_SYNCH)
+        grant_at_once(layer, request, asked);
+    else
+        join_queue(layer, request, asked->waits ? waiter : NULL);
+    if (status == VLM_NORMAL || asked->is_conversion)
+        vlmt_take_asts(layer);
+    return words->flags & VLM_SYNCSTS ? status : VLM_NORMAL;
+}
+
+/* Cancels a request whose time is over. Its end tells the waiter. */
+static void cancel_late(vlm_threads *layer, struct request *request) {
+    vlm_dequeue dequeue = {.size = sizeof dequeue, .pid = request->process->entry.id, .flags = VLM_DEQ_CANCEL,
+                           .lock = request->lkid};
+    request->is_late = true;
+    if (vlm_deq(&layer->handle, &dequeue) == VLM_NORMAL)
+        vlmt_take_asts(layer);
+}
+
+static void sleep_until_ended(vlm_threads *layer, struct waiter *waiter) {
+    uint32_t milliseconds = waiter->words->milliseconds;
+    struct timespec deadline = after(waiter->request->since, milliseconds);
+    while (!waiter->status) {
+        if (!milliseconds) {
+            pthread_cond_wait(&waiter->ended, &layer->mutex);
+        } else if (pthread_cond_timedwait(&waiter->ended, &layer->mutex, &deadline) == ETIMEDOUT && !waiter->status) {
+            milliseconds = 0;
+            cancel_late(layer, waiter->request);
+        }
+    }
+}
+
+/* Waits for the end of a queued request. */
+static uint32_t awaited(vlm_threads *layer, struct waiter *waiter) {
+    int before = cancels_off();
+    layer->sleepers++;
+    sleep_until_ended(layer, waiter);
+    layer->sleepers--;
+    if (layer->is_closing)
+        pthread_cond_broadcast(&layer->calm);
+    pthread_cond_destroy(&waiter->ended);
+    cancels_back(before);
+    return is_grant(waiter->status) ? VLM_NORMAL : waiter->status;
+}
+
+/* Whether a lock is still there after its request ended without a grant. */
+static bool has_lock(const struct asked *asked, uint32_t status) {
+    return asked->is_conversion && (status == VLM_TIMEOUT || status == VLM_DEADLOCK || status == VLM_CANCEL);
+}
+
+static uint32_t ask(vlm_threads *layer, const struct asked *asked) {
+    vlm_threads_request *words = asked->words;
+    struct waiter waiter = {.words = words};
+    if (words->size == sizeof *words)
+        words->lkid = words->status = 0;
+    pthread_mutex_lock(&layer->mutex);
+    layer->counters.requests++;
+    bool is_right = words->size == sizeof *words && is_right_request(asked);
+    uint32_t status = is_right ? make_request(layer, asked, &waiter) : VLM_BADPARAM;
+    if (status != VLM_NORMAL && status != VLM_SYNCH && status < VLM_THREADS_CONDITIONS)
+        layer->counters.refused[status]++;
+    if (waiter.request) {
+        status = awaited(layer, &waiter);
+        if (status != VLM_NORMAL && !has_lock(asked, status))
+            words->lkid = 0;
+    }
+    pthread_mutex_unlock(&layer->mutex);
+    return status;
+}
+
+uint32_t vlm_threads_enq(vlm_threads *layer, vlm_threads_request *request, const uint8_t *name, size_t name_len) {
+    return ask(layer, &(struct asked){.words = request, .name = name, .name_len = name_len, .waits = true});
+}
+
+uint32_t vlm_threads_start_enq(vlm_threads *layer, vlm_threads_request *request, const uint8_t *name, size_t name_len) {
+    return ask(layer, &(struct asked){.words = request, .name = name, .name_len = name_len});
+}
+
+uint32_t vlm_threads_convert(vlm_threads *layer, vlm_threads_request *request) {
+    return ask(layer, &(struct asked){.words = request, .is_conversion = true, .waits = true});
+}
+
+uint32_t vlm_threads_start_convert(vlm_threads *layer, vlm_threads_request *request) {
+    return ask(layer, &(struct asked){.words = request, .is_conversion = true});
+}
+
+/* Dequeues. */
+
+static vlm_dequeue core_dequeue(const vlm_threads_dequeue *words) {
+    vlm_dequeue step = {.size = sizeof step, .pid = words->pid, .flags = words->flags, .lock = words->lock,
+                        .has_value = words->value != NULL, .has_tail = words->wide};
+    if (words->value)
+        memcpy(step.value, words->value, sizeof step.value);
+    if (words->value && words->wide)
+        memcpy(step.tail, words->value + SHORT_VALUE, sizeof step.tail);
+    return step;
+}
+
+/* Removes the locks that a dequeue has given up and that did not go with their requests. */
+static void remove_given_up(vlm_threads *layer, const vlm_threads_dequeue *words) {
+    struct lock *lock = words->lock ? lock_of(layer, words->lock) : NULL;
+    if (words->flags & VLM_DEQALL)
+        vlmt_remove_locks(layer, lock ? &lock->sublocks : &process_of(layer, words->pid)->locks);
+    else if (lock)
+        vlmt_remove_lock(layer, lock);
+}
+
+static uint32_t give_up(vlm_threads *layer, const vlm_threads_dequeue *words) {
+    if (!process_of(layer, words->pid))
+        return refusal(layer, words->pid);
+    vlm_dequeue step = core_dequeue(words);
+    uint32_t status = vlm_deq(&layer->handle, &step);
+    if (status != VLM_NORMAL)
+        return status;
+    layer->counters.dequeues++;
+    vlmt_take_asts(layer);
+    if (!(words->flags & VLM_DEQ_CANCEL))
+        remove_given_up(layer, words);
+    return VLM_NORMAL;
+}
+
+uint32_t vlm_threads_deq(vlm_threads *layer, const vlm_threads_dequeue *dequeue) {
+    if (dequeue->size != sizeof *dequeue || !all_zero(dequeue->reserved, sizeof dequeue->reserved))
+        return VLM_BADPARAM;
+    pthread_mutex_lock(&layer->mutex);
+    uint32_t status = give_up(layer, dequeue);
+    pthread_mutex_unlock(&layer->mutex);
+    return status;
+}

@@ -1,0 +1,201 @@
+/* Routines of the layer for threads: what they are told, in which order, and what they may do. */
+#include "threads_test.h"
+
+#include <poll.h>
+
+static vlm_threads *layer;
+
+/* What was told: 'c' or 'b' with the number of a lock. */
+static char told[64];
+static size_t told_len;
+
+static void note(void *context, const vlm_threads_event *event) {
+    (void)context;
+    told[told_len++] = event->kind == VLM_COMPLETION ? 'c' : 'b';
+    told[told_len++] = (char)('0' + event->lkid);
+    told[told_len] = 0;
+}
+
+static uint32_t delivered(void) {
+    uint32_t count;
+    EXPECT(vlm_threads_dispatch(layer, &count), VLM_NORMAL);
+    return count;
+}
+
+static bool is_readable(void) {
+    struct pollfd polled = {.events = POLLIN};
+    EXPECT(vlm_threads_fd(layer, &polled.fd), VLM_NORMAL);
+    return poll(&polled, 1, 0) == 1;
+}
+
+static vlm_threads_request started_request(uint32_t pid, uint32_t mode) {
+    vlm_threads_request request = asked(pid, mode);
+    request.completion = note;
+    request.blocking = note;
+    return request;
+}
+
+/* The completion of a grant comes before the warning of the same grant, in one step. */
+static void test_order(void) {
+    uint32_t p = declared(layer, 1), q = declared(layer, 1), r = declared(layer, 1);
+    vlm_threads_request first = started_request(p, VLM_EX), second = started_request(q, VLM_EX);
+    vlm_threads_request third = started_request(r, VLM_EX);
+    HOLD(!is_readable());
+    EXPECT(start_enq(layer, &first, "A"), VLM_NORMAL);
+    HOLD(is_readable());
+    EXPECT(start_enq(layer, &second, "A"), VLM_NORMAL);
+    EXPECT(start_enq(layer, &third, "A"), VLM_NORMAL);
+    HOLD(delivered() == 2 && !is_readable() && strcmp(told, "c1b1") == 0);
+    EXPECT(deq(layer, p, first.lkid, 0), VLM_NORMAL);
+    HOLD(delivered() == 2 && strcmp(told, "c1b1c2b2") == 0);
+    EXPECT(deq(layer, q, second.lkid, 0), VLM_NORMAL);
+    HOLD(delivered() == 1 && strcmp(told, "c1b1c2b2c3") == 0);
+    EXPECT(deq(layer, r, third.lkid, 0), VLM_NORMAL);
+    HOLD(delivered() == 0);
+}
+
+/* A warning is dropped if its grant is over, and a completion if its process has ended. */
+static void test_dropped(void) {
+    uint32_t p = declared(layer, 1), q = declared(layer, 1);
+    vlm_threads_request holds = started_request(p, VLM_EX), waits = started_request(q, VLM_PR);
+    uint64_t dropped = counters_of(layer).dropped;
+    told_len = 0;
+    EXPECT(start_enq(layer, &holds, "A"), VLM_NORMAL);
+    EXPECT(start_enq(layer, &waits, "A"), VLM_NORMAL);
+    EXPECT(deq(layer, p, holds.lkid, 0), VLM_NORMAL);
+    HOLD(is_readable() && delivered() == 2 && strcmp(told, "c4c5") == 0);
+    HOLD(counters_of(layer).dropped == dropped + 1);
+    EXPECT(start_enq(layer, &holds, "B"), VLM_NORMAL);
+    EXPECT(vlm_threads_rundown(layer, p), VLM_NORMAL);
+    HOLD(!is_readable() && delivered() == 0 && counters_of(layer).dropped == dropped + 2);
+    EXPECT(vlm_threads_rundown(layer, q), VLM_NORMAL);
+}
+
+struct chain {
+    uint32_t pid;
+    unsigned left;
+};
+
+/* A routine that calls the layer again: it gives its lock up, asks for the next, and can neither dispatch nor close. */
+static void go_on(void *context, const vlm_threads_event *event) {
+    struct chain *chain = context;
+    EXPECT(event->status, VLM_NORMAL);
+    EXPECT(vlm_threads_close(layer), VLM_BADPARAM);
+    EXPECT(vlm_threads_settle(layer), VLM_BADPARAM);
+    EXPECT(deq(layer, chain->pid, event->lkid, 0), VLM_NORMAL);
+    if (--chain->left == 0)
+        return;
+    vlm_threads_request request = asked(chain->pid, VLM_EX);
+    request.completion = go_on;
+    request.completion_context = chain;
+    EXPECT(start_enq(layer, &request, "chain"), VLM_NORMAL);
+    HOLD(is_readable() && delivered() == 0);
+}
+
+/* A dispatch delivers what was pending when it began, and leaves what its routines add. */
+static void test_again(void) {
+    struct chain chain = {.pid = declared(layer, 1), .left = 5};
+    vlm_threads_request request = asked(chain.pid, VLM_EX);
+    request.completion = go_on;
+    request.completion_context = &chain;
+    EXPECT(start_enq(layer, &request, "chain"), VLM_NORMAL);
+    for (unsigned left = 5; left; left--)
+        HOLD(chain.left == left && is_readable() && delivered() == 1);
+    HOLD(chain.left == 0 && delivered() == 0);
+}
+
+/* What a routine that waits needs. */
+struct patient {
+    uint32_t pid;
+    uint32_t status, later;
+};
+
+static void wait_in_routine(void *context, const vlm_threads_event *event) {
+    struct patient *patient = context;
+    vlm_threads_request request = asked(patient->pid, VLM_EX);
+    (void)event;
+    patient->status = enq(layer, &request, "W");
+    request.milliseconds = 1;
+    patient->later = enq(layer, &request, "X");
+}
+
+/* A routine may wait: the thread that makes the granting step wakes it. The layer's thread runs it here. */
+static void test_wait_in_routine(void) {
+    uint32_t pid = declared(layer, 1);
+    struct patient patient = {.pid = declared(layer, 1)};
+    vlm_threads_request request = asked(pid, VLM_EX), other = asked(pid, VLM_EX), start = asked(pid, VLM_NL);
+    EXPECT(enq(layer, &request, "W"), VLM_NORMAL);
+    EXPECT(enq(layer, &other, "X"), VLM_NORMAL);
+    start.completion = wait_in_routine;
+    start.completion_context = &patient;
+    EXPECT(start_enq(layer, &start, "Y"), VLM_NORMAL);
+    await_waiting(layer, 1);
+    EXPECT(deq(layer, pid, request.lkid, 0), VLM_NORMAL);
+    EXPECT(vlm_threads_settle(layer), VLM_NORMAL);
+    EXPECT(patient.status, VLM_NORMAL);
+    EXPECT(patient.later, VLM_TIMEOUT);
+}
+
+static void count(void *context, const vlm_threads_event *event) {
+    HOLD(event->kind == VLM_COMPLETION);
+    nanosleep(&(struct timespec){.tv_nsec = 1000}, NULL);
+    ++*(unsigned *)context;
+}
+
+/* After a rundown and a settle no routine of the process runs, so its context can go. */
+static void test_settle(void) {
+    for (long round = rounds(1000); round; round--) {
+        unsigned *counted = calloc(1, sizeof *counted);
+        uint32_t pid = declared(layer, 1);
+        vlm_threads_request request = asked(pid, VLM_NL);
+        request.completion = count;
+        request.completion_context = counted;
+        for (int i = 0; i < 3; i++)
+            EXPECT(start_enq(layer, &request, "S"), VLM_NORMAL);
+        EXPECT(vlm_threads_rundown(layer, pid), VLM_NORMAL);
+        EXPECT(vlm_threads_settle(layer), VLM_NORMAL);
+        HOLD(*counted <= 3);
+        free(counted);
+    }
+}
+
+/* The watchdog finds a victim: of two that wait for each other the later one. */
+static void *wait_for_other(void *given) {
+    vlm_threads_request *request = given;
+    HOLD(vlm_threads_convert(layer, request) == request->status);
+    return NULL;
+}
+
+static void test_watchdog(void) {
+    vlm_threads_request first = asked(declared(layer, 1), VLM_PR), second = asked(declared(layer, 1), VLM_PR);
+    EXPECT(enq(layer, &first, "D"), VLM_NORMAL);
+    EXPECT(enq(layer, &second, "D"), VLM_NORMAL);
+    first.lock = first.lkid;
+    second.lock = second.lkid;
+    first.mode = second.mode = VLM_EX;
+    pthread_t thread = started(wait_for_other, &first);
+    await_waiting(layer, 1);
+    EXPECT(vlm_threads_convert(layer, &second), VLM_DEADLOCK);
+    HOLD(second.lkid == second.lock && second.status == VLM_DEADLOCK);
+    EXPECT(deq(layer, second.pid, second.lkid, 0), VLM_NORMAL);
+    pthread_join(thread, NULL);
+    EXPECT(first.status, VLM_NORMAL);
+    HOLD(counters_of(layer).victims == 1);
+}
+
+int main(void) {
+    layer = opened(VLM_THREADS_BY_PROGRAM, 0);
+    test_order();
+    test_dropped();
+    test_again();
+    expect_sums(layer);
+    EXPECT(vlm_threads_close(layer), VLM_NORMAL);
+    layer = opened(VLM_THREADS_BY_LAYER, 50);
+    test_wait_in_routine();
+    test_settle();
+    test_watchdog();
+    expect_sums(layer);
+    EXPECT(vlm_threads_close(layer), VLM_NORMAL);
+    printf("routines: %u wrong\n", wrong);
+    return wrong != 0;
+}
