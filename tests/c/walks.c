@@ -59,7 +59,8 @@ static void given_up(vlm *handle, uint32_t pid, uint32_t lkid) {
 
 /* The key of a root of a group, or of a resource below the one with the serial `parent`. */
 static struct vlm_resource key(const char *name, uint32_t parent, uint32_t group) {
-    struct vlm_resource made = {.size = sizeof made, .parent = parent, .group = group, .name_len = (uint32_t)strlen(name)};
+    struct vlm_resource made = {.size = sizeof made, .parent = parent, .group = group};
+    made.name_len = (uint32_t)strlen(name);
     memcpy(made.name, name, strlen(name));
     return made;
 }

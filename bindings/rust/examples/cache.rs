@@ -1,10 +1,11 @@
 //! A cache protocol of eight threads. Each has a process of its own, and a lock on one resource.
 //!
-//! A reader holds PR and a cached version, which it uses without asking anybody. A blocking routine tells it to give way.
-//! A writer takes EX, and with it the last version from the value block. It hands the next version over in the value block.
+//! A reader holds PR and a cached version, which it uses without asking anybody. A blocking routine tells it to give
+//! way. A writer takes EX, and with it the last version from the value block. It hands the next version over in the
+//! value block.
 //!
-//! Between turns all hold NL, which keeps the resource and its value block. With QUECVT a conversion queues behind those
-//! that wait, so readers cannot keep a writer out.
+//! Between turns all hold NL, which keeps the resource and its value block. With QUECVT a conversion queues behind
+//! those that wait, so readers cannot keep a writer out.
 
 use std::sync::atomic::{AtomicBool, AtomicU64, Ordering::SeqCst};
 use std::sync::mpsc::{channel, Receiver};

@@ -2,13 +2,13 @@
 //!
 //! There are two forms of it:
 //!
-//! - [`Shared`] is for threads. A call waits for its grant, a [`Guard`] gives its lock up on drop, and closures are told
-//!   that a lock is in the way.
-//! - [`LockManager`] has the calls of the library. None of them waits: a request that has to wait stays queued, its status
-//!   block tells of its end, and an AST is pending where it names a routine.
+//! - [`Shared`] is for threads. A call waits for its grant, a [`Guard`] gives its lock up on drop, and closures are
+//!   told that a lock is in the way.
+//! - [`LockManager`] has the calls of the library. None of them waits: a request that has to wait stays queued, its
+//!   status block tells of its end, and an AST is pending where it names a routine.
 //!
-//! docs/LIBRARY.md of the repository says what is proved of the library and what each call answers. The wrapper itself is
-//! Rust, and nothing of it is proved.
+//! docs/LIBRARY.md of the repository says what is proved of the library and what each call answers. The wrapper itself
+//! is Rust, and nothing of it is proved.
 //!
 //! ```
 //! use std::time::Duration;

@@ -54,7 +54,8 @@ impl LockManager {
         Ok(ProcessId(pid))
     }
 
-    /// Sets the value part of a status block of the process, and its tail where one is given. DEPARTED, NONEXPR, ACCVIO.
+    /// Sets the value part of a status block of the process, and its tail where one is given. DEPARTED, NONEXPR,
+    /// ACCVIO.
     pub fn set_value(&mut self, setting: &Setting) -> Result<(), Condition> {
         let words = raw::Setting {
             pid: setting.process.0,
@@ -104,7 +105,8 @@ impl LockManager {
         self.dequeue(&Dequeue::new(process, Some(lock.into())))
     }
 
-    /// Gives locks up, or cancels a request ($DEQ). DEPARTED, NONEXPR, BADPARAM, ACCVIO, IVLOCKID, CANCELGRANT, SUBLOCKS.
+    /// Gives locks up, or cancels a request ($DEQ). DEPARTED, NONEXPR, BADPARAM, ACCVIO, IVLOCKID, CANCELGRANT,
+    /// SUBLOCKS.
     pub fn dequeue(&mut self, dequeue: &Dequeue) -> Result<(), Condition> {
         let (lock, lock_block) = lock_named(dequeue.lock);
         let words = raw::Dequeue {
@@ -129,8 +131,8 @@ impl LockManager {
         Ok(Ast::of(&words))
     }
 
-    /// Takes the oldest AST of the first process that has one: of the first node with such a process, the first in order
-    /// of making. It takes constant time, so one loop of it delivers everything. It is never refused.
+    /// Takes the oldest AST of the first process that has one: of the first node with such a process, the first in
+    /// order of making. It takes constant time, so one loop of it delivers everything. It is never refused.
     ///
     /// ```
     /// # fn main() -> Result<(), vlm::Condition> {

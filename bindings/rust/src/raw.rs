@@ -1,4 +1,5 @@
-//! The library's structs and calls as C has them, and a handle that owns a lock manager. All that is unsafe stands here.
+//! The library's structs and calls as C has them, and a handle that owns a lock manager. All that is unsafe stands
+//! here.
 
 use std::cell::UnsafeCell;
 use std::ffi::c_void;

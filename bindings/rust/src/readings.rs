@@ -67,8 +67,8 @@ impl LockManager {
         self.found(0, is_system, group, name)
     }
 
-    /// The resource of this name below the resource with the serial `parent`. None where there is none. It takes constant
-    /// time.
+    /// The resource of this name below the resource with the serial `parent`. None where there is none. It takes
+    /// constant time.
     pub fn find_below(&self, parent: u32, name: &[u8]) -> Option<Resource> {
         if parent == 0 {
             return None;

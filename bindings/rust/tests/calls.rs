@@ -102,42 +102,6 @@ fn locks_are_asked_for_and_given_up() {
         manager.block(q, 1).map(|it| (it.status, it.lock)),
         Some((None, Some(LockId(2))))
     );
-    for (refused, name, refusal) in [
-        (
-            Request::new(NOBODY, Mode::Ex, 1),
-            &b"A"[..],
-            Condition::Nonexpr,
-        ),
-        (Request::new(p, Mode::Ex, 3), b"A", Condition::Accvio),
-        (Request::new(p, Mode::Ex, 1), b"", Condition::Ivbuflen),
-        (Request::new(p, Mode::Ex, 1), &[1; 32], Condition::Ivbuflen),
-        (
-            Request {
-                flags: EnqFlags::from_bits(0x8000),
-                ..at_once
-            },
-            b"A",
-            Condition::Badparam,
-        ),
-        (
-            Request {
-                flags: EnqFlags::NOQUEUE,
-                ..at_once
-            },
-            b"A",
-            Condition::Notqueued,
-        ),
-        (
-            Request {
-                parent: Some(LockId(9).into()),
-                ..at_once
-            },
-            b"A",
-            Condition::Ivlockid,
-        ),
-    ] {
-        assert_eq!(manager.enq(&refused, name), Err(refusal));
-    }
     assert_eq!(
         manager.convert(&at_once, LockId(2)),
         Err(Condition::Ivlockid)
@@ -163,6 +127,51 @@ fn locks_are_asked_for_and_given_up() {
         (manager.block(q, 3), manager.block(NOBODY, 1)),
         (None, None)
     );
+}
+
+#[test]
+fn requests_are_refused() {
+    let (mut manager, p, q) = two();
+    manager
+        .enq(&Request::new(q, Mode::Ex, 1), b"A")
+        .expect("a lock");
+    let request = Request::new(p, Mode::Ex, 1);
+    for (refused, name, refusal) in [
+        (
+            Request::new(NOBODY, Mode::Ex, 1),
+            &b"A"[..],
+            Condition::Nonexpr,
+        ),
+        (Request::new(p, Mode::Ex, 3), b"A", Condition::Accvio),
+        (request, b"", Condition::Ivbuflen),
+        (request, &[1; 32], Condition::Ivbuflen),
+        (
+            Request {
+                flags: EnqFlags::from_bits(0x8000),
+                ..request
+            },
+            b"A",
+            Condition::Badparam,
+        ),
+        (
+            Request {
+                flags: EnqFlags::NOQUEUE,
+                ..request
+            },
+            b"A",
+            Condition::Notqueued,
+        ),
+        (
+            Request {
+                parent: Some(LockId(9).into()),
+                ..request
+            },
+            b"A",
+            Condition::Ivlockid,
+        ),
+    ] {
+        assert_eq!(manager.enq(&refused, name), Err(refusal));
+    }
 }
 
 #[test]

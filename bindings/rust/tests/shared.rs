@@ -93,7 +93,7 @@ fn each_request_takes_a_status_block() {
         })
         .expect("a process");
     for _ in 0..9 {
-        shared.lock(process, b"A", Mode::Ex).expect("a lock");
+        drop(shared.lock(process, b"A", Mode::Ex).expect("a lock"));
         shared.lock(process, b"", Mode::Ex).expect_err("no name");
     }
     let _held = shared.lock(process, b"A", Mode::Ex).expect("a lock");
@@ -105,7 +105,7 @@ fn each_request_takes_a_status_block() {
         Some(Condition::Exenqlm)
     );
     assert_eq!(shared.cancel(process, waits), Ok(()));
-    shared.lock(process, b"B", Mode::Ex).expect("a lock");
+    drop(shared.lock(process, b"B", Mode::Ex).expect("a lock"));
     let none = shared
         .declare(&Declaration {
             blocks: 0,

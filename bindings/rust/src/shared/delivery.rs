@@ -108,9 +108,9 @@ impl Shared {
     /// meanwhile. Returns how many it called. Routines run one at a time: it is 0 if another delivery runs, in this
     /// thread or another.
     ///
-    /// A completion comes before the warning that its grant is in the way. A warning is dropped if its grant is over: its
-    /// lock has gone, or a conversion was granted. A routine may make any call. If it panics, the panic goes on to the
-    /// caller, and later events stay pending.
+    /// A completion comes before the warning that its grant is in the way. A warning is dropped if its grant is over:
+    /// its lock has gone, or a conversion was granted. A routine may make any call. If it panics, the panic goes on to
+    /// the caller, and later events stay pending.
     pub fn deliver(&self) -> usize {
         let Some(turn) = Turn::begin(self) else {
             return 0;

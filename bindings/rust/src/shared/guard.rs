@@ -16,8 +16,8 @@ use crate::views::StatusBlock;
 /// A lock that is held. Dropping it gives the lock up, and writes the value that [`Guard::write`] named. It may go to
 /// another thread.
 ///
-/// A guard that is dropped by a panic writes nothing. A lock that went with its process is no error. A lock with sublocks
-/// stays when its guard is dropped: drop the guards of the sublocks first, or see [`Guard::release`].
+/// A guard that is dropped by a panic writes nothing. A lock that went with its process is no error. A lock with
+/// sublocks stays when its guard is dropped: drop the guards of the sublocks first, or see [`Guard::release`].
 ///
 /// ```
 /// use vlm::{Declaration, Mode, Shared};
@@ -34,6 +34,7 @@ use crate::views::StatusBlock;
 /// # Ok(())
 /// # }
 /// ```
+#[must_use = "a guard that is dropped gives its lock up"]
 pub struct Guard {
     shared: Shared,
     process: ProcessId,
@@ -117,8 +118,8 @@ impl Guard {
         self.written = Some((value, Some(tail)));
     }
 
-    /// Asks for another mode and waits for the grant. If it fails, the lock holds what it held. The blocking routine stays:
-    /// the grant arms it again.
+    /// Asks for another mode and waits for the grant. If it fails, the lock holds what it held. The blocking routine
+    /// stays: the grant arms it again.
     ///
     /// Refused as [`LockManager::convert`](crate::LockManager::convert); EXENQLM if no status block of the process is
     /// free. The wait ends without a grant by DEADLOCK, CANCEL, ABORT, NONEXPR or DEPARTED.
@@ -176,8 +177,8 @@ impl Guard {
         }
     }
 
-    /// Gives the lock up, and writes the value that was named. A second call does nothing. If it is refused, the guard has
-    /// the lock still. SUBLOCKS; IVLOCKID: another call gave it up; NONEXPR, DEPARTED: its process has ended.
+    /// Gives the lock up, and writes the value that was named. A second call does nothing. If it is refused, the guard
+    /// has the lock still. SUBLOCKS; IVLOCKID: another call gave it up; NONEXPR, DEPARTED: its process has ended.
     pub fn release(&mut self) -> Result<(), Condition> {
         if !self.is_held {
             return Ok(());

@@ -34,9 +34,9 @@ use waits::{Asked, What};
 /// A lock manager that threads share: its calls wait for grants, wake each other and call routines. A clone is another
 /// name of the same lock manager. The last one that goes, guards included, closes it.
 ///
-/// Each call takes a mutex, and gives it up while it waits. The thread that makes a step wakes each thread whose request
-/// ended by it. Each request that is under way takes a status block of its process, so declare as many blocks as
-/// requests may be under way at once.
+/// Each call takes a mutex, and gives it up while it waits. The thread that makes a step wakes each thread whose
+/// request ended by it. Each request that is under way takes a status block of its process, so declare as many blocks
+/// as requests may be under way at once.
 ///
 /// ```
 /// use vlm::{Declaration, Mode, Shared};
@@ -111,8 +111,9 @@ impl Shared {
         Ok(())
     }
 
-    /// Searches for a deadlock and ends the request of its victim, whose lock it returns: that request fails by DEADLOCK.
-    /// There may be another deadlock, so search until the answer is none. Nothing searches by itself. BADPARAM, DEPARTED.
+    /// Searches for a deadlock and ends the request of its victim, whose lock it returns: that request fails by
+    /// DEADLOCK. There may be another deadlock, so search until the answer is none. Nothing searches by itself.
+    /// BADPARAM, DEPARTED.
     pub fn search(&self, node: u8) -> Result<Option<LockId>, Condition> {
         self.locked().manager.search(node)
     }
@@ -120,15 +121,15 @@ impl Shared {
     /// Asks for a lock on the resource of a name, and waits for the grant. The value block comes with it.
     ///
     /// Refused as [`LockManager::enq`]; EXENQLM also if no status block of the process is free. The wait ends without a
-    /// grant by DEADLOCK, by ABORT (another thread gave the lock up or cancelled its request), and by NONEXPR or DEPARTED
-    /// (the process has ended).
+    /// grant by DEADLOCK, by ABORT (another thread gave the lock up or cancelled its request), and by NONEXPR or
+    /// DEPARTED (the process has ended).
     pub fn lock(&self, process: ProcessId, name: &[u8], mode: Mode) -> Result<Guard, Condition> {
         self.lock_with(process, name, mode, Terms::new())
             .map_err(WaitError::condition)
     }
 
-    /// The same, and waits at most this long. If the time is over the request is cancelled: `TimedOut`. A grant that came
-    /// too late counts as granted.
+    /// The same, and waits at most this long. If the time is over the request is cancelled: `TimedOut`. A grant that
+    /// came too late counts as granted.
     ///
     /// ```
     /// use std::time::Duration;
@@ -195,8 +196,8 @@ impl Shared {
         self.locked().dequeue(dequeue)
     }
 
-    /// Cancels the queued request of a lock, whose wait fails by ABORT or, for a conversion, by CANCEL. DEPARTED, NONEXPR,
-    /// IVLOCKID, CANCELGRANT.
+    /// Cancels the queued request of a lock, whose wait fails by ABORT or, for a conversion, by CANCEL. DEPARTED,
+    /// NONEXPR, IVLOCKID, CANCELGRANT.
     pub fn cancel(&self, process: ProcessId, lock: LockId) -> Result<(), Condition> {
         let dequeue = Dequeue {
             flags: DeqFlags::CANCEL,

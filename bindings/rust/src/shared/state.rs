@@ -1,9 +1,9 @@
 //! The lock manager, with the status blocks and the routines of its processes, under a mutex.
 //!
 //! Each routine has a number that no other routine has, by which an AST finds it. After the steps of a call `settle`
-//! takes all ASTs: an end wakes the thread that waits for it, or becomes an event; a warning becomes an event. So no AST
-//! is pending while nobody has the mutex. What may run code of the program when it is dropped goes to the trash, and is
-//! dropped after the mutex.
+//! takes all ASTs: an end wakes the thread that waits for it, or becomes an event; a warning becomes an event. So no
+//! AST is pending while nobody has the mutex. What may run code of the program when it is dropped goes to the trash,
+//! and is dropped after the mutex.
 
 use std::collections::{HashMap, VecDeque};
 use std::mem;

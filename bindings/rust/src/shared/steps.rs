@@ -162,8 +162,9 @@ impl State {
         }
     }
 
-    /// Whether a lock of a process is gone. QUECVT does not go with a conversion to NL, so a lock that is there is refused
-    /// for that, or for its own conversion. (Status block 1 is there: a lock with a routine was asked for by one.)
+    /// Whether a lock of a process is gone. QUECVT does not go with a conversion to NL, so a lock that is there is
+    /// refused for that, or for its own conversion. (Status block 1 is there: a lock with a routine was asked for by
+    /// one.)
     fn is_gone(&mut self, process: ProcessId, lock: LockId) -> bool {
         let request = Request {
             flags: EnqFlags::QUECVT,

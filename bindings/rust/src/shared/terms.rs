@@ -57,8 +57,8 @@ impl Terms {
         self
     }
 
-    /// The blocking routine: it is told once that the lock, once granted, is in the way of another request. It lives until
-    /// the lock is given up or a conversion brings another.
+    /// The blocking routine: it is told once that the lock, once granted, is in the way of another request. It lives
+    /// until the lock is given up or a conversion brings another.
     ///
     /// [`Shared::deliver`](super::Shared::deliver) calls it, outside the mutex, so it may make any call. If it holds a
     /// `Shared` or a guard of the same lock manager, that stays alive as long as the routine.
