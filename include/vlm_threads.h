@@ -179,8 +179,8 @@ typedef struct vlm_threads_request {
  * NOTQUEUED: with VLM_NOQUEUE, it can't be granted at once.
  * DEPARTED, NONEXPR, IVBUFLEN, UNSUPPORTED, IVLOCKID, PARNOTGRANT, EXDEPTH, NOSYSLCK, NOLOCKID: as vlm_enq.
  *
- * The blocking routine may run before the call returns. Costs a step of the core and some 400 instructions; if it
- * waits, a sleep too, and the ASTs (see vlm_threads_search). */
+ * The blocking routine may run before the call returns. Costs a step of the core and some 400 instructions, and a
+ * sleep if it waits. */
 uint32_t vlm_threads_enq(vlm_threads *layer, vlm_threads_request *request, const uint8_t *name, size_t name_len);
 
 /* Asks for another mode of a granted lock and waits until the request has ended. Answers as vlm_threads_enq, with these
@@ -249,11 +249,7 @@ uint32_t vlm_threads_settle(vlm_threads *layer);
 /* Searches until no request is deadlocked. *victims is how many requests ended by DEADLOCK, the latest first. The
  * layer's own thread does the same each search_milliseconds, if a request waits. A search keeps the mutex, and costs
  * more the more requests wait (docs/PERFORMANCE.md).
- * DEPARTED: all nodes have departed.
- *
- * The cost of ASTs. If no request waits, a call asks the core for none. If one waits, each call that changes a lock
- * asks the core once for each process that has a waiting request, or a lock with a blocking routine that was not called
- * since its grant: some 60 nanoseconds each. */
+ * DEPARTED: all nodes have departed. */
 uint32_t vlm_threads_search(vlm_threads *layer, uint32_t *victims);
 
 /* Looking. */

@@ -158,7 +158,6 @@ static void free_records(vlm_threads *layer) {
         free(bond);
     }
     free(layer->requests);
-    free(layer->expecting);
     free(layer->processes.chains);
     free(layer->locks.chains);
 }

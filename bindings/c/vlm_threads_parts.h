@@ -71,7 +71,6 @@ struct request {
     uint8_t block;   /* its status block while it is queued */
     bool is_queued;
     bool is_held;  /* its lock holds its mode by it */
-    bool is_armed; /* the core may still warn it */
     bool is_late;  /* its time is over */
     uint64_t since;
     struct waiter *waiter; /* null with a completion routine */
@@ -93,8 +92,6 @@ struct lock {
 struct process {
     struct entry entry;
     struct lock *locks;     /* those without a parent */
-    uint32_t expected;      /* how many ASTs the core may queue for it: one by each queued request and each armed one */
-    uint32_t place;         /* among the expecting ones, if `expected` is not 0 */
     struct bond *bond;      /* the thread that it is tied to, or null */
     struct process *next_tied;
     uint32_t free_count;
@@ -118,8 +115,6 @@ struct vlm_threads {
     uint32_t departed; /* bit n: node n has departed */
 
     struct table processes, locks;
-    struct process **expecting; /* those that expect ASTs, with room for all */
-    uint32_t expecting_count, expecting_room;
     struct request **requests; /* all records, by index */
     uint32_t request_count, request_room;
     struct request *free_requests;
@@ -149,10 +144,9 @@ struct entry *vlmt_found(const struct table *table, uint32_t id);
 void vlmt_put(struct table *table, struct entry *entry);
 void vlmt_take_out(struct table *table, struct entry *entry);
 
-/* Room: whether it could be made. An array of pointers comes back, perhaps at another place, with room for one more. */
+/* Room: whether it could be made. */
 bool vlmt_table_is_made(struct table *table, uint32_t bits);
 bool vlmt_table_has_room(struct table *table);
-void *vlmt_array_with_room(void *array, uint32_t count, uint32_t *room);
 bool vlmt_has_room_for_request(vlm_threads *layer);
 bool vlmt_has_room_for_lock(vlm_threads *layer);
 
@@ -163,7 +157,6 @@ void vlmt_unqueue_event(vlm_threads *layer, struct event *event);
 void vlmt_drop_event(vlm_threads *layer, struct event *event);
 
 /* The beginning and the end of a grant, of a wait, of a lock, and of a record. */
-void vlmt_expect_more(vlm_threads *layer, struct process *process);
 void vlmt_hold(vlm_threads *layer, struct request *request);
 void vlmt_leave_queue(vlm_threads *layer, struct request *request);
 void vlmt_tell(vlm_threads *layer, struct request *request);

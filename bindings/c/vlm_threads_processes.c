@@ -121,10 +121,6 @@ static struct bond *bond_of_thread(vlm_threads *layer) {
 
 /* A process with its status blocks and, where it is tied, its bond, before the core knows of it; or null. */
 static struct process *made_process(vlm_threads *layer, const vlm_threads_declaration *words) {
-    void *array = vlmt_array_with_room(layer->expecting, layer->processes.count, &layer->expecting_room);
-    if (!array)
-        return NULL;
-    layer->expecting = array;
     struct bond *bond = words->tied ? bond_of_thread(layer) : NULL;
     if ((words->tied && !bond) || !vlmt_table_has_room(&layer->processes))
         return NULL;

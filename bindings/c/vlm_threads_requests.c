@@ -97,7 +97,6 @@ static void join_queue(vlm_threads *layer, struct request *request, struct waite
     request->is_queued = true;
     request->lock->queued = request;
     request->since = now();
-    vlmt_expect_more(layer, request->process);
     counters->waited++;
     if (++counters->waiting > counters->most_waiting)
         counters->most_waiting = counters->waiting;
