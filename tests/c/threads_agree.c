@@ -41,11 +41,20 @@ static void read_resource(vlm *handle, size_t resource, struct figures *figures)
         }
 }
 
+/* Walks the processes and the resources, which are as many as the core counts. The walk of resources goes in the order
+ * of their places. */
 static void read_core(void *context, vlm *handle) {
     struct figures *figures = context;
-    figures->processes = vlm_process_count(handle);
-    for (size_t resource = 0; resource < vlm_resource_count(handle); resource++)
-        read_resource(handle, resource, figures);
+    struct vlm_process process = {.size = sizeof process};
+    struct vlm_resource resource = {.size = sizeof resource}, at_place = {.size = sizeof at_place};
+    size_t place = 0;
+    while (vlm_next_process(handle, process.pid, &process) == VLM_NORMAL && process.pid != 0)
+        figures->processes++;
+    for (; vlm_next_resource(handle, &resource) == VLM_NORMAL && resource.serial != 0; place++) {
+        HOLD(vlm_resource(handle, place, &at_place) == VLM_NORMAL && at_place.serial == resource.serial);
+        read_resource(handle, place, figures);
+    }
+    HOLD(figures->processes == vlm_process_count(handle) && place == vlm_resource_count(handle));
 }
 
 static void expect_agreement(void) {
