@@ -24,7 +24,7 @@
  * Threads. Any thread may make any call for any process, at any time between opening and closing; so may a routine,
  * except where a comment says otherwise. A call holds the layer's mutex while it works, and gives it up while it
  * sleeps. Only vlm_threads_enq, vlm_threads_convert, vlm_threads_settle and vlm_threads_close sleep. A thread that is
- * cancelled by pthread_cancel during a call ends after it.
+ * cancelled by pthread_cancel during a call ends after it, if its cancelability type is deferred, as it is by default.
  *
  * Memory. A call asks for all memory before its step. If memory is refused, it answers VLM_INSFMEM and nothing has
  * changed. Giving up, ending and waking need none. A lock with its request takes about 340 bytes here beside what the
@@ -37,7 +37,7 @@
  * - A pointer is not null, except where its comment says so, and points to initialized objects of its type during the
  *   call. A name has name_len bytes, and is not null even with length 0. No two arguments overlap.
  * - The context of a routine lives as long as the routine may run; see vlm_threads_settle.
- * - A routine returns. It does not leave by longjmp, a C++ exception or pthread_exit.
+ * - A routine or a reader returns. It does not leave by longjmp, a C++ exception or pthread_exit.
  * - A reader of vlm_threads_look makes only the readings of vlm.h, and no call of this header.
  * - No call is made from a signal handler, or in the forked child of a process with threads.
  * - malloc, calloc, realloc and free belong to one allocator. The library and both headers are of one version.
@@ -89,8 +89,8 @@ uint32_t vlm_threads_open(const vlm_threads_options *options, vlm_threads **laye
  * process. Pending events are dropped, and no routine begins any more. NORMAL. */
 uint32_t vlm_threads_stop(vlm_threads *layer);
 
-/* Stops the layer, waits until each call that was waiting and the routine that was running have returned, ends the
- * layer's threads, and frees everything. The answer is NORMAL, also with a null layer.
+/* Stops the layer, waits until each call that sleeps and the routine that runs have returned, ends the layer's threads,
+ * and frees everything. The answer is NORMAL, also with a null layer.
  * BADPARAM: a routine of the layer calls it; nothing happens. */
 uint32_t vlm_threads_close(vlm_threads *layer);
 
@@ -122,6 +122,7 @@ uint32_t vlm_threads_declare(vlm_threads *layer, const vlm_threads_declaration *
 uint32_t vlm_threads_rundown(vlm_threads *layer, uint32_t pid);
 
 /* A node departs: all its processes end, and it declares no more. A call that waits for one of them answers DEPARTED.
+ * The cost grows with its processes, their locks and the pending events.
  * BADPARAM: the node is not 1 to 8. DEPARTED: it has departed before. */
 uint32_t vlm_threads_leave(vlm_threads *layer, uint32_t node);
 
@@ -135,8 +136,8 @@ typedef struct vlm_threads_event {
     uint32_t pid;       /* the process of the lock */
     uint32_t lkid;      /* the lock; it may have gone since */
     uint32_t status;    /* of a completion: how the request ended; else 0 */
-    uint32_t value_len; /* of a completion: how many bytes of the value block were returned, 0, 16 or 64; else 0 */
-    uint8_t value[64];  /* the value block as it was at the grant, also if it is invalid */
+    uint32_t value_len; /* of a grant with VLM_VALBLK: 16, or 64 with VLM_WIDE; else 0 */
+    uint8_t value[64];  /* the value block that the grant returned, valid or not; else what the conversion was given */
     uint32_t reserved[8];
 } vlm_threads_event;
 

@@ -174,7 +174,7 @@ static void free_primitives(vlm_threads *layer) {
     pthread_mutex_destroy(&layer->mutex);
 }
 
-/* Stops the layer, and waits until nobody sleeps in it and no routine runs. */
+/* Stops the layer, and waits until no routine runs and no call sleeps. */
 static void empty(vlm_threads *layer) {
     stop(layer);
     layer->is_closing = true;

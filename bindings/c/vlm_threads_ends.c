@@ -32,6 +32,8 @@ void vlmt_queue_event(vlm_threads *layer, struct event *event) {
 
 void vlmt_unqueue_event(vlm_threads *layer, struct event *event) {
     event->is_pending = false;
+    if (layer->due == event)
+        layer->due = event->previous;
     *(event->previous ? &event->previous->next : &layer->first) = event->next;
     *(event->next ? &event->next->previous : &layer->last) = event->previous;
     if (--layer->counters.events == 0 && layer->descriptor >= 0)

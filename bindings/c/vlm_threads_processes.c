@@ -3,10 +3,11 @@
 
 #include <stdlib.h>
 
-static void drop_events_of(vlm_threads *layer, const struct process *process) {
+/* Drops the events of the processes whose number equals `pid` in the bits of the mask. */
+static void drop_events(vlm_threads *layer, uint32_t pid, uint32_t mask) {
     for (struct event *event = layer->first, *next; event; event = next) {
         next = event->next;
-        if (event->request->process != process)
+        if ((event->request->process->entry.id & mask) != pid)
             continue;
         vlmt_drop_event(layer, event);
         vlmt_release(layer, event->request);
@@ -32,9 +33,8 @@ static void untie(struct process *process) {
     *link = process->next_tied;
 }
 
-/* Removes what the layer has of a process that has ended in the core. */
+/* Removes what the layer has of a process that has ended in the core and has no events. */
 static void forget(vlm_threads *layer, struct process *process, uint32_t status) {
-    drop_events_of(layer, process);
     while (process->locks) {
         struct lock *lock = lowest(process->locks);
         if (lock->queued)
@@ -50,6 +50,7 @@ static uint32_t run_down(vlm_threads *layer, uint32_t pid) {
     uint32_t status = vlm_rundown(&layer->handle, pid);
     if (status != VLM_NORMAL)
         return status;
+    drop_events(layer, pid, UINT32_MAX);
     forget(layer, process_of(layer, pid), VLM_NONEXPR);
     vlmt_take_asts(layer);
     return VLM_NORMAL;
@@ -62,8 +63,9 @@ uint32_t vlm_threads_rundown(vlm_threads *layer, uint32_t pid) {
     return status;
 }
 
-/* Forgets the processes of a node, or of all nodes with 0. */
+/* Forgets the processes of a node, or of all nodes with 0. The upper half of a process's number is its node. */
 void vlmt_forget_node(vlm_threads *layer, uint32_t node) {
+    drop_events(layer, node << 16, node ? UINT32_MAX << 16 : 0);
     for (size_t chain = 0; chain < (size_t)1 << layer->processes.bits; chain++)
         for (struct entry *entry = layer->processes.chains[chain], *next; entry; entry = next) {
             next = entry->next;

@@ -337,6 +337,20 @@ static void test_deadlock(void) {
     EXPECT(deq(layer, p, first.lkid, 0), VLM_NORMAL);
 }
 
+/* A node declares 65,535 processes, living or not. */
+static void test_last_process(void) {
+    vlm_threads_declaration words = {.size = sizeof words, .node = 8, .requests = 1};
+    uint32_t pid;
+    if (getenv("VLM_TEST_SHARE"))
+        return;
+    for (uint32_t number = 1; number <= 65535; number++) {
+        EXPECT(vlm_threads_declare(layer, &words, &pid), VLM_NORMAL);
+        EXPECT(vlm_threads_rundown(layer, pid), VLM_NORMAL);
+    }
+    EXPECT(vlm_threads_declare(layer, &words, &pid), VLM_BADPARAM);
+    HOLD(pid == 0);
+}
+
 static void look(void *context, vlm *handle) {
     *(size_t *)context = vlm_process_count(handle);
 }
@@ -389,6 +403,7 @@ int main(void) {
     test_quota_and_parents();
     test_depth();
     test_deadlock();
+    test_last_process();
     test_readings();
     expect_sums(layer);
     vlm_threads_counters counters = counters_of(layer);

@@ -211,13 +211,20 @@ static void test_outlived(void) {
 static void run_long(void *context, const vlm_threads_event *event) {
     (void)event;
     pthread_barrier_wait(&both);
-    sleep_milliseconds(5);
+    sleep_milliseconds(50);
     atomic_store((atomic_int *)context, 1);
 }
 
-/* A close waits for the routine that runs, and drops the events that are pending. */
+static void *settle(void *given) {
+    atomic_fetch_add((atomic_int *)given, 1);
+    EXPECT(vlm_threads_settle(layer), VLM_NORMAL);
+    return NULL;
+}
+
+/* A close waits for the routine that runs and for the threads that settle, and drops the events that are pending. */
 static void test_close_in_routine(void) {
-    atomic_int has_run = 0;
+    atomic_int has_run = 0, settling = 0;
+    pthread_t threads[WAITERS];
     layer = opened(VLM_THREADS_BY_LAYER, 0);
     vlm_threads_request request = asked(declared(layer, 1), VLM_NL);
     request.completion = run_long;
@@ -225,8 +232,15 @@ static void test_close_in_routine(void) {
     EXPECT(start_enq(layer, &request, "A"), VLM_NORMAL);
     EXPECT(start_enq(layer, &request, "A"), VLM_NORMAL);
     pthread_barrier_wait(&both);
+    for (int i = 0; i < WAITERS; i++)
+        threads[i] = started(settle, &settling);
+    while (atomic_load(&settling) < WAITERS)
+        sleep_milliseconds(1);
+    sleep_milliseconds(10);
     EXPECT(vlm_threads_close(layer), VLM_NORMAL);
     HOLD(atomic_load(&has_run) == 1);
+    for (int i = 0; i < WAITERS; i++)
+        pthread_join(threads[i], NULL);
 }
 
 int main(void) {

@@ -2,6 +2,7 @@
 #include "threads_test.h"
 
 #include <poll.h>
+#include <signal.h>
 
 static vlm_threads *layer;
 
@@ -71,6 +72,71 @@ static void test_dropped(void) {
     EXPECT(vlm_threads_rundown(layer, q), VLM_NORMAL);
 }
 
+static void count(void *context, const vlm_threads_event *event) {
+    HOLD(event->kind == VLM_BLOCKING && event->status == 0 && event->value_len == 0);
+    ++*(unsigned *)context;
+}
+
+/* A lock is warned once for each grant, however many wait. Until a conversion is granted the routine of the old grant is
+ * called, then that of the conversion. A conversion to NL is not warned. */
+static void test_warned_once(void) {
+    uint32_t p = declared(layer, 1), q = declared(layer, 1);
+    unsigned first = 0, second = 0;
+    vlm_threads_request holds = asked(p, VLM_PR), other = asked(q, VLM_PR), waits = started_request(q, VLM_EX);
+    holds.blocking = count;
+    holds.blocking_context = &first;
+    EXPECT(enq(layer, &holds, "A"), VLM_NORMAL);
+    EXPECT(enq(layer, &other, "A"), VLM_NORMAL);
+    holds.lock = holds.lkid;
+    holds.mode = VLM_EX;
+    holds.completion = note;
+    holds.blocking_context = &second;
+    EXPECT(vlm_threads_start_convert(layer, &holds), VLM_NORMAL);
+    EXPECT(deq(layer, p, holds.lock, VLM_DEQ_CANCEL), VLM_NORMAL);
+    for (int i = 0; i < 3; i++)
+        EXPECT(start_enq(layer, &waits, "A"), VLM_NORMAL);
+    HOLD(delivered() == 2 && first == 1 && second == 0);
+    EXPECT(deq(layer, q, other.lkid, 0), VLM_NORMAL);
+    EXPECT(vlm_threads_start_convert(layer, &holds), VLM_NORMAL);
+    HOLD(delivered() == 2 && first == 1 && second == 1);
+    holds.mode = VLM_NL;
+    EXPECT(vlm_threads_start_convert(layer, &holds), VLM_NORMAL);
+    HOLD(delivered() == 3 && first == 1 && second == 1);
+    EXPECT(vlm_threads_rundown(layer, q), VLM_NORMAL);
+    EXPECT(vlm_threads_rundown(layer, p), VLM_NORMAL);
+}
+
+static vlm_threads_event last;
+
+static void keep(void *context, const vlm_threads_event *event) {
+    (void)context;
+    last = *event;
+}
+
+/* What a completion tells of the value block: what a new lock reads, and what a conversion writes or was given. */
+static void test_values_told(void) {
+    uint8_t value[64] = "as it was", zeros[64] = {0};
+    vlm_threads_request request = asked(declared(layer, 1), VLM_EX);
+    request.completion = keep;
+    request.flags = VLM_VALBLK;
+    request.value = value;
+    EXPECT(start_enq(layer, &request, "V"), VLM_NORMAL);
+    HOLD(delivered() == 1 && last.value_len == 16 && memcmp(last.value, zeros, 64) == 0);
+    request.lock = request.lkid;
+    request.flags = VLM_VALBLK | VLM_WIDE;
+    request.mode = VLM_PR;
+    EXPECT(vlm_threads_start_convert(layer, &request), VLM_NORMAL);
+    HOLD(delivered() == 1 && last.value_len == 64 && memcmp(last.value, value, 64) == 0);
+    memset(value, 'x', sizeof value);
+    request.mode = VLM_CR;
+    EXPECT(vlm_threads_start_convert(layer, &request), VLM_NORMAL);
+    HOLD(delivered() == 1 && last.value_len == 64 && memcmp(last.value, value, 64) == 0);
+    request.mode = VLM_PR;
+    EXPECT(vlm_threads_start_convert(layer, &request), VLM_NORMAL);
+    HOLD(delivered() == 1 && last.value_len == 64 && strcmp((char *)last.value, "as it was") == 0);
+    EXPECT(vlm_threads_rundown(layer, request.pid), VLM_NORMAL);
+}
+
 struct chain {
     uint32_t pid;
     unsigned left;
@@ -104,6 +170,25 @@ static void test_again(void) {
     HOLD(chain.left == 0 && delivered() == 0);
 }
 
+/* Drops the second event, which was pending, and starts another request. */
+static void replace_second(void *context, const vlm_threads_event *event) {
+    vlm_threads_request request = started_request(event->pid, VLM_NL);
+    EXPECT(vlm_threads_rundown(layer, *(uint32_t *)context), VLM_NORMAL);
+    EXPECT(start_enq(layer, &request, "R"), VLM_NORMAL);
+}
+
+/* A dispatch delivers no event that came during it, not even in the place of one that was dropped. */
+static void test_replaced(void) {
+    uint32_t first = declared(layer, 1), second = declared(layer, 1);
+    vlm_threads_request request = asked(first, VLM_NL), other = started_request(second, VLM_NL);
+    request.completion = replace_second;
+    request.completion_context = &second;
+    EXPECT(start_enq(layer, &request, "R"), VLM_NORMAL);
+    EXPECT(start_enq(layer, &other, "R"), VLM_NORMAL);
+    HOLD(delivered() == 1 && is_readable() && delivered() == 1 && !is_readable());
+    EXPECT(vlm_threads_rundown(layer, first), VLM_NORMAL);
+}
+
 /* What a routine that waits needs. */
 struct patient {
     uint32_t pid;
@@ -113,13 +198,17 @@ struct patient {
 static void wait_in_routine(void *context, const vlm_threads_event *event) {
     struct patient *patient = context;
     vlm_threads_request request = asked(patient->pid, VLM_EX);
+    sigset_t blocked;
     (void)event;
+    pthread_sigmask(SIG_SETMASK, NULL, &blocked);
+    HOLD(sigismember(&blocked, SIGINT) == 1 && sigismember(&blocked, SIGTERM) == 1);
     patient->status = enq(layer, &request, "W");
     request.milliseconds = 1;
     patient->later = enq(layer, &request, "X");
 }
 
-/* A routine may wait: the thread that makes the granting step wakes it. The layer's thread runs it here. */
+/* A routine may wait: the thread that makes the granting step wakes it. The layer's thread runs it here, and no signal
+ * is delivered to that thread. */
 static void test_wait_in_routine(void) {
     uint32_t pid = declared(layer, 1);
     struct patient patient = {.pid = declared(layer, 1)};
@@ -136,7 +225,7 @@ static void test_wait_in_routine(void) {
     EXPECT(patient.later, VLM_TIMEOUT);
 }
 
-static void count(void *context, const vlm_threads_event *event) {
+static void count_slowly(void *context, const vlm_threads_event *event) {
     HOLD(event->kind == VLM_COMPLETION);
     nanosleep(&(struct timespec){.tv_nsec = 1000}, NULL);
     ++*(unsigned *)context;
@@ -148,7 +237,7 @@ static void test_settle(void) {
         unsigned *counted = calloc(1, sizeof *counted);
         uint32_t pid = declared(layer, 1);
         vlm_threads_request request = asked(pid, VLM_NL);
-        request.completion = count;
+        request.completion = count_slowly;
         request.completion_context = counted;
         for (int i = 0; i < 3; i++)
             EXPECT(start_enq(layer, &request, "S"), VLM_NORMAL);
@@ -187,7 +276,10 @@ int main(void) {
     layer = opened(VLM_THREADS_BY_PROGRAM, 0);
     test_order();
     test_dropped();
+    test_warned_once();
+    test_values_told();
     test_again();
+    test_replaced();
     expect_sums(layer);
     EXPECT(vlm_threads_close(layer), VLM_NORMAL);
     layer = opened(VLM_THREADS_BY_LAYER, 50);
