@@ -32,8 +32,9 @@
  * is closed.
  *
  * What the caller owes, which nothing checks:
- * - A layer comes from vlm_threads_open, and vlm_threads_close has not begun with it. If other threads may still make
- *   calls, call vlm_threads_stop, join them, and then close. No thread with a tied process ends during a close.
+ * - A layer comes from vlm_threads_open, and vlm_threads_close has not begun with it, except in a routine that the
+ *   close waits for. If other threads may still make calls, call vlm_threads_stop, join them, and then close. No thread
+ *   that declared a tied process ends during a close.
  * - A pointer is not null, except where its comment says so, and points to initialized objects of its type during the
  *   call. A name has name_len bytes, and is not null even with length 0. No two arguments overlap.
  * - The context of a routine lives as long as the routine may run; see vlm_threads_settle.
@@ -197,7 +198,7 @@ uint32_t vlm_threads_convert(vlm_threads *layer, vlm_threads_request *request);
 
 /* The start forms: the same requests without waiting. `value` is read during the call. The completion routine may run
  * before the call returns.
- * NORMAL: accepted. The completion routine will be told how the request ended, also if it was granted at once; `status`
+ * NORMAL: accepted. The completion routine gets an event when the request ends, also if it is granted at once; `status`
  * is not 0 then. The event brings the value block.
  * SYNCH: with VLM_SYNCSTS, granted at once. The completion routine is not called, and `value` is written.
  * Refused as the forms that wait; BADPARAM also without a completion routine. */

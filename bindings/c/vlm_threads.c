@@ -63,7 +63,7 @@ uint32_t vlm_threads_look(vlm_threads *layer, vlm_threads_reader reader, void *c
 
 /* Opening and closing. */
 
-/* Starts a thread of the layer, to which no signal of the program goes. */
+/* Starts a thread of the layer, with all signals blocked. */
 static bool is_started(pthread_t *thread, void *(*run)(void *), vlm_threads *layer) {
     sigset_t all, before;
     sigfillset(&all);

@@ -9,7 +9,7 @@ struct call {
     vlm_threads_event event;
 };
 
-/* What is to be called for the oldest event, which leaves the queue. */
+/* Takes the oldest event from the queue: the call that it asks for. */
 static struct call next_call(vlm_threads *layer) {
     struct event *event = layer->first;
     struct request *request = event->request;

@@ -1,4 +1,4 @@
-/* What ends: requests, grants, locks; and the ASTs of the core, which tell of it. */
+/* The ends of requests, grants and locks; the core's ASTs, which report them; the queue of events. */
 #include "vlm_threads_parts.h"
 
 #include <string.h>
@@ -49,7 +49,7 @@ void vlmt_drop_event(vlm_threads *layer, struct event *event) {
 
 /* Ends of requests. */
 
-/* Gives a record back where nothing uses it any more. */
+/* Gives a record back if nothing uses it any more. */
 void vlmt_release(vlm_threads *layer, struct request *request) {
     if (request->is_queued || request->is_held || request->ended.is_pending || request->warned.is_pending)
         return;
@@ -83,7 +83,7 @@ void vlmt_remove_lock(vlm_threads *layer, struct lock *lock) {
     layer->free_locks = lock;
 }
 
-/* Removes a list of locks with all that is below them. */
+/* Removes a list of locks with all their sublocks. */
 void vlmt_remove_locks(vlm_threads *layer, struct lock **locks) {
     while (*locks)
         vlmt_remove_lock(layer, lowest(*locks));
@@ -150,8 +150,8 @@ static void count_end(vlm_threads *layer, const struct request *request) {
         layer->counters.cancelled++;
 }
 
-/* The core has ended a queued request. A new request that was not granted has no lock any more. A lock that was
- * converting goes, if it does, with the step that gives it up. */
+/* The core has ended a queued request. A new request that was not granted has lost its lock. A converting lock that the
+ * step gives up is removed after the ASTs of the step. */
 static void end_request(vlm_threads *layer, struct request *request) {
     vlmt_read_block(layer, request);
     request->process->free_blocks[request->process->free_count++] = request->block;

@@ -14,7 +14,7 @@ static void drop_events(vlm_threads *layer, uint32_t pid, uint32_t mask) {
     }
 }
 
-/* The request of a process that has ended: the thread that waits for it is told, a routine is not. */
+/* Ends a request of a process that has ended. Wakes the thread that waits for it; calls no routine. */
 static void run_down_request(vlm_threads *layer, struct request *request, uint32_t status) {
     vlmt_leave_queue(layer, request);
     layer->counters.run_down++;
@@ -100,7 +100,7 @@ static void thread_ended(void *given) {
     free(bond);
 }
 
-/* The bond of the calling thread, or null where memory or the key is refused. */
+/* The bond of the calling thread, or null if memory or the key is refused. */
 static struct bond *bond_of_thread(vlm_threads *layer) {
     if (!layer->has_key)
         layer->has_key = !pthread_key_create(&layer->key, thread_ended);
@@ -121,7 +121,7 @@ static struct bond *bond_of_thread(vlm_threads *layer) {
     return bond;
 }
 
-/* A process with its status blocks and, where it is tied, its bond, before the core knows of it; or null. */
+/* A process that the core does not know yet, with its status blocks and, if it is tied, its bond; or null. */
 static struct process *made_process(vlm_threads *layer, const vlm_threads_declaration *words) {
     struct bond *bond = words->tied ? bond_of_thread(layer) : NULL;
     if ((words->tied && !bond) || !vlmt_table_has_room(&layer->processes))

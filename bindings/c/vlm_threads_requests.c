@@ -107,7 +107,7 @@ static void join_queue(vlm_threads *layer, struct request *request, struct waite
     pthread_cond_init(&waiter->ended, &layer->monotonic);
 }
 
-/* Makes the step with all that follows, except the wait. */
+/* Makes the step and does all that follows from it, except the wait. */
 static uint32_t make_request(vlm_threads *layer, const struct asked *asked, struct waiter *waiter) {
     vlm_threads_request *words = asked->words;
     struct process *process = process_of(layer, words->pid);
@@ -136,7 +136,7 @@ static uint32_t make_request(vlm_threads *layer, const struct asked *asked, stru
     return words->flags & VLM_SYNCSTS ? status : VLM_NORMAL;
 }
 
-/* Cancels a request whose time is over. Its end tells the waiter. */
+/* Cancels a request whose time is over. Its end wakes the waiter. */
 static void cancel_late(vlm_threads *layer, struct request *request) {
     vlm_dequeue dequeue = {.size = sizeof dequeue, .pid = request->process->entry.id, .flags = VLM_DEQ_CANCEL,
                            .lock = request->lkid};

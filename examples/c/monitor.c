@@ -81,7 +81,7 @@ static uint32_t declared(void) {
     return vlm_threads_declare(layer, &declaration, &pid) == VLM_NORMAL ? pid : 0;
 }
 
-/* Starts a new request, or a conversion where a lock is given: the lock. */
+/* Starts a new request, or a conversion if a lock is given: the lock. */
 static uint32_t start(uint32_t pid, uint32_t lock, uint32_t mode, const char *name) {
     vlm_threads_request request = {.size = sizeof request, .pid = pid, .mode = mode, .lock = lock,
                                    .completion = ignore};

@@ -1,5 +1,5 @@
 /* Random calls with trees of locks, by one thread: after each of them the layer counts the locks, the waiting requests
- * and the processes that the core has, and at the end each request that was started has been told once. */
+ * and the processes that the core has, and at the end each started request has had one completion. */
 #include "threads_test.h"
 
 enum { CALLS = 100000, PROCESSES = 4, MOST_LOCKS = 400 };
@@ -13,7 +13,7 @@ static struct known {
     uint32_t pid, lkid;
 } known[16];
 
-/* How many completions are to be told, and were. */
+/* How many completions are due, and how many came. */
 static uint64_t due, told;
 
 static uint32_t below(uint32_t limit) {
@@ -98,7 +98,7 @@ static void give_up(struct known *one) {
     deq(layer, one->pid, lock, flags[below(5)]);
 }
 
-/* A process ends, after what is pending for it was told, and with what it waits for. */
+/* A process ends with its waiting requests, after a delivery of its pending events. */
 static void replace_process(void) {
     uint32_t place = below(PROCESSES), delivered;
     vlm_threads_dispatch(layer, &delivered);

@@ -1,12 +1,14 @@
-/* Routines of the layer for threads: what they are told, in which order, and what they may do. */
+/* Routines of the layer for threads: their events, the order of events, and what a routine may do. */
 #include "threads_test.h"
 
 #include <poll.h>
 #include <signal.h>
+#include <sys/epoll.h>
+#include <unistd.h>
 
 static vlm_threads *layer;
 
-/* What was told: 'c' or 'b' with the number of a lock. */
+/* The events that came: 'c' or 'b' with the number of a lock. */
 static char told[64];
 static size_t told_len;
 
@@ -77,8 +79,8 @@ static void count(void *context, const vlm_threads_event *event) {
     ++*(unsigned *)context;
 }
 
-/* A lock is warned once for each grant, however many wait. Until a conversion is granted the routine of the old grant is
- * called, then that of the conversion. A conversion to NL is not warned. */
+/* A lock is warned once for each grant, however many wait. The routine of the old grant is called until a conversion is
+ * granted, then that of the conversion. A conversion to NL is not warned. */
 static void test_warned_once(void) {
     uint32_t p = declared(layer, 1), q = declared(layer, 1);
     unsigned first = 0, second = 0;
@@ -113,8 +115,8 @@ static void keep(void *context, const vlm_threads_event *event) {
     last = *event;
 }
 
-/* What a completion tells of the value block: what a new lock reads, and what a conversion writes or was given. */
-static void test_values_told(void) {
+/* The value in a completion: what a new lock reads, and what a conversion returns, writes or was given. */
+static void test_values(void) {
     uint8_t value[64] = "as it was", zeros[64] = {0};
     vlm_threads_request request = asked(declared(layer, 1), VLM_EX);
     request.completion = keep;
@@ -168,6 +170,22 @@ static void test_again(void) {
     for (unsigned left = 5; left; left--)
         HOLD(chain.left == left && is_readable() && delivered() == 1);
     HOLD(chain.left == 0 && delivered() == 0);
+}
+
+/* An epoll with EPOLLET also reports the events that come during a dispatch. */
+static void test_edges(void) {
+    struct chain chain = {.pid = declared(layer, 1), .left = 5};
+    struct epoll_event wanted = {.events = EPOLLIN | EPOLLET}, ready;
+    vlm_threads_request request = asked(chain.pid, VLM_EX);
+    int poller = epoll_create1(0), descriptor;
+    request.completion = go_on;
+    request.completion_context = &chain;
+    EXPECT(vlm_threads_fd(layer, &descriptor), VLM_NORMAL);
+    HOLD(epoll_ctl(poller, EPOLL_CTL_ADD, descriptor, &wanted) == 0);
+    EXPECT(start_enq(layer, &request, "chain"), VLM_NORMAL);
+    while (chain.left && epoll_wait(poller, &ready, 1, 1000) == 1)
+        HOLD(delivered() == 1);
+    HOLD(chain.left == 0 && close(poller) == 0);
 }
 
 /* Drops the second event, which was pending, and starts another request. */
@@ -226,7 +244,7 @@ static void test_wait_in_routine(void) {
 }
 
 static void count_slowly(void *context, const vlm_threads_event *event) {
-    HOLD(event->kind == VLM_COMPLETION);
+    (void)event;
     nanosleep(&(struct timespec){.tv_nsec = 1000}, NULL);
     ++*(unsigned *)context;
 }
@@ -246,6 +264,26 @@ static void test_settle(void) {
         HOLD(*counted <= 3);
         free(counted);
     }
+}
+
+/* After a dequeue and a settle the blocking routine of the lock does not run, so its context can go. */
+static void test_settle_lock(void) {
+    vlm_threads_request holds = asked(declared(layer, 1), VLM_EX), waits = asked(declared(layer, 1), VLM_EX);
+    holds.blocking = count_slowly;
+    waits.completion = count_slowly;
+    waits.completion_context = &(unsigned){0};
+    for (long round = rounds(1000); round; round--) {
+        unsigned *counted = holds.blocking_context = calloc(1, sizeof *counted);
+        EXPECT(enq(layer, &holds, "S"), VLM_NORMAL);
+        EXPECT(start_enq(layer, &waits, "S"), VLM_NORMAL);
+        EXPECT(deq(layer, holds.pid, holds.lkid, 0), VLM_NORMAL);
+        EXPECT(vlm_threads_settle(layer), VLM_NORMAL);
+        HOLD(*counted <= 1);
+        free(counted);
+        EXPECT(deq(layer, waits.pid, waits.lkid, 0), VLM_NORMAL);
+    }
+    EXPECT(vlm_threads_rundown(layer, waits.pid), VLM_NORMAL);
+    EXPECT(vlm_threads_settle(layer), VLM_NORMAL);
 }
 
 /* The watchdog finds a victim: of two that wait for each other the later one. */
@@ -277,14 +315,16 @@ int main(void) {
     test_order();
     test_dropped();
     test_warned_once();
-    test_values_told();
+    test_values();
     test_again();
+    test_edges();
     test_replaced();
     expect_sums(layer);
     EXPECT(vlm_threads_close(layer), VLM_NORMAL);
     layer = opened(VLM_THREADS_BY_LAYER, 50);
     test_wait_in_routine();
     test_settle();
+    test_settle_lock();
     test_watchdog();
     expect_sums(layer);
     EXPECT(vlm_threads_close(layer), VLM_NORMAL);
