@@ -109,8 +109,8 @@ typedef struct vlm_threads_declaration {
 } vlm_threads_declaration;
 
 /* Declares a process. *pid is 0 unless the answer is NORMAL. A tied process ends when the thread returns from its start
- * routine, calls pthread_exit or is cancelled; one of the main thread only by pthread_exit. A process takes about 85
- * bytes for each of `requests`, and 150 more.
+ * routine, calls pthread_exit or is cancelled; one of the main thread only by pthread_exit. A process takes about 75
+ * bytes for each of `requests`, and 300 more.
  * BADPARAM: the declaration is malformed, or the node has declared 65,535 processes.
  * DEPARTED: the node has departed.
  * INSFMEM: memory was refused, or with `tied` a key for data of threads. */
