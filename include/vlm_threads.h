@@ -24,7 +24,7 @@
  * Threads. Any thread may make any call for any process, at any time between opening and closing; so may a routine,
  * except where a comment says otherwise. A call holds the layer's mutex while it works, and gives it up while it
  * sleeps. Only vlm_threads_enq, vlm_threads_convert, vlm_threads_settle and vlm_threads_close sleep. A thread that is
- * cancelled by pthread_cancel during a call ends after it.
+ * cancelled by pthread_cancel during a call ends after it, if its cancelability type is deferred, as it is by default.
  *
  * Memory. A call asks for all memory before its step. If memory is refused, it answers VLM_INSFMEM and nothing has
  * changed. Giving up, ending and waking need none. A lock with its request takes about 340 bytes here beside what the
@@ -32,12 +32,13 @@
  * is closed.
  *
  * What the caller owes, which nothing checks:
- * - A layer comes from vlm_threads_open, and vlm_threads_close has not begun with it. If other threads may still make
- *   calls, call vlm_threads_stop, join them, and then close. No thread with a tied process ends during a close.
+ * - A layer comes from vlm_threads_open, and vlm_threads_close has not begun with it, except in a routine that the
+ *   close waits for. If other threads may still make calls, call vlm_threads_stop, join them, and then close. No thread
+ *   that declared a tied process ends during a close.
  * - A pointer is not null, except where its comment says so, and points to initialized objects of its type during the
  *   call. A name has name_len bytes, and is not null even with length 0. No two arguments overlap.
  * - The context of a routine lives as long as the routine may run; see vlm_threads_settle.
- * - A routine returns. It does not leave by longjmp, a C++ exception or pthread_exit.
+ * - A routine or a reader returns. It does not leave by longjmp, a C++ exception or pthread_exit.
  * - A reader of vlm_threads_look makes only the readings of vlm.h, and no call of this header.
  * - No call is made from a signal handler, or in the forked child of a process with threads.
  * - malloc, calloc, realloc and free belong to one allocator. The library and both headers are of one version.
@@ -89,8 +90,8 @@ uint32_t vlm_threads_open(const vlm_threads_options *options, vlm_threads **laye
  * process. Pending events are dropped, and no routine begins any more. NORMAL. */
 uint32_t vlm_threads_stop(vlm_threads *layer);
 
-/* Stops the layer, waits until each call that was waiting and the routine that was running have returned, ends the
- * layer's threads, and frees everything. The answer is NORMAL, also with a null layer.
+/* Stops the layer, waits until each call that sleeps and the routine that runs have returned, ends the layer's threads,
+ * and frees everything. The answer is NORMAL, also with a null layer.
  * BADPARAM: a routine of the layer calls it; nothing happens. */
 uint32_t vlm_threads_close(vlm_threads *layer);
 
@@ -108,8 +109,8 @@ typedef struct vlm_threads_declaration {
 } vlm_threads_declaration;
 
 /* Declares a process. *pid is 0 unless the answer is NORMAL. A tied process ends when the thread returns from its start
- * routine, calls pthread_exit or is cancelled; one of the main thread only by pthread_exit. A process takes about 85
- * bytes for each of `requests`, and 150 more.
+ * routine, calls pthread_exit or is cancelled; one of the main thread only by pthread_exit. A process takes about 75
+ * bytes for each of `requests`, and 300 more.
  * BADPARAM: the declaration is malformed, or the node has declared 65,535 processes.
  * DEPARTED: the node has departed.
  * INSFMEM: memory was refused, or with `tied` a key for data of threads. */
@@ -122,6 +123,7 @@ uint32_t vlm_threads_declare(vlm_threads *layer, const vlm_threads_declaration *
 uint32_t vlm_threads_rundown(vlm_threads *layer, uint32_t pid);
 
 /* A node departs: all its processes end, and it declares no more. A call that waits for one of them answers DEPARTED.
+ * The cost grows with its processes, their locks and the pending events.
  * BADPARAM: the node is not 1 to 8. DEPARTED: it has departed before. */
 uint32_t vlm_threads_leave(vlm_threads *layer, uint32_t node);
 
@@ -135,8 +137,8 @@ typedef struct vlm_threads_event {
     uint32_t pid;       /* the process of the lock */
     uint32_t lkid;      /* the lock; it may have gone since */
     uint32_t status;    /* of a completion: how the request ended; else 0 */
-    uint32_t value_len; /* of a completion: how many bytes of the value block were returned, 0, 16 or 64; else 0 */
-    uint8_t value[64];  /* the value block as it was at the grant, also if it is invalid */
+    uint32_t value_len; /* of a grant with VLM_VALBLK: 16, or 64 with VLM_WIDE; else 0 */
+    uint8_t value[64];  /* the value block that the grant returned, valid or not; else what the conversion was given */
     uint32_t reserved[8];
 } vlm_threads_event;
 
@@ -179,8 +181,8 @@ typedef struct vlm_threads_request {
  * NOTQUEUED: with VLM_NOQUEUE, it can't be granted at once.
  * DEPARTED, NONEXPR, IVBUFLEN, UNSUPPORTED, IVLOCKID, PARNOTGRANT, EXDEPTH, NOSYSLCK, NOLOCKID: as vlm_enq.
  *
- * The blocking routine may run before the call returns. Costs a step of the core and some 400 instructions; if it
- * waits, a sleep too, and the ASTs (see vlm_threads_search). */
+ * The blocking routine may run before the call returns. Costs a step of the core and some 400 instructions, and a
+ * sleep if it waits. */
 uint32_t vlm_threads_enq(vlm_threads *layer, vlm_threads_request *request, const uint8_t *name, size_t name_len);
 
 /* Asks for another mode of a granted lock and waits until the request has ended. Answers as vlm_threads_enq, with these
@@ -196,7 +198,7 @@ uint32_t vlm_threads_convert(vlm_threads *layer, vlm_threads_request *request);
 
 /* The start forms: the same requests without waiting. `value` is read during the call. The completion routine may run
  * before the call returns.
- * NORMAL: accepted. The completion routine will be told how the request ended, also if it was granted at once; `status`
+ * NORMAL: accepted. The completion routine gets an event when the request ends, also if it is granted at once; `status`
  * is not 0 then. The event brings the value block.
  * SYNCH: with VLM_SYNCSTS, granted at once. The completion routine is not called, and `value` is written.
  * Refused as the forms that wait; BADPARAM also without a completion routine. */
@@ -249,19 +251,15 @@ uint32_t vlm_threads_settle(vlm_threads *layer);
 /* Searches until no request is deadlocked. *victims is how many requests ended by DEADLOCK, the latest first. The
  * layer's own thread does the same each search_milliseconds, if a request waits. A search keeps the mutex, and costs
  * more the more requests wait (docs/PERFORMANCE.md).
- * DEPARTED: all nodes have departed.
- *
- * The cost of ASTs. If no request waits, a call asks the core for none. If one waits, each call that changes a lock
- * asks the core once for each process that has a waiting request, or a lock with a blocking routine that was not called
- * since its grant: some 60 nanoseconds each. */
+ * DEPARTED: all nodes have departed. */
 uint32_t vlm_threads_search(vlm_threads *layer, uint32_t *victims);
 
 /* Looking. */
 
 typedef void (*vlm_threads_reader)(void *context, vlm *handle);
 
-/* Calls the reader with the handle of the lock manager, for vlm_process, vlm_resource, vlm_row and the other readings
- * of vlm.h. It keeps the mutex: no other call works meanwhile. NORMAL. */
+/* Calls the reader with the handle of the lock manager, for vlm_next_process, vlm_next_resource, vlm_find, vlm_row and
+ * the other readings of vlm.h. It keeps the mutex: no other call works meanwhile. NORMAL. */
 uint32_t vlm_threads_look(vlm_threads *layer, vlm_threads_reader reader, void *context);
 
 /* Counters. Times are of the monotonic clock. */

@@ -2,9 +2,11 @@
  * under a mutex and a condition variable of the program's own, and through Berkeley DB.
  *
  *     pairs layer|raw|db THREADS own|shared PAIRS
+ *     pairs layer THREADS own|shared PAIRS HOLDERS
  *
- * Each thread makes PAIRS pairs, on a resource of its own or on one that all share. Prints pairs a second, by the
- * clock. Compiled with -DWITH_DB where Berkeley DB is there. */
+ * Each thread makes PAIRS pairs, on a resource of its own or on one that all share. With HOLDERS, that many other
+ * processes each hold a lock with a blocking routine, and one request waits. Prints pairs a second, by the clock.
+ * Compiled with -DWITH_DB where Berkeley DB is there. */
 #define _DEFAULT_SOURCE
 
 #include "vlm_threads.h"
@@ -62,6 +64,22 @@ static void *run_layer(void *given) {
         must(vlm_threads_deq(layer, &dequeue) == VLM_NORMAL, "deq");
     }
     return NULL;
+}
+
+static void ignore(void *context, const vlm_threads_event *event) {
+    (void)context;
+    (void)event;
+}
+
+/* Processes that each hold a lock with a blocking routine, and a request that waits for the last of these locks. */
+static void add_holders(long count) {
+    vlm_threads_request request = {.size = sizeof request, .mode = VLM_EX, .blocking = ignore, .completion = ignore};
+    for (long holder = 0; holder <= count; holder++) {
+        uint32_t number = (uint32_t)(holder < count ? holder : count - 1);
+        uint8_t name[] = {'H', number & 255, number >> 8 & 255, number >> 16 & 255};
+        request.pid = layer_process();
+        must(vlm_threads_start_enq(layer, &request, name, sizeof name) == VLM_NORMAL, "start_enq");
+    }
 }
 
 /* vlm.h under a mutex. */
@@ -163,11 +181,14 @@ int main(int count, char **words) {
     enum { MOST = 64 };
     static struct worker workers[MOST];
     pthread_t threads[MOST];
-    must(count == 5 && atoi(words[2]) > 0 && atoi(words[2]) <= MOST, "layer|raw|db THREADS own|shared PAIRS");
+    must((count == 5 || (count == 6 && !strcmp(words[1], "layer") && atol(words[5]) > 0)) && atoi(words[2]) > 0
+             && atoi(words[2]) <= MOST, "layer|raw|db THREADS own|shared PAIRS [HOLDERS]");
     const struct manager *manager = named(words[1]);
     int all = atoi(words[2]);
     pairs = atol(words[4]);
     manager->open();
+    if (count == 6)
+        add_holders(atol(words[5]));
     for (int i = 0; i < all; i++)
         workers[i] = (struct worker){manager->process(), {'R', words[3][0] == 's' ? '0' : (uint8_t)('0' + i)},
                                      manager->run};

@@ -63,7 +63,7 @@ uint32_t vlm_threads_look(vlm_threads *layer, vlm_threads_reader reader, void *c
 
 /* Opening and closing. */
 
-/* Starts a thread of the layer, to which no signal of the program goes. */
+/* Starts a thread of the layer, with all signals blocked. */
 static bool is_started(pthread_t *thread, void *(*run)(void *), vlm_threads *layer) {
     sigset_t all, before;
     sigfillset(&all);
@@ -158,7 +158,6 @@ static void free_records(vlm_threads *layer) {
         free(bond);
     }
     free(layer->requests);
-    free(layer->expecting);
     free(layer->processes.chains);
     free(layer->locks.chains);
 }
@@ -175,7 +174,7 @@ static void free_primitives(vlm_threads *layer) {
     pthread_mutex_destroy(&layer->mutex);
 }
 
-/* Stops the layer, and waits until nobody sleeps in it and no routine runs. */
+/* Stops the layer, and waits until no routine runs and no call sleeps. */
 static void empty(vlm_threads *layer) {
     stop(layer);
     layer->is_closing = true;

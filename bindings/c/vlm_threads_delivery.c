@@ -9,7 +9,7 @@ struct call {
     vlm_threads_event event;
 };
 
-/* What is to be called for the oldest event, which leaves the queue. */
+/* Takes the oldest event from the queue: the call that it asks for. */
 static struct call next_call(vlm_threads *layer) {
     struct event *event = layer->first;
     struct request *request = event->request;
@@ -29,12 +29,12 @@ static struct call next_call(vlm_threads *layer) {
     return call;
 }
 
-/* Calls the routines of at most so many events: how many. The mutex is held, except during the routines. */
-static uint32_t deliver(vlm_threads *layer, uint64_t most) {
+/* Calls the routines of the events that are pending, and counts them. Holds the mutex, except during a routine. */
+static uint32_t deliver(vlm_threads *layer) {
     uint32_t delivered = 0;
     layer->is_delivering = true;
     layer->deliverer = pthread_self();
-    for (; delivered < most && layer->first; delivered++) {
+    for (layer->due = layer->last; layer->due; delivered++) {
         struct call call = next_call(layer);
         layer->is_calling = true;
         pthread_mutex_unlock(&layer->mutex);
@@ -53,15 +53,24 @@ bool vlmt_is_in_routine(const vlm_threads *layer) {
     return layer->is_calling && pthread_equal(layer->deliverer, pthread_self());
 }
 
-/* Waits until the routine that runs has returned. */
+int vlmt_begin_sleep(vlm_threads *layer) {
+    layer->sleepers++;
+    return cancels_off();
+}
+
+void vlmt_end_sleep(vlm_threads *layer, int before) {
+    layer->sleepers--;
+    if (layer->is_closing)
+        pthread_cond_broadcast(&layer->calm);
+    cancels_back(before);
+}
+
 void vlmt_settle(vlm_threads *layer) {
     uint64_t called = layer->called;
-    int before = cancels_off();
     layer->settling++;
     while (layer->is_calling && layer->called == called)
         pthread_cond_wait(&layer->calm, &layer->mutex);
     layer->settling--;
-    cancels_back(before);
 }
 
 void *vlmt_dispatch(void *given) {
@@ -70,7 +79,7 @@ void *vlmt_dispatch(void *given) {
     while (!layer->is_closing) {
         if (!layer->first)
             pthread_cond_wait(&layer->pending, &layer->mutex);
-        deliver(layer, UINT64_MAX);
+        deliver(layer);
     }
     pthread_mutex_unlock(&layer->mutex);
     return NULL;
@@ -88,9 +97,9 @@ uint32_t vlm_threads_dispatch(vlm_threads *layer, uint32_t *delivered) {
     int before = cancels_off();
     pthread_mutex_lock(&layer->mutex);
     if (!layer->is_delivering)
-        *delivered = deliver(layer, layer->counters.events);
-    if (*delivered && layer->first) /* (for those who are told of a change alone, as by EPOLLET) */
-        vlmt_set_readable(layer, true);
+        *delivered = deliver(layer);
+    if (*delivered && layer->first)
+        vlmt_set_readable(layer, true); /* (a poll with EPOLLET sees writes only) */
     pthread_mutex_unlock(&layer->mutex);
     cancels_back(before);
     return VLM_NORMAL;
@@ -99,8 +108,11 @@ uint32_t vlm_threads_dispatch(vlm_threads *layer, uint32_t *delivered) {
 uint32_t vlm_threads_settle(vlm_threads *layer) {
     pthread_mutex_lock(&layer->mutex);
     bool is_allowed = !vlmt_is_in_routine(layer);
-    if (is_allowed)
+    if (is_allowed) {
+        int before = vlmt_begin_sleep(layer);
         vlmt_settle(layer);
+        vlmt_end_sleep(layer, before);
+    }
     pthread_mutex_unlock(&layer->mutex);
     return is_allowed ? VLM_NORMAL : VLM_BADPARAM;
 }

@@ -1,4 +1,4 @@
-/* What ends: requests, grants, locks; and the ASTs of the core, which tell of it. */
+/* The ends of requests, grants and locks; the core's ASTs, which report them; the queue of events. */
 #include "vlm_threads_parts.h"
 
 #include <string.h>
@@ -32,6 +32,8 @@ void vlmt_queue_event(vlm_threads *layer, struct event *event) {
 
 void vlmt_unqueue_event(vlm_threads *layer, struct event *event) {
     event->is_pending = false;
+    if (layer->due == event)
+        layer->due = event->previous;
     *(event->previous ? &event->previous->next : &layer->first) = event->next;
     *(event->next ? &event->next->previous : &layer->last) = event->previous;
     if (--layer->counters.events == 0 && layer->descriptor >= 0)
@@ -47,22 +49,7 @@ void vlmt_drop_event(vlm_threads *layer, struct event *event) {
 
 /* Ends of requests. */
 
-void vlmt_expect_more(vlm_threads *layer, struct process *process) {
-    if (process->expected++)
-        return;
-    process->place = layer->expecting_count;
-    layer->expecting[layer->expecting_count++] = process;
-}
-
-static void expect_less(vlm_threads *layer, struct process *process) {
-    if (--process->expected)
-        return;
-    struct process *last = layer->expecting[--layer->expecting_count];
-    layer->expecting[process->place] = last;
-    last->place = process->place;
-}
-
-/* Gives a record back where nothing uses it any more. */
+/* Gives a record back if nothing uses it any more. */
 void vlmt_release(vlm_threads *layer, struct request *request) {
     if (request->is_queued || request->is_held || request->ended.is_pending || request->warned.is_pending)
         return;
@@ -70,16 +57,9 @@ void vlmt_release(vlm_threads *layer, struct request *request) {
     layer->free_requests = request;
 }
 
-static void disarm(vlm_threads *layer, struct request *request) {
-    if (request->is_armed)
-        expect_less(layer, request->process);
-    request->is_armed = false;
-}
-
 /* A grant is over: its lock has gone, or has another mode. */
 static void retire(vlm_threads *layer, struct request *request) {
     request->is_held = false;
-    disarm(layer, request);
     vlmt_drop_event(layer, &request->warned);
     vlmt_release(layer, request);
 }
@@ -90,10 +70,6 @@ void vlmt_hold(vlm_threads *layer, struct request *request) {
         retire(layer, lock->held);
     lock->held = request;
     request->is_held = true;
-    if (request->blocking) {
-        request->is_armed = true;
-        vlmt_expect_more(layer, request->process);
-    }
 }
 
 void vlmt_remove_lock(vlm_threads *layer, struct lock *lock) {
@@ -107,7 +83,7 @@ void vlmt_remove_lock(vlm_threads *layer, struct lock *lock) {
     layer->free_locks = lock;
 }
 
-/* Removes a list of locks with all that is below them. */
+/* Removes a list of locks with all their sublocks. */
 void vlmt_remove_locks(vlm_threads *layer, struct lock **locks) {
     while (*locks)
         vlmt_remove_lock(layer, lowest(*locks));
@@ -159,7 +135,6 @@ static void count_time(vlm_threads *layer, const struct request *request) {
 void vlmt_leave_queue(vlm_threads *layer, struct request *request) {
     request->is_queued = false;
     request->lock->queued = NULL;
-    expect_less(layer, request->process);
     layer->counters.waiting--;
     count_time(layer, request);
 }
@@ -175,8 +150,8 @@ static void count_end(vlm_threads *layer, const struct request *request) {
         layer->counters.cancelled++;
 }
 
-/* The core has ended a queued request. A new request that was not granted has no lock any more. A lock that was
- * converting goes, if it does, with the step that gives it up. */
+/* The core has ended a queued request. A new request that was not granted has lost its lock. A converting lock that the
+ * step gives up is removed after the ASTs of the step. */
 static void end_request(vlm_threads *layer, struct request *request) {
     vlmt_read_block(layer, request);
     request->process->free_blocks[request->process->free_count++] = request->block;
@@ -194,31 +169,19 @@ static void end_request(vlm_threads *layer, struct request *request) {
 
 /* ASTs of the core. */
 
-/* Takes the oldest AST of a process that has one, from the expecting one at *place on: its process, or null. Costs a
- * call of vlm_take for each expecting process without one. */
-static struct process *take_next(vlm_threads *layer, uint32_t *place, vlm_ast *ast) {
-    for (; *place < layer->expecting_count; ++*place) {
-        struct process *process = layer->expecting[*place];
-        if (vlm_take(&layer->handle, process->entry.id, ast) == VLM_NORMAL && ast->kind != VLM_NO_AST)
-            return process;
-    }
-    return NULL;
-}
-
-/* Takes all that a step has queued. Where no request is queued, and the step ended none, it has queued nothing: the
- * layer asks for no completion AST of what is granted at once. */
+/* Takes all ASTs that a step has queued. If no request was queued before the step, there are none: the core tells of a
+ * grant at once only by its answer, and warns only for a queued request. A warning is of the grant that its lock holds
+ * by: the core warns once for a grant, after its completion, and never for a lock that the step gives up. */
 void vlmt_take_asts(vlm_threads *layer) {
     vlm_ast ast = {.size = sizeof ast};
-    uint32_t place = 0;
+    uint32_t pid;
     if (!layer->counters.waiting)
         return;
-    while (take_next(layer, &place, &ast)) {
+    while (vlm_take_any(&layer->handle, &pid, &ast) == VLM_NORMAL && pid) {
         struct request *request = layer->requests[ast.param];
-        if (ast.kind == VLM_COMPLETION) {
+        if (ast.kind == VLM_COMPLETION)
             end_request(layer, request);
-        } else if (request->is_armed) {
-            disarm(layer, request);
+        else
             vlmt_queue_event(layer, &request->warned);
-        }
     }
 }

@@ -50,16 +50,16 @@ struct event {
     bool is_pending; /* it is in the layer's queue */
 };
 
-/* A thread that waits for the end of a request. It stands on that thread's stack. */
+/* A thread that waits for the end of a request. It is on that thread's stack. */
 struct waiter {
     pthread_cond_t ended;
     vlm_threads_request *words;
-    struct request *request; /* null where nothing waits */
+    struct request *request; /* null if the thread does not wait */
     uint32_t status;         /* 0 until the request has ended */
 };
 
-/* A request that was accepted. It is in use while it is queued, while it is that by which its lock holds its mode, and
- * while an event of it is pending. */
+/* A request that was accepted. Its record is in use while it is queued, while its lock holds the mode that it granted,
+ * and while an event of it is pending. */
 struct request {
     struct request *next_free;
     struct process *process;
@@ -70,8 +70,7 @@ struct request {
     uint32_t status; /* how it ended */
     uint8_t block;   /* its status block while it is queued */
     bool is_queued;
-    bool is_held;  /* its lock holds its mode by it */
-    bool is_armed; /* the core may still warn it */
+    bool is_held;  /* its lock holds the mode that it granted */
     bool is_late;  /* its time is over */
     uint64_t since;
     struct waiter *waiter; /* null with a completion routine */
@@ -86,15 +85,13 @@ struct lock {
     struct process *process;
     struct lock *sublocks;
     struct lock *next, **link; /* among the sublocks of its parent, or the roots of its process */
-    struct request *held;      /* null while the lock waits */
-    struct request *queued;
+    struct request *held;      /* the last one that was granted, or null */
+    struct request *queued;    /* the one that waits, or null */
 };
 
 struct process {
     struct entry entry;
     struct lock *locks;     /* those without a parent */
-    uint32_t expected;      /* how many ASTs the core may queue for it: one by each queued request and each armed one */
-    uint32_t place;         /* among the expecting ones, if `expected` is not 0 */
     struct bond *bond;      /* the thread that it is tied to, or null */
     struct process *next_tied;
     uint32_t free_count;
@@ -113,19 +110,18 @@ struct vlm_threads {
     pthread_condattr_t monotonic;
     pthread_cond_t pending; /* the dispatcher sleeps: an event is pending, or it is to end */
     pthread_cond_t watched; /* the watchdog sleeps: it is to end */
-    pthread_cond_t calm;    /* a close or a settle sleeps: a wait or a routine has returned */
+    pthread_cond_t calm;    /* a close or a settle sleeps: a routine or a sleep has ended */
     vlm handle;
     uint32_t departed; /* bit n: node n has departed */
 
     struct table processes, locks;
-    struct process **expecting; /* those that expect ASTs, with room for all */
-    uint32_t expecting_count, expecting_room;
     struct request **requests; /* all records, by index */
     uint32_t request_count, request_room;
     struct request *free_requests;
     struct lock *free_locks;
 
     struct event *first, *last; /* the pending ones */
+    struct event *due;          /* the last one that the delivery under way calls for, or null */
     int descriptor;             /* the eventfd, or -1 */
     bool is_delivering;         /* a thread, the deliverer, is in a delivery */
     bool is_calling;            /* and runs a routine */
@@ -140,7 +136,7 @@ struct vlm_threads {
     pthread_t dispatcher, watchdog;
     bool has_dispatcher, has_watchdog, is_closing;
     uint32_t search_milliseconds;
-    uint32_t sleepers; /* threads that wait for a grant */
+    uint32_t sleepers; /* threads that sleep in a call other than a close */
     vlm_threads_counters counters;
 };
 
@@ -149,10 +145,9 @@ struct entry *vlmt_found(const struct table *table, uint32_t id);
 void vlmt_put(struct table *table, struct entry *entry);
 void vlmt_take_out(struct table *table, struct entry *entry);
 
-/* Room: whether it could be made. An array of pointers comes back, perhaps at another place, with room for one more. */
+/* Room: whether it could be made. */
 bool vlmt_table_is_made(struct table *table, uint32_t bits);
 bool vlmt_table_has_room(struct table *table);
-void *vlmt_array_with_room(void *array, uint32_t count, uint32_t *room);
 bool vlmt_has_room_for_request(vlm_threads *layer);
 bool vlmt_has_room_for_lock(vlm_threads *layer);
 
@@ -163,7 +158,6 @@ void vlmt_unqueue_event(vlm_threads *layer, struct event *event);
 void vlmt_drop_event(vlm_threads *layer, struct event *event);
 
 /* The beginning and the end of a grant, of a wait, of a lock, and of a record. */
-void vlmt_expect_more(vlm_threads *layer, struct process *process);
 void vlmt_hold(vlm_threads *layer, struct request *request);
 void vlmt_leave_queue(vlm_threads *layer, struct request *request);
 void vlmt_tell(vlm_threads *layer, struct request *request);
@@ -176,7 +170,7 @@ uint32_t vlmt_value_len(const struct request *request);
 void vlmt_read_block(vlm_threads *layer, struct request *request);
 void vlmt_write_words(const struct request *request, vlm_threads_request *words);
 
-/* Does all that the ASTs of a step ask for. Comes after each step. */
+/* Takes all ASTs that a step has queued: ends their requests and queues their warnings. Comes after each step. */
 void vlmt_take_asts(vlm_threads *layer);
 
 /* vlm_threads_processes.c: all processes of a node have ended in the core, or of all nodes with 0. */
@@ -185,6 +179,10 @@ void vlmt_forget_node(vlm_threads *layer, uint32_t node);
 /* vlm_threads_delivery.c: the start routine of the layer's thread, which takes the mutex itself. */
 void *vlmt_dispatch(void *layer);
 bool vlmt_is_in_routine(const vlm_threads *layer);
+
+/* Before and after a sleep of a call, for which a close waits. Between them the thread is not cancelled. */
+int vlmt_begin_sleep(vlm_threads *layer);
+void vlmt_end_sleep(vlm_threads *layer, int before);
 
 /* Waits until the routine that runs has returned. */
 void vlmt_settle(vlm_threads *layer);

@@ -2,6 +2,7 @@
 #include "vlm_threads.h"
 
 #include <inttypes.h>
+#include <string.h>
 
 /* A counter: where it is in the struct, its name, and what it counts. */
 struct figure {
@@ -39,10 +40,12 @@ static uint64_t count_of(const vlm_threads_counters *counters, const struct figu
     return *(const uint64_t *)(const void *)((const char *)counters + figure->place);
 }
 
-/* The name of a condition without what all names of the manual begin with. */
+/* The name of a condition without SS$_, with which the manual's names begin. */
 static const char *short_name(uint32_t condition) {
     const char *name = vlm_threads_condition_name(condition);
-    return name && name[0] == 'S' && name[1] == 'S' && name[2] == '$' ? name + 4 : name;
+    if (!name)
+        return "UNKNOWN";
+    return strncmp(name, "SS$_", 4) ? name : name + 4;
 }
 
 uint32_t vlm_threads_print(const vlm_threads_counters *counters, FILE *file) {

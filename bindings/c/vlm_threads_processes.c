@@ -3,17 +3,18 @@
 
 #include <stdlib.h>
 
-static void drop_events_of(vlm_threads *layer, const struct process *process) {
+/* Drops the events of the processes whose number equals `pid` in the bits of the mask. */
+static void drop_events(vlm_threads *layer, uint32_t pid, uint32_t mask) {
     for (struct event *event = layer->first, *next; event; event = next) {
         next = event->next;
-        if (event->request->process != process)
+        if ((event->request->process->entry.id & mask) != pid)
             continue;
         vlmt_drop_event(layer, event);
         vlmt_release(layer, event->request);
     }
 }
 
-/* The request of a process that has ended: the thread that waits for it is told, a routine is not. */
+/* Ends a request of a process that has ended. Wakes the thread that waits for it; calls no routine. */
 static void run_down_request(vlm_threads *layer, struct request *request, uint32_t status) {
     vlmt_leave_queue(layer, request);
     layer->counters.run_down++;
@@ -32,9 +33,8 @@ static void untie(struct process *process) {
     *link = process->next_tied;
 }
 
-/* Removes what the layer has of a process that has ended in the core. */
+/* Removes what the layer has of a process that has ended in the core and has no events. */
 static void forget(vlm_threads *layer, struct process *process, uint32_t status) {
-    drop_events_of(layer, process);
     while (process->locks) {
         struct lock *lock = lowest(process->locks);
         if (lock->queued)
@@ -50,6 +50,7 @@ static uint32_t run_down(vlm_threads *layer, uint32_t pid) {
     uint32_t status = vlm_rundown(&layer->handle, pid);
     if (status != VLM_NORMAL)
         return status;
+    drop_events(layer, pid, UINT32_MAX);
     forget(layer, process_of(layer, pid), VLM_NONEXPR);
     vlmt_take_asts(layer);
     return VLM_NORMAL;
@@ -62,8 +63,9 @@ uint32_t vlm_threads_rundown(vlm_threads *layer, uint32_t pid) {
     return status;
 }
 
-/* Forgets the processes of a node, or of all nodes with 0. */
+/* Forgets the processes of a node, or of all nodes with 0. The upper half of a process's number is its node. */
 void vlmt_forget_node(vlm_threads *layer, uint32_t node) {
+    drop_events(layer, node << 16, node ? UINT32_MAX << 16 : 0);
     for (size_t chain = 0; chain < (size_t)1 << layer->processes.bits; chain++)
         for (struct entry *entry = layer->processes.chains[chain], *next; entry; entry = next) {
             next = entry->next;
@@ -98,7 +100,7 @@ static void thread_ended(void *given) {
     free(bond);
 }
 
-/* The bond of the calling thread, or null where memory or the key is refused. */
+/* The bond of the calling thread, or null if memory or the key is refused. */
 static struct bond *bond_of_thread(vlm_threads *layer) {
     if (!layer->has_key)
         layer->has_key = !pthread_key_create(&layer->key, thread_ended);
@@ -119,12 +121,8 @@ static struct bond *bond_of_thread(vlm_threads *layer) {
     return bond;
 }
 
-/* A process with its status blocks and, where it is tied, its bond, before the core knows of it; or null. */
+/* A process that the core does not know yet, with its status blocks and, if it is tied, its bond; or null. */
 static struct process *made_process(vlm_threads *layer, const vlm_threads_declaration *words) {
-    void *array = vlmt_array_with_room(layer->expecting, layer->processes.count, &layer->expecting_room);
-    if (!array)
-        return NULL;
-    layer->expecting = array;
     struct bond *bond = words->tied ? bond_of_thread(layer) : NULL;
     if ((words->tied && !bond) || !vlmt_table_has_room(&layer->processes))
         return NULL;

@@ -58,25 +58,23 @@ bool vlmt_table_has_room(struct table *table) {
 
 /* Room. */
 
-/* Room for one more pointer in an array: the array, which may have moved, or null. */
-void *vlmt_array_with_room(void *array, uint32_t count, uint32_t *room) {
-    if (count < *room)
-        return array;
-    uint32_t more = *room ? 2 * *room : 16;
-    void *moved = realloc(array, more * sizeof(void *));
-    if (moved)
-        *room = more;
-    return moved;
+/* Whether the table of records has room for one more. */
+static bool has_place(vlm_threads *layer) {
+    if (layer->request_count < layer->request_room)
+        return true;
+    uint32_t room = layer->request_room ? 2 * layer->request_room : 16;
+    struct request **moved = realloc(layer->requests, room * sizeof *moved);
+    if (!moved)
+        return false;
+    layer->requests = moved;
+    layer->request_room = room;
+    return true;
 }
 
 bool vlmt_has_room_for_request(vlm_threads *layer) {
     if (layer->free_requests)
         return true;
-    void *array = vlmt_array_with_room(layer->requests, layer->request_count, &layer->request_room);
-    if (!array)
-        return false;
-    layer->requests = array;
-    struct request *request = calloc(1, sizeof *request);
+    struct request *request = has_place(layer) ? calloc(1, sizeof *request) : NULL;
     if (!request)
         return false;
     request->index = layer->request_count;

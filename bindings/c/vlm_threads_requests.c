@@ -6,10 +6,10 @@
 
 /* Requests. */
 
-/* The routines of the core's ASTs. Their kind tells them apart; the numbers are for whoever looks at the core. */
+/* The routines of the core's ASTs. The layer tells ASTs apart by kind: these numbers are for a debugger. */
 enum { COMPLETION_ROUTINE = 1, BLOCKING_ROUTINE = 2 };
 
-/* What a call of a request is given. */
+/* The arguments of a call that makes a request. */
 struct asked {
     vlm_threads_request *words;
     const uint8_t *name;
@@ -24,7 +24,7 @@ static bool is_right_request(const struct asked *asked) {
            && !words->completion == asked->waits;
 }
 
-/* The answer about a process that does not live: that of the core. */
+/* The core's answer about a process that does not live: NONEXPR or DEPARTED. */
 static uint32_t refusal(vlm_threads *layer, uint32_t pid) {
     vlm_ast ast = {.size = sizeof ast};
     return vlm_take(&layer->handle, pid, &ast);
@@ -97,7 +97,6 @@ static void join_queue(vlm_threads *layer, struct request *request, struct waite
     request->is_queued = true;
     request->lock->queued = request;
     request->since = now();
-    vlmt_expect_more(layer, request->process);
     counters->waited++;
     if (++counters->waiting > counters->most_waiting)
         counters->most_waiting = counters->waiting;
@@ -108,7 +107,7 @@ static void join_queue(vlm_threads *layer, struct request *request, struct waite
     pthread_cond_init(&waiter->ended, &layer->monotonic);
 }
 
-/* Makes the step with all that follows, except the wait. */
+/* Makes the step and does all that follows from it, except the wait. */
 static uint32_t make_request(vlm_threads *layer, const struct asked *asked, struct waiter *waiter) {
     vlm_threads_request *words = asked->words;
     struct process *process = process_of(layer, words->pid);
@@ -137,7 +136,7 @@ static uint32_t make_request(vlm_threads *layer, const struct asked *asked, stru
     return words->flags & VLM_SYNCSTS ? status : VLM_NORMAL;
 }
 
-/* Cancels a request whose time is over. Its end tells the waiter. */
+/* Cancels a request whose time is over. Its end wakes the waiter. */
 static void cancel_late(vlm_threads *layer, struct request *request) {
     vlm_dequeue dequeue = {.size = sizeof dequeue, .pid = request->process->entry.id, .flags = VLM_DEQ_CANCEL,
                            .lock = request->lkid};
@@ -161,14 +160,10 @@ static void sleep_until_ended(vlm_threads *layer, struct waiter *waiter) {
 
 /* Waits for the end of a queued request. */
 static uint32_t awaited(vlm_threads *layer, struct waiter *waiter) {
-    int before = cancels_off();
-    layer->sleepers++;
+    int before = vlmt_begin_sleep(layer);
     sleep_until_ended(layer, waiter);
-    layer->sleepers--;
-    if (layer->is_closing)
-        pthread_cond_broadcast(&layer->calm);
     pthread_cond_destroy(&waiter->ended);
-    cancels_back(before);
+    vlmt_end_sleep(layer, before);
     return is_grant(waiter->status) ? VLM_NORMAL : waiter->status;
 }
 
@@ -225,11 +220,14 @@ static vlm_dequeue core_dequeue(const vlm_threads_dequeue *words) {
     return step;
 }
 
-/* Removes the locks that a dequeue has given up and that did not go with their requests. */
+/* Removes the locks that a dequeue has given up and that did not go with their requests. Lock 0 comes only with
+ * DEQALL. */
 static void remove_given_up(vlm_threads *layer, const vlm_threads_dequeue *words) {
-    struct lock *lock = words->lock ? lock_of(layer, words->lock) : NULL;
-    if (words->flags & VLM_DEQALL)
-        vlmt_remove_locks(layer, lock ? &lock->sublocks : &process_of(layer, words->pid)->locks);
+    struct lock *lock = lock_of(layer, words->lock);
+    if (!words->lock)
+        vlmt_remove_locks(layer, &process_of(layer, words->pid)->locks);
+    else if (lock && words->flags & VLM_DEQALL)
+        vlmt_remove_locks(layer, &lock->sublocks);
     else if (lock)
         vlmt_remove_lock(layer, lock);
 }

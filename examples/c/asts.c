@@ -1,5 +1,5 @@
 /* Completion and blocking ASTs, a value block and a deadlock. Routines are numbers: here the places of functions in a
- * table, which the program calls for what vlm_take gives it. */
+ * table, which the program calls for each AST that vlm_take_any gives it. */
 #include "vlm.h"
 
 #include <stdio.h>
@@ -9,7 +9,8 @@ static vlm handle = VLM_CLOSED;
 
 static void is_granted(uint32_t pid, const vlm_ast *ast)
 {
-    printf("process %u: lock %u, the request of %u has ended\n", (unsigned)pid, (unsigned)ast->lkid, (unsigned)ast->param);
+    printf("process %u: lock %u, the request of %u has ended\n", (unsigned)pid, (unsigned)ast->lkid,
+           (unsigned)ast->param);
 }
 
 static void is_in_the_way(uint32_t pid, const vlm_ast *ast)
@@ -19,11 +20,12 @@ static void is_in_the_way(uint32_t pid, const vlm_ast *ast)
 
 static void (*const routines[])(uint32_t pid, const vlm_ast *ast) = {is_granted, is_in_the_way};
 
-/* Takes what is pending for a process, and calls the routines. */
-static void deliver(uint32_t pid)
+/* Takes all pending ASTs, and calls the routines. */
+static void deliver(void)
 {
     vlm_ast ast = {.size = sizeof ast};
-    while (vlm_take(&handle, pid, &ast) == VLM_NORMAL && ast.kind != VLM_NO_AST)
+    uint32_t pid = 0;
+    while (vlm_take_any(&handle, &pid, &ast) == VLM_NORMAL && ast.kind != VLM_NO_AST)
         routines[ast.routine](pid, &ast);
 }
 
@@ -55,14 +57,12 @@ int main(void)
     enq(q, "B", 1, 0);
     enq(q, "A", 2, VLM_VALBLK);
     enq(p, "B", 2, 0);
-    deliver(p);
-    deliver(q);
+    deliver();
     tell("search", vlm_search(&handle, 1, &victim));
     vlm_block(&handle, p, 2, &lksb);
     printf("victim %u: %s\n", (unsigned)victim, vlm_condition_name(lksb.status));
     tell("deq", vlm_deq(&handle, &dequeue));
-    deliver(p);
-    deliver(q);
+    deliver();
     vlm_block(&handle, q, 2, &lksb);
     printf("value block: %.15s\n", (const char *)lksb.value);
     vlm_close(&handle);

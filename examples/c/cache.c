@@ -1,6 +1,6 @@
 /* A cache that eight threads keep coherent by locks. Each thread has a copy of one number. While its lock holds PR the
- * copy is good, and reading it needs no call at all. A writer asks for EX; the blocking routines of the readers give
- * their locks up to NL; the writer hands the new number over in the value block. */
+ * copy is good, and reading it needs no call. A writer asks for EX; the blocking routines of the readers convert their
+ * locks to NL; the writer hands the new number over in the value block. */
 #include <vlm_threads.h>
 
 #include <pthread.h>

@@ -1,5 +1,5 @@
 /* A program with one thread and an event loop. It never waits for a lock: it starts requests and polls the layer's file
- * descriptor, beside a pipe that stands for the rest of its work. Three sessions take A in turn. */
+ * descriptor, and a pipe that represents the rest of its work. Three sessions take A in turn. */
 #include <vlm_threads.h>
 
 #include <poll.h>
@@ -40,7 +40,7 @@ static void begin(struct session *session) {
     printf("%s asks: %s\n", session->name, vlm_threads_condition_name(status));
 }
 
-/* One turn of the loop: whatever is readable is served. */
+/* One turn of the loop: serves what is readable. */
 static void serve(struct pollfd polled[2]) {
     uint32_t delivered;
     char job;

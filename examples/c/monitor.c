@@ -1,5 +1,5 @@
-/* Prints who waits for whom. A request waits for each lock that holds a mode which its own does not go with, and for
- * each request that is queued before it. The monitor reads the queues of each resource, without a change. */
+/* Prints who waits for whom. A request waits for each other lock that holds an incompatible mode, and for each request
+ * that is queued before it. The monitor walks the resources, and reads the queues of each by its place in the walk. */
 #include <vlm_threads.h>
 
 #include <string.h>
@@ -49,22 +49,23 @@ static void print_waits(vlm *handle, struct place at, const struct vlm_row *wait
         }
 }
 
-static void print_resource(vlm *handle, size_t number) {
-    struct vlm_resource resource = {.size = sizeof resource};
+/* Prints the waits for the resource at a place. */
+static void print_queues(vlm *handle, size_t resource) {
     struct vlm_row row = {.size = sizeof row};
-    struct place at = {.resource = number};
-    vlm_resource(handle, number, &resource);
-    printf("resource %.*s\n", (int)resource.name_len, (const char *)resource.name);
+    struct place at = {.resource = resource};
     for (at.queue = VLM_CONVERSION; at.queue <= VLM_WAITING; at.queue++)
-        for (at.row = 0; vlm_row(handle, number, at.queue, at.row, &row) == VLM_NORMAL; at.row++)
+        for (at.row = 0; vlm_row(handle, resource, at.queue, at.row, &row) == VLM_NORMAL; at.row++)
             print_waits(handle, at, &row);
 }
 
-/* The reader: all other calls of the layer stand still while it runs. */
+/* The reader: no other call of the layer works while it runs. The walk goes from place 0 on. */
 static void print_all(void *context, vlm *handle) {
+    struct vlm_resource resource = {.size = sizeof resource};
     (void)context;
-    for (size_t number = 0; number < vlm_resource_count(handle); number++)
-        print_resource(handle, number);
+    for (size_t place = 0; vlm_next_resource(handle, &resource) == VLM_NORMAL && resource.serial != 0; place++) {
+        printf("resource %.*s\n", (int)resource.name_len, (const char *)resource.name);
+        print_queues(handle, place);
+    }
 }
 
 static void ignore(void *context, const vlm_threads_event *event) {
@@ -80,7 +81,7 @@ static uint32_t declared(void) {
     return vlm_threads_declare(layer, &declaration, &pid) == VLM_NORMAL ? pid : 0;
 }
 
-/* Starts a new request, or a conversion where a lock is given: the lock. */
+/* Starts a new request, or a conversion if a lock is given: the lock. */
 static uint32_t start(uint32_t pid, uint32_t lock, uint32_t mode, const char *name) {
     vlm_threads_request request = {.size = sizeof request, .pid = pid, .mode = mode, .lock = lock,
                                    .completion = ignore};

@@ -1,5 +1,5 @@
-/* A wait with a time-out. P holds A in EX. Q waits 20 milliseconds for it and goes without. Then a thread of P gives A
- * up while Q waits again, and Q has it. */
+/* A wait with a time-out. P holds A in EX. Q waits 20 milliseconds for A in vain. Then a thread of P gives A up while
+ * Q waits again, and Q gets it. */
 #include <vlm_threads.h>
 
 #include <pthread.h>

@@ -1,6 +1,5 @@
-/* A tree of resources: a table, its pages, their rows. Whoever changes a row holds it in EX and all above it in CW, so
- * a reader of the whole table, who holds the table in PR, keeps writers out. DEQALL gives a part of the tree up at
- * once. */
+/* A tree of resources: a table, its pages, their rows. A writer holds a row in EX, its page and the table in CW. A
+ * reader of the whole table holds the table in PR, which keeps writers out. DEQALL gives a part of the tree up. */
 #include <vlm_threads.h>
 
 #include <string.h>
@@ -13,7 +12,7 @@ static uint32_t declared(void) {
     return vlm_threads_declare(layer, &declaration, &pid) == VLM_NORMAL ? pid : 0;
 }
 
-/* Asks for a lock below another one, or for a root with 0: the lock, or 0 where it can't be had at once. */
+/* Asks for a lock below another one, or for a root with 0: the lock, or 0 if it is not granted at once. */
 static uint32_t take(uint32_t pid, uint32_t parent, uint32_t mode, const char *name) {
     vlm_threads_request request = {.size = sizeof request, .pid = pid, .mode = mode, .flags = VLM_NOQUEUE,
                                    .lock = parent};

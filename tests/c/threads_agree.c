@@ -1,5 +1,5 @@
 /* Random calls with trees of locks, by one thread: after each of them the layer counts the locks, the waiting requests
- * and the processes that the core has, and at the end each request that was started has been told once. */
+ * and the processes that the core has, and at the end each started request has had one completion. */
 #include "threads_test.h"
 
 enum { CALLS = 100000, PROCESSES = 4, MOST_LOCKS = 400 };
@@ -13,7 +13,7 @@ static struct known {
     uint32_t pid, lkid;
 } known[16];
 
-/* How many completions are to be told, and were. */
+/* How many completions are due, and how many came. */
 static uint64_t due, told;
 
 static uint32_t below(uint32_t limit) {
@@ -41,11 +41,20 @@ static void read_resource(vlm *handle, size_t resource, struct figures *figures)
         }
 }
 
+/* Walks the processes and the resources, which are as many as the core counts. The walk of resources goes in the order
+ * of their places. */
 static void read_core(void *context, vlm *handle) {
     struct figures *figures = context;
-    figures->processes = vlm_process_count(handle);
-    for (size_t resource = 0; resource < vlm_resource_count(handle); resource++)
-        read_resource(handle, resource, figures);
+    struct vlm_process process = {.size = sizeof process};
+    struct vlm_resource resource = {.size = sizeof resource}, at_place = {.size = sizeof at_place};
+    size_t place = 0;
+    while (vlm_next_process(handle, process.pid, &process) == VLM_NORMAL && process.pid != 0)
+        figures->processes++;
+    for (; vlm_next_resource(handle, &resource) == VLM_NORMAL && resource.serial != 0; place++) {
+        HOLD(vlm_resource(handle, place, &at_place) == VLM_NORMAL && at_place.serial == resource.serial);
+        read_resource(handle, place, figures);
+    }
+    HOLD(figures->processes == vlm_process_count(handle) && place == vlm_resource_count(handle));
 }
 
 static void expect_agreement(void) {
@@ -89,7 +98,7 @@ static void give_up(struct known *one) {
     deq(layer, one->pid, lock, flags[below(5)]);
 }
 
-/* A process ends, after what is pending for it was told, and with what it waits for. */
+/* A process ends with its waiting requests, after a delivery of its pending events. */
 static void replace_process(void) {
     uint32_t place = below(PROCESSES), delivered;
     vlm_threads_dispatch(layer, &delivered);

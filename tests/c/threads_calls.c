@@ -3,7 +3,6 @@
 
 static const char *const long_name = "a name of two and thirty letters";
 
-/* What each call is given: right words. */
 static vlm_threads *layer;
 static uint32_t p, q, r;
 
@@ -16,7 +15,7 @@ static void note(void *context, const vlm_threads_event *event) {
     told++;
 }
 
-/* Delivers, and says how many events were told. */
+/* Delivers: how many events. */
 static uint32_t delivered(void) {
     uint32_t count;
     EXPECT(vlm_threads_dispatch(layer, &count), VLM_NORMAL);
@@ -249,7 +248,7 @@ static void test_started(void) {
     EXPECT(deq(layer, q, waits.lock, 0), VLM_NORMAL);
 }
 
-/* The ends of a request that waits: by a cancel, by a dequeue, by its time, by its own process's end. */
+/* The ends of a request that waits: by its time, by a cancel, by a dequeue. */
 static void test_ends(void) {
     vlm_threads_request holds = asked(p, VLM_PR), other = asked(q, VLM_PR), waits = asked(r, VLM_EX);
     EXPECT(enq(layer, &holds, "E"), VLM_NORMAL);
@@ -337,6 +336,20 @@ static void test_deadlock(void) {
     EXPECT(deq(layer, p, first.lkid, 0), VLM_NORMAL);
 }
 
+/* A node declares 65,535 processes, living or not. */
+static void test_last_process(void) {
+    vlm_threads_declaration words = {.size = sizeof words, .node = 8, .requests = 1};
+    uint32_t pid;
+    if (getenv("VLM_TEST_SHARE"))
+        return;
+    for (uint32_t number = 1; number <= 65535; number++) {
+        EXPECT(vlm_threads_declare(layer, &words, &pid), VLM_NORMAL);
+        EXPECT(vlm_threads_rundown(layer, pid), VLM_NORMAL);
+    }
+    EXPECT(vlm_threads_declare(layer, &words, &pid), VLM_BADPARAM);
+    HOLD(pid == 0);
+}
+
 static void look(void *context, vlm *handle) {
     *(size_t *)context = vlm_process_count(handle);
 }
@@ -368,7 +381,11 @@ static void test_departure(void) {
     EXPECT(vlm_threads_declare(layer, &words, &pid), VLM_DEPARTED);
     EXPECT(enq(layer, &request, "L"), VLM_DEPARTED);
     EXPECT(vlm_threads_rundown(layer, r), VLM_DEPARTED);
+    request.pid = p;
+    request.completion = note;
+    EXPECT(start_enq(layer, &request, "L"), VLM_NORMAL);
     EXPECT(vlm_threads_stop(layer), VLM_NORMAL);
+    HOLD(delivered() == 0);
     EXPECT(vlm_threads_search(layer, &victims), VLM_DEPARTED);
     EXPECT(deq(layer, p, 0, VLM_DEQALL), VLM_DEPARTED);
     HOLD(counters_of(layer).processes == 0 && counters_of(layer).locks == 0);
@@ -389,10 +406,12 @@ int main(void) {
     test_quota_and_parents();
     test_depth();
     test_deadlock();
+    test_last_process();
     test_readings();
     expect_sums(layer);
     vlm_threads_counters counters = counters_of(layer);
     counters.microseconds = 1500000;
+    counters.refused[VLM_THREADS_CONDITIONS - 1] = 1; /* no such condition */
     memset(counters.times, 0, sizeof counters.times);
     counters.times[0] = counters.times[20] = counters.times[VLM_THREADS_TIMES - 1] = 3;
     EXPECT(vlm_threads_print(&counters, stdout), VLM_NORMAL);

@@ -3,7 +3,7 @@
 
 enum { WAITERS = 8 };
 
-/* The address sanitizer takes what a cancelled thread had on its stack for still there, so it sees no such thread. */
+/* The address sanitizer still guards the stack of a cancelled thread, so no thread is cancelled under it. */
 #if defined __SANITIZE_ADDRESS__
 #define CANCELS false
 #elif defined __has_feature
@@ -167,7 +167,7 @@ static void test_node_departs(void) {
     EXPECT(vlm_threads_rundown(layer, holder), VLM_NORMAL);
 }
 
-/* Others wait when the layer stops: they are told, and may call on until they are joined. */
+/* The layer stops while others wait: their waits answer DEPARTED, and they may make calls until they are joined. */
 static void test_stop(void) {
     struct wait waits[WAITERS];
     pthread_t threads[WAITERS];
@@ -180,7 +180,7 @@ static void test_stop(void) {
     EXPECT(vlm_threads_close(layer), VLM_NORMAL);
 }
 
-/* Others wait when the layer is closed: they are told, and make no call after. */
+/* The layer is closed while others wait: their waits answer DEPARTED, and they make no call after. */
 static void test_close(void) {
     struct wait waits[WAITERS];
     pthread_t threads[WAITERS];
@@ -208,16 +208,26 @@ static void test_outlived(void) {
     pthread_join(thread, NULL);
 }
 
+/* Runs until the close has ended all processes. */
 static void run_long(void *context, const vlm_threads_event *event) {
     (void)event;
     pthread_barrier_wait(&both);
+    while (counters_of(layer).processes)
+        sleep_milliseconds(1);
     sleep_milliseconds(5);
     atomic_store((atomic_int *)context, 1);
 }
 
-/* A close waits for the routine that runs, and drops the events that are pending. */
+static void *settle(void *given) {
+    atomic_fetch_add((atomic_int *)given, 1);
+    EXPECT(vlm_threads_settle(layer), VLM_NORMAL);
+    return NULL;
+}
+
+/* A close waits for the routine that runs and for the threads that settle, and drops the events that are pending. */
 static void test_close_in_routine(void) {
-    atomic_int has_run = 0;
+    atomic_int has_run = 0, settling = 0;
+    pthread_t threads[WAITERS];
     layer = opened(VLM_THREADS_BY_LAYER, 0);
     vlm_threads_request request = asked(declared(layer, 1), VLM_NL);
     request.completion = run_long;
@@ -225,8 +235,15 @@ static void test_close_in_routine(void) {
     EXPECT(start_enq(layer, &request, "A"), VLM_NORMAL);
     EXPECT(start_enq(layer, &request, "A"), VLM_NORMAL);
     pthread_barrier_wait(&both);
+    for (int i = 0; i < WAITERS; i++)
+        threads[i] = started(settle, &settling);
+    while (atomic_load(&settling) < WAITERS)
+        sleep_milliseconds(1);
+    sleep_milliseconds(50);
     EXPECT(vlm_threads_close(layer), VLM_NORMAL);
     HOLD(atomic_load(&has_run) == 1);
+    for (int i = 0; i < WAITERS; i++)
+        pthread_join(threads[i], NULL);
 }
 
 int main(void) {

@@ -1,6 +1,5 @@
 /* A time-out that races with a grant, 100,000 times. Each of fifty threads waits a millisecond for its resource, and
- * another thread gives it up after a millisecond. Each wait ends by a grant or by a time-out, and leaves what it
- * says. */
+ * another thread gives it up after a millisecond. Each wait ends by a grant, with a lock, or by a time-out, without. */
 #include "threads_test.h"
 
 enum { WAITERS = 50, RACES = 100000 };

@@ -1,11 +1,14 @@
-/* Routines of the layer for threads: what they are told, in which order, and what they may do. */
+/* Routines of the layer for threads: their events, the order of events, and what a routine may do. */
 #include "threads_test.h"
 
 #include <poll.h>
+#include <signal.h>
+#include <sys/epoll.h>
+#include <unistd.h>
 
 static vlm_threads *layer;
 
-/* What was told: 'c' or 'b' with the number of a lock. */
+/* The events that came: 'c' or 'b' with the number of a lock. */
 static char told[64];
 static size_t told_len;
 
@@ -71,6 +74,71 @@ static void test_dropped(void) {
     EXPECT(vlm_threads_rundown(layer, q), VLM_NORMAL);
 }
 
+static void count(void *context, const vlm_threads_event *event) {
+    HOLD(event->kind == VLM_BLOCKING && event->status == 0 && event->value_len == 0);
+    ++*(unsigned *)context;
+}
+
+/* A lock is warned once for each grant, however many wait. The routine of the old grant is called until a conversion is
+ * granted, then that of the conversion. A conversion to NL is not warned. */
+static void test_warned_once(void) {
+    uint32_t p = declared(layer, 1), q = declared(layer, 1);
+    unsigned first = 0, second = 0;
+    vlm_threads_request holds = asked(p, VLM_PR), other = asked(q, VLM_PR), waits = started_request(q, VLM_EX);
+    holds.blocking = count;
+    holds.blocking_context = &first;
+    EXPECT(enq(layer, &holds, "A"), VLM_NORMAL);
+    EXPECT(enq(layer, &other, "A"), VLM_NORMAL);
+    holds.lock = holds.lkid;
+    holds.mode = VLM_EX;
+    holds.completion = note;
+    holds.blocking_context = &second;
+    EXPECT(vlm_threads_start_convert(layer, &holds), VLM_NORMAL);
+    EXPECT(deq(layer, p, holds.lock, VLM_DEQ_CANCEL), VLM_NORMAL);
+    for (int i = 0; i < 3; i++)
+        EXPECT(start_enq(layer, &waits, "A"), VLM_NORMAL);
+    HOLD(delivered() == 2 && first == 1 && second == 0);
+    EXPECT(deq(layer, q, other.lkid, 0), VLM_NORMAL);
+    EXPECT(vlm_threads_start_convert(layer, &holds), VLM_NORMAL);
+    HOLD(delivered() == 2 && first == 1 && second == 1);
+    holds.mode = VLM_NL;
+    EXPECT(vlm_threads_start_convert(layer, &holds), VLM_NORMAL);
+    HOLD(delivered() == 3 && first == 1 && second == 1);
+    EXPECT(vlm_threads_rundown(layer, q), VLM_NORMAL);
+    EXPECT(vlm_threads_rundown(layer, p), VLM_NORMAL);
+}
+
+static vlm_threads_event last;
+
+static void keep(void *context, const vlm_threads_event *event) {
+    (void)context;
+    last = *event;
+}
+
+/* The value in a completion: what a new lock reads, and what a conversion returns, writes or was given. */
+static void test_values(void) {
+    uint8_t value[64] = "as it was", zeros[64] = {0};
+    vlm_threads_request request = asked(declared(layer, 1), VLM_EX);
+    request.completion = keep;
+    request.flags = VLM_VALBLK;
+    request.value = value;
+    EXPECT(start_enq(layer, &request, "V"), VLM_NORMAL);
+    HOLD(delivered() == 1 && last.value_len == 16 && memcmp(last.value, zeros, 64) == 0);
+    request.lock = request.lkid;
+    request.flags = VLM_VALBLK | VLM_WIDE;
+    request.mode = VLM_PR;
+    EXPECT(vlm_threads_start_convert(layer, &request), VLM_NORMAL);
+    HOLD(delivered() == 1 && last.value_len == 64 && memcmp(last.value, value, 64) == 0);
+    memset(value, 'x', sizeof value);
+    request.mode = VLM_CR;
+    EXPECT(vlm_threads_start_convert(layer, &request), VLM_NORMAL);
+    HOLD(delivered() == 1 && last.value_len == 64 && memcmp(last.value, value, 64) == 0);
+    request.mode = VLM_PR;
+    EXPECT(vlm_threads_start_convert(layer, &request), VLM_NORMAL);
+    HOLD(delivered() == 1 && last.value_len == 64 && strcmp((char *)last.value, "as it was") == 0);
+    EXPECT(vlm_threads_rundown(layer, request.pid), VLM_NORMAL);
+}
+
 struct chain {
     uint32_t pid;
     unsigned left;
@@ -104,6 +172,41 @@ static void test_again(void) {
     HOLD(chain.left == 0 && delivered() == 0);
 }
 
+/* An epoll with EPOLLET also reports the events that come during a dispatch. */
+static void test_edges(void) {
+    struct chain chain = {.pid = declared(layer, 1), .left = 5};
+    struct epoll_event wanted = {.events = EPOLLIN | EPOLLET}, ready;
+    vlm_threads_request request = asked(chain.pid, VLM_EX);
+    int poller = epoll_create1(0), descriptor;
+    request.completion = go_on;
+    request.completion_context = &chain;
+    EXPECT(vlm_threads_fd(layer, &descriptor), VLM_NORMAL);
+    HOLD(epoll_ctl(poller, EPOLL_CTL_ADD, descriptor, &wanted) == 0);
+    EXPECT(start_enq(layer, &request, "chain"), VLM_NORMAL);
+    while (chain.left && epoll_wait(poller, &ready, 1, 1000) == 1)
+        HOLD(delivered() == 1);
+    HOLD(chain.left == 0 && close(poller) == 0);
+}
+
+/* Drops the second event, which was pending, and starts another request. */
+static void replace_second(void *context, const vlm_threads_event *event) {
+    vlm_threads_request request = started_request(event->pid, VLM_NL);
+    EXPECT(vlm_threads_rundown(layer, *(uint32_t *)context), VLM_NORMAL);
+    EXPECT(start_enq(layer, &request, "R"), VLM_NORMAL);
+}
+
+/* A dispatch delivers no event that came during it, not even in the place of one that was dropped. */
+static void test_replaced(void) {
+    uint32_t first = declared(layer, 1), second = declared(layer, 1);
+    vlm_threads_request request = asked(first, VLM_NL), other = started_request(second, VLM_NL);
+    request.completion = replace_second;
+    request.completion_context = &second;
+    EXPECT(start_enq(layer, &request, "R"), VLM_NORMAL);
+    EXPECT(start_enq(layer, &other, "R"), VLM_NORMAL);
+    HOLD(delivered() == 1 && is_readable() && delivered() == 1 && !is_readable());
+    EXPECT(vlm_threads_rundown(layer, first), VLM_NORMAL);
+}
+
 /* What a routine that waits needs. */
 struct patient {
     uint32_t pid;
@@ -113,13 +216,17 @@ struct patient {
 static void wait_in_routine(void *context, const vlm_threads_event *event) {
     struct patient *patient = context;
     vlm_threads_request request = asked(patient->pid, VLM_EX);
+    sigset_t blocked;
     (void)event;
+    pthread_sigmask(SIG_SETMASK, NULL, &blocked);
+    HOLD(sigismember(&blocked, SIGINT) == 1 && sigismember(&blocked, SIGTERM) == 1);
     patient->status = enq(layer, &request, "W");
     request.milliseconds = 1;
     patient->later = enq(layer, &request, "X");
 }
 
-/* A routine may wait: the thread that makes the granting step wakes it. The layer's thread runs it here. */
+/* A routine may wait: the thread that makes the granting step wakes it. The layer's thread runs it here, and no signal
+ * is delivered to that thread. */
 static void test_wait_in_routine(void) {
     uint32_t pid = declared(layer, 1);
     struct patient patient = {.pid = declared(layer, 1)};
@@ -136,8 +243,8 @@ static void test_wait_in_routine(void) {
     EXPECT(patient.later, VLM_TIMEOUT);
 }
 
-static void count(void *context, const vlm_threads_event *event) {
-    HOLD(event->kind == VLM_COMPLETION);
+static void count_slowly(void *context, const vlm_threads_event *event) {
+    (void)event;
     nanosleep(&(struct timespec){.tv_nsec = 1000}, NULL);
     ++*(unsigned *)context;
 }
@@ -148,7 +255,7 @@ static void test_settle(void) {
         unsigned *counted = calloc(1, sizeof *counted);
         uint32_t pid = declared(layer, 1);
         vlm_threads_request request = asked(pid, VLM_NL);
-        request.completion = count;
+        request.completion = count_slowly;
         request.completion_context = counted;
         for (int i = 0; i < 3; i++)
             EXPECT(start_enq(layer, &request, "S"), VLM_NORMAL);
@@ -157,6 +264,26 @@ static void test_settle(void) {
         HOLD(*counted <= 3);
         free(counted);
     }
+}
+
+/* After a dequeue and a settle the blocking routine of the lock does not run, so its context can go. */
+static void test_settle_lock(void) {
+    vlm_threads_request holds = asked(declared(layer, 1), VLM_EX), waits = asked(declared(layer, 1), VLM_EX);
+    holds.blocking = count_slowly;
+    waits.completion = count_slowly;
+    waits.completion_context = &(unsigned){0};
+    for (long round = rounds(1000); round; round--) {
+        unsigned *counted = holds.blocking_context = calloc(1, sizeof *counted);
+        EXPECT(enq(layer, &holds, "S"), VLM_NORMAL);
+        EXPECT(start_enq(layer, &waits, "S"), VLM_NORMAL);
+        EXPECT(deq(layer, holds.pid, holds.lkid, 0), VLM_NORMAL);
+        EXPECT(vlm_threads_settle(layer), VLM_NORMAL);
+        HOLD(*counted <= 1);
+        free(counted);
+        EXPECT(deq(layer, waits.pid, waits.lkid, 0), VLM_NORMAL);
+    }
+    EXPECT(vlm_threads_rundown(layer, waits.pid), VLM_NORMAL);
+    EXPECT(vlm_threads_settle(layer), VLM_NORMAL);
 }
 
 /* The watchdog finds a victim: of two that wait for each other the later one. */
@@ -187,12 +314,17 @@ int main(void) {
     layer = opened(VLM_THREADS_BY_PROGRAM, 0);
     test_order();
     test_dropped();
+    test_warned_once();
+    test_values();
     test_again();
+    test_edges();
+    test_replaced();
     expect_sums(layer);
     EXPECT(vlm_threads_close(layer), VLM_NORMAL);
     layer = opened(VLM_THREADS_BY_LAYER, 50);
     test_wait_in_routine();
     test_settle();
+    test_settle_lock();
     test_watchdog();
     expect_sums(layer);
     EXPECT(vlm_threads_close(layer), VLM_NORMAL);

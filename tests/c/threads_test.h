@@ -33,7 +33,7 @@ static inline void hold_at(int line, int fact, const char *text) {
 }
 #define HOLD(fact) hold_at(__LINE__, (fact), #fact)
 
-/* A long test does this share of its rounds where VLM_TEST_SHARE has a number: under a sanitizer, or valgrind. */
+/* How many rounds a long test does: all, or one VLM_TEST_SHARE-th of them, under a sanitizer or valgrind. */
 static inline long rounds(long all) {
     const char *share = getenv("VLM_TEST_SHARE");
     return share ? all / atol(share) : all;
@@ -78,7 +78,7 @@ static inline vlm_threads_counters counters_of(vlm_threads *layer) {
     return counters;
 }
 
-/* Waits until so many requests wait. */
+/* Waits until this many requests wait. */
 static inline void await_waiting(vlm_threads *layer, uint64_t count) {
     while (counters_of(layer).waiting != count)
         nanosleep(&(struct timespec){.tv_nsec = 100000}, NULL);
@@ -91,7 +91,7 @@ static inline pthread_t started(void *(*run)(void *), void *given) {
     return thread;
 }
 
-/* What the counters are to add up to. */
+/* Checks the sums that the header states for the counters. */
 static inline void expect_sums(vlm_threads *layer) {
     vlm_threads_counters counters = counters_of(layer);
     uint64_t refused = 0, times = 0;
