@@ -60,6 +60,7 @@ impl Store {
             })) }
         ensures fresh { IfOk result (λ at. ¬ HasProcess at self.old) }
         ensures taken { OnOk result (IsTaken self.old.room.processes self.new.room.processes) }
+        ensures sound { OnOk result (AreSound self.old self.new) }
         ensures succeeds { HasRoomForProcess pid self.old → IsOk result }
         ensures err { OnErr result (IsUnchanged self.old self.new) }
     {

@@ -89,7 +89,8 @@ impl Model for Store {
 impl Store {
     /// An empty store that hashes names by fixed keys. It takes no memory.
     pub fn new(alloc: Global) -> Store
-        ensures { result ≡ record (nothing result.keys) { room = result.room } }
+        ensures empty { result ≡ record (nothing result.keys) { room = result.room } }
+        ensures sound { IsSound result }
     {
         Store::with_keys(alloc, HashKeys::fixed())
     }
@@ -98,7 +99,8 @@ impl Store {
     /// choose names with equal hashes; identifications need no keys, since the machine gives them. It takes no
     /// memory.
     pub fn with_keys(alloc: Global, keys: HashKeys) -> Store
-        ensures { result ≡ record (nothing result.keys) { room = result.room } }
+        ensures empty { result ≡ record (nothing result.keys) { room = result.room } }
+        ensures sound { IsSound result }
     {
         Store {
             alloc,
@@ -187,7 +189,7 @@ impl Store {
             (with_new_lock result row.now owner parent to self.old) }
         ensures fresh { ¬ IsStored result self.old }
         ensures taken { IsTaken self.old.room.locks self.new.room.locks }
-        ensures sound { IsSound self.old }
+        ensures sound { AreSound self.old self.new }
     {
         let slot = self.queues.add(row, owner, parent, to);
         let Lock {
@@ -208,7 +210,9 @@ impl Store {
     pub fn move_lock(&mut self, lock: LockAt, row: &StoredRow, to: Place)
         requires lock { IsRowOf lock row.now self.old }
         requires there { HasPlace to self.old }
-        ensures { self.new ≡ with_lists (moving to (record { at = lock; row = row.now })) self.old }
+        ensures moved { self.new
+            ≡ with_lists (moving to (record { at = lock; row = row.now })) self.old }
+        ensures sound { AreSound self.old self.new }
     {
         let at = lock.slot();
         let from = self.queues.locks[at].place;
@@ -234,6 +238,7 @@ impl Store {
         ensures removed { self.new
             ≡ with_lock_room self.new.room.locks (without_stored_lock lock self.old) }
         ensures given_back { IsGivenBack self.old.room.locks self.new.room.locks }
+        ensures sound { AreSound self.old self.new }
     {
         let at = lock.slot();
         let Lock {
@@ -271,6 +276,7 @@ impl Store {
         }) }
         ensures fresh { ¬ HasResource result self.old }
         ensures taken { IsTaken self.old.room.resources self.new.room.resources }
+        ensures sound { AreSound self.old self.new }
     {
         let res = ResAt::of(
             self.queues
@@ -394,6 +400,7 @@ impl Store {
         ensures removed { self.new ≡ with_resource_room self.new.room.resources
             (record self.old { resources = without_resource res self.old.resources }) }
         ensures given_back { IsGivenBack self.old.room.resources self.new.room.resources }
+        ensures sound { AreSound self.old self.new }
     {
         self.resource_index
             .remove(&self.queues.resources[res.slot()]);

@@ -269,4 +269,4 @@ pub insert-requires : goal.insert-requires
 insert-requires c = (omega arith, rw c.lkid.ensures (has_its_room c.self.inside c.args.row.now.lkid (rw (← c.self.view_is) at c.requires.room)).2)
 
 pub returns-clause-sound : goal.returns-clause-sound
-returns-clause-sound c = rw (← c.self.view_is) (is_sound c.self.inside c.self.invariant)
+returns-clause-sound c = record { before = rw (← c.self.view_is) (is_sound c.self.inside c.self.invariant); after = is_sound _ (invariant_of-self c) }

@@ -61,4 +61,4 @@ returns-clause-disarmed c =
     (queues_room s q' c.disarm.ensures.kept.locks_room c.disarm.ensures.kept.resources_room) refl)
 
 pub returns-clause-sound : goal.returns-clause-sound
-returns-clause-sound c = record { before = rw (← c.self.view_is) (is_sound c.self.inside c.self.invariant); after = is_sound (record c.self.inside { queues = c.disarm.new.self }) (invariant_of-self c) }
+returns-clause-sound c = record { before = rw (← c.self.view_is) (is_sound c.self.inside c.self.invariant); after = is_sound _ (invariant_of-self c) }

@@ -105,4 +105,4 @@ returns-clause-given_back c =
     (c.self.invariant.processes_linked.within c.args.at (process_listed s c.self.invariant c.args.at (rw (← c.self.view_is) at c.requires.there))) (λ number. omega arith)))
 
 pub returns-clause-sound : goal.returns-clause-sound
-returns-clause-sound c = record { before = rw (← c.self.view_is) (is_sound c.self.inside c.self.invariant); after = is_sound (record c.self.inside { processes = c.take_out.new.processes; process_order = c.take_out.new.order; process_index = c.remove.new.self; living = c.unmark.new.self; pending = c.unmark-2.new.self }) (invariant_of-self c) }
+returns-clause-sound c = record { before = rw (← c.self.view_is) (is_sound c.self.inside c.self.invariant); after = is_sound _ (invariant_of-self c) }
