@@ -29,7 +29,8 @@ use Rattle.vlm_locks.proofs.Chosen.{above, among_in}
 use Rattle.vlm_locks.proofs.Changed.{rests_still}
 use Rattle.vlm_locks.proofs.Granting.{blocks_after_append}
 use Rattle.vlm_locks.proofs.Owing.{notices_twice}
-use Rattle.vlm_locks.proofs.RunsDown.{its_handles, same_process_of}
+use Rattle.vlm_locks.proofs.RunsDown.{its_handles}
+use Rattle.vlm_locks.proofs.Sound.{same_process_of, stands_alike}
 use Rattle.vlm_locks.proofs.Notes.{note_in, number_there}
 use Rattle.vlm_locks.proofs.Stood.{one_lock}
 use Rattle.vlm_locks.proofs.Unowed.{paid_on}
@@ -43,12 +44,6 @@ same_handles s t sound sound_t same owner pid lives =
     let q = same_process_of s.processes t.processes same.processes lives.0 lives.1.0 in
     its_handles owner pid t sound_t (q.0, (q.1.0, q.1.1 ∙ lives.1.1, q.1.2 ∙ lives.1.2))
     ∙ ap handles_of_own q.1.3 ∙ sym (its_handles owner pid s sound lives)
-
--- and each lock stands as it did
-pub stands_alike : (at : ℕ) (row : LockRow) (s t : Records) → t.resources ≡ s.resources → (place : Place)
-    → IsIn (record { at = at; row = row }) (locks_at place s) → IsIn (record { at = at; row = row }) (locks_at place t)
-stands_alike at row s t resources (Queued res queue) among =
-    subst (λ rs. IsIn (record { at = at; row = row }) (option_map_or (queued queue) (resource_at res rs) [])) (sym resources) among
 
 -- ---- the endings
 

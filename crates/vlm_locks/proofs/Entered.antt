@@ -187,13 +187,14 @@ module _ (s : Records) (sound : IsSound s) (rest : IsAtRest s) (e : NewLock) (ke
             by_place (Queued r queue) here = (Queued r queue, here)
 
     -- what held between two steps holds with it
-    rest_with : ¬ IsStored at s → IsSameLock (new_row e) row → IsAboveEachLock e.lkid s → IsAtRest new
-    rest_with fresh same above = record {
+    rest_with : IsSound new → ¬ IsStored at s → IsSameLock (new_row e) row → IsAboveEachLock e.lkid s → IsAtRest new
+    rest_with sound_new fresh same above = record {
       keyed = keyed_still res found.0 left (owned_by e at s) new replaced rest.keyed;
       rising = subst (AllRise new) (sym new_processes)
           (all_rise_with e.owner e.parent at s new sound e.lkid fresh above
           (λ x other stored. elim (lock_cases x other stored) [ inl is ↦ inl (is.0, ap (λ (r : LockRow). r.lkid) is.1 ∙ sym same.lkid) | inr there ↦ inr there ])
           rest.rising);
+      sound = sound_new;
     }
 
     -- the plain machine finds the same resource
@@ -239,15 +240,15 @@ module _ (s : Records) (sound : IsSound s) (rest : IsAtRest s) (e : NewLock) (ke
     }
 
     -- the lock has entered the resource
-    pub entered_by : ¬ IsStored at s → IsSameLock (new_row e) row → IsAboveEachLock e.lkid s → IsProcess e.owner e.pid s → plain_resource left ≡ resource_after_entry (new_row e) e.at_once (plain_resource found.0)
+    pub entered_by : IsSound new → ¬ IsStored at s → IsSameLock (new_row e) row → IsAboveEachLock e.lkid s → IsProcess e.owner e.pid s → plain_resource left ≡ resource_after_entry (new_row e) e.at_once (plain_resource found.0)
         → IsEntered e res s new
-    entered_by fresh same above owner after = record {
+    entered_by sound_new fresh same above owner after = record {
       taken = record {
         entered = entered_here after;
         added = is_added fresh same;
         others = others_stay res found.0 left (owned_by e at s) new replaced;
         there = still_there res found.0 left (owned_by e at s) new replaced;
-        rest = rest_with fresh same above;
+        rest = rest_with sound_new fresh same above;
       };
       processes = ap (map (λ (p : StoredProcess). p.process)) new_processes ∙ processes_kept e.owner e.parent at s.processes;
       owner = (
