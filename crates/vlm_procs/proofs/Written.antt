@@ -13,7 +13,7 @@ use Rattle.vlm_model.specs.StatusBlocks.{process_after_write, processes_after_wr
 use Rattle.vlm_collections.specs.Lists.{IsIn}
 use Rattle.vlm_records.specs.StatusBlocks.{block_or_new as stored_block, with_changed_block}
 use Rattle.vlm_store.specs.Plain.{plain_processes}
-use Rattle.vlm_store.specs.Records.{DueChanges, IsProcess, IsSound, Records, SameButNotices, StoredProcess, but_notices, changed_process, due_of, on_process, on_stored, process_at, with_owed_ast}
+use Rattle.vlm_store.specs.Records.{DueChanges, IsProcess, IsSound, Records, SameButNotices, StoredProcess, but_notices, changed_process, on_process, on_stored, process_at, with_owed_ast}
 use Rattle.vlm_store.proofs.Plain.{plain-on_stored, process_at-stored, process_of-stored, shown-on_stored}
 use Rattle.vlm_store.proofs.Dues.{due-on_stored}
 
