@@ -14,11 +14,8 @@ use Rattle.vlm_words.specs.State.{Process, Resource}
 use Rattle.vlm_words.specs.ValueBlocks.{new_value_block}
 use Rattle.vlm_model.specs.Withdrawals.{Withdrawal, processes_after, queue_endings, withdrawal_endings, withdrawn_endings}
 use Rattle.vlm_collections.specs.Lists.{IsIn}
-use Rattle.std.specs.Option.{option_map_or}
-use Rattle.vlm_records.specs.declared.handles.Place.{Place}
-use Rattle.vlm_records.specs.declared.handles.Place.TheVariants.{Queued}
 use Rattle.vlm_store.specs.Plain.{plain_processes, plain_resource, plain_resources}
-use Rattle.vlm_store.specs.Records.{IsProcess, IsSound, IsStored, Records, SameButNotices, Stores, locks_at, own_handles_at, queued, resource_at}
+use Rattle.vlm_store.specs.Records.{IsProcess, IsSound, IsStored, Records, SameButNotices, Stores, own_handles_at}
 use Rattle.vlm_locks.specs.declared.touched.Note.{Note}
 use Rattle.vlm_locks.specs.GivingUp.{AreOfLocks, HaveEnded, IsPaidBut, RequestsHaveEnded, Rise, noted_lkids}
 use Rattle.vlm_locks.specs.Left.{giving_up, is_among}

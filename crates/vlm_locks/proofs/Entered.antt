@@ -1,5 +1,5 @@
 -- What the entry of a new lock makes of the records.
-use Rattle.std.proofs.Common.{◌≡◌, ◌≢◌, ◌⊎◌, ℕ, Bool, List, [], ◌∷◌, ◌++◌, map, unwrap_or, cond, true, false, Option, None, Some, IsSome, IfSome, refl, sym, ap, ◌∙◌, subst, inl, inr, eq-eqb, ne_eqb}
+use Rattle.std.proofs.Common.{◌≡◌, ◌≢◌, ◌⊎◌, ℕ, Bool, List, [], ◌∷◌, ◌++◌, map, unwrap_or, cond, true, false, Option, None, Some, IfSome, refl, sym, ap, ◌∙◌, subst, inl, inr, eq-eqb, ne_eqb}
 use Rattle.std.specs.Prelude.{◌==◌}
 use Rattle.std.proofs.lemmas.Bool.{cases_eq}
 use Rattle.std.proofs.lemmas.List.{map-append}
@@ -13,7 +13,7 @@ use Rattle.vlm_collections.specs.Lists.{IsIn}
 use Rattle.vlm_records.specs.declared.handles.Place.{Place}
 use Rattle.vlm_records.specs.declared.handles.Place.TheVariants.{Queued}
 use Rattle.vlm_store.specs.Plain.{plain_resource, plain_resources}
-use Rattle.vlm_store.specs.Records.{AreResourcesApart, FindsResource, HasResource, IsParentOf, IsProcess, IsSameLock, IsSound, IsStored, Records, Room, Stores, StoredLock, StoredProcess, StoredResource, but_notices, joined_by, locks_at, on_resource, process_with_lock, queued, resource_at, with_lock_room, with_new_lock}
+use Rattle.vlm_store.specs.Records.{AreResourcesApart, FindsResource, IsParentOf, IsProcess, IsSameLock, IsSound, IsStored, Records, Room, Stores, StoredLock, StoredProcess, StoredResource, but_notices, joined_by, locks_at, on_resource, process_with_lock, queued, resource_at, with_lock_room, with_new_lock}
 use Rattle.vlm_store.proofs.Records.{joins_queue, map_on, resource_is}
 use Rattle.vlm_locks.specs.Rest.{but_service, IsAtRest, IsReplaced, OtherLocksStay}
 use Rattle.vlm_locks.proofs.Found.{resource_alone, resource_at-put}
@@ -119,9 +119,6 @@ module _ (s : Records) (sound : IsSound s) (rest : IsAtRest s) (e : NewLock) (ke
   -- the resource of the key is there
   pub found_there : resource_at res s.resources ≡ Some found.0
   found_there = ap (λ x. resource_at x s.resources) (sym found.1.1) ∙ resource_is found.0 s.resources sound.resources_apart found.1.0
-
-  pub is_there : HasResource res s
-  is_there = subst (λ (o : Option StoredResource). IsSome o) (sym found_there) refl
 
   module _ (at : ℕ) (row : LockRow) (to : Queue) (room : Room) (new : Records) (added : new ≡ with_lock_room room (with_new_lock at row e.owner e.parent (Queued res to) s)) where
     -- the resource with the lock in its queue

@@ -1,6 +1,5 @@
-use Rattle.std.proofs.Common.{◌<◌, is_some, ap, subst, arith}
+use Rattle.std.proofs.Common.{is_some, ap, arith}
 use Rattle.vlm_words.specs.Dues.{one_where}
-use Rattle.vlm_store.specs.Records.{due_of}
 use Rattle.vlm_locks.proofs.Found.{process_there}
 use Rattle.vlm_locks.proofs.endings.complete.Goals as goal
 

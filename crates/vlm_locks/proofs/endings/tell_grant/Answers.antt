@@ -1,6 +1,6 @@
-use Rattle.std.proofs.Common.{◌≤◌, ◌+◌, ◌-◌, ap, subst, ◌∙◌, arith}
+use Rattle.std.proofs.Common.{◌+◌, ◌-◌, ap, subst, ◌∙◌, arith}
 use Rattle.vlm_words.specs.Dues.{one_where}
-use Rattle.vlm_store.specs.Records.{DueChanges, due_of}
+use Rattle.vlm_store.specs.Records.{DueChanges}
 use Rattle.vlm_locks.proofs.Found.{process_still, process_there}
 use Rattle.vlm_locks.proofs.Owing.{granted_owed, one_from, spared_fits}
 use Rattle.vlm_locks.proofs.endings.tell_grant.Goals as goal

@@ -2,7 +2,7 @@ use Rattle.std.proofs.Common.{subst}
 use Rattle.vlm_store.specs.Records.{IsNewLock, IsProcess}
 use Rattle.vlm_locks.specs.Entering.{entered_queue, new_row}
 use Rattle.vlm_locks.specs.Owing.{granted_if_at_once}
-use Rattle.vlm_locks.proofs.Entered.{entered_by, entered_same, is_there, joins_entered, parent_same}
+use Rattle.vlm_locks.proofs.Entered.{entered_by, entered_same, joins_entered, parent_same}
 use Rattle.vlm_locks.proofs.Found.{resource_there}
 use Rattle.vlm_locks.proofs.Paying.{due_entered}
 use Rattle.vlm_locks.proofs.Rising.{new_above}
@@ -44,4 +44,4 @@ returns-clause-due c =
     let may = c.requires.may_enter in
     let sound = c.add_lock_reserved.ensures.sound.before in
     due_entered c.args.store.now sound c.add_lock_reserved.result (granted_if_at_once e.at_once (new_row e)) e.owner e.parent c.args.res (entered_queue e.at_once)
-    (is_there c.args.store.now sound may.rest e may.keyed c.args.res c.requires.found) _ c.add_lock_reserved.new.self (rw (c.granted_if_at_once.ensures, c.entered_queue.ensures) at c.add_lock_reserved.ensures.added)
+    (resource_there c.args.store.now c.args.res c.requires.found.0 c.requires.found.1.0 c.requires.found.1.1) _ c.add_lock_reserved.new.self (rw (c.granted_if_at_once.ensures, c.entered_queue.ensures) at c.add_lock_reserved.ensures.added)

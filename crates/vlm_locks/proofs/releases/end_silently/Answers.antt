@@ -1,5 +1,5 @@
-use Rattle.std.proofs.Common.{◌≤◌, ◌-◌, subst, arith}
-use Rattle.vlm_store.specs.Records.{DueChanges, due_of}
+use Rattle.std.proofs.Common.{◌-◌, subst, arith}
+use Rattle.vlm_store.specs.Records.{DueChanges}
 use Rattle.vlm_locks.proofs.Found.{process_there}
 use Rattle.vlm_locks.proofs.Owing.{untold_owed}
 use Rattle.vlm_locks.proofs.releases.end_silently.Goals as goal

@@ -1,7 +1,7 @@
-use Rattle.std.proofs.Common.{◌≤◌, ◌-◌, false, ap, subst, ◌∙◌, arith}
+use Rattle.std.proofs.Common.{◌-◌, false, ap, subst, ◌∙◌, arith}
 use Rattle.vlm_model.specs.Asts.{completion_asts, processes_after_asts}
 use Rattle.vlm_words.specs.Dues.{one_where}
-use Rattle.vlm_store.specs.Records.{DueChanges, due_of}
+use Rattle.vlm_store.specs.Records.{DueChanges}
 use Rattle.vlm_locks.specs.Owing.{completions_queued}
 use Rattle.vlm_locks.proofs.Found.{process_still, process_there}
 use Rattle.vlm_locks.proofs.Owing.{blocking_fits, changes_then, due_before, ended_owed, notices_twice, one_from}

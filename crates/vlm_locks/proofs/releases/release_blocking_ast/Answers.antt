@@ -1,6 +1,6 @@
-use Rattle.std.proofs.Common.{◌≤◌, ◌-◌, sym, ap, ◌∙◌, subst, arith}
+use Rattle.std.proofs.Common.{◌-◌, sym, ap, ◌∙◌, subst, arith}
 use Rattle.vlm_words.specs.Dues.{one_where}
-use Rattle.vlm_store.specs.Records.{DueChanges, due_of}
+use Rattle.vlm_store.specs.Records.{DueChanges}
 use Rattle.vlm_locks.specs.Owing.{OwedMoves, left_row, row_after_end}
 use Rattle.vlm_locks.proofs.Found.{process_there}
 use Rattle.vlm_locks.proofs.Owing.{one_from, spared_owed}

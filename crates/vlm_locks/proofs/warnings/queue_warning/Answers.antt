@@ -1,5 +1,4 @@
-use Rattle.std.proofs.Common.{◌≤◌, ◌<◌, subst, arith}
-use Rattle.vlm_store.specs.Records.{due_of}
+use Rattle.std.proofs.Common.{arith}
 use Rattle.vlm_locks.proofs.Found.{process_there}
 use Rattle.vlm_locks.proofs.Warned.{warned_owed, warning_fits}
 use Rattle.vlm_locks.proofs.warnings.queue_warning.Goals as goal
