@@ -15,7 +15,7 @@ pub withdraw-requires-clause-childless : goal.withdraw-requires-clause-childless
 withdraw-requires-clause-childless c =
     let m = c.args.self.now in
     let f = c.args.located.now in
-    let sound : IsSound m.records = rw (← c.self.view_is) c.law_records_are_sound.ensures in
+    let sound = c.requires.located.sound in
     let stays : c.victim-withdrawal.result.stays ≡ true = ap (λ (w : Withdrawal). w.stays) c.victim-withdrawal.ensures in
     λ takes.
     subst (λ (k : MachineState). HasNoSublocks f.lock k.records) (sym c.self.view_is)
