@@ -9,7 +9,7 @@ use Rattle.vlm_model.proofs.Apart.{Apart}
 use Rattle.vlm_model.proofs.Pairs.{EachPair}
 use Rattle.vlm_collections.specs.Lists.{IsIn}
 use Rattle.vlm_store.specs.Plain.{plain_processes, plain_resource, plain_resources}
-use Rattle.vlm_store.specs.Records.{IsSound, Records, StoredResource}
+use Rattle.vlm_store.specs.Records.{Records, StoredResource}
 use Rattle.vlm_locks.specs.Left.{resource_left}
 use Rattle.vlm_locks.specs.Owing.{IsPaid}
 use Rattle.vlm_locks.specs.Rest.{IsAtRest}

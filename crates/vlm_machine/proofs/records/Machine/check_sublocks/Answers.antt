@@ -1,6 +1,6 @@
 use Rattle.std.proofs.Common.{sym, ap, ◌∙◌, subst}
 use Rattle.vlm_store.specs.Plain.{plain_resources}
-use Rattle.vlm_store.specs.Records.{HasNoSublocks, IsSound, IsStored}
+use Rattle.vlm_store.specs.Records.{HasNoSublocks, IsStored}
 use Rattle.vlm_locks.specs.Withdrawing.{goes}
 use Rattle.vlm_locks.proofs.Stood.{stored}
 use Rattle.vlm_machine.specs.Machine.{MachineState}

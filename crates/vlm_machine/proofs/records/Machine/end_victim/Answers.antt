@@ -1,7 +1,7 @@
 use Rattle.std.proofs.Common.{◌≡◌, true, sym, ap, ◌∙◌, subst}
 use Rattle.vlm_model.specs.Withdrawals.{Withdrawal}
 use Rattle.vlm_store.specs.Plain.{plain_resources}
-use Rattle.vlm_store.specs.Records.{HasNoSublocks, IsSound}
+use Rattle.vlm_store.specs.Records.{HasNoSublocks}
 use Rattle.vlm_locks.specs.Standing.{IsLocated}
 use Rattle.vlm_locks.specs.Withdrawing.{goes}
 use Rattle.vlm_machine.specs.Between.{IsBetweenSteps}
