@@ -7,7 +7,7 @@ ghost use Rattle.vlm_words.specs.State.{start};
 ghost use Rattle.vlm_model.specs.Stepped.{IsMade, Outcome, stepped};
 ghost use Rattle.vlm_collections.specs.Lists.{IsIn};
 ghost use Rattle.vlm_store.specs.Plain.{plain_processes, plain_resources};
-ghost use Rattle.vlm_store.specs.Records.{StoredResource, queued, rows_of_locks};
+ghost use Rattle.vlm_store.specs.Records.{IsSound, StoredResource, queued, rows_of_locks};
 ghost use Rattle.vlm_queue.specs.Walks.{GivesInTurn};
 ghost use Rattle.vlm_machine.specs.Between.{IsBetweenSteps};
 ghost use Rattle.vlm_core.specs.Made.{IsMadeAlways};
@@ -22,7 +22,6 @@ use vlm_model::laws::{
     law_identifications_of_processes_rise, law_no_lock_is_more_than_15_levels_below,
     law_nothing_is_left_to_grant, law_rows_fit_their_queues, law_serials_rise,
 };
-use vlm_store::laws::law_records_are_sound;
 use vlm_store::{HashKeys, Store};
 use vlm_words::steps::{Answer, Conversion, Declaration, Dequeue, NewRequest, Step, ValueSetting};
 
@@ -105,12 +104,12 @@ impl Core {
         ensures processes { plain_processes result.now ≡ self.now.processes }
         ensures queues { (r : StoredResource) → IsIn r result.now.resources
             → (queue : Queue) → GivesInTurn r.at queue (rows_of_locks (queued queue r)) result.now }
+        ensures sound { IsSound result.now }
         ensures held { HeldModesAreCompatible self.now }
         ensures served { NothingIsLeftToGrant self.now }
     {
         law_held_modes_are_compatible();
         law_nothing_is_left_to_grant();
-        law_records_are_sound(&self.machine.store);
         &self.machine.store
     }
 

@@ -86,7 +86,7 @@ located_there s sound res queue lock owner row there come stored owned =
     of_found : (o : Option StoredResource) → resource_at res s.resources ≡ o → IsSome o → IsIn (record { at = lock; row = row }) (option_map_or (queued queue) o [])
         → IsLocated (record { lock = lock; owner = owner; row = row; res = res; queue = queue }) s
     of_found None is some among = cc
-    of_found (Some r) is some among = record { resource = r; found = is; among = among; owner = owned }
+    of_found (Some r) is some among = record { resource = r; found = is; among = among; owner = owned; sound = sound }
 
 -- the owner of a holder is below
 holder_below : (s : Records) (ranks : Ranks) (peaks : List HighestRank) (lkid : ℕ) (mode : Mode) (rows : List LockRow) (top : ℕ) → CountsHolders s ranks peaks rows → IsAboveAll peaks mode lkid top

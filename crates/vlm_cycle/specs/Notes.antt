@@ -2,7 +2,7 @@
 use Rattle.std.specs.Prelude.{ℕ}
 use Rattle.std.specs.List.{All}
 use Rattle.std.specs.Option.{ForSome}
-use Rattle.vlm_store.specs.Records.{HasResource, IsProcess, IsStored, Records}
+use Rattle.vlm_store.specs.Records.{HasResource, IsProcess, IsSound, IsStored, Records}
 use Rattle.vlm_cycle.specs.declared.tarjan_walk.TarjanWalk.{TarjanWalk}
 use Rattle.vlm_cycle.specs.declared.ranks.TarjanNode.{TarjanNode}
 use Rattle.vlm_cycle.specs.Ranks.{Ranks}
@@ -28,7 +28,8 @@ pub record IsWalk (s : Records) (walk : TarjanWalk) : Type 0 where
   pub process : ForSome walk.process (LivesAt s)
   pub stack_next : ForSome walk.stack_next (LivesAt s)
 
--- the lock and the resource of the request exist
+-- the lock and the resource of the request exist, and the records are sound
 pub record IsWanting (s : Records) (wanting : AwaitedModes) : Type 0 where
   pub lock : IsStored wanting.lock s
   pub res : HasResource wanting.res s
+  pub sound : IsSound s

@@ -14,7 +14,6 @@ use crate::conflicts::{blocks_those_behind, holds_against};
 use crate::scratch::Scratch;
 use vlm_locks::LocatedLock;
 use vlm_queue::{head, next};
-use vlm_store::laws::law_records_are_sound;
 use vlm_store::{ResAt, Store, StoredRow};
 use vlm_words::flags::EnqFlags;
 use vlm_words::modes::Mode;
@@ -128,7 +127,6 @@ pub(crate) fn find_waited_for(store: &Store, scratch: &mut Scratch, waiting: &Lo
     requires roomy { IsRoomy store.now scratch.old }
     ensures { Marks (OwnsWaitedFor store.now waiting.now.row) scratch.old scratch.new }
 {
-    law_records_are_sound(store);
     if waiting.is_granted() {
         return;
     }

@@ -12,7 +12,6 @@ ghost use Rattle.vlm_cycle.specs.Waiting.{IsBehind, IsRoomy, searched};
 use crate::blockers::find_waited_for;
 use crate::scratch::Scratch;
 use vlm_locks::{LocatedLock, located_lock};
-use vlm_store::laws::law_records_are_sound;
 use vlm_store::{ProcAt, Store};
 
 // Finds the owners of the locks for which the requests of a process wait. The cost grows with its locks, and with the
@@ -23,7 +22,6 @@ fn find_behind_own(store: &Store, scratch: &mut Scratch, owner: ProcAt, pid: u32
     requires roomy { IsRoomy store.now scratch.old }
     ensures { Marks (IsBehind store.now pid) scratch.old scratch.new }
 {
-    law_records_are_sound(store);
     let mut at = store.first_own(owner);
     while let Some(lock) = at {
         let located = located_lock(store, lock);
@@ -38,7 +36,6 @@ fn find_behind(store: &Store, scratch: &mut Scratch, pid: u32)
     requires roomy { IsRoomy store.now scratch.old }
     ensures { Marks (IsBehind store.now pid) scratch.old scratch.new }
 {
-    law_records_are_sound(store);
     if let Some(owner) = store.process(pid) {
         find_behind_own(store, scratch, owner, pid);
     }
@@ -54,7 +51,6 @@ pub(crate) fn is_deadlocked(store: &Store, scratch: &mut Scratch, waiting: &Loca
     ensures room { KeepsRoom scratch.old scratch.new }
     ensures ranks { scratch.new.ranks ≡ scratch.old.ranks }
 {
-    law_records_are_sound(store);
     scratch.clear();
     find_waited_for(store, scratch, waiting);
     while let Some(pid) = scratch.take() {

@@ -8,7 +8,6 @@ ghost use Rattle.vlm_store.specs.Records.{HasResource, IsStored, first_at, locks
 ghost use Rattle.vlm_cycle.specs.Leading.{IsFirstOn};
 
 use vlm_queue::head;
-use vlm_store::laws::law_records_are_sound;
 use vlm_store::{LockAt, ResAt, Store};
 use vlm_words::resources::Queue;
 
@@ -31,7 +30,6 @@ pub(crate) fn resource_of_first(store: &Store, lock: LockAt) -> Option<ResAt>
     ensures there { ForSome result (λ res. HasResource res store.now) }
     ensures first { (res : ℕ) → IsFirstOn store.now lock res → result ≡ Some res }
 {
-    law_records_are_sound(store);
     let (res, _) = store.lock_record(lock).place.parts();
     let first = first_queued(store, res)?;
     if first == lock {

@@ -16,7 +16,6 @@ use crate::ranks::Ranks;
 use crate::victims::is_later;
 use vlm_locks::LocatedLock;
 use vlm_queue::{head, next};
-use vlm_store::laws::law_records_are_sound;
 use vlm_store::{LockAt, ResAt, Store};
 use vlm_words::resources::Queue;
 
@@ -136,7 +135,6 @@ pub(crate) fn check_ranks(store: &Store, ranks: &Ranks) -> RankCheck
     ensures falls { result.falls ≡ true → Falls store.now ranks.now }
     ensures stands { IsLocatedIfAny store.now result.guess }
 {
-    law_records_are_sound(store);
     let mut rank_check = RankCheck {
         falls: true,
         guess: None,

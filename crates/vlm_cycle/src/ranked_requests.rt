@@ -14,7 +14,6 @@ use crate::blocker_ranks::BlockerRanks;
 use crate::ranks::Ranks;
 use vlm_locks::LocatedLock;
 use vlm_queue::{head, next};
-use vlm_store::laws::law_records_are_sound;
 use vlm_store::{LockAt, ResAt, Store};
 use vlm_words::resources::Queue;
 
@@ -122,7 +121,6 @@ pub(crate) fn rank_request(
     ensures passes { PassesOne waiting.now.row (rank_of store.now ranks.now waiting.now.row.pid)
         blocker_ranks.old blocker_ranks.new }
 {
-    law_records_are_sound(store);
     let rank = owner_rank(store, ranks, waiting.lock);
     let top = blocker_ranks.top(&waiting.row);
     blocker_ranks.pass(&waiting.row, rank);

@@ -17,7 +17,6 @@ use crate::ranks::{Ranks, TarjanNode};
 use crate::tarjan_nodes::BlockerKind;
 use crate::waits::{AwaitedModes, awaited_modes, covers_those_before};
 use vlm_queue::{head, next};
-use vlm_store::laws::law_records_are_sound;
 use vlm_store::{LockAt, ProcAt, Store};
 use vlm_words::resources::Queue;
 
@@ -66,7 +65,6 @@ fn with_next_own(store: &Store, note: &TarjanNode, own: LockAt) -> TarjanNode
     requires note { IsTarjanNode store.now note.now }
     ensures { IsTarjanNode store.now result }
 {
-    law_records_are_sound(store);
     with_own(store, note, store.next_own(own))
 }
 
@@ -122,7 +120,6 @@ fn with_next(
     requires note { IsTarjanNode store.now note.now }
     ensures { IsTarjanNode store.now result }
 {
-    law_records_are_sound(store);
     match note.part {
         BlockerKind::Before => with_next_before(store, ranks, note, wanting, lock),
         part => note.located(Some(wanting.lock), part, next(store, lock)),
@@ -137,7 +134,6 @@ fn go_down(store: &Store, ranks: &mut Ranks, walk: TarjanWalk, process: ProcAt) 
     ensures walk { IsWalk store.now result }
     ensures notes { AreNotes store.now ranks.new }
 {
-    law_records_are_sound(store);
     if process.slot() >= ranks.len() {
         return walk;
     }

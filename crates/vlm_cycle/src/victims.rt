@@ -24,7 +24,6 @@ use crate::scratch::Scratch;
 use crate::tarjan_walk::rank_processes;
 use vlm_locks::LocatedLock;
 use vlm_queue::{head, next};
-use vlm_store::laws::law_records_are_sound;
 use vlm_store::{LockAt, ResAt, Store, StoredRow};
 use vlm_words::resources::Queue;
 
@@ -206,7 +205,6 @@ pub fn victim(store: &Store, scratch: &mut Scratch) -> Option<LocatedLock>
     ensures located { IsFit store.now result }
     ensures room { KeepsRoom scratch.old scratch.new }
 {
-    law_records_are_sound(store);
     rank_processes(store, &mut scratch.ranks);
     let rank_check = check_ranks(store, &scratch.ranks);
     let mut best = best_guess(store, scratch, rank_check.guess);

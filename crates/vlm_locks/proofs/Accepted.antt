@@ -10,6 +10,7 @@ use Rattle.vlm_locks.specs.declared.located_locks.LocatedLock.{LocatedLock}
 use Rattle.vlm_locks.specs.Converting.{IsConverted, admission_on, processes_converting}
 use Rattle.vlm_locks.specs.Standing.{IsLocated}
 use Rattle.vlm_locks.proofs.Found.{process_still}
+use Rattle.vlm_locks.proofs.Sound.{still_sound}
 
 -- the lock stands where it stood
 pub stands_accepted : (f : LocatedLock) (s t : Records) → SameButNotices s t → IsLocated f s → IsLocated f t
@@ -18,6 +19,7 @@ stands_accepted f s t same located = record {
   found = ap (resource_at f.res) same.resources ∙ located.found;
   among = located.among;
   owner = process_still s t f.owner f.row.pid same located.owner;
+  sound = still_sound s t same located.sound;
 }
 
 -- what a conversion makes of resources

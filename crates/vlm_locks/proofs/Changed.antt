@@ -15,23 +15,24 @@ use Rattle.vlm_locks.specs.declared.located_locks.LocatedLock.{LocatedLock}
 use Rattle.vlm_locks.specs.Rest.{IsAtRest, IsReplaced, OthersStay}
 use Rattle.vlm_locks.specs.Standing.{IsLocated}
 use Rattle.vlm_locks.specs.Withdrawing.{IsChange}
-use Rattle.vlm_locks.proofs.Replaced.{others_stay, plain_replaced, rests, still_there}
+use Rattle.vlm_locks.proofs.Replaced.{keyed_still, others_stay, plain_replaced, rests, rises, still_there}
+use Rattle.vlm_locks.proofs.Sound.{sound_alike, still_sound}
 use Rattle.vlm_locks.specs.Staying.{LocksStay}
 use Rattle.vlm_locks.proofs.Rising.{all_rise_still, all_rise_without, rises_still, were_stored}
 use Rattle.vlm_locks.proofs.Staying.{among_without, stands_in}
 use Rattle.vlm_locks.proofs.Stood.{stands}
 
 -- one resource is put in the place of another, as the plain change has it
-pub changed : (res : ℕ) (change : Resource → Resource) (had left : StoredResource) (old new : Records) → IsSound old → IsAtRest old → IsReplaced res had left old new → LocksStay left had
+pub changed : (res : ℕ) (change : Resource → Resource) (had left : StoredResource) (old new : Records) → IsSound old → IsSound new → IsAtRest old → IsReplaced res had left old new → LocksStay left had
     → change (plain_resource had) ≡ plain_resource left
     → ((x : StoredResource) → IsIn x old.resources → x.at ≢ res → change (plain_resource x) ≡ plain_resource x)
     → plain_processes new ≡ plain_processes old → IsChange res change old new
-changed res change had left old new sound rest replaced none_join here there statuses = record {
+changed res change had left old new sound sound_new rest replaced none_join here there statuses = record {
   resources = plain_replaced res had left old new replaced change sound here there;
   statuses = statuses;
   others = others_stay res had left old new replaced;
   there = still_there res had left old new replaced;
-  rest = rests res had left old new replaced none_join rest;
+  rest = rests res had left old new replaced none_join sound_new rest;
 }
 
 -- nothing is changed, and the plain change changes nothing
@@ -69,6 +70,7 @@ pub rests_still : (old new : Records) → SameButNotices old new → IsAtRest ol
 rests_still old new same rest = record {
   keyed = λ r among. rest.keyed r (subst (IsIn r) same.resources among);
   rising = all_rise_still old new (were_stored old new same.resources) same.processes rest.rising;
+  sound = still_sound old new same rest.sound;
 }
 
 -- the others stay over two steps
@@ -90,6 +92,7 @@ changed_room res change s new room changes = record {
   rest = record {
     keyed = changes.rest.keyed;
     rising = all_rise_still new (record new { room = room }) (were_stored new (record new { room = room }) refl) refl changes.rest.rising;
+    sound = sound_alike new (record new { room = room }) refl refl changes.rest.sound;
   };
 }
 
@@ -134,20 +137,21 @@ module _ (s : Records) (sound : IsSound s) (f : LocatedLock) (located : IsLocate
       of_queue Waiting among = among_without f.lock k located.resource.waiting among
 
   -- so a change of its resource is that which the plain change has there
-  pub removed_changed : (change : Resource → Resource) → IsAtRest s → change (plain_resource located.resource) ≡ plain_resource (resource_with (leaving f.lock) located.resource)
+  pub removed_changed : (change : Resource → Resource) → IsSound (without_stored_lock f.lock s) → IsAtRest s → change (plain_resource located.resource) ≡ plain_resource (resource_with (leaving f.lock) located.resource)
       → ((x : StoredResource) → IsIn x s.resources → x.at ≢ f.res → change (plain_resource x) ≡ plain_resource x)
       → IsChange f.res change s (without_stored_lock f.lock s)
-  removed_changed change rest here there =
-      let queues = changed f.res change located.resource (resource_with (leaving f.lock) located.resource) s without_queued sound rest removed_replaced none_joins_by_leaving here there refl in
+  removed_changed change sound_without rest here there =
+      let left = resource_with (leaving f.lock) located.resource in
       record {
-        resources = queues.resources;
+        resources = plain_replaced f.res located.resource left s without_queued removed_replaced change sound here there;
         statuses = removed_statuses f.lock s.processes;
-        others = queues.others;
-        there = queues.there;
+        others = others_stay f.res located.resource left s without_queued removed_replaced;
+        there = still_there f.res located.resource left s without_queued removed_replaced;
         rest = record {
-          keyed = queues.rest.keyed;
+          keyed = keyed_still f.res located.resource left s without_queued removed_replaced rest.keyed;
           rising = λ p among.
               rises_still without_queued (without_stored_lock f.lock s) p p (were_stored without_queued (without_stored_lock f.lock s) refl) refl
-              (all_rise_without without_queued f.lock s.processes queues.rest.rising p among);
+              (all_rise_without without_queued f.lock s.processes (rises f.res located.resource left s without_queued removed_replaced none_joins_by_leaving rest) p among);
+          sound = sound_without;
         };
       }

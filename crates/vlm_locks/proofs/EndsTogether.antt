@@ -14,11 +14,8 @@ use Rattle.vlm_words.specs.State.{Process, Resource}
 use Rattle.vlm_words.specs.ValueBlocks.{new_value_block}
 use Rattle.vlm_model.specs.Withdrawals.{Withdrawal, processes_after, queue_endings, withdrawal_endings, withdrawn_endings}
 use Rattle.vlm_collections.specs.Lists.{IsIn}
-use Rattle.std.specs.Option.{option_map_or}
-use Rattle.vlm_records.specs.declared.handles.Place.{Place}
-use Rattle.vlm_records.specs.declared.handles.Place.TheVariants.{Queued}
 use Rattle.vlm_store.specs.Plain.{plain_processes, plain_resource, plain_resources}
-use Rattle.vlm_store.specs.Records.{IsProcess, IsSound, IsStored, Records, SameButNotices, Stores, locks_at, own_handles_at, queued, resource_at}
+use Rattle.vlm_store.specs.Records.{IsProcess, IsSound, IsStored, Records, SameButNotices, Stores, own_handles_at}
 use Rattle.vlm_locks.specs.declared.touched.Note.{Note}
 use Rattle.vlm_locks.specs.GivingUp.{AreOfLocks, HaveEnded, IsPaidBut, RequestsHaveEnded, Rise, noted_lkids}
 use Rattle.vlm_locks.specs.Left.{giving_up, is_among}
@@ -29,7 +26,8 @@ use Rattle.vlm_locks.proofs.Chosen.{above, among_in}
 use Rattle.vlm_locks.proofs.Changed.{rests_still}
 use Rattle.vlm_locks.proofs.Granting.{blocks_after_append}
 use Rattle.vlm_locks.proofs.Owing.{notices_twice}
-use Rattle.vlm_locks.proofs.RunsDown.{its_handles, same_process_of}
+use Rattle.vlm_locks.proofs.RunsDown.{its_handles}
+use Rattle.vlm_locks.proofs.Sound.{same_process_of, stands_alike}
 use Rattle.vlm_locks.proofs.Notes.{note_in, number_there}
 use Rattle.vlm_locks.proofs.Stood.{one_lock}
 use Rattle.vlm_locks.proofs.Unowed.{paid_on}
@@ -43,12 +41,6 @@ same_handles s t sound sound_t same owner pid lives =
     let q = same_process_of s.processes t.processes same.processes lives.0 lives.1.0 in
     its_handles owner pid t sound_t (q.0, (q.1.0, q.1.1 ∙ lives.1.1, q.1.2 ∙ lives.1.2))
     ∙ ap handles_of_own q.1.3 ∙ sym (its_handles owner pid s sound lives)
-
--- and each lock stands as it did
-pub stands_alike : (at : ℕ) (row : LockRow) (s t : Records) → t.resources ≡ s.resources → (place : Place)
-    → IsIn (record { at = at; row = row }) (locks_at place s) → IsIn (record { at = at; row = row }) (locks_at place t)
-stands_alike at row s t resources (Queued res queue) among =
-    subst (λ rs. IsIn (record { at = at; row = row }) (option_map_or (queued queue) (resource_at res rs) [])) (sym resources) among
 
 -- ---- the endings
 

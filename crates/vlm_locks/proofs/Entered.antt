@@ -1,5 +1,5 @@
 -- What the entry of a new lock makes of the records.
-use Rattle.std.proofs.Common.{◌≡◌, ◌≢◌, ◌⊎◌, ℕ, Bool, List, [], ◌∷◌, ◌++◌, map, unwrap_or, cond, true, false, Option, None, Some, IsSome, IfSome, refl, sym, ap, ◌∙◌, subst, inl, inr, eq-eqb, ne_eqb}
+use Rattle.std.proofs.Common.{◌≡◌, ◌≢◌, ◌⊎◌, ℕ, Bool, List, [], ◌∷◌, ◌++◌, map, unwrap_or, cond, true, false, Option, None, Some, IfSome, refl, sym, ap, ◌∙◌, subst, inl, inr, eq-eqb, ne_eqb}
 use Rattle.std.specs.Prelude.{◌==◌}
 use Rattle.std.proofs.lemmas.Bool.{cases_eq}
 use Rattle.std.proofs.lemmas.List.{map-append}
@@ -13,7 +13,7 @@ use Rattle.vlm_collections.specs.Lists.{IsIn}
 use Rattle.vlm_records.specs.declared.handles.Place.{Place}
 use Rattle.vlm_records.specs.declared.handles.Place.TheVariants.{Queued}
 use Rattle.vlm_store.specs.Plain.{plain_resource, plain_resources}
-use Rattle.vlm_store.specs.Records.{AreResourcesApart, FindsResource, HasResource, IsParentOf, IsProcess, IsSameLock, IsSound, IsStored, Records, Room, Stores, StoredLock, StoredProcess, StoredResource, but_notices, joined_by, locks_at, on_resource, process_with_lock, queued, resource_at, with_lock_room, with_new_lock}
+use Rattle.vlm_store.specs.Records.{AreResourcesApart, FindsResource, IsParentOf, IsProcess, IsSameLock, IsSound, IsStored, Records, Room, Stores, StoredLock, StoredProcess, StoredResource, but_notices, joined_by, locks_at, on_resource, process_with_lock, queued, resource_at, with_lock_room, with_new_lock}
 use Rattle.vlm_store.proofs.Records.{joins_queue, map_on, resource_is}
 use Rattle.vlm_locks.specs.Rest.{but_service, IsAtRest, IsReplaced, OtherLocksStay}
 use Rattle.vlm_locks.proofs.Found.{resource_alone, resource_at-put}
@@ -120,9 +120,6 @@ module _ (s : Records) (sound : IsSound s) (rest : IsAtRest s) (e : NewLock) (ke
   pub found_there : resource_at res s.resources ≡ Some found.0
   found_there = ap (λ x. resource_at x s.resources) (sym found.1.1) ∙ resource_is found.0 s.resources sound.resources_apart found.1.0
 
-  pub is_there : HasResource res s
-  is_there = subst (λ (o : Option StoredResource). IsSome o) (sym found_there) refl
-
   module _ (at : ℕ) (row : LockRow) (to : Queue) (room : Room) (new : Records) (added : new ≡ with_lock_room room (with_new_lock at row e.owner e.parent (Queued res to) s)) where
     -- the resource with the lock in its queue
     abbrev left : StoredResource
@@ -187,13 +184,14 @@ module _ (s : Records) (sound : IsSound s) (rest : IsAtRest s) (e : NewLock) (ke
             by_place (Queued r queue) here = (Queued r queue, here)
 
     -- what held between two steps holds with it
-    rest_with : ¬ IsStored at s → IsSameLock (new_row e) row → IsAboveEachLock e.lkid s → IsAtRest new
-    rest_with fresh same above = record {
+    rest_with : IsSound new → ¬ IsStored at s → IsSameLock (new_row e) row → IsAboveEachLock e.lkid s → IsAtRest new
+    rest_with sound_new fresh same above = record {
       keyed = keyed_still res found.0 left (owned_by e at s) new replaced rest.keyed;
       rising = subst (AllRise new) (sym new_processes)
           (all_rise_with e.owner e.parent at s new sound e.lkid fresh above
           (λ x other stored. elim (lock_cases x other stored) [ inl is ↦ inl (is.0, ap (λ (r : LockRow). r.lkid) is.1 ∙ sym same.lkid) | inr there ↦ inr there ])
           rest.rising);
+      sound = sound_new;
     }
 
     -- the plain machine finds the same resource
@@ -239,15 +237,15 @@ module _ (s : Records) (sound : IsSound s) (rest : IsAtRest s) (e : NewLock) (ke
     }
 
     -- the lock has entered the resource
-    pub entered_by : ¬ IsStored at s → IsSameLock (new_row e) row → IsAboveEachLock e.lkid s → IsProcess e.owner e.pid s → plain_resource left ≡ resource_after_entry (new_row e) e.at_once (plain_resource found.0)
+    pub entered_by : IsSound new → ¬ IsStored at s → IsSameLock (new_row e) row → IsAboveEachLock e.lkid s → IsProcess e.owner e.pid s → plain_resource left ≡ resource_after_entry (new_row e) e.at_once (plain_resource found.0)
         → IsEntered e res s new
-    entered_by fresh same above owner after = record {
+    entered_by sound_new fresh same above owner after = record {
       taken = record {
         entered = entered_here after;
         added = is_added fresh same;
         others = others_stay res found.0 left (owned_by e at s) new replaced;
         there = still_there res found.0 left (owned_by e at s) new replaced;
-        rest = rest_with fresh same above;
+        rest = rest_with sound_new fresh same above;
       };
       processes = ap (map (λ (p : StoredProcess). p.process)) new_processes ∙ processes_kept e.owner e.parent at s.processes;
       owner = (

@@ -4,7 +4,7 @@ use Rattle.std.specs.Prelude.{◌==◌}
 use Rattle.std.proofs.lemmas.Bool.{cases_eq}
 use Rattle.std.proofs.lemmas.Option.{none-some, same_Some}
 use Rattle.vlm_collections.specs.Lists.{IsIn}
-use Rattle.vlm_store.specs.Records.{AreResourcesApart, HasProcess, IsProcess, Records, StoredProcess, StoredResource, on_resource, process_at, resource_at, SameButNotices, but_notices}
+use Rattle.vlm_store.specs.Records.{AreResourcesApart, HasProcess, HasResource, IsProcess, Records, StoredProcess, StoredResource, on_resource, process_at, resource_at, SameButNotices, but_notices}
 use Rattle.vlm_store.proofs.Records.{map_on, resource_is}
 
 process_found : (at : ℕ) (p : StoredProcess) (ps : List StoredProcess) → IsIn p ps → p.at ≡ at → IsSome (process_at at ps)
@@ -23,6 +23,21 @@ process_found at p (x ∷ ps) among is =
 -- a process of this handle and this identification is one of this handle
 pub process_there : (s : Records) (at pid : ℕ) → IsProcess at pid s → HasProcess at s
 process_there s at pid is = process_found at is.0 s.processes is.1.0 is.1.1
+
+-- the handle of a resource leads to a resource
+pub resource_there : (s : Records) (res : ℕ) (r : StoredResource) → IsIn r s.resources → r.at ≡ res → HasResource res s
+resource_there s res r among at_res = of_list s.resources among
+  where
+    of_list : (rs : List StoredResource) → IsIn r rs → IsSome (resource_at res rs)
+    of_list [] among = absurd among
+    of_list (x ∷ rs) among =
+        elim (cases_eq x.at res) [
+          | inl same ↦ rw (eq-eqb x.at res same) refl
+          | inr differs ↦ elim among [
+            | inl is ↦ absurd (differs (ap (λ (y : StoredResource). y.at) is ∙ at_res))
+            | inr there ↦ rw (ne_eqb x.at res differs) (of_list rs there)
+          ]
+        ]
 
 -- the resource that is found has the key
 pub resource_at-at : (res : ℕ) (rs : List StoredResource) (r : StoredResource) → resource_at res rs ≡ Some r → r.at ≡ res

@@ -13,7 +13,7 @@ use Rattle.vlm_locks.specs.Left.{is_among, resource_left}
 use Rattle.vlm_locks.specs.RunningDown.{CanEndProcesses}
 use Rattle.vlm_locks.specs.Touched.{Touches}
 use Rattle.vlm_locks.proofs.Changed.{rests_still}
-use Rattle.vlm_locks.proofs.EndsTogether.{stands_alike}
+use Rattle.vlm_locks.proofs.Sound.{stands_alike}
 use Rattle.vlm_locks.proofs.GoTogether.{no_notes}
 use Rattle.vlm_locks.proofs.Stood.{one_lock}
 

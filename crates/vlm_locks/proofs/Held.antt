@@ -62,9 +62,9 @@ some_held s sound f located = of_list s.resources (own_among s sound f located)
         ]
 
 -- a lock at a place that is a queue stands there
-pub stands_queued : (s : Records) (f : LocatedLock) → IsIn (record { at = f.lock; row = f.row }) (locks_at (Queued f.res f.queue) s) → IsProcess f.owner f.row.pid s → IsLocated f s
-stands_queued s f among owner = of_found (resource_at f.res s.resources) refl among
+pub stands_queued : (s : Records) (f : LocatedLock) → IsIn (record { at = f.lock; row = f.row }) (locks_at (Queued f.res f.queue) s) → IsProcess f.owner f.row.pid s → IsSound s → IsLocated f s
+stands_queued s f among owner sound = of_found (resource_at f.res s.resources) refl among
   where
     of_found : (found : Option StoredResource) → resource_at f.res s.resources ≡ found → IsIn (record { at = f.lock; row = f.row }) (option_map_or (queued f.queue) found []) → IsLocated f s
     of_found None is among = absurd among
-    of_found (Some r) is among = record { resource = r; found = is; among = among; owner = owner }
+    of_found (Some r) is among = record { resource = r; found = is; among = among; owner = owner; sound = sound }

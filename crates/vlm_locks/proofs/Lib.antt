@@ -45,3 +45,4 @@ pub mod ProcessGone
 pub mod NodeGone
 pub mod WithdrawnEnds
 pub mod Spared
+pub mod Sound

@@ -11,7 +11,7 @@ use Rattle.vlm_collections.specs.Lists.{IsIn}
 use Rattle.vlm_records.specs.declared.handles.Place.{Place}
 use Rattle.vlm_records.specs.declared.handles.Place.TheVariants.{Queued}
 use Rattle.vlm_store.specs.Plain.{plain_resource, plain_resources}
-use Rattle.vlm_store.specs.Records.{FindsResource, IsNewKey, IsParentOf, Records, Rooms, StoredResource, Stores, locks_at, new_stored_resource, queued, resource_at, with_resource_room, without_lock, without_resource}
+use Rattle.vlm_store.specs.Records.{FindsResource, IsNewKey, IsParentOf, IsSound, Records, Rooms, StoredResource, Stores, locks_at, new_stored_resource, queued, resource_at, with_resource_room, without_lock, without_resource}
 use Rattle.vlm_words.specs.declared.locks.LockRow.{LockRow}
 use Rattle.vlm_locks.specs.declared.new_locks.NewLock.{NewLock}
 use Rattle.vlm_locks.specs.Entering.{IsEntered, resource_for, new_row}
@@ -104,10 +104,11 @@ module _ (e : NewLock) (res : ℕ) (room : Rooms) (s : Records) where
       ]
 
   -- what held between two steps holds still
-  pub rest_still : IsKeyed e.site.domain e.site.key → IsAtRest s → IsAtRest (with_made e res room s)
-  rest_still keyed rest = record {
+  pub rest_still : IsSound (with_made e res room s) → IsKeyed e.site.domain e.site.key → IsAtRest s → IsAtRest (with_made e res room s)
+  rest_still sound_made keyed rest = record {
     keyed = keyed_with keyed rest.keyed;
     rising = all_rise_still s (with_made e res room s) (λ at row stored. (row, (was_stored at row stored, same_lock row))) refl rest.rising;
+    sound = sound_made;
   }
 
   -- the new resource stands under its handle

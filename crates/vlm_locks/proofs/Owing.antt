@@ -4,7 +4,6 @@ use Rattle.std.specs.Prelude.{◌==◌, find, is_some}
 use Rattle.std.specs.Int.{from_bool}
 use Rattle.std.specs.Option.{option_map_or}
 use Rattle.std.proofs.lemmas.Bool.{cases_eq}
-use Rattle.std.proofs.lemmas.Option.{same_Some}
 use Rattle.vlm_words.specs.declared.locks.Request.{Request}
 use Rattle.vlm_words.specs.declared.locks.LockRow.{LockRow}
 use Rattle.vlm_words.specs.declared.resources.Queue.{Queue}
@@ -19,11 +18,9 @@ use Rattle.vlm_words.specs.Dues.{due_to, one_where, routines_of, row_due}
 use Rattle.vlm_model.specs.Grants.{grant_act, grant_endings}
 use Rattle.vlm_words.specs.Rows.{granted_row, is_arming}
 use Rattle.vlm_records.specs.declared.handles.Place.TheVariants.{Queued}
-use Rattle.vlm_store.specs.Records.{DueChanges, DuesStay, HasResource, IsIdle, IsProcess, IsSound, Records, Room, SameButNotices, StoredLock, StoredProcess, Stores, due_of, leaving, moving, on_resource, process_at, process_without_lock, resource_with, with_lists, with_resource_room, without_resource}
-use Rattle.vlm_store.proofs.Plain.{process_at-stored}
+use Rattle.vlm_store.specs.Records.{DueChanges, DuesStay, HasResource, IsIdle, IsSound, Records, Room, SameButNotices, StoredLock, StoredProcess, Stores, due_of, leaving, moving, on_resource, process_without_lock, resource_with, with_lists, with_resource_room, without_resource}
 use Rattle.vlm_locks.specs.Owing.{DueMoves, IsPaid, LosesOne, WeighsTheSame, total_weight, OwedMoves, blocks_written, completions_queued, suppressed_completions, due_for, row_after_end, row_at_end}
 use Rattle.vlm_locks.specs.Withdrawing.{owned_after}
-use Rattle.vlm_locks.proofs.Found.{process_still}
 use Rattle.vlm_words.specs.declared.resources.ValueBlock.{ValueBlock}
 use Rattle.vlm_locks.proofs.Weighing.{dropped_weighs, gone_weighs, kept_weighs, moved_weighs}
 
@@ -31,15 +28,6 @@ use Rattle.vlm_locks.proofs.Weighing.{dropped_weighs, gone_weighs, kept_weighs, 
 pub one_from : (b : Bool) → from_bool b ≡ one_where b
 one_from true = refl
 one_from false = refl
-
--- a handle is that of one process
-pub one_process : (s : Records) → IsSound s → (at a b : ℕ) → IsProcess at a s → IsProcess at b s → a ≡ b
-one_process s sound at a b one other =
-    let first = process_at-stored one.0 s.processes sound.processes_apart one.1.0 in
-    let second = process_at-stored other.0 s.processes sound.processes_apart other.1.0 in
-    let same : one.0 ≡ other.0 =
-    same_Some one.0 other.0 (sym first ∙ ap (λ k. process_at k s.processes) (one.1.1 ∙ sym other.1.1) ∙ second) in
-    sym one.1.2 ∙ ap (λ p. p.process.pid) same ∙ other.1.2
 
 -- notices alone, twice
 pub notices_twice : (s t u : Records) → SameButNotices s t → SameButNotices t u → SameButNotices s u
@@ -49,13 +37,6 @@ notices_twice s t u first second = record {
   room = second.room ∙ first.room;
   keys = second.keys ∙ first.keys;
 }
-
--- and stays so where status blocks are written and ASTs owed and queued
-pub same_process : (s t : Records) → IsSound s → SameButNotices s t → (at a b : ℕ) → IsProcess at a s → IsProcess at b t → a ≡ b
-same_process s t sound same at a b one other =
-    one_process s sound at a b one
-    (process_still t s at b
-    (record { resources = sym same.resources; processes = sym same.processes; room = sym same.room; keys = sym same.keys }) other)
 
 -- what is owed changes so from where it stayed
 pub changes_then : (pid : ℕ) (f : ℕ → ℕ) (s t u : Records) → DuesStay s t → DueChanges pid f t u → DueChanges pid f s u

@@ -144,10 +144,11 @@ module _ (s : Records) (sound : IsSound s) (owner pid : ℕ) (lives : IsProcess 
     abbrev gone : Records
     gone = with_process_room room (record s { processes = without_process owner s.processes })
 
-    pub rest_left : IsAtRest s → IsAtRest gone
-    rest_left rest = record {
+    pub rest_left : IsSound gone → IsAtRest s → IsAtRest gone
+    rest_left sound_gone rest = record {
       keyed = rest.keyed;
       rising = λ p among. rises_still s gone p p (were_stored s gone refl) refl (rest.rising p (was_left owner s.processes p among));
+      sound = sound_gone;
     }
 
     pub together_left : SublocksAreOwn s → SublocksAreOwn gone
@@ -184,10 +185,10 @@ process_ended old mid new before noted owner pid room sound lives none is resour
 
 pub others_can_end : (mid new : Records) (touched : Touches) (owner pid : ℕ) (room : Room) → IsSound mid → IsProcess owner pid mid → HasNoLocks owner mid
     → new ≡ with_process_room room (record mid { processes = without_process owner mid.processes })
-    → CanEndProcesses touched mid → CanEndProcesses touched new
-others_can_end mid new touched owner pid room sound lives none is can_end =
+    → IsSound new → CanEndProcesses touched mid → CanEndProcesses touched new
+others_can_end mid new touched owner pid room sound lives none is sound_new can_end =
     subst (CanEndProcesses touched) (sym is) (record {
-      rest = rest_left mid sound owner pid lives (ap handles_of_own none) room can_end.rest;
+      rest = rest_left mid sound owner pid lives (ap handles_of_own none) room (subst IsSound is sound_new) can_end.rest;
       together = together_left mid sound owner pid lives (ap handles_of_own none) room can_end.together;
       granted = can_end.granted;
       paid = paid_left mid sound owner pid lives (ap handles_of_own none) room can_end.paid;

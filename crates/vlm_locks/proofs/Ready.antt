@@ -17,6 +17,7 @@ use Rattle.vlm_locks.specs.declared.new_locks.NewLock.{NewLock}
 use Rattle.vlm_locks.specs.Entering.{HasEntered, IsAdded, IsReady, MayEnter, processes_entered, resource_for, new_row}
 use Rattle.vlm_locks.proofs.Found.{process_still}
 use Rattle.vlm_locks.proofs.Rising.{all_rise_still, were_stored}
+use Rattle.vlm_locks.proofs.Sound.{sound_alike}
 
 -- the own locks that a new lock joins are the same where the processes are, but for notices
 joined_alike : (owner : ℕ) (parent : Option ℕ) (at : ℕ) (a b : List StoredProcess) → map but_notices a ≡ map but_notices b
@@ -53,6 +54,7 @@ module _ (e : NewLock) (s o : Records) (ready : IsReady e s o) where
     rest = record {
       keyed = λ r among. may.rest.keyed r (subst (IsIn r) ready.resources among);
       rising = all_rise_still s o (were_stored s o ready.resources) ready.processes may.rest.rising;
+      sound = sound_alike s o ready.resources ready.processes may.rest.sound;
     };
     rising = λ at row stored. may.rising at row (was_stored at row stored);
     owner = process_still (record s { room = o.room }) o e.owner e.pid same may.owner;

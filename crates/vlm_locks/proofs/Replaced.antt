@@ -14,7 +14,7 @@ use Rattle.vlm_store.specs.Records.{HasNoSublocks, HasResource, IsRowOf, IsSound
 use Rattle.vlm_words.specs.Resources.{IsKeyed}
 use Rattle.vlm_locks.specs.Rest.{IsAtRest, IsReplaced, OthersStay}
 use Rattle.vlm_locks.specs.Staying.{LocksStay}
-use Rattle.vlm_locks.proofs.Rising.{all_rise_still, same_own}
+use Rattle.vlm_locks.proofs.Rising.{AllRise, all_rise_still, same_own}
 use Rattle.vlm_locks.proofs.Staying.{same_back, same_lock}
 use Rattle.vlm_locks.proofs.Stood.{resource_among}
 use Rattle.vlm_locks.proofs.Found.{resource_alone, resource_at-at, resource_at-put}
@@ -105,12 +105,10 @@ module _ (res : ℕ) (had left : StoredResource) (old new : Records) (replaced :
             | inr differs ↦ else at row (Queued x queue, subst (λ o. IsIn (record { at = at; row = row }) (option_map_or (queued queue) o [])) (ap (resource_at x) replaced.resources ∙ found_beside x old.resources differs) among)
           ]
 
-  -- what held between two steps holds still, if no lock joins
-  pub rests : LocksStay left had → IsAtRest old → IsAtRest new
-  rests none_join rest = record {
-    keyed = keyed_still rest.keyed;
-    rising = all_rise_still old new (stored_cases {P = λ at row. IsRowOf at row old} was_here (λ at row stored. (row, (stored, same_lock row)))) replaced.processes rest.rising;
-  }
+  -- locks are in the order that they had, if no lock joins
+  pub rises : LocksStay left had → IsAtRest old → AllRise new new.processes
+  rises none_join rest =
+      all_rise_still old new (stored_cases {P = λ at row. IsRowOf at row old} was_here (λ at row stored. (row, (stored, same_lock row)))) replaced.processes rest.rising
     where
       was_here : (queue : Queue) (k : StoredLock) → IsIn k (queued queue left) → IsRowOf k.at k.row old
       was_here queue k among =
@@ -121,6 +119,14 @@ module _ (res : ℕ) (had left : StoredResource) (old new : Records) (replaced :
               same_back k.row still.row still.same,
             ),
           )
+
+  -- what held between two steps holds still
+  pub rests : LocksStay left had → IsSound new → IsAtRest old → IsAtRest new
+  rests none_join sound rest = record {
+    keyed = keyed_still rest.keyed;
+    rising = rises none_join rest;
+    sound = sound;
+  }
 
   -- of the plain resources just that one changes, if the change leaves the others
   pub plain_replaced : (change : Resource → Resource) → IsSound old → change (plain_resource had) ≡ plain_resource left

@@ -42,6 +42,7 @@ use Rattle.vlm_model.proofs.Ended.{lock_ends, write_nothing}
 use Rattle.vlm_model.proofs.Keys.{withdrawals_keep_place}
 use Rattle.vlm_model.proofs.Weights.{weigh}
 use Rattle.vlm_locks.proofs.Found.{resource_alone, resource_at-at}
+use Rattle.vlm_locks.proofs.Sound.{same_process_of}
 use Rattle.std.proofs.lemmas.List.{length-append}
 
 -- some locks of the process are gone so far: what is left without all that go is the same as at first
@@ -273,40 +274,6 @@ of_others res r (x ∷ rs) there = of_test (x.at == res) there (of_others res r 
       | inl here ↦ inl here
       | inr behind ↦ inr (later behind)
     ]
-
--- processes that are the same but for what tells them of requests
-pub same_process_of : (olds news : List StoredProcess) → map but_notices news ≡ map but_notices olds → (x : StoredProcess) → IsIn x olds
-    → (q : StoredProcess) × (IsIn q news × (q.at ≡ x.at) × (q.process.pid ≡ x.process.pid) × (q.own ≡ x.own))
-same_process_of [] news same x there = absurd there
-same_process_of (y ∷ olds) [] same x there = cc
-same_process_of (y ∷ olds) (q ∷ news) same x there = elim there [
-  | inl here ↦ (
-    q,
-    (
-      inl refl,
-      ap (λ (ps : List StoredProcess). first_at ps) same ∙ ap (λ (z : StoredProcess). z.at) here,
-      ap (λ (ps : List StoredProcess). first_pid ps) same ∙ ap (λ (z : StoredProcess). z.process.pid) here,
-      ap (λ (ps : List StoredProcess). first_own ps) same ∙ ap (λ (z : StoredProcess). z.own) here,
-    ),
-  )
-  | inr later ↦ let found = same_process_of olds news (ap rest_of same) x later in (found.0, (inr found.1.0, found.1.1, found.1.2, found.1.3))
-]
-  where
-    first_at : List StoredProcess → ℕ
-    first_at [] = 0
-    first_at (z ∷ zs) = z.at
-
-    first_pid : List StoredProcess → ℕ
-    first_pid [] = 0
-    first_pid (z ∷ zs) = z.process.pid
-
-    first_own : List StoredProcess → List OwnLock
-    first_own [] = []
-    first_own (z ∷ zs) = z.own
-
-    rest_of : List StoredProcess → List StoredProcess
-    rest_of [] = []
-    rest_of (z ∷ zs) = zs
 
 module _ (s new : Records) (sound : IsSound s) (sound_new : IsSound new) (f : LocatedLock) (located : IsLocated f s) (beside : LeavesOthers f.res f.lock s new)
     (own_locks : map but_notices new.processes ≡ map but_notices (map (process_without_lock f.lock) s.processes)) where

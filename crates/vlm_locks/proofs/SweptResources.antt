@@ -41,10 +41,10 @@ pub record IsSweeping (touched later : List ℕ) (old now : Records) : Type 0 wh
   pub processes : map but_notices now.processes ≡ map but_notices old.processes
   pub rest : IsAtRest now
 
-pub sweeping_begun : (touched : List ℕ) (s : Records) → IsSound s → StandInOrder touched s.resources → AreSettledBut touched s.resources → IsAtRest s
+pub sweeping_begun : (touched : List ℕ) (s : Records) → StandInOrder touched s.resources → AreSettledBut touched s.resources → IsAtRest s
     → IsSweeping touched touched s s
-sweeping_begun touched s sound stand settled rest = record {
-  left = to_sweep touched s.resources sound.resources_apart stand settled;
+sweeping_begun touched s stand settled rest = record {
+  left = to_sweep touched s.resources rest.sound.resources_apart stand settled;
   resources = refl;
   statuses = refl;
   others = refl;
@@ -71,7 +71,7 @@ none_touched touched (r ∷ rs) each = rw (each r (inl refl)) (none_touched touc
 
 module _ (touched : List ℕ) (res : ℕ) (later : List ℕ) (old s new : Records) (so_far : IsSweeping touched (res ∷ later) old s)
     (swept : IsSwept res s new so_far.left.0) (goes_on : GoesOn) (is_touched : list_any (λ t. res == t) touched ≡ true)
-    (sound : IsSound old) (rest : IsAtRest old) where
+    (sound_new : IsSound new) (rest : IsAtRest old) where
   abbrev was : Parted res s.resources
   was = so_far.left.0
 
@@ -155,7 +155,8 @@ module _ (touched : List ℕ) (res : ℕ) (later : List ℕ) (old s new : Record
     processes = swept.processes ∙ so_far.processes;
     rest = record {
       keyed = keyed;
-      rising = all_rise_still old new (none_joined old new sound none_join) (swept.processes ∙ so_far.processes) rest.rising;
+      rising = all_rise_still old new (none_joined old new rest.sound none_join) (swept.processes ∙ so_far.processes) rest.rising;
+      sound = sound_new;
     };
   }
 

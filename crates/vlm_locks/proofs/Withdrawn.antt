@@ -102,8 +102,8 @@ module _ (s : Records) (sound : IsSound s) (f : LocatedLock) (located : IsLocate
       rw (each Granted, each Conversion, each Waiting) refl
 
   -- so its resource changes as it goes, and nothing else
-  pub removed : IsAtRest s → IsChange f.res (resource_without f.row.lkid) s (without_stored_lock f.lock s)
-  removed rest = removed_changed s sound f located (resource_without f.row.lkid) rest own_without others_without
+  pub removed : IsSound (without_stored_lock f.lock s) → IsAtRest s → IsChange f.res (resource_without f.row.lkid) s (without_stored_lock f.lock s)
+  removed sound_without rest = removed_changed s sound f located (resource_without f.row.lkid) sound_without rest own_without others_without
 
   -- ---- what it leaves in the value block
 
@@ -174,10 +174,10 @@ module _ (s : Records) (sound : IsSound s) (f : LocatedLock) (located : IsLocate
       ∙ on_resource-put f.res located.resource (λ x. record x { value_block = block }) s.resources (resource_at-at f.res s.resources located.resource located.found)
 
   -- one that may leaves the value block so
-  pub left_block : (w : Withdrawal) (had block : ValueBlock) → w.lkid ≡ f.row.lkid → may_write f.queue f.row ≡ true → IsAtRest s
-      → IfSome (resource_at f.res s.resources) (λ r. had ≡ r.value_block) → block ≡ value_block_after_writer w had
+  pub left_block : (w : Withdrawal) (had block : ValueBlock) → w.lkid ≡ f.row.lkid → may_write f.queue f.row ≡ true
+      → IsSound (record s { resources = on_resource f.res (λ r. record r { value_block = block }) s.resources }) → IsAtRest s → IfSome (resource_at f.res s.resources) (λ r. had ≡ r.value_block) → block ≡ value_block_after_writer w had
       → IsChange f.res (resource_after_writer w) s (record s { resources = on_resource f.res (λ r. record r { value_block = block }) s.resources })
-  left_block w had block named may rest told written =
+  left_block w had block named may sound_left rest told written =
       let r = located.resource in
       let left : StoredResource = record r { value_block = block } in
       let had_is : had ≡ r.value_block = subst (λ o. IfSome o (λ x. had ≡ x.value_block)) located.found told in
@@ -187,7 +187,7 @@ module _ (s : Records) (sound : IsSound s) (f : LocatedLock) (located : IsLocate
       (ap (λ k. is_held_by_writer k (plain_resource r)) named ∙ held_own ∙ may)
       ∙ ap (λ v. record (plain_resource r) { value_block = v }) (sym block_is)
       in
-      changed f.res (resource_after_writer w) r left s (record s { resources = on_resource f.res (λ x. record x { value_block = block }) s.resources }) sound rest
+      changed f.res (resource_after_writer w) r left s (record s { resources = on_resource f.res (λ x. record x { value_block = block }) s.resources }) sound sound_left rest
       (record {
         was = located.found;
         same = refl;
@@ -198,14 +198,16 @@ module _ (s : Records) (sound : IsSound s) (f : LocatedLock) (located : IsLocate
       here (λ x among differs. not_left w named x (not_held x among differs)) refl
 
   -- and the lock stands there still
-  pub stands_left : (block : ValueBlock) → IsLocated f (record s { resources = on_resource f.res (λ r. record r { value_block = block }) s.resources })
-  stands_left block = record {
+  pub stands_left : (block : ValueBlock) → IsSound (record s { resources = on_resource f.res (λ r. record r { value_block = block }) s.resources })
+      → IsLocated f (record s { resources = on_resource f.res (λ r. record r { value_block = block }) s.resources })
+  stands_left block sound_left = record {
     resource = record located.resource { value_block = block };
     found =
         ap (resource_at f.res) (block_put block)
         ∙ resource_at-put f.res (record located.resource { value_block = block }) s.resources located.resource (resource_at-at f.res s.resources located.resource located.found) located.found;
     among = of_queue f.queue located.among;
     owner = located.owner;
+    sound = sound_left;
   }
     where
       of_queue : (queue : Queue) → IsIn (record { at = f.lock; row = f.row }) (queued queue located.resource)
@@ -278,11 +280,11 @@ module _ (s : Records) (sound : IsSound s) (f : LocatedLock) (located : IsLocate
       ∙ ap (λ rows. record (plain_resource left) { waiting = rows }) (gone Waiting (λ e. cc))
 
   -- so its resource changes as its conversion is given up, and nothing else
-  pub cancelled_conversion : f.queue ≡ Conversion → IsAtRest s → (new : Records)
+  pub cancelled_conversion : f.queue ≡ Conversion → IsAtRest s → (new : Records) → IsSound new
       → new ≡ with_lists (moving (Queued f.res Granted) (record { at = f.lock; row = row_after_cancel f.row })) s
       → IsChange f.res (resource_after_cancel f.row.lkid) s new
-  cancelled_conversion converts rest new is =
-      changed f.res (resource_after_cancel f.row.lkid) located.resource (moved_in f (row_after_cancel f.row) Granted located.resource) s new sound rest
+  cancelled_conversion converts rest new sound_new is =
+      changed f.res (resource_after_cancel f.row.lkid) located.resource (moved_in f (row_after_cancel f.row) Granted located.resource) s new sound sound_new rest
       (moved_replaced s sound f located (row_after_cancel f.row) Granted new is)
       (none_joins_by_moving s f located (row_after_cancel f.row) Granted (record { lkid = refl; pid = refl; parent = refl })) (cancelled_own converts)
       (λ x among differs. uncancelled x among (λ e. differs (cc)) (λ e. differs (cc)))

@@ -2,15 +2,16 @@
 use Rattle.std.specs.Prelude.{◌≡◌, ℕ, Some}
 use Rattle.vlm_collections.specs.Lists.{IsIn}
 use Rattle.vlm_words.specs.declared.locks.LockRow.{LockRow}
-use Rattle.vlm_store.specs.Records.{IsProcess, Records, StoredResource, Stores, queued, resource_at}
+use Rattle.vlm_store.specs.Records.{IsProcess, IsSound, Records, StoredResource, Stores, queued, resource_at}
 use Rattle.vlm_locks.specs.declared.located_locks.LocatedLock.{LocatedLock}
 
--- the lock exists with this row, in this queue of this resource, and this process owns it
+-- the lock exists with this row, in this queue of this resource, this process owns it, and the records are sound
 pub record IsLocated (f : LocatedLock) (s : Records) : Type 0 where
   pub resource : StoredResource
   pub found : resource_at f.res s.resources ≡ Some resource
   pub among : IsIn (record { at = f.lock; row = f.row }) (queued f.queue resource)
   pub owner : IsProcess f.owner f.row.pid s
+  pub sound : IsSound s
 
 -- it is the lock of this process with this identification
 pub record IsLocatedLockOf (pid lkid : ℕ) (f : LocatedLock) (s : Records) : Type 0 where

@@ -7,7 +7,7 @@ ghost use Rattle.vlm_model.specs.Convert.{converts_at_once};
 ghost use Rattle.vlm_words.specs.Rows.{fits, granted_row, rows_without};
 ghost use Rattle.vlm_words.specs.Dues.{routines_of, row_due};
 ghost use Rattle.vlm_store.specs.Plain.{plain_processes, plain_resource};
-ghost use Rattle.vlm_store.specs.Records.{DuesStay, IsSameLock, StoredResource, due_of, resource_at, rows_of_locks};
+ghost use Rattle.vlm_store.specs.Records.{DuesStay, IsSameLock, IsSound, StoredResource, due_of, resource_at, rows_of_locks};
 ghost use Rattle.vlm_locks.specs.Converting.{IsConvertedAtOnce, moved_in, processes_converting, HasConverted};
 ghost use Rattle.vlm_locks.specs.Owing.{DueMoves, IsPaid, OwedMoves, OwesMore};
 ghost use Rattle.vlm_locks.specs.Rest.{IsAtRest, IsReplaced, OtherLocksStay};
@@ -19,7 +19,6 @@ use crate::routines::owe_routines;
 use std::alloc::AllocError;
 use vlm_procs::accept;
 use vlm_queue::is_empty;
-use vlm_store::laws::law_records_are_sound;
 use vlm_store::{Place, Store, StoredRow};
 use vlm_words::flags::EnqFlags;
 use vlm_words::locks::Request;
@@ -34,7 +33,6 @@ fn fits_others(store: &Store, located: &LocatedLock, mode: Mode) -> bool
         → result ≡ fits mode (rows_without located.now.row.lkid (rows_of_locks r.granted))
         (rows_of_locks r.converting) }
 {
-    law_records_are_sound(store);
     store.can_hold(located.res, mode, Some(located.lock))
 }
 
@@ -66,8 +64,8 @@ fn convert_now(store: &mut Store, located: &LocatedLock, row: &StoredRow, asked:
     ensures due { DueMoves located.now.row (granted_row row.now) store.old store.new }
     ensures owed { OwedMoves row.now (granted_row row.now) store.old store.new }
     ensures locks { OtherLocksStay located.now.lock store.old store.new }
+    ensures sound { IsSound store.new }
 {
-    law_records_are_sound(store);
     let granted = Place::Queued(located.res, Queue::Granted);
     store.move_lock(located.lock, &row.granted(), granted);
     if asked.flags.has(EnqFlags::VALBLK) {
@@ -92,8 +90,8 @@ fn convert_later(store: &mut Store, located: &LocatedLock, row: StoredRow, asked
     ensures due { DueMoves located.now.row row store.old store.new }
     ensures dues { DuesStay store.old store.new }
     ensures locks { OtherLocksStay located.now.lock store.old store.new }
+    ensures sound { IsSound store.new }
 {
-    law_records_are_sound(store);
     let queued = Place::Queued(located.res, Queue::Conversion);
     store.move_lock(located.lock, &row, queued);
     accept(store, located.owner, asked.block, located.row.lkid());
@@ -111,7 +109,6 @@ fn convert_owed(store: &mut Store, located: &LocatedLock, asked: &Request, at_on
     requires owed { OwesMore located.now.row.pid (routines_of (Some asked.now)) store.old }
     ensures { HasConverted located.now asked.now store.old store.new }
 {
-    law_records_are_sound(store);
     let row = located.row.wanting(asked);
     if at_once {
         convert_now(store, located, &row, asked);

@@ -16,7 +16,6 @@ ghost use Rattle.vlm_store.specs.Records.{DueChanges, DuesStay, IsProcess, SameB
 ghost use Rattle.vlm_locks.specs.Owing.{OwedMoves, blocks_written, completions_queued, suppressed_completions};
 
 use vlm_procs::{accept_granted, end, end_with_return, forgive, queue_ast, status_block_or_new};
-use vlm_store::laws::law_records_are_sound;
 use vlm_store::{ProcAt, Store, StoredRow};
 use vlm_words::asts::{Ast, AstKind};
 use vlm_words::blocks::Block;
@@ -97,7 +96,6 @@ pub(crate) fn complete(
         (λ due. due - completions_queued at_once request.now) store.old store.new }
     ensures only_notices { SameButNotices store.old store.new }
 {
-    law_records_are_sound(store);
     if at_once && request.flags.has(EnqFlags::SYNCSTS) {
         return;
     }
@@ -134,7 +132,6 @@ fn tell_grant(store: &mut Store, at: ProcAt, row: &StoredRow, request: &Request,
     ensures owed { OwedMoves row.now (granted_row row.now) store.old store.new }
     ensures only_notices { SameButNotices store.old store.new }
 {
-    law_records_are_sound(store);
     complete(store, at, row, request, at_once);
     let spared = usize::from(row.is_armed()) + suppressed_completions(request, at_once);
     if spared > 0 {
@@ -186,7 +183,6 @@ pub(crate) fn end_by_grant(
     ensures owed { OwedMoves row.now (granted_row row.now) store.old store.new }
     ensures only_notices { SameButNotices store.old store.new }
 {
-    law_records_are_sound(store);
     let Some(request) = row.want() else {
         forgive(store, at, usize::from(row.is_armed()));
         return;

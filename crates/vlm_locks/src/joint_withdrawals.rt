@@ -13,7 +13,6 @@ use crate::noted_locks::{note_below, note_own};
 use crate::releases::{end_notices, give_up};
 use crate::touched::{Note, Touched};
 use crate::withdrawals::Withdrawal;
-use vlm_store::laws::law_records_are_sound;
 use vlm_store::{ProcAt, Store};
 
 /// Which of the locks of a process are given up together.
@@ -38,7 +37,6 @@ fn note_scope(store: &Store, touched: &mut Touched, owner: ProcAt, pid: u32, sco
     ensures locks { AreOfLocks touched.new.noted store.now }
     ensures room { touched.new.room ≡ touched.old.room }
 {
-    law_records_are_sound(store);
     match scope {
         Scope::All => note_own(store, touched, owner, pid),
         Scope::Below(top) => note_below(store, touched, pid, top),
@@ -54,12 +52,10 @@ fn end_noted(store: &mut Store, notes: &[Note], invalidates: bool)
     requires paid { IsPaid store.old }
     ensures ended { HaveEnded (noted_lkids notes.now) invalidates store.old store.new }
 {
-    law_records_are_sound(store);
     for note in notes {
         let located = located_lock(store, note.lock());
         let withdrawal = Withdrawal::together(located.row.lkid(), invalidates);
         end_notices(store, &located, &withdrawal);
-        law_records_are_sound(store);
     }
 }
 
@@ -78,15 +74,12 @@ fn remove_noted(
         (record { noted = []; room = touched.old.room }) touched.new }
     ensures can_end { CanEndProcesses touched.new store.new }
 {
-    law_records_are_sound(store);
     let mut left = touched.notes().len();
     while left > 0 {
         left -= 1;
         let located = located_lock(store, touched.notes()[left].lock());
-        law_records_are_sound(store);
         let withdrawal = Withdrawal::together(located.row.lkid(), invalidates);
         give_up(store, &located, &withdrawal);
-        law_records_are_sound(store);
         touched.replace(left, Note::of_resource(store, located.res));
     }
 }
@@ -112,9 +105,7 @@ pub fn give_up_together(
         touched.old touched.new }
     ensures can_end { CanEndProcesses touched.new store.new }
 {
-    law_records_are_sound(store);
     note_scope(store, touched, owner, pid, scope);
     end_noted(store, touched.notes(), invalidates);
-    law_records_are_sound(store);
     remove_noted(store, touched, owner, pid, invalidates);
 }

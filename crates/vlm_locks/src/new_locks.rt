@@ -18,7 +18,6 @@ use crate::routines::owe_routines;
 use std::alloc::AllocError;
 use vlm_procs::accept;
 use vlm_queue::is_empty;
-use vlm_store::laws::law_records_are_sound;
 use vlm_store::{LockAt, Place, ProcAt, ResAt, Store, StoredRow};
 use vlm_words::flags::EnqFlags;
 use vlm_words::locks::{LockRow, Request};
@@ -115,7 +114,6 @@ fn enter_at(store: &mut Store, new_lock: &NewLock, row: &StoredRow, res: ResAt)
     ensures due { IsDueMore (granted_if_at_once new_lock.now.at_once (new_row new_lock.now))
         store.old store.new }
 {
-    law_records_are_sound(store);
     let queue = Place::Queued(res, entered_queue(new_lock));
     store.add_lock_reserved(
         &granted_if_at_once(new_lock, row),

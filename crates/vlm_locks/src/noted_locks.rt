@@ -10,7 +10,6 @@ ghost use Rattle.vlm_locks.specs.RunningDown.{SublocksAreOwn};
 ghost use Rattle.vlm_locks.specs.Touched.{touched_handles};
 
 use crate::touched::{Note, Touched};
-use vlm_store::laws::law_records_are_sound;
 use vlm_store::{LockAt, ProcAt, Store};
 
 // Notes all locks of a process, by rising identification. There is room for each.
@@ -23,7 +22,6 @@ pub(crate) fn note_own(store: &Store, touched: &mut Touched, owner: ProcAt, pid:
     ensures locks { AreOfLocks touched.new.noted store.now }
     ensures room { touched.new.room ≡ touched.old.room }
 {
-    law_records_are_sound(store);
     let mut next = store.first_own(owner);
     while let Some(lock) = next {
         touched.note(Note::of_lock(store, lock));
@@ -43,7 +41,6 @@ fn note_sublocks(store: &Store, touched: &mut Touched, lock: LockAt)
     ensures locks { AreOfLocks touched.new.noted store.now }
     ensures room { touched.new.room ≡ touched.old.room }
 {
-    law_records_are_sound(store);
     let mut next = store.first_sublock(lock);
     while let Some(sublock) = next {
         touched.note(Note::of_lock(store, sublock));
@@ -64,7 +61,6 @@ pub(crate) fn note_below(store: &Store, touched: &mut Touched, pid: u32, top: u3
     ensures locks { AreOfLocks touched.new.noted store.now }
     ensures room { touched.new.room ≡ touched.old.room }
 {
-    law_records_are_sound(store);
     let Some(lock) = store.lock(top) else {
         return;
     };

@@ -9,7 +9,6 @@ use crate::located_locks::located_lock;
 use crate::releases::withdraw;
 use crate::touched::{Note, Touched};
 use crate::withdrawals::Withdrawal;
-use vlm_store::laws::law_records_are_sound;
 use vlm_store::{ProcAt, Store};
 
 // Withdraws all locks of a process that ends. Their requests end without a status or an AST. The value block of a
@@ -20,12 +19,9 @@ fn run_down(store: &mut Store, touched: &mut Touched, owner: ProcAt, pid: u32)
     requires can_end { CanEndProcesses touched.old store.old }
     ensures { HasRunDown owner pid store.old store.new touched.old touched.new }
 {
-    law_records_are_sound(store);
     while let Some(lock) = store.last_own(owner) {
         let located = located_lock(store, lock);
-        law_records_are_sound(store);
         withdraw(store, &located, &Withdrawal::rundown(located.row.lkid()));
-        law_records_are_sound(store);
         touched.note(Note::of_resource(store, located.res));
     }
 }
@@ -40,7 +36,6 @@ pub fn end_process(store: &mut Store, touched: &mut Touched, owner: ProcAt, pid:
     ensures can_end { CanEndProcesses touched.new store.new }
 {
     run_down(store, touched, owner, pid);
-    law_records_are_sound(store);
     store.remove_process(owner);
 }
 
@@ -59,5 +54,4 @@ pub fn end_processes_of(store: &mut Store, touched: &mut Touched, node: u8)
         };
         end_process(store, touched, owner, pid);
     }
-    law_records_are_sound(store);
 }

@@ -19,7 +19,6 @@ use crate::endings::complete;
 use crate::located_locks::LocatedLock;
 use crate::withdrawals::{EndReason, Withdrawal};
 use vlm_procs::{end, forgive};
-use vlm_store::laws::law_records_are_sound;
 use vlm_store::{Place, Store};
 use vlm_words::conditions::Cond;
 use vlm_words::locks::Request;
@@ -38,7 +37,6 @@ fn end_with_status(store: &mut Store, located: &LocatedLock, request: &Request, 
         store.old store.new }
     ensures only_notices { SameButNotices store.old store.new }
 {
-    law_records_are_sound(store);
     end(store, located.owner, request.block, status);
     complete(store, located.owner, &located.row, request, false);
     forgive(
@@ -57,7 +55,6 @@ fn end_silently(store: &mut Store, located: &LocatedLock)
         store.old store.new }
     ensures only_notices { SameButNotices store.old store.new }
 {
-    law_records_are_sound(store);
     forgive(store, located.owner, located.row.wanted_routines());
 }
 
@@ -71,7 +68,6 @@ fn end_request(store: &mut Store, located: &LocatedLock, ended: EndReason)
         store.old store.new }
     ensures only_notices { SameButNotices store.old store.new }
 {
-    law_records_are_sound(store);
     let Some(request) = located.row.want() else {
         return;
     };
@@ -95,7 +91,6 @@ fn end_withdrawn(store: &mut Store, located: &LocatedLock, withdrawal: &Withdraw
         store.old store.new }
     ensures only_notices { SameButNotices store.old store.new }
 {
-    law_records_are_sound(store);
     match located.queue {
         Queue::Granted => {}
         Queue::Conversion => end_request(store, located, withdrawal.converting),
@@ -112,7 +107,6 @@ fn release_blocking_ast(store: &mut Store, located: &LocatedLock, gone: bool)
         store.old store.new }
     ensures only_notices { SameButNotices store.old store.new }
 {
-    law_records_are_sound(store);
     if !gone {
         return;
     }
@@ -191,7 +185,6 @@ fn leave_value(store: &mut Store, located: &LocatedLock, withdrawal: &Withdrawal
     ensures located { IsLocated located.now store.new }
     ensures weighs { WeighsTheSame store.old store.new }
 {
-    law_records_are_sound(store);
     if !withdrawal.writes() {
         return;
     }
@@ -212,7 +205,6 @@ fn remove(store: &mut Store, located: &LocatedLock)
     ensures loses { LosesOne (record { at = located.now.lock; row = located.now.row })
         store.old store.new }
 {
-    law_records_are_sound(store);
     store.remove_lock(located.lock);
 }
 
@@ -227,7 +219,6 @@ fn restore_granted(store: &mut Store, located: &LocatedLock)
         store.old store.new }
     ensures due { DueMoves located.now.row (row_after_end located.now.row) store.old store.new }
 {
-    law_records_are_sound(store);
     let granted = Place::Queued(located.res, Queue::Granted);
     store.move_lock(located.lock, &located.row.without_want(), granted);
 }
@@ -244,7 +235,6 @@ fn cancel(store: &mut Store, located: &LocatedLock)
     ensures due { DueMoves located.now.row
         (left_row (goes true located.now.queue) located.now.row) store.old store.new }
 {
-    law_records_are_sound(store);
     match located.queue {
         Queue::Granted => {}
         Queue::Conversion => restore_granted(store, located),
@@ -261,7 +251,6 @@ pub(crate) fn give_up(store: &mut Store, located: &LocatedLock, withdrawal: &Wit
     requires childless { HasNoSublocks located.now.lock store.old }
     ensures { HasGivenUp located.now withdrawal.now store.old store.new }
 {
-    law_records_are_sound(store);
     leave_value(store, located, withdrawal);
     remove(store, located);
 }
@@ -283,7 +272,6 @@ pub fn withdraw(store: &mut Store, located: &LocatedLock, withdrawal: &Withdrawa
     requires paid { IsPaid store.old }
     ensures { HasWithdrawn located.now withdrawal.now store.old store.new }
 {
-    law_records_are_sound(store);
     end_notices(store, located, withdrawal);
     if withdrawal.stays {
         leave_value(store, located, withdrawal);

@@ -8,14 +8,13 @@ ghost use Rattle.vlm_model.specs.Grants.{grant_endings, service};
 ghost use Rattle.vlm_words.specs.Rows.{granted_row};
 ghost use Rattle.vlm_records.specs.declared.handles.Place.{Place};
 ghost use Rattle.vlm_store.specs.Plain.{plain_processes, plain_resource};
-ghost use Rattle.vlm_store.specs.Records.{HasResource, IsStored, SameButNotices, StoredLock, Stores, due_of, moving, resource_at, with_lists};
+ghost use Rattle.vlm_store.specs.Records.{HasResource, IsSound, IsStored, SameButNotices, StoredLock, Stores, due_of, moving, resource_at, with_lists};
 ghost use Rattle.vlm_locks.specs.Owing.{IsPaid, OwedMoves};
 ghost use Rattle.vlm_locks.specs.Serving.{HasGranted, IsServed, IsServiceOf, nothing_queued, service_from, wanted_fits_beside};
 
 use crate::endings::end_by_grant;
 use crate::warnings::warn;
 use vlm_queue::{head, is_empty};
-use vlm_store::laws::law_records_are_sound;
 use vlm_store::{LockAt, Place, ResAt, Store, StoredRow};
 use vlm_words::locks::Request;
 use vlm_words::resources::{Queue, ValueBlock};
@@ -58,11 +57,11 @@ fn serve_queue(value_block: &mut ValueBlock, store: &mut Store, res: ResAt, queu
     requires there { HasResource res store.old }
     requires queued { Queue.Granted ≢ queue }
     requires paid { IsPaid store.old }
+    requires sound { IsSound store.old }
     ensures served { IsServiceOf (service_from queue) res
         value_block.old store.old value_block.new store.new }
     ensures paid { IsPaid store.new }
 {
-    law_records_are_sound(store);
     while let Some(lock) = head(store, res, queue) {
         let row = store.lock_record(lock).row;
         if !wanted_fits(store, res, lock, row.want()) {
@@ -76,6 +75,7 @@ fn serve_queue(value_block: &mut ValueBlock, store: &mut Store, res: ResAt, queu
 fn serve_queues(value_block: &mut ValueBlock, store: &mut Store, res: ResAt)
     requires there { HasResource res store.old }
     requires paid { IsPaid store.old }
+    requires sound { IsSound store.old }
     ensures served { IsServiceOf service res value_block.old store.old value_block.new store.new }
     ensures paid { IsPaid store.new }
 {
@@ -89,8 +89,9 @@ fn serve_queues(value_block: &mut ValueBlock, store: &mut Store, res: ResAt)
 // Whether no request is queued on the resource.
 fn nothing_queued(store: &Store, res: ResAt) -> bool
     requires { HasResource res store.now }
-    ensures { IfSome (resource_at res store.now.resources) (λ r. result
+    ensures nothing { IfSome (resource_at res store.now.resources) (λ r. result
         ≡ nothing_queued (plain_resource r)) }
+    ensures sound { IsSound store.now }
 {
     is_empty(store, res, Queue::Conversion) && is_empty(store, res, Queue::Waiting)
 }
@@ -107,7 +108,6 @@ fn grant_queued(store: &mut Store, res: ResAt)
 {
     let mut value_block = store.resource_record(res).value_block;
     serve_queues(&mut value_block, store, res);
-    law_records_are_sound(store);
     store.set_value_block(res, value_block);
 }
 
@@ -121,8 +121,8 @@ pub(crate) fn serve(store: &mut Store, res: ResAt)
     ensures served { IsServed res store.old store.new }
     ensures there { HasResource res store.new }
     ensures paid { IsPaid store.new }
+    ensures sound { IsSound store.old }
 {
-    law_records_are_sound(store);
     if nothing_queued(store, res) {
         return;
     }

@@ -3,7 +3,7 @@
 ghost use Rattle.std.specs.Prelude.{◌≡◌, [], ◌∷◌};
 ghost use Rattle.vlm_model.specs.Sweeps.{processes_after_service, resources_after_sweep};
 ghost use Rattle.vlm_store.specs.Plain.{plain_processes, plain_resources};
-ghost use Rattle.vlm_store.specs.Records.{HasResource};
+ghost use Rattle.vlm_store.specs.Records.{HasResource, IsSound};
 ghost use Rattle.vlm_locks.specs.Owing.{IsPaid};
 ghost use Rattle.vlm_locks.specs.Rest.{IsAtRest};
 ghost use Rattle.vlm_locks.specs.Sweeping.{AreSettledBut, IsSwept, Parted, StandInOrder, HasSwept};
@@ -13,7 +13,6 @@ use crate::services::serve;
 use crate::touched::Note;
 use vlm_model::laws::law_a_sweep_touches_only_what_is_not_settled;
 use vlm_queue::is_idle;
-use vlm_store::laws::law_records_are_sound;
 use vlm_store::{ResAt, Store};
 
 // Sweeps one resource: grants what can be granted, warns the locks in the way of the rest, and removes the resource if
@@ -24,10 +23,9 @@ fn sweep_one(store: &mut Store, res: ResAt)
     ensures swept { (was : Parted res store.old.resources)
         → IsSwept res store.old store.new was }
     ensures paid { IsPaid store.new }
+    ensures sound { IsSound store.new }
 {
-    law_records_are_sound(store);
     serve(store, res);
-    law_records_are_sound(store);
     if is_idle(store, res) {
         store.remove_resource(res);
     }
@@ -48,7 +46,6 @@ pub fn sweep_resource(store: &mut Store, res: ResAt)
     ensures paid { IsPaid store.new }
 {
     law_a_sweep_touches_only_what_is_not_settled();
-    law_records_are_sound(store);
     sweep_one(store, res);
 }
 
@@ -63,7 +60,6 @@ pub fn sweep(store: &mut Store, touches: &[Note])
     ensures { HasSwept (touched_handles touches.now) store.old store.new }
 {
     law_a_sweep_touches_only_what_is_not_settled();
-    law_records_are_sound(store);
     for touch in touches {
         sweep_one(store, touch.res());
     }

@@ -4,7 +4,7 @@
 ghost use Rattle.std.specs.Prelude.{◌≡◌, ◌<◌, ◌≤◌, List, [], ◌∷◌, ◌++◌, length, vec_capacity, IfSome, OnErr, OnOk};
 ghost use Rattle.vlm_words.specs.declared.locks.LockRow.{LockRow};
 ghost use Rattle.vlm_collections.specs.Lists.{IsIn};
-ghost use Rattle.vlm_store.specs.Records.{HasResource, IsStored, Stores, resource_at};
+ghost use Rattle.vlm_store.specs.Records.{HasResource, IsSound, IsStored, Stores, resource_at};
 ghost use Rattle.vlm_locks.specs.Touched.{IsNoted, RiseByNumber};
 ghost use Rattle.vlm_locks.specs.declared.touched.Note.{Note};
 
@@ -32,6 +32,7 @@ impl Note {
         ensures res { result.at ≡ res }
         ensures serial { IfSome (resource_at res store.now.resources)
             (λ r. result.number ≡ r.serial) }
+        ensures sound { IsSound store.now }
     {
         Note {
             number: store.resource_record(res).serial,

@@ -5,12 +5,11 @@ ghost use Rattle.vlm_words.specs.declared.locks.LockRow.{LockRow};
 ghost use Rattle.vlm_model.specs.Asts.{blocking_asts, is_to_warn, processes_after_asts};
 ghost use Rattle.vlm_words.specs.Dues.{row_due};
 ghost use Rattle.vlm_store.specs.Plain.{plain_processes};
-ghost use Rattle.vlm_store.specs.Records.{HasResource, IsProcess, IsStored, SameButNotices, StoredResource, Stores, due_of, resource_at, rows_of_locks};
+ghost use Rattle.vlm_store.specs.Records.{HasResource, IsProcess, IsSound, IsStored, SameButNotices, StoredResource, Stores, due_of, resource_at, rows_of_locks};
 ghost use Rattle.vlm_locks.specs.Owing.{IsPaid, OwedMoves};
 ghost use Rattle.vlm_locks.specs.Warning.{IsLockWarned, IsWarned, SparesOthers, disarmed_row};
 
 use vlm_procs::{forgive, queue_ast};
-use vlm_store::laws::law_records_are_sound;
 use vlm_store::{Armed, LockAt, ProcAt, ResAt, Store, StoredRow};
 use vlm_words::asts::{Ast, AstKind};
 use vlm_words::modes::Mode;
@@ -38,7 +37,6 @@ fn queue_warning(store: &mut Store, at: ProcAt, row: &StoredRow)
     ensures owed { OwedMoves row.now (disarmed_row row.now) store.old store.new }
     ensures only_notices { SameButNotices store.old store.new }
 {
-    law_records_are_sound(store);
     let Some(held) = row.held() else {
         forgive(store, at, 1);
         return;
@@ -61,9 +59,10 @@ fn warn_lock(store: &mut Store, res: ResAt, lock: LockAt)
     requires there { HasResource res store.old }
     requires stored { IsStored lock store.old }
     requires paid { IsPaid store.old }
-    ensures { (r : StoredResource) (row : LockRow)
+    ensures warned { (r : StoredResource) (row : LockRow)
         → resource_at res store.old.resources ≡ Some r → Stores store.old lock row
         → IsLockWarned r lock row store.old store.new }
+    ensures sound { IsSound store.new }
 {
     let record = store.lock_record(lock);
     let row = record.row;
@@ -85,10 +84,8 @@ fn warn_armed(store: &mut Store, res: ResAt, which: Armed)
         (λ r. IsWarned res r store.old store.new) }
     ensures paid { IsPaid store.new }
 {
-    law_records_are_sound(store);
     let mut at = store.first_armed(res, which);
     while let Some(lock) = at {
-        law_records_are_sound(store);
         at = store.next_armed(res, which, lock);
         warn_lock(store, res, lock);
     }

@@ -9,7 +9,7 @@ use Rattle.vlm_model.proofs.Apart.{Apart}
 use Rattle.vlm_model.proofs.Pairs.{EachPair}
 use Rattle.vlm_collections.specs.Lists.{IsIn}
 use Rattle.vlm_store.specs.Plain.{plain_processes, plain_resource, plain_resources}
-use Rattle.vlm_store.specs.Records.{IsSound, Records, StoredResource}
+use Rattle.vlm_store.specs.Records.{Records, StoredResource}
 use Rattle.vlm_locks.specs.Left.{resource_left}
 use Rattle.vlm_locks.specs.Owing.{IsPaid}
 use Rattle.vlm_locks.specs.Rest.{IsAtRest}
@@ -28,11 +28,11 @@ use Rattle.vlm_machine.proofs.Settling.{settled_one}
 -- ---- before
 
 -- between two steps processes can be ended
-pub can_end : (m : MachineState) (touched : Touches) → IsSound m.records → IsAtRest m.records → IsPaid m.records → IsBetweenSteps (plain_state m) → HasRoomToNote touched m
+pub can_end : (m : MachineState) (touched : Touches) → IsAtRest m.records → IsPaid m.records → IsBetweenSteps (plain_state m) → HasRoomToNote touched m
     → CanEndProcesses touched m.records
-can_end m touched sound rest paid between notes = record {
+can_end m touched rest paid between notes = record {
   rest = rest;
-  together = sublocks_are_own m.records sound between.identifications.none_is_0 between.parents;
+  together = sublocks_are_own m.records rest.sound between.identifications.none_is_0 between.parents;
   granted = granted_want_nothing m.records between.rows_fit;
   paid = paid;
   noted = λ t there. absurd (subst (IsIn t) notes.none there);

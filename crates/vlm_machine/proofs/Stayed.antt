@@ -4,11 +4,12 @@ use Rattle.std.specs.Prelude.{◌==◌}
 use Rattle.std.specs.Option.{option_map_or}
 use Rattle.vlm_words.specs.declared.steps.Declaration.{Declaration}
 use Rattle.vlm_collections.specs.Lists.{IsIn}
-use Rattle.vlm_store.specs.Records.{DuesStay, IsProcess, IsUnchanged, Records, Room, SameButNotices, StoredProcess, new_stored_process, with_process_room}
+use Rattle.vlm_store.specs.Records.{DuesStay, IsProcess, IsSound, IsUnchanged, Records, Room, SameButNotices, StoredProcess, new_stored_process, with_process_room}
 use Rattle.vlm_locks.specs.Owing.{IsPaid}
 use Rattle.vlm_locks.specs.Rest.{IsAtRest}
 use Rattle.vlm_locks.specs.Rising.{HasRisingLocks}
 use Rattle.vlm_locks.proofs.Owing.{due_noticed}
+use Rattle.vlm_locks.proofs.Sound.{sound_alike}
 use Rattle.vlm_locks.proofs.Rising.{all_rise_still, rises_still, were_stored}
 use Rattle.vlm_locks.proofs.Found.{process_there}
 use Rattle.vlm_machine.specs.declared.processes.Caller.{Caller}
@@ -24,14 +25,15 @@ among_more [] made p among = elim among [ inl here ↦ inr here | inr there ↦ 
 among_more (x ∷ ps) made p among =
     elim among [ inl here ↦ inl (inl here) | inr there ↦ elim (among_more ps made p there) [ inl was ↦ inl (inr was) | inr new ↦ inr new ] ]
 
-pub rests_declared : (s t : Records) (room : Room) (at pid : ℕ) (d : Declaration) → t ≡ with_process_room room (record s { processes = s.processes ++ new_stored_process at pid d ∷ [] }) → IsAtRest s → IsAtRest t
-rests_declared s t room at pid d is rest =
+pub rests_declared : (s t : Records) (room : Room) (at pid : ℕ) (d : Declaration) → t ≡ with_process_room room (record s { processes = s.processes ++ new_stored_process at pid d ∷ [] }) → IsSound t → IsAtRest s → IsAtRest t
+rests_declared s t room at pid d is sound rest =
     subst IsAtRest (sym is) (record {
       keyed = rest.keyed;
       rising = λ p among. elim (among_more s.processes (new_stored_process at pid d) p among) [
         | inl was ↦ rises_still s made p p (were_stored s made refl) refl (rest.rising p was)
         | inr new ↦ subst (HasRisingLocks made) new (record { own = tt; sublocks = λ own none. absurd none })
       ];
+      sound = subst IsSound is sound;
     })
   where
     made : Records
@@ -43,6 +45,7 @@ rests_refused s t unchanged rest =
     subst IsAtRest (sym unchanged.same) (record {
       keyed = rest.keyed;
       rising = all_rise_still s (record s { room = t.room }) (were_stored s (record s { room = t.room }) refl) refl rest.rising;
+      sound = sound_alike s (record s { room = t.room }) refl refl rest.sound;
     })
 
 -- ---- what is owed

@@ -17,7 +17,6 @@ use crate::flags::checked_request_flags;
 use crate::records::Machine;
 use std::alloc::AllocError;
 use vlm_locks::{LocatedLock, convert, converts_at_once};
-use vlm_store::laws::law_records_are_sound;
 use vlm_store::{LockAt, StoredRow};
 use vlm_words::conditions::Cond;
 use vlm_words::flags::EnqFlags;
@@ -114,7 +113,6 @@ impl Machine {
         ensures admitted { IfOk result (λ at_once.
             IsAdmittedConversion self.now conversion.now located.now at_once) }
     {
-        law_records_are_sound(&self.store);
         if !located.is_granted() {
             return Err(Cond::Cvtungrant);
         }

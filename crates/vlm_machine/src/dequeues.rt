@@ -22,7 +22,6 @@ use crate::flags::deq_flags;
 use crate::processes::Caller;
 use crate::records::Machine;
 use vlm_locks::{EndReason, LocatedLock, Scope, Touched, Withdrawal, give_up_together, withdraw};
-use vlm_store::laws::law_records_are_sound;
 use vlm_words::conditions::Cond;
 use vlm_words::flags::DeqFlags;
 use vlm_words::steps::{Answer, Dequeue, Step};
@@ -170,7 +169,6 @@ impl Machine {
         requires admitted { IsAdmittedDequeue self.now dequeue.now located.now }
         ensures { result_err result ≡ cancel_refusal (plain_state self.now) dequeue.now }
     {
-        law_records_are_sound(&self.store);
         if cancels && located.is_granted() {
             Err(Cond::Cancelgrant)
         } else {
@@ -188,7 +186,6 @@ impl Machine {
         ensures childless { OnOk result (goes cancels located.now.queue ≡ true
             → HasNoSublocks located.now.lock self.now.records) }
     {
-        law_records_are_sound(&self.store);
         if !cancels && self.store.has_sublocks(located.lock) {
             Err(Cond::Sublocks)
         } else {
@@ -229,7 +226,6 @@ impl Machine {
         ensures to_sweep { IsToSweep touched.new self.new }
         ensures room { touched.new.room ≡ touched.old.room }
     {
-        law_records_are_sound(&self.store);
         let invalidates = checked.flags.has(DeqFlags::INVVALBLK);
         let Caller { at, pid } = checked.caller;
         give_up_together(&mut self.store, touched, at, pid, choice, invalidates);

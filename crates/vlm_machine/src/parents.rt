@@ -22,7 +22,6 @@ use crate::processes::Caller;
 use crate::records::Machine;
 use vlm_locks::LocatedLock;
 use vlm_procs::{group_of, has_syslck};
-use vlm_store::laws::law_records_are_sound;
 use vlm_store::{LockAt, ResAt};
 use vlm_words::conditions::Cond;
 use vlm_words::flags::EnqFlags;
@@ -78,7 +77,6 @@ impl Machine {
         ensures parent { IfOk result
             (λ parent. IsParent caller.now.pid lkid parent self.now.records) }
     {
-        law_records_are_sound(&self.store);
         if lkid == 0 {
             return Ok(None);
         }
@@ -100,7 +98,6 @@ impl Machine {
             (waiting_refusal parent.now.row.pid parent.now.row.lkid (Some (plain_resource r)))
             (depth_refusal (Some (plain_resource r))) }
     {
-        law_records_are_sound(&self.store);
         match parent.queue {
             Queue::Waiting => Err(Cond::Parnotgrant),
             Queue::Granted | Queue::Conversion => self.check_depth(parent.res),

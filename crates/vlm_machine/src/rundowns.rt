@@ -13,7 +13,6 @@ use crate::nodes::depart;
 use crate::processes::Caller;
 use crate::records::Machine;
 use vlm_locks::{Touched, end_process, end_processes_of};
-use vlm_store::laws::law_records_are_sound;
 use vlm_words::conditions::Cond;
 use vlm_words::steps::{Answer, Step};
 
@@ -47,7 +46,6 @@ impl Machine {
         ensures to_sweep { IsToSweep touched.new self.new }
         ensures room { touched.new.room ≡ touched.old.room }
     {
-        law_records_are_sound(&self.store);
         end_process(&mut self.store, touched, caller.at, caller.pid);
     }
 
@@ -81,7 +79,6 @@ impl Machine {
         ensures to_sweep { IsToSweep touched.new self.new }
         ensures room { touched.new.room ≡ touched.old.room }
     {
-        law_records_are_sound(&self.store);
         end_processes_of(&mut self.store, touched, node);
         depart(&mut self.nodes, node);
     }

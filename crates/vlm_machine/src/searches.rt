@@ -14,7 +14,6 @@ ghost use Rattle.vlm_machine.specs.Notes.{HasRoomToMark};
 use crate::records::Machine;
 use vlm_cycle::{Scratch, victim};
 use vlm_locks::{LocatedLock, Withdrawal, withdraw};
-use vlm_store::laws::law_records_are_sound;
 use vlm_words::steps::{Answer, Step};
 
 impl Machine {
@@ -52,7 +51,6 @@ impl Machine {
         ensures others { OthersStay located.now.res self.old.records self.new.records }
         ensures there { HasResource located.now.res self.new.records }
     {
-        law_records_are_sound(&self.store);
         let withdrawal = Withdrawal::victim(located.row.lkid());
         withdraw(&mut self.store, located, &withdrawal);
     }

@@ -13,9 +13,9 @@ use Rattle.vlm_model.specs.StatusBlocks.{process_after_write, processes_after_wr
 use Rattle.vlm_collections.specs.Lists.{IsIn}
 use Rattle.vlm_records.specs.StatusBlocks.{block_or_new as stored_block, with_changed_block}
 use Rattle.vlm_store.specs.Plain.{plain_processes}
-use Rattle.vlm_store.specs.Records.{DueChanges, HasProcess, IsProcess, IsSound, Records, SameButNotices, StoredProcess, but_notices, changed_process, due_of, on_process, on_stored, process_at, with_owed_ast}
+use Rattle.vlm_store.specs.Records.{DueChanges, IsProcess, IsSound, Records, SameButNotices, StoredProcess, but_notices, changed_process, on_process, on_stored, process_at, with_owed_ast}
 use Rattle.vlm_store.proofs.Plain.{plain-on_stored, process_at-stored, process_of-stored, shown-on_stored}
-use Rattle.vlm_store.proofs.Dues.{due-on_stored, due_is}
+use Rattle.vlm_store.proofs.Dues.{due-on_stored}
 
 -- the status blocks of the process at the handle
 pub blocks_are : (s : Records) (at pid : ℕ) (blocks : List Block) → IsSound s → IsProcess at pid s → IfSome (process_at at s.processes) (λ p. blocks ≡ p.process.blocks)
@@ -106,12 +106,6 @@ changed_block s at pid n change sound is =
         subst (λ y. changed_process (with_changed_block n change) y ≡ changed_process (process_with_block n changed) y) (sym it) refl
 
 -- ---- what a process is owed
-
--- what is known of the number by identification is known of the process at the handle
-pub owed_here : (P : ℕ → Type 0) (s : Records) (at : ℕ) → IsSound s → HasProcess at s → ((pid : ℕ) → IsProcess at pid s → P (due_of pid s)) → IfSome (process_at at s.processes) (λ p. P p.due)
-owed_here P s at sound has known =
-    let found = due_is at s sound.processes_apart has in
-    rw found.1.0 (subst P found.1.2 (known found.0.process.pid (found.0, (found.1.1.0, found.1.1.1, refl))))
 
 -- a change of what the process at the handle is owed
 pub owed_changes : (change : StoredProcess → StoredProcess) (due : ℕ → ℕ) → ((x : StoredProcess) → (change x).process.pid ≡ x.process.pid) → ((x : StoredProcess) → (change x).due ≡ due x.due)

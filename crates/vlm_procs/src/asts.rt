@@ -4,10 +4,9 @@ ghost use Rattle.std.specs.Prelude.{◌≡◌, ◌<◌, ◌≤◌, ◌+◌, ◌-
 ghost use Rattle.vlm_model.specs.Asts.{asts_of, processes_after_queueing, processes_after_take};
 ghost use Rattle.vlm_words.specs.Processes.{oldest};
 ghost use Rattle.vlm_store.specs.Plain.{plain_processes};
-ghost use Rattle.vlm_store.specs.Records.{DueChanges, DuesStay, HasProcess, IsProcess, SameButNotices, due_of};
+ghost use Rattle.vlm_store.specs.Records.{DueChanges, DuesStay, HasProcess, IsOwed, IsProcess, SameButNotices};
 
 use std::alloc::AllocError;
-use vlm_store::laws::law_records_are_sound;
 use vlm_store::{ProcAt, Store};
 use vlm_words::asts::Ast;
 
@@ -30,7 +29,6 @@ pub fn take(store: &mut Store, at: ProcAt) -> Option<Ast>
     ensures dues { DuesStay store.old store.new }
     ensures only_notices { SameButNotices store.old store.new }
 {
-    law_records_are_sound(store);
     store.take_ast(at)
 }
 
@@ -46,33 +44,30 @@ pub fn owe(store: &mut Store, at: ProcAt, count: usize) -> Result<(), AllocError
     ensures succeeds { count ≡ 0 → IsOk result }
     ensures refused { OnErr result (store.new ≡ store.old) }
 {
-    law_records_are_sound(store);
     store.owe(at, count)
 }
 
 /// Queues a due AST of a process, at the end. It takes no memory.
 pub fn queue_ast(store: &mut Store, at: ProcAt, ast: Ast)
     requires there { HasProcess at store.old }
-    requires owed { (pid : ℕ) → IsProcess at pid store.old → 0 < due_of pid store.old }
+    requires owed { IsOwed at 1 store.old }
     ensures queued { (pid : ℕ) → IsProcess at pid store.old → plain_processes store.new
         ≡ processes_after_queueing pid ast (plain_processes store.old) }
     ensures owed { (pid : ℕ) → IsProcess at pid store.old
         → DueChanges pid (λ due. due - 1) store.old store.new }
     ensures only_notices { SameButNotices store.old store.new }
 {
-    law_records_are_sound(store);
     store.queue_ast(at, ast);
 }
 
 /// Gives back the room of this many due ASTs, which will not come.
 pub fn forgive(store: &mut Store, at: ProcAt, count: usize)
     requires there { HasProcess at store.old }
-    requires owed { (pid : ℕ) → IsProcess at pid store.old → count ≤ due_of pid store.old }
+    requires owed { IsOwed at count store.old }
     ensures processes { plain_processes store.new ≡ plain_processes store.old }
     ensures owed { (pid : ℕ) → IsProcess at pid store.old
         → DueChanges pid (λ due. due - count) store.old store.new }
     ensures only_notices { SameButNotices store.old store.new }
 {
-    law_records_are_sound(store);
     store.forgive(at, count);
 }

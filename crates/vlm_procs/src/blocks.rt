@@ -6,7 +6,6 @@ ghost use Rattle.vlm_model.specs.StatusBlocks.{processes_after_acceptance, proce
 ghost use Rattle.vlm_store.specs.Plain.{plain_processes};
 ghost use Rattle.vlm_store.specs.Records.{DuesStay, HasProcess, IsProcess, SameButNotices};
 
-use vlm_store::laws::law_records_are_sound;
 use vlm_store::{ProcAt, Store};
 use vlm_words::blocks::Block;
 use vlm_words::conditions::Cond;
@@ -28,7 +27,6 @@ fn write(store: &mut Store, at: ProcAt, number: u8, block: Block)
     ensures dues { DuesStay store.old store.new }
     ensures only_notices { SameButNotices store.old store.new }
 {
-    law_records_are_sound(store);
     store.set_status_block(at, number, block);
 }
 
@@ -75,7 +73,6 @@ pub fn accept(store: &mut Store, at: ProcAt, number: u8, lkid: u32)
     ensures dues { DuesStay store.old store.new }
     ensures only_notices { SameButNotices store.old store.new }
 {
-    law_records_are_sound(store);
     store.set_request(at, number, 0, lkid);
 }
 
@@ -90,7 +87,6 @@ pub fn accept_granted(store: &mut Store, at: ProcAt, number: u8, lkid: u32)
     ensures dues { DuesStay store.old store.new }
     ensures only_notices { SameButNotices store.old store.new }
 {
-    law_records_are_sound(store);
     store.set_request(at, number, Cond::Normal.number(), lkid);
 }
 
@@ -121,7 +117,6 @@ pub fn end(store: &mut Store, at: ProcAt, number: u8, cond: Cond)
     ensures dues { DuesStay store.old store.new }
     ensures only_notices { SameButNotices store.old store.new }
 {
-    law_records_are_sound(store);
     store.set_status(at, number, cond.number());
 }
 

@@ -48,8 +48,9 @@ pub fn can_hold(store: &Store, res: ResAt, mode: Mode, except: Option<LockAt>) -
 /// Whether the queue has no lock.
 pub fn is_empty(store: &Store, res: ResAt, queue: Queue) -> bool
     requires { HasResource res store.now }
-    ensures { IfSome (resource_at res store.now.resources)
+    ensures empty { IfSome (resource_at res store.now.resources)
         (λ r. result ≡ is_empty (rows_of_locks (queued queue r))) }
+    ensures sound { IsSound store.now }
 {
     head(store, res, queue).is_none()
 }
@@ -59,6 +60,7 @@ pub fn is_idle(store: &Store, res: ResAt) -> bool
     requires { HasResource res store.now }
     ensures idle { OnTrue result (IsIdle res store.now) }
     ensures busy { OnFalse result (¬ IsIdle res store.now) }
+    ensures sound { IsSound store.now }
 {
     is_empty(store, res, Queue::Granted)
         && is_empty(store, res, Queue::Conversion)

@@ -10,7 +10,6 @@ ghost use Rattle.vlm_queue.specs.Walks.{lock_at_index, resource_at_index, plain_
 
 use crate::queues::{head, next};
 use crate::views::{ResourceView, RowView, resource_view, row_view};
-use vlm_store::laws::law_records_are_sound;
 use vlm_store::{LockAt, ResAt, Store};
 use vlm_words::resources::Queue;
 
@@ -29,7 +28,6 @@ pub fn next_resource(store: &Store, res: ResAt) -> Option<ResAt>
     ensures left { IfSome (plain_resource_at res store.now) (λ r.
         resources_left (Some res) store.now ≡ r ∷ resources_left result store.now) }
 {
-    law_records_are_sound(store);
     store.next_resource(res)
 }
 

@@ -1,11 +1,11 @@
 -- A script for several nodes: the steps of each node's list, and which fault is the first.
-use Rattle.std.specs.Prelude.{◌≡◌, ℕ, ◌+◌, ◌-◌, ◌*◌, ◌<◌, Bool, true, false, ◌&&◌, nat_le, nat_lt, List, [], ◌∷◌, ◌++◌, length, replicate, slice_index, slice_index_or, slice_set, Option, None, Some, Result, Ok, Err, if◌then◌else◌}
+use Rattle.std.specs.Prelude.{◌≡◌, ℕ, ◌+◌, ◌-◌, ◌*◌, ◌<◌, Bool, true, false, ◌&&◌, nat_le, nat_lt, List, [], ◌∷◌, ◌++◌, length, replicate, slice_index, slice_index_or, slice_set, Option, None, Some, Result, Ok, Err, IsOkAnd, if◌then◌else◌}
 use Rattle.std.specs.List.{All}
 use Rattle.vlm_lines.specs.declared.lines.Line.TheVariants.{Empty, Declare, Set, Enq, Cvt, Deq, End, Leave, Search, Ast, Block, Tail, Show, Tails}
 use Rattle.vlm_lines.specs.declared.lines.Line.{Line}
 use Rattle.vlm_lines.specs.declared.faults.LineFault.TheVariants.{UnknownCommand, NumberOutOfRange}
 use Rattle.vlm_lines.specs.declared.faults.LineFault.{LineFault}
-use Rattle.vlm_lines.specs.Lines.{line_read, unnamed_process}
+use Rattle.vlm_lines.specs.Lines.{line_read, lines_of, unnamed_process}
 use Rattle.vlm_words.specs.declared.steps.Declaration.{Declaration}
 use Rattle.vlm_words.specs.declared.steps.Step.TheVariants.{Declare as declare_step, SetValue as set_step, Enq as enq_step, Convert as convert_step, Deq as deq_step, Rundown, Leave as leave_step, Search as search_step, Take}
 use Rattle.vlm_words.specs.declared.steps.Step.{Step}
@@ -158,3 +158,11 @@ StopsShares input shared Memory = Unit {0}
 StopsShares input shared Read = Unit {0}
 StopsShares input shared Write = ⊥
 StopsShares input shared Long = 16777216 < length input
+
+-- these are the lists of a script for this many nodes
+abbrev pub AreListsOf : ℕ → List ℕ → List (List Step) → Type 0
+AreListsOf nodes input lists = IsOkAnd (shared_out nodes (no_shares nodes) 0 (lines_of input)) (λ s. s.lists ≡ lists)
+
+-- why a script for this many nodes gives no lists
+abbrev pub StopsListsOf : ℕ → List ℕ → PlayFault → Type 0
+StopsListsOf nodes input = StopsShares input (shared_out nodes (no_shares nodes) 0 (lines_of input))

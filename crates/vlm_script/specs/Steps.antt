@@ -1,15 +1,16 @@
 -- A script for several nodes: its steps in the script's order, each with its line's number.
-use Rattle.std.specs.Prelude.{ℕ, ◌+◌, List, [], ◌∷◌, ◌++◌, Option, None, Some, Result, Ok, Err}
+use Rattle.std.specs.Prelude.{◌≡◌, ℕ, ◌+◌, List, [], ◌∷◌, ◌++◌, Option, None, Some, Result, Ok, Err}
 use Rattle.vlm_lines.specs.declared.lines.Line.TheVariants.{Empty, Declare, Set, Enq, Cvt, Deq, End, Leave, Search, Ast, Block, Tail, Show, Tails}
 use Rattle.vlm_lines.specs.declared.lines.Line.{Line}
 use Rattle.vlm_lines.specs.declared.faults.LineFault.{LineFault}
-use Rattle.vlm_lines.specs.Lines.{line_read, unnamed_process}
+use Rattle.vlm_lines.specs.Lines.{line_read, lines_of, unnamed_process}
 use Rattle.vlm_words.specs.declared.steps.Step.TheVariants.{Declare as declare_step, SetValue as set_step, Enq as enq_step, Convert as convert_step, Deq as deq_step, Rundown, Leave as leave_step, Search as search_step}
 use Rattle.vlm_words.specs.declared.steps.Step.{Step}
 use Rattle.vlm_words.specs.Steps.{node_of}
 use Rattle.vlm_script.specs.Scripts.{bound_to, of_process}
-use Rattle.vlm_script.specs.Shares.{IsListed, Shares, line_shared, then_shares}
+use Rattle.vlm_script.specs.Shares.{IsListed, Shares, StopsShares, line_shared, no_shares, then_shares}
 use Rattle.vlm_script.specs.Sharing.{IsOneOfNodes}
+use Rattle.vlm_script.specs.declared.faults.PlayFault.{PlayFault}
 use Rattle.vlm_script.specs.declared.steps.ScriptStep.{ScriptStep}
 
 -- the step, made by the process of the name
@@ -60,3 +61,11 @@ steps_out nodes s count (bytes ∷ lines) =
 pub record IsPostable (nodes : ℕ) (step : Step) : Type 0 where
   pub listed : IsListed (node_of step) step
   pub of_nodes : IsOneOfNodes nodes (node_of step)
+
+-- these are the steps of a script for this many nodes
+abbrev pub AreStepsOf : ℕ → List ℕ → List ScriptStep → Type 0
+AreStepsOf nodes input steps = steps_out nodes (no_shares nodes) 0 (lines_of input) ≡ Ok steps
+
+-- why a script for this many nodes gives no steps
+abbrev pub StopsStepsOf : ℕ → List ℕ → PlayFault → Type 0
+StopsStepsOf nodes input = StopsShares input (steps_out nodes (no_shares nodes) 0 (lines_of input))

@@ -3,7 +3,7 @@
 ghost use Rattle.std.specs.Prelude.{◌≡◌, ◌<◌, ◌≤◌, length, map, IfErr, IfOk, IfSome, IsOkAnd, MatchResult, Ok};
 ghost use Rattle.vlm_lines.specs.Lines.{lines_of};
 ghost use Rattle.vlm_script.specs.Plays.{ConsumesAtMost};
-ghost use Rattle.vlm_script.specs.Shares.{AreListed, StopsShares, no_shares, shared_out};
+ghost use Rattle.vlm_script.specs.Shares.{AreListed, AreListsOf, StopsListsOf, no_shares, shared_out};
 ghost use Rattle.vlm_script.specs.Sharing.{StopsShareLines};
 
 use crate::cuts::next_line;
@@ -42,11 +42,9 @@ pub fn read_lists<R: Read>(
     requires { (0 < nodes) × (nodes ≤ 8) }
 
     // If the bytes of the reader are known, so is the result.
-    ensures shared { IfSome (R.remaining reader.old) (λ input.
-        let shared = shared_out nodes (no_shares nodes) 0 (lines_of input) in
-        MatchResult result
-        (λ lists. IsOkAnd shared (λ s. s.lists ≡ map (λ l. l.items) lists.items))
-        (λ fault. StopsShares input shared fault)) }
+    ensures shared { IfSome (R.remaining reader.old) (λ input. MatchResult result
+        (λ lists. AreListsOf nodes input (map (λ l. l.items) lists.items))
+        (λ fault. StopsListsOf nodes input fault)) }
 
     // Whatever the reader gives:
     ensures count { IfOk result (λ lists. length lists.items ≡ nodes) }

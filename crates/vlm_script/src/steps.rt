@@ -4,9 +4,9 @@ ghost use Rattle.std.specs.Prelude.{◌≡◌, ◌<◌, ◌≤◌, ◌++◌, len
 ghost use Rattle.std.specs.List.{All};
 ghost use Rattle.vlm_lines.specs.Lines.{line_read, lines_of};
 ghost use Rattle.vlm_script.specs.Plays.{ConsumesAtMost};
-ghost use Rattle.vlm_script.specs.Shares.{StopsShares, line_shared, no_shares};
+ghost use Rattle.vlm_script.specs.Shares.{line_shared, no_shares};
 ghost use Rattle.vlm_script.specs.Sharing.{StopsShareBytes, StopsShareLines};
-ghost use Rattle.vlm_script.specs.Steps.{IsPostable, numbered, read_step, steps_out};
+ghost use Rattle.vlm_script.specs.Steps.{AreStepsOf, IsPostable, StopsStepsOf, numbered, read_step, steps_out};
 
 use crate::cuts::next_line;
 use crate::faults::PlayFault;
@@ -44,11 +44,9 @@ pub fn read_steps<R: Read>(
     requires { (0 < nodes) × (nodes ≤ 8) }
 
     // If the bytes of the reader are known, so is the result.
-    ensures steps { IfSome (R.remaining reader.old) (λ input.
-        let steps = steps_out nodes (no_shares nodes) 0 (lines_of input) in
-        MatchResult result
-        (λ got. steps ≡ Ok got.items)
-        (λ fault. StopsShares input steps fault)) }
+    ensures steps { IfSome (R.remaining reader.old) (λ input. MatchResult result
+        (λ got. AreStepsOf nodes input got.items)
+        (λ fault. StopsStepsOf nodes input fault)) }
 
     // Whatever the reader gives:
     ensures postable { IfOk result (λ got. All (λ s. IsPostable nodes s.step) got.items) }

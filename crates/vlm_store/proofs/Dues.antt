@@ -1,10 +1,11 @@
 -- What the processes are owed, by handle and by identification.
-use Rattle.std.proofs.Common.{◌≡◌, ℕ, List, [], ◌∷◌, Some, IsSome, find, refl, sym, ap, ◌∙◌, inl, inr, eq-eqb, ne_eqb}
-use Rattle.std.specs.Prelude.{◌==◌}
+use Rattle.std.proofs.Common.{◌≡◌, ◌≤◌, ℕ, List, [], ◌∷◌, Some, IsSome, find, refl, sym, subst, ap, ◌∙◌, inl, inr, eq-eqb, ne_eqb}
+use Rattle.std.specs.Prelude.{◌==◌, IfSome}
 use Rattle.std.specs.Option.{option_map_or}
 use Rattle.std.proofs.lemmas.Bool.{cases_eq}
 use Rattle.vlm_collections.specs.Lists.{IsIn}
-use Rattle.vlm_store.specs.Records.{AreProcessesApart, DueChanges, DuesStay, HasProcess, Records, StoredProcess, due_of, on_stored, process_at}
+use Rattle.vlm_store.proofs.Plain.{process_at-stored}
+use Rattle.vlm_store.specs.Records.{AreProcessesApart, DueChanges, DuesStay, HasProcess, IsOwed, IsSound, Records, StoredProcess, due_of, on_stored, process_at}
 
 -- how many ASTs the process with this identification is owed, among these
 abbrev due_among : ℕ → List StoredProcess → ℕ
@@ -99,3 +100,11 @@ due_is at s apart has =
           | inl here ↦ (x, (rw (eq-eqb x.at at here) refl, (inl refl, here)))
           | inr differs ↦ (let later = stored ps (rw (ne_eqb x.at at differs) at has) in (later.0, (rw (ne_eqb x.at at differs) later.1.0, (inr later.1.1.0, later.1.1.1))))
         ]
+
+-- what the process at its handle is owed, where some process of the handle is owed it
+pub owed_there : (at count : ℕ) (s : Records) → IsSound s → IsOwed at count s → IfSome (process_at at s.processes) (λ p. count ≤ p.due)
+owed_there at count s sound owed =
+    let p = owed.process.0 in
+    let found : process_at at s.processes ≡ Some p = ap (λ x. process_at x s.processes) (sym owed.process.1.1) ∙ process_at-stored p s.processes sound.processes_apart owed.process.1.0 in
+    let due : due_of owed.pid s ≡ p.due = ap (λ pid. due_of pid s) (sym owed.process.1.2) ∙ due-stored p s.processes sound.processes_apart owed.process.1.0 in
+    rw found (subst (λ n. count ≤ n) due owed.due)

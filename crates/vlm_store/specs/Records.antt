@@ -430,6 +430,12 @@ pub record SameButNotices (old new : Records) : Type 0 where
 abbrev pub due_of : ℕ → Records → ℕ
 due_of pid s = option_map_or (λ p. p.due) (find (λ p. p.process.pid == pid) s.processes) 0
 
+-- the process at this handle is owed at least this many ASTs
+pub record IsOwed (at count : ℕ) (s : Records) : Type 0 where
+  pub pid : ℕ
+  pub process : IsProcess at pid s
+  pub due : count ≤ due_of pid s
+
 -- the due ASTs of each process stay
 abbrev pub DuesStay : Records → Records → Type 0
 DuesStay old new = (pid : ℕ) → due_of pid new ≡ due_of pid old
@@ -553,3 +559,8 @@ pub record IsSound (s : Records) : Type 0 where
   pub processes_apart : AreProcessesApart s.processes
   pub owned : AreOwned s
   pub own_apart : (p : StoredProcess) → IsIn p s.processes → AreOwnApart p.own
+
+-- the records before and after a change are sound
+pub record AreSound (old new : Records) : Type 0 where
+  pub before : IsSound old
+  pub after : IsSound new

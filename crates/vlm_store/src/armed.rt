@@ -2,7 +2,7 @@
 
 ghost use Rattle.std.specs.Prelude.{◌≡◌};
 ghost use Rattle.vlm_store.specs.Armed.{IsArmedAt, armed_at};
-ghost use Rattle.vlm_store.specs.Records.{HasResource, at_after, first_at};
+ghost use Rattle.vlm_store.specs.Records.{HasResource, IsSound, at_after, first_at};
 
 use crate::store::Store;
 use vlm_records::{Armed, LockAt, ResAt};
@@ -11,7 +11,8 @@ impl Store {
     /// The first lock in a list of armed locks of a resource, if there is one.
     pub fn first_armed(&self, res: ResAt, which: Armed) -> Option<LockAt>
         requires { HasResource res self.now }
-        ensures { result ≡ first_at (armed_at which res self.now) }
+        ensures first { result ≡ first_at (armed_at which res self.now) }
+        ensures sound { IsSound self.now }
     {
         let at = self.queues.resources[res.slot()].first_armed(&self.queues.locks, which)?;
         Some(LockAt::of(at))

@@ -8,16 +8,6 @@ ghost use Rattle.vlm_words.specs.declared.steps.Declaration.{Declaration};
 ghost use Rattle.vlm_records.specs.declared.handles.Place.{Place};
 ghost use Rattle.vlm_store.specs.Records.{Records, HasProcess, HasResource, IsSound, IsStored, joined_by, new_stored_resource, new_stored_process, on_resource, process_with_lock, with_new_lock, without_process, without_resource, without_stored_lock};
 
-use crate::store::Store;
-
-/// Each handle is one record, no lock is at two places, identifications and keys are unique, and the locks of a
-/// process are those that name it. Most readers say so too; this law is for steps that call no reader.
-pub fn law_records_are_sound(store: &Store)
-    ensures { IsSound store.now }
-{
-    let _queues = &store.queues;
-}
-
 /// A lock, resource or process that is added and removed again leaves the records as they were.
 pub fn law_removal_undoes_an_addition()
     ensures lock { (s : Records) (at : ℕ) (row : LockRow) (owner : ℕ) (parent : Option ℕ) (to : Place)

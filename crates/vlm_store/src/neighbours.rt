@@ -2,7 +2,7 @@
 
 ghost use Rattle.std.specs.Prelude.{◌≡◌, ℕ, None};
 ghost use Rattle.vlm_collections.specs.Lists.{IsIn, first_handle, handle_after, handle_before, last_handle};
-ghost use Rattle.vlm_store.specs.Records.{HasNoParent, HasProcess, IsStored, own_handles_at, sublocks_at};
+ghost use Rattle.vlm_store.specs.Records.{HasNoParent, HasProcess, IsSound, IsStored, own_handles_at, sublocks_at};
 
 use crate::store::Store;
 use vlm_records::{LockAt, ProcAt};
@@ -11,7 +11,8 @@ impl Store {
     /// The first lock of a process, in the order of making, if it has any.
     pub fn first_own(&self, process: ProcAt) -> Option<LockAt>
         requires { HasProcess process self.now }
-        ensures { result ≡ first_handle (own_handles_at process self.now) }
+        ensures first { result ≡ first_handle (own_handles_at process self.now) }
+        ensures sound { IsSound self.now }
     {
         let own = self.processes[process.slot()].own;
         let at = own.first(&self.queues.locks)?;
@@ -31,8 +32,9 @@ impl Store {
     /// The next lock of the same process, in the order of making, if there is one.
     pub fn next_own(&self, lock: LockAt) -> Option<LockAt>
         requires { IsStored lock self.now }
-        ensures { (process : ℕ) → IsIn lock (own_handles_at process self.now)
+        ensures next { (process : ℕ) → IsIn lock (own_handles_at process self.now)
             → result ≡ handle_after lock (own_handles_at process self.now) }
+        ensures sound { IsSound self.now }
     {
         let owner = self.queues.locks[lock.slot()].owner;
         let own = self.processes[owner.slot()].own;
@@ -55,7 +57,8 @@ impl Store {
     /// The first sublock of a lock, in the order of making, if it has any.
     pub fn first_sublock(&self, lock: LockAt) -> Option<LockAt>
         requires { IsStored lock self.now }
-        ensures { result ≡ first_handle (sublocks_at lock self.now) }
+        ensures first { result ≡ first_handle (sublocks_at lock self.now) }
+        ensures sound { IsSound self.now }
     {
         let sublocks = self.queues.locks[lock.slot()].sublocks;
         let at = sublocks.first(&self.queues.locks)?;

@@ -8,7 +8,7 @@ ghost use Rattle.vlm_records.specs.Kin.{plain_process};
 ghost use Rattle.vlm_records.specs.StatusBlocks.{requested, with_changed_block, with_status};
 ghost use Rattle.vlm_store.specs.Pending.{IsFirstLiving};
 ghost use Rattle.vlm_store.specs.Plain.{plain_processes};
-ghost use Rattle.vlm_store.specs.Records.{FindsProcess, HasNoLocks, HasNoSublocks, HasProcess, HasRoomForProcess, IsGivenBack, IsNewProcess, IsProcess, IsSound, IsStored, IsTaken, IsUnchanged, authorization_of, new_stored_process, on_process, on_stored, owed_less, owed_more, own_at, owned_by, process_after, process_at, with_owed_ast, with_process_room, without_process};
+ghost use Rattle.vlm_store.specs.Records.{AreSound, FindsProcess, HasNoLocks, HasNoSublocks, HasProcess, HasRoomForProcess, IsGivenBack, IsNewProcess, IsOwed, IsProcess, IsSound, IsStored, IsTaken, IsUnchanged, authorization_of, new_stored_process, on_process, on_stored, owed_less, owed_more, own_at, owned_by, process_after, process_at, with_owed_ast, with_process_room, without_process};
 
 use crate::store::Store;
 use std::alloc::AllocError;
@@ -31,7 +31,8 @@ impl Store {
 
     /// The first living process of a node: the least identification. Nodes are 1 to 8.
     pub fn first_of(&self, node: u8) -> Option<u32>
-        ensures { IsFirstLiving node self.now.processes result }
+        ensures first { IsFirstLiving node self.now.processes result }
+        ensures sound { IsSound self.now }
     {
         self.living.first(node)
     }
@@ -59,6 +60,7 @@ impl Store {
             })) }
         ensures fresh { IfOk result (λ at. ¬ HasProcess at self.old) }
         ensures taken { OnOk result (IsTaken self.old.room.processes self.new.room.processes) }
+        ensures sound { OnOk result (AreSound self.old self.new) }
         ensures succeeds { HasRoomForProcess pid self.old → IsOk result }
         ensures err { OnErr result (IsUnchanged self.old self.new) }
     {
@@ -80,6 +82,7 @@ impl Store {
         ensures removed { self.new ≡ with_process_room self.new.room.processes
             (record self.old { processes = without_process at self.old.processes }) }
         ensures given_back { IsGivenBack self.old.room.processes self.new.room.processes }
+        ensures sound { AreSound self.old self.new }
     {
         let pid = self.processes[at.slot()].pid;
         take_out(&mut self.processes, &mut self.process_order, at.slot());
@@ -123,9 +126,10 @@ impl Store {
     /// Replaces the status block with this number, from 1, if there is one.
     pub fn set_status_block(&mut self, at: ProcAt, number: u8, block: Block)
         requires { HasProcess at self.old }
-        ensures { self.new ≡ record self.old {
+        ensures written { self.new ≡ record self.old {
           processes = on_process at (process_with_block number block) self.old.processes;
         } }
+        ensures sound { IsSound self.old }
     {
         self.processes[at.slot()].put_status_block(number, block);
     }
@@ -133,10 +137,11 @@ impl Store {
     /// Writes the status of the status block with this number, from 1, if there is one. The rest of the block stays.
     pub fn set_status(&mut self, at: ProcAt, number: u8, status: u8)
         requires { HasProcess at self.old }
-        ensures { self.new ≡ record self.old {
+        ensures written { self.new ≡ record self.old {
           processes = on_process at (with_changed_block number (with_status status))
               self.old.processes;
         } }
+        ensures sound { IsSound self.old }
     {
         self.processes[at.slot()].set_status(number, status);
     }
@@ -145,10 +150,11 @@ impl Store {
     /// request is pending. Value part and tail stay.
     pub fn set_request(&mut self, at: ProcAt, number: u8, status: u8, lkid: u32)
         requires { HasProcess at self.old }
-        ensures { self.new ≡ record self.old {
+        ensures written { self.new ≡ record self.old {
           processes = on_process at (with_changed_block number (requested status lkid))
               self.old.processes;
         } }
+        ensures sound { IsSound self.old }
     {
         self.processes[at.slot()].set_request(number, status, lkid);
     }
@@ -161,6 +167,7 @@ impl Store {
         ensures left { self.new ≡ record self.old {
           processes = on_process at without_oldest_ast self.old.processes;
         } }
+        ensures sound { IsSound self.old }
     {
         self.processes[at.slot()].take_ast(&mut self.pending)
     }
@@ -174,6 +181,7 @@ impl Store {
         }) }
         ensures succeeds { count ≡ 0 → IsOk result }
         ensures refused { OnErr result (self.new ≡ self.old) }
+        ensures sound { IsSound self.old }
     {
         let alloc = self.alloc;
         self.processes[at.slot()].asts.owe(alloc, count)
@@ -182,10 +190,11 @@ impl Store {
     /// Queues one of the ASTs that a process is owed, at the end. It takes no memory.
     pub fn queue_ast(&mut self, at: ProcAt, ast: Ast)
         requires there { HasProcess at self.old }
-        requires owed { IfSome (process_at at self.old.processes) (λ p. 0 < p.due) }
-        ensures { self.new ≡ record self.old {
+        requires owed { IsOwed at 1 self.old }
+        ensures queued { self.new ≡ record self.old {
           processes = on_stored at (with_owed_ast ast) self.old.processes;
         } }
+        ensures sound { IsSound self.old }
     {
         self.processes[at.slot()].queue_ast(&mut self.pending, ast);
     }
@@ -193,10 +202,11 @@ impl Store {
     /// Gives back the room of this many due ASTs, which will not come.
     pub fn forgive(&mut self, at: ProcAt, count: usize)
         requires there { HasProcess at self.old }
-        requires owed { IfSome (process_at at self.old.processes) (λ p. count ≤ p.due) }
-        ensures { self.new ≡ record self.old {
+        requires owed { IsOwed at count self.old }
+        ensures forgiven { self.new ≡ record self.old {
           processes = on_stored at (owed_less count) self.old.processes;
         } }
+        ensures sound { IsSound self.old }
     {
         self.processes[at.slot()].asts.forgive(count);
     }

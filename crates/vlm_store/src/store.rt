@@ -9,7 +9,7 @@ ghost use Rattle.vlm_records.specs.declared.handles.Place.{Place};
 ghost use Rattle.vlm_words.specs.Rows.{blocks_request};
 ghost use Rattle.vlm_store.specs.Index.{hash_key};
 ghost use Rattle.vlm_store.specs.Held.{held_counts};
-ghost use Rattle.vlm_store.specs.Records.{FindsLock, FindsResource, HasNoSublocks, HasPlace, HasResource, HasRoomForLock, HasRoomForResource, IsGivenBack, IsTaken, IsUnchanged, IsParentOf, IsProcess, at_after, disarming, first_at, first_resource_at, fits_beside, resource_at_after, resource_at, rows_of_locks, IsIdle, IsNewKey, IsNewLock, IsRowOf, IsSound, IsStored, Stores, locks_at, moving, new_stored_resource, nothing, on_resource, queued, with_lists, with_lock_room, with_new_lock, with_resource_room, without_resource, without_stored_lock};
+ghost use Rattle.vlm_store.specs.Records.{AreSound, FindsLock, FindsResource, HasNoSublocks, HasPlace, HasResource, HasRoomForLock, HasRoomForResource, IsGivenBack, IsTaken, IsUnchanged, IsParentOf, IsProcess, at_after, disarming, first_at, first_resource_at, fits_beside, resource_at_after, resource_at, rows_of_locks, IsIdle, IsNewKey, IsNewLock, IsRowOf, IsSound, IsStored, Stores, locks_at, moving, new_stored_resource, nothing, on_resource, queued, with_lists, with_lock_room, with_new_lock, with_resource_room, without_resource, without_stored_lock};
 ghost use Rattle.vlm_store.specs.Total.{lock_total};
 
 use crate::key_index::KeyIndex;
@@ -89,7 +89,8 @@ impl Model for Store {
 impl Store {
     /// An empty store that hashes names by fixed keys. It takes no memory.
     pub fn new(alloc: Global) -> Store
-        ensures { result ≡ record (nothing result.keys) { room = result.room } }
+        ensures empty { result ≡ record (nothing result.keys) { room = result.room } }
+        ensures sound { IsSound result }
     {
         Store::with_keys(alloc, HashKeys::fixed())
     }
@@ -98,7 +99,8 @@ impl Store {
     /// choose names with equal hashes; identifications need no keys, since the machine gives them. It takes no
     /// memory.
     pub fn with_keys(alloc: Global, keys: HashKeys) -> Store
-        ensures { result ≡ record (nothing result.keys) { room = result.room } }
+        ensures empty { result ≡ record (nothing result.keys) { room = result.room } }
+        ensures sound { IsSound result }
     {
         Store {
             alloc,
@@ -187,6 +189,7 @@ impl Store {
             (with_new_lock result row.now owner parent to self.old) }
         ensures fresh { ¬ IsStored result self.old }
         ensures taken { IsTaken self.old.room.locks self.new.room.locks }
+        ensures sound { AreSound self.old self.new }
     {
         let slot = self.queues.add(row, owner, parent, to);
         let Lock {
@@ -207,7 +210,9 @@ impl Store {
     pub fn move_lock(&mut self, lock: LockAt, row: &StoredRow, to: Place)
         requires lock { IsRowOf lock row.now self.old }
         requires there { HasPlace to self.old }
-        ensures { self.new ≡ with_lists (moving to (record { at = lock; row = row.now })) self.old }
+        ensures moved { self.new
+            ≡ with_lists (moving to (record { at = lock; row = row.now })) self.old }
+        ensures sound { AreSound self.old self.new }
     {
         let at = lock.slot();
         let from = self.queues.locks[at].place;
@@ -219,7 +224,8 @@ impl Store {
     /// Disarms a lock, which keeps its place.
     pub fn disarm(&mut self, lock: LockAt)
         requires { IsStored lock self.old }
-        ensures { self.new ≡ with_lists (disarming lock) self.old }
+        ensures disarmed { self.new ≡ with_lists (disarming lock) self.old }
+        ensures sound { AreSound self.old self.new }
     {
         self.queues.disarm(lock.slot());
     }
@@ -232,6 +238,7 @@ impl Store {
         ensures removed { self.new
             ≡ with_lock_room self.new.room.locks (without_stored_lock lock self.old) }
         ensures given_back { IsGivenBack self.old.room.locks self.new.room.locks }
+        ensures sound { AreSound self.old self.new }
     {
         let at = lock.slot();
         let Lock {
@@ -269,6 +276,7 @@ impl Store {
         }) }
         ensures fresh { ¬ HasResource result self.old }
         ensures taken { IsTaken self.old.room.resources self.new.room.resources }
+        ensures sound { AreSound self.old self.new }
     {
         let res = ResAt::of(
             self.queues
@@ -346,7 +354,8 @@ impl Store {
     /// The next resource in the order of making, if there is one.
     pub fn next_resource(&self, res: ResAt) -> Option<ResAt>
         requires { HasResource res self.now }
-        ensures { result ≡ resource_at_after res self.now.resources }
+        ensures next { result ≡ resource_at_after res self.now.resources }
+        ensures sound { IsSound self.now }
     {
         let at = self.order.next(&self.queues.resources, res.slot())?;
         Some(ResAt::of(at))
@@ -372,10 +381,11 @@ impl Store {
     /// Writes the value block of a resource.
     pub fn set_value_block(&mut self, res: ResAt, value_block: ValueBlock)
         requires { HasResource res self.old }
-        ensures { self.new ≡ record self.old {
+        ensures written { self.new ≡ record self.old {
           resources = on_resource res (λ r. record r { value_block = value_block })
               self.old.resources;
         } }
+        ensures sound { AreSound self.old self.new }
     {
         self.queues.set_value_block(res.slot(), value_block);
     }
@@ -390,6 +400,7 @@ impl Store {
         ensures removed { self.new ≡ with_resource_room self.new.room.resources
             (record self.old { resources = without_resource res self.old.resources }) }
         ensures given_back { IsGivenBack self.old.room.resources self.new.room.resources }
+        ensures sound { AreSound self.old self.new }
     {
         self.resource_index
             .remove(&self.queues.resources[res.slot()]);

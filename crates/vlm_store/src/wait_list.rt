@@ -4,6 +4,7 @@ ghost use Rattle.std.specs.Prelude.{ℕ};
 ghost use Rattle.std.specs.Iterator.{YieldsFirst, item_count};
 ghost use Rattle.vlm_collections.specs.Lists.{IsIn};
 ghost use Rattle.vlm_store.specs.Queued.{AreQueued, IsQueued};
+ghost use Rattle.vlm_store.specs.Records.{IsSound};
 
 use crate::store::Store;
 use slab::Slab;
@@ -54,6 +55,7 @@ impl Store {
     pub fn queued_locks(&self) -> QueuedLocks<'_>
         ensures queued { AreQueued result self.now }
         ensures all { (at : ℕ) → IsQueued at self.now → IsIn at result }
+        ensures sound { IsSound self.now }
     {
         QueuedLocks {
             locks: &self.queues.locks,

@@ -18,7 +18,7 @@ returns-then-is_granted c =
     let there = resource_among f.res s.resources own c.requires.located.found in
     let lock : StoredLock = record { at = f.lock; row = f.row } in
     marks_none (OwnsWaitedFor s f.row) c.args.scratch.now
-    (λ pid waited. (waits_here s c.law_records_are_sound.ensures own there lock f.queue c.requires.located.among pid waited).not_granted c.if-is_granted.ensures.granted)
+    (λ pid waited. (waits_here s c.requires.located.sound own there lock f.queue c.requires.located.among pid waited).not_granted c.if-is_granted.ensures.granted)
 
 pub returns : goal.returns
 returns c =
@@ -33,8 +33,8 @@ returns c =
     (rows_of_locks (option_map_or (queued Granted) o [])) (rows_of_locks (option_map_or (queued Conversion) o [])) (rows_of_locks (option_map_or (queued Waiting) o [])) pid in
     marks_as (OwnsKeeper f.row.lkid request.mode f.queue (rows_queued f.res Granted s) (rows_queued f.res Conversion s) (rows_queued f.res Waiting s)) (OwnsWaitedFor s f.row)
     c.args.scratch.now c.find_keepers.new.scratch
-    (λ pid keeper. keeper_waited s c.law_records_are_sound.ensures own there lock f.queue c.requires.located.among request (sym c.want.ensures ∙ c.in-Some.is) c.if-is_granted.ensures.queued
+    (λ pid keeper. keeper_waited s c.requires.located.sound own there lock f.queue c.requires.located.among request (sym c.want.ensures ∙ c.in-Some.is) c.if-is_granted.ensures.queued
     (sym c.has.ensures ∙ c.if-has.false) pid (subst (λ o. keeps o pid) found keeper))
     (λ pid waited. subst (λ o. keeps o pid) (sym found)
-    (waited_keeps s c.law_records_are_sound.ensures own there lock f.queue c.requires.located.among request (sym c.want.ensures ∙ c.in-Some.is) pid waited))
+    (waited_keeps s c.requires.located.sound own there lock f.queue c.requires.located.among request (sym c.want.ensures ∙ c.in-Some.is) pid waited))
     (rw c.lkid.ensures at c.find_keepers.ensures)

@@ -10,4 +10,4 @@ pub returns-in_default : goal.returns-in_default
 returns-in_default c =
     let s = c.args.store.now in
     marks_none (IsBehind s c.args.pid) c.args.scratch.now
-    (none_behind s c.law_records_are_sound.ensures c.args.pid (subst (FindsProcess s c.args.pid) c.in_default.is c.process.ensures.found))
+    (none_behind s c.process.ensures.sound c.args.pid (subst (FindsProcess s c.args.pid) c.in_default.is c.process.ensures.found))

@@ -17,17 +17,17 @@ pub loop-at-init : goal.loop-at-init
 loop-at-init c =
     let s = c.args.store.now in
     let hs = own_handles_at c.args.owner s in
-    let first = begun hs (handles_apart c.args.owner c.args.pid s c.law_records_are_sound.ensures c.requires.owner) in
+    let first = begun hs (handles_apart c.args.owner c.args.pid s c.first_own-at.ensures.sound c.requires.owner) in
     record {
-      there = subst (λ o. IsAtOwn o hs) (sym c.first_own-at.ensures) first.there;
+      there = subst (λ o. IsAtOwn o hs) (sym c.first_own-at.ensures.first) first.there;
       roomy = c.requires.roomy;
       goes_on = λ final marks.
-          subst (λ xs. Marks (OwnWaitFor s xs) c.args.scratch.now final) (ap (λ o. on_from o hs) c.first_own-at.ensures ∙ first.left) marks;
+          subst (λ xs. Marks (OwnWaitFor s xs) c.args.scratch.now final) (ap (λ o. on_from o hs) c.first_own-at.ensures.first ∙ first.left) marks;
     }
 
 pub located_lock-located-requires-clause-stored : goal.located_lock-located-requires-clause-stored
 located_lock-located-requires-clause-stored c =
-    let here = stored_here c.args.owner c.args.pid c.args.store.now c.law_records_are_sound.ensures c.requires.owner c.in-Some.lock (c.loop-at.invariant.there c.in-Some.lock c.in-Some.is) in
+    let here = stored_here c.args.owner c.args.pid c.args.store.now c.first_own-at.ensures.sound c.requires.owner c.in-Some.lock (c.loop-at.invariant.there c.in-Some.lock c.in-Some.is) in
     (here.0, here.1.0)
 
 pub loop-at-smaller : goal.loop-at-smaller
@@ -35,8 +35,8 @@ loop-at-smaller c =
     let s = c.args.store.now in
     let hs = own_handles_at c.args.owner s in
     let in_hs = c.loop-at.invariant.there c.in-Some.lock c.in-Some.is in
-    let one = passed c.in-Some.lock hs (handles_apart c.args.owner c.args.pid s c.law_records_are_sound.ensures c.requires.owner) in_hs in
-    let next = c.next_own-at.ensures c.args.owner in_hs in
+    let one = passed c.in-Some.lock hs (handles_apart c.args.owner c.args.pid s c.first_own-at.ensures.sound c.requires.owner) in_hs in
+    let next = c.next_own-at.ensures.next c.args.owner in_hs in
     fewer c.in-Some.lock (on_from c.next_own-at.result hs) (on_from c.loop-at.at hs)
     (ap (λ o. on_from o hs) c.in-Some.is ∙ one.left ∙ ap (λ o. c.in-Some.lock ∷ on_from o hs) (sym next))
 
@@ -45,13 +45,13 @@ loop-at-preserved c =
     let s = c.args.store.now in
     let hs = own_handles_at c.args.owner s in
     let in_hs = c.loop-at.invariant.there c.in-Some.lock c.in-Some.is in
-    let one = passed c.in-Some.lock hs (handles_apart c.args.owner c.args.pid s c.law_records_are_sound.ensures c.requires.owner) in_hs in
-    let next = c.next_own-at.ensures c.args.owner in_hs in
+    let one = passed c.in-Some.lock hs (handles_apart c.args.owner c.args.pid s c.first_own-at.ensures.sound c.requires.owner) in_hs in
+    let next = c.next_own-at.ensures.next c.args.owner in_hs in
     record {
       there = subst (λ o. IsAtOwn o hs) (sym next) one.there;
       roomy = roomy_still s c.loop-at.scratch c.find_waited_for.new.scratch c.find_waited_for.ensures.room c.loop-at.invariant.roomy;
       goes_on =
-          owns_on s c.law_records_are_sound.ensures c.in-Some.lock c.located_lock-located.result.row c.located_lock-located.ensures.row
+          owns_on s c.first_own-at.ensures.sound c.in-Some.lock c.located_lock-located.result.row c.located_lock-located.ensures.row
           (on_from c.loop-at.at hs) (on_from c.next_own-at.result hs) hs c.args.scratch.now c.loop-at.scratch c.find_waited_for.new.scratch
           (ap (λ o. on_from o hs) c.in-Some.is ∙ one.left ∙ ap (λ o. c.in-Some.lock ∷ on_from o hs) (sym next))
           c.find_waited_for.ensures c.loop-at.invariant.goes_on;
@@ -61,7 +61,7 @@ pub returns : goal.returns
 returns c =
     let s = c.args.store.now in
     let hs = own_handles_at c.args.owner s in
-    let sound = c.law_records_are_sound.ensures in
+    let sound = c.first_own-at.ensures.sound in
     let left = on_from c.loop-at.at hs in
     marks_as (OwnWaitFor s hs) (IsBehind s c.args.pid) c.args.scratch.now c.loop-at.scratch
     (own_behind s sound c.args.owner c.args.pid c.requires.owner) (behind_own s sound c.args.owner c.args.pid c.requires.owner)

@@ -10,7 +10,7 @@ loop-lock-init c =
     let same = c.into_iter-lock-iterator.ensures.into_iter_gives in
     record {
       queued = λ at found. c.queued_locks-lock-items.ensures.queued at (subst (IsIn at) same found);
-      falls = λ is. falls_led_begun s c.args.ranks.now c.law_records_are_sound.ensures c.into_iter-lock-iterator.result (λ at queued. subst (IsIn at) (sym same) (c.queued_locks-lock-items.ensures.all at queued));
+      falls = λ is. falls_led_begun s c.args.ranks.now c.queued_locks-lock-items.ensures.sound c.into_iter-lock-iterator.result (λ at queued. subst (IsIn at) (sym same) (c.queued_locks-lock-items.ensures.all at queued));
       stands = λ f is. cc;
     }
 

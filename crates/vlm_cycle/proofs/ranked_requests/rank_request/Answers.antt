@@ -12,7 +12,7 @@ returns-clause-rank c = c.owner_rank-rank.ensures c.args.waiting.now.row (stored
 
 pub returns-clause-top : goal.returns-clause-top
 returns-clause-top c =
-    top_above c.args.store.now c.args.ranks.now c.law_records_are_sound.ensures c.args.blocker_ranks.now c.args.waiting.now c.requires.located c.requires.blocker_ranks
+    top_above c.args.store.now c.args.ranks.now c.requires.located.sound c.args.blocker_ranks.now c.args.waiting.now c.requires.located c.requires.blocker_ranks
     c.top-top.result c.top-top.ensures.held c.top-top.ensures.before
 
 pub returns-clause-passes : goal.returns-clause-passes

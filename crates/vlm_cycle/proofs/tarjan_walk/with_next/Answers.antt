@@ -6,4 +6,4 @@ pub returns-in_default : goal.returns-in_default
 returns-in_default c =
     let s = c.args.store.now in
     c.located.ensures s c.requires.note (some_there (λ at. IsStored at s) c.args.wanting.now.lock c.requires.wanting.lock)
-    (next_there s c.law_records_are_sound.ensures c.args.lock c.next.result c.requires.lock c.next.ensures)
+    (next_there s c.requires.wanting.sound c.args.lock c.next.result c.requires.lock c.next.ensures)

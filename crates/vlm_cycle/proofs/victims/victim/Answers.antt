@@ -23,7 +23,7 @@ loop-lock-init c =
       room = λ pid room. room;
       ranks = refl;
       fit = c.best_guess-best.ensures.fit;
-      covers = covers_begun s c.law_records_are_sound.ensures c.into_iter-lock-iterator.result c.best_guess-best.result (λ at queued. subst (IsIn at) (sym same) (c.queued_locks-lock-items.ensures.all at queued));
+      covers = covers_begun s c.queued_locks-lock-items.ensures.sound c.into_iter-lock-iterator.result c.best_guess-best.result (λ at queued. subst (IsIn at) (sym same) (c.queued_locks-lock-items.ensures.all at queued));
     }
 
 pub best_of_led-best-requires-clause-stored : goal.best_of_led-best-requires-clause-stored

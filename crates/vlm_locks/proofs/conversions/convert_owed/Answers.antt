@@ -27,7 +27,7 @@ returns-then-at_once c = record {
       (subst (λ o. IfSome o (λ r. IsConvertedAtOnce f c.wanting-row.result (processes_converting f asked s) r s new)) located.found c.convert_now.ensures.granted) in
       let at_once = subst (λ o. IfSome o (λ r. c.args.at_once ≡ converts_at_once asked f.row.lkid (plain_resource r))) located.found c.requires.at_once in
       subst (λ o. IfSome o (λ r. IsConverted f asked (processes_converting f asked s) r s new)) (sym located.found)
-      (converted_now s c.law_records_are_sound.ensures f located asked (processes_converting f asked s) new c.requires.granted (sym at_once ∙ c.if-at_once.true) done);
+      (converted_now s c.requires.located.sound f located asked (processes_converting f asked s) new c.requires.granted (sym at_once ∙ c.if-at_once.true) done);
   beside =
       let s = c.args.store.now in
       let f = c.args.located.now in
@@ -44,7 +44,7 @@ returns-then-at_once c = record {
         others = others_stay f.res located.resource left s new replaced;
         locks = c.convert_now.ensures.locks;
         there = still_there f.res located.resource left s new replaced;
-        rest = rests f.res located.resource left s new replaced (none_joins_under_block located.resource moved block (none_joins_by_moving s f located row Granted same)) c.requires.rest;
+        rest = rests f.res located.resource left s new replaced (none_joins_under_block located.resource moved block (none_joins_by_moving s f located row Granted same)) c.convert_now.ensures.sound c.requires.rest;
       };
   own_locks = search rules;
   paid =
@@ -64,7 +64,7 @@ returns-else-at_once c = record {
       (subst (λ o. IfSome o (λ r. IsReplaced f.res r (moved_in f c.wanting-row.result Conversion r) s new)) located.found c.convert_later.ensures.replaced) in
       let at_once = subst (λ o. IfSome o (λ r. c.args.at_once ≡ converts_at_once asked f.row.lkid (plain_resource r))) located.found c.requires.at_once in
       subst (λ o. IfSome o (λ r. IsConverted f asked (processes_converting f asked s) r s new)) (sym located.found)
-      (converted_later s c.law_records_are_sound.ensures f located asked (processes_converting f asked s) new c.requires.granted (sym at_once ∙ c.if-at_once.false) done c.convert_later.ensures.statuses);
+      (converted_later s c.requires.located.sound f located asked (processes_converting f asked s) new c.requires.granted (sym at_once ∙ c.if-at_once.false) done c.convert_later.ensures.statuses);
   beside =
       let s = c.args.store.now in
       let f = c.args.located.now in
@@ -78,7 +78,7 @@ returns-else-at_once c = record {
         others = others_stay f.res located.resource left s new replaced;
         locks = c.convert_later.ensures.locks;
         there = still_there f.res located.resource left s new replaced;
-        rest = rests f.res located.resource left s new replaced (none_joins_by_moving s f located row Conversion same) c.requires.rest;
+        rest = rests f.res located.resource left s new replaced (none_joins_by_moving s f located row Conversion same) c.convert_later.ensures.sound c.requires.rest;
       };
   own_locks = search rules;
   paid =
@@ -90,4 +90,4 @@ pub convert_now-requires-clause-owed : goal.convert_now-requires-clause-owed
 convert_now-requires-clause-owed c =
     let f = c.args.located.now in
     wanting_fits f.row c.args.asked.now c.requires.wants_nothing c.wanting-row.result c.wanting-row.ensures c.args.store.now c.requires.owed
-    c.law_records_are_sound.ensures f.lock (stored c.args.store.now f c.requires.located)
+    c.requires.located.sound f.lock (stored c.args.store.now f c.requires.located)

@@ -18,5 +18,5 @@ returns c r found =
     let located = c.requires.located in
     let told = subst (λ o. IfSome o (λ x. c.can_hold.result ≡ fits_beside c.args.mode (Some f.lock) x)) located.found c.can_hold.ensures in
     let same : located.resource ≡ r = same_Some located.resource r (sym located.found ∙ found) in
-    told ∙ fits_are s c.law_records_are_sound.ensures f located c.args.mode c.requires.granted
+    told ∙ fits_are s c.requires.located.sound f located c.args.mode c.requires.granted
     ∙ ap (λ (x : StoredResource). fits c.args.mode (rows_without f.row.lkid (rows_of_locks x.granted)) (rows_of_locks x.converting)) same

@@ -1,8 +1,6 @@
-use Rattle.std.proofs.Common.{◌<◌, is_some, ap, subst, arith}
+use Rattle.std.proofs.Common.{is_some, ap, arith}
 use Rattle.vlm_words.specs.Dues.{one_where}
-use Rattle.vlm_store.specs.Records.{due_of}
 use Rattle.vlm_locks.proofs.Found.{process_there}
-use Rattle.vlm_locks.proofs.Owing.{one_process}
 use Rattle.vlm_locks.proofs.endings.complete.Goals as goal
 
 pub queue_ast-requires-clause-there : goal.queue_ast-requires-clause-there
@@ -10,7 +8,8 @@ queue_ast-requires-clause-there c = process_there c.args.store.now c.args.at c.a
 
 -- one AST is owed, where a routine is named
 pub queue_ast-requires-clause-owed : goal.queue_ast-requires-clause-owed
-queue_ast-requires-clause-owed c pid is =
-    subst (λ p. 0 < due_of p c.args.store.now)
-    (one_process c.args.store.now c.law_records_are_sound.ensures c.args.at c.args.row.now.pid pid c.requires.process is)
-    (omega (arith, c.requires.owed, ap (λ o. one_where (is_some o)) c.in-Some.is))
+queue_ast-requires-clause-owed c = record {
+  pid = c.args.row.now.pid;
+  process = c.requires.process;
+  due = omega (arith, c.requires.owed, ap (λ o. one_where (is_some o)) c.in-Some.is);
+}

@@ -1,11 +1,11 @@
-use Rattle.std.proofs.Common.{◌≤◌, ◌-◌, ap, sym, subst, ◌∙◌, arith}
+use Rattle.std.proofs.Common.{◌-◌, ap, sym, subst, ◌∙◌, arith}
 use Rattle.vlm_model.specs.Asts.{completion_asts, processes_after_asts}
 use Rattle.vlm_words.specs.Dues.{one_where}
 use Rattle.vlm_model.specs.Effects.{blocks_with}
 use Rattle.vlm_store.specs.Plain.{plain_processes}
-use Rattle.vlm_store.specs.Records.{DueChanges, due_of}
+use Rattle.vlm_store.specs.Records.{DueChanges}
 use Rattle.vlm_locks.proofs.Found.{process_still, process_there}
-use Rattle.vlm_locks.proofs.Owing.{granted_blocks, nothing_granted_owed, one_from, one_process}
+use Rattle.vlm_locks.proofs.Owing.{granted_blocks, nothing_granted_owed, one_from}
 use Rattle.vlm_locks.proofs.endings.end_by_grant.Goals as goal
 
 -- ---- where it wants nothing
@@ -14,10 +14,11 @@ pub forgive-requires-clause-there : goal.forgive-requires-clause-there
 forgive-requires-clause-there c = process_there c.args.store.now c.args.at c.args.row.now.pid c.requires.process
 
 pub forgive-requires-clause-owed : goal.forgive-requires-clause-owed
-forgive-requires-clause-owed c pid is =
-    subst (λ p. c.from.result ≤ due_of p c.args.store.now)
-    (one_process c.args.store.now c.law_records_are_sound.ensures c.args.at c.args.row.now.pid pid c.requires.process is)
-    (omega (arith, c.requires.owed, c.from.ensures ∙ one_from c.is_armed.result, ap one_where c.is_armed.ensures))
+forgive-requires-clause-owed c = record {
+  pid = c.args.row.now.pid;
+  process = c.requires.process;
+  due = omega (arith, c.requires.owed, c.from.ensures ∙ one_from c.is_armed.result, ap one_where c.is_armed.ensures);
+}
 
 pub returns-in_default-clause-owed : goal.returns-in_default-clause-owed
 returns-in_default-clause-owed c =

@@ -1,8 +1,8 @@
-use Rattle.std.proofs.Common.{◌≤◌, ◌+◌, ◌-◌, ap, subst, ◌∙◌, arith}
+use Rattle.std.proofs.Common.{◌+◌, ◌-◌, ap, subst, ◌∙◌, arith}
 use Rattle.vlm_words.specs.Dues.{one_where}
-use Rattle.vlm_store.specs.Records.{DueChanges, due_of}
+use Rattle.vlm_store.specs.Records.{DueChanges}
 use Rattle.vlm_locks.proofs.Found.{process_still, process_there}
-use Rattle.vlm_locks.proofs.Owing.{granted_owed, one_from, same_process, spared_fits}
+use Rattle.vlm_locks.proofs.Owing.{granted_owed, one_from, spared_fits}
 use Rattle.vlm_locks.proofs.endings.tell_grant.Goals as goal
 
 pub forgive-requires-clause-there : goal.forgive-requires-clause-there
@@ -11,16 +11,17 @@ forgive-requires-clause-there c =
     (process_still c.args.store.now c.complete.new.store c.args.at c.args.row.now.pid c.complete.ensures.only_notices c.requires.process)
 
 pub forgive-requires-clause-owed : goal.forgive-requires-clause-owed
-forgive-requires-clause-owed c pid is =
-    subst (λ p. c.from.result + c.suppressed_completions.result ≤ due_of p c.complete.new.store)
-    (same_process c.args.store.now c.complete.new.store c.law_records_are_sound.ensures c.complete.ensures.only_notices c.args.at c.args.row.now.pid pid c.requires.process is)
-    (omega (
-      arith,
-      spared_fits c.args.row.now c.args.request.now c.requires.wanted c.args.at_once c.args.store.now c.complete.new.store c.complete.ensures.owed c.requires.owed,
-      c.from.ensures ∙ one_from c.is_armed.result,
-      ap one_where c.is_armed.ensures,
-      c.suppressed_completions.ensures,
-    ))
+forgive-requires-clause-owed c = record {
+  pid = c.args.row.now.pid;
+  process = process_still c.args.store.now c.complete.new.store c.args.at c.args.row.now.pid c.complete.ensures.only_notices c.requires.process;
+  due = omega (
+    arith,
+    spared_fits c.args.row.now c.args.request.now c.requires.wanted c.args.at_once c.args.store.now c.complete.new.store c.complete.ensures.owed c.requires.owed,
+    c.from.ensures ∙ one_from c.is_armed.result,
+    ap one_where c.is_armed.ensures,
+    c.suppressed_completions.ensures,
+  );
+}
 
 pub returns-then-spared-gt0-clause-owed : goal.returns-then-spared-gt0-clause-owed
 returns-then-spared-gt0-clause-owed c =

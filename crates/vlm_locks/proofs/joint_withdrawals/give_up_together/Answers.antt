@@ -13,12 +13,12 @@ pub remove_noted-requires-clause-can_go : goal.remove_noted-requires-clause-can_
 remove_noted-requires-clause-can_go c =
     let ended : HaveEnded (noted_lkids c.note_scope.new.touched.noted) c.args.invalidates c.args.store.now c.end_noted.new.store =
     subst (λ (ts : List Note). HaveEnded (noted_lkids ts) c.args.invalidates c.args.store.now c.end_noted.new.store) c.notes.ensures c.end_noted.ensures.ended in
-    can_go c.args.scope c.args.pid c.args.store.now c.end_noted.new.store c.law_records_are_sound.ensures ended.only_notices c.args.touched.now c.args.invalidates
+    can_go c.args.scope c.args.pid c.args.store.now c.end_noted.new.store c.requires.can_end.rest.sound ended.only_notices c.args.touched.now c.args.invalidates
     c.note_scope.new.touched c.note_scope.ensures.chosen c.note_scope.ensures.locks ended c.requires.can_end c.note_scope.ensures.room c.requires.closed
 
 pub returns-clause-given_up : goal.returns-clause-given_up
 returns-clause-given_up c =
     let ended : HaveEnded (noted_lkids c.note_scope.new.touched.noted) c.args.invalidates c.args.store.now c.end_noted.new.store =
     subst (λ (ts : List Note). HaveEnded (noted_lkids ts) c.args.invalidates c.args.store.now c.end_noted.new.store) c.notes.ensures c.end_noted.ensures.ended in
-    given_up c.args.scope c.args.pid c.args.store.now c.end_noted.new.store c.law_records_are_sound.ensures ended.only_notices c.args.touched.now c.args.invalidates
+    given_up c.args.scope c.args.pid c.args.store.now c.end_noted.new.store c.requires.can_end.rest.sound ended.only_notices c.args.touched.now c.args.invalidates
     c.note_scope.new.touched c.remove_noted.new.store c.remove_noted.new.touched c.requires.none c.note_scope.ensures.room c.note_scope.ensures.chosen ended c.remove_noted.ensures.gone

@@ -15,7 +15,7 @@ pub loop-left-init : goal.loop-left-init
 loop-left-init c =
     subst (λ (ts : List Note). AreLeaving c.args.invalidates c.args.owner c.args.pid c.args.store.now c.args.store.now c.args.touched.now c.args.touched.now (length ts))
     (sym c.notes-left.ensures)
-    (none_is_gone c.args.invalidates c.args.owner c.args.pid c.args.store.now c.args.touched.now c.requires.owner c.law_records_are_sound.ensures c.requires.can_go)
+    (none_is_gone c.args.invalidates c.args.owner c.args.pid c.args.store.now c.args.touched.now c.requires.owner c.requires.can_go.rest.sound c.requires.can_go)
 
 pub located_lock-located-requires-clause-stored : goal.located_lock-located-requires-clause-stored
 located_lock-located-requires-clause-stored c =
@@ -53,7 +53,7 @@ loop-left-preserved c =
     let touch : Note = record { number = c.of_resource.result.number; at = f.res } in
     let noted : Touches = record { noted = so_far.touched.noted ++ touch ∷ []; room = so_far.touched.room } in
     let turn : IsTurn (is_among (noted_lkids c.args.touched.now.noted)) c.args.invalidates c.args.owner c.loop-left.store c.give_up.new.store so_far.touched noted f (plain_withdrawal c.together-withdrawal.result) = record {
-      sound = c.law_records_are_sound-in-loop-left-2.ensures;
+      sound = c.of_resource.ensures.sound;
       located = c.located_lock-located.ensures.located;
       mine = subst (λ at. IsIn at (own_handles_at c.args.owner c.loop-left.store)) (sym is_last) (it_is_own c.args.invalidates c.args.owner c.args.pid c.args.store.now c.loop-left.store c.args.touched.now c.loop-left.touched (c.loop-left.left - 1) so_far c.requires.can_go f.row stored);
       its = it_goes c.args.invalidates c.args.owner c.args.pid c.args.store.now c.loop-left.store c.args.touched.now c.loop-left.touched (c.loop-left.left - 1) so_far c.requires.can_go f.row stored;

@@ -23,7 +23,7 @@ held_by s sound at owner row stored owned = of_place stored.0 stored.1
   where
     of_place : (place : Place) → IsIn (record { at = at; row = row }) (locks_at place s) → list_any (holds_lock row.pid row.lkid) (plain_resources s) ≡ true
     of_place (Queued res queue) among =
-        some_held s sound (record { lock = at; owner = owner; row = row; res = res; queue = queue }) (stands_queued s (record { lock = at; owner = owner; row = row; res = res; queue = queue }) among owned)
+        some_held s sound (record { lock = at; owner = owner; row = row; res = res; queue = queue }) (stands_queued s (record { lock = at; owner = owner; row = row; res = res; queue = queue }) among owned sound)
 
 -- the lock is of the process
 pub returns-then-pid-clause-held : goal.returns-then-pid-clause-held

@@ -2,7 +2,8 @@ use Rattle.std.proofs.Common.{subst}
 use Rattle.vlm_store.specs.Records.{IsNewLock, IsProcess}
 use Rattle.vlm_locks.specs.Entering.{entered_queue, new_row}
 use Rattle.vlm_locks.specs.Owing.{granted_if_at_once}
-use Rattle.vlm_locks.proofs.Entered.{entered_by, entered_same, is_there, joins_entered, parent_same}
+use Rattle.vlm_locks.proofs.Entered.{entered_by, entered_same, joins_entered, parent_same}
+use Rattle.vlm_locks.proofs.Found.{resource_there}
 use Rattle.vlm_locks.proofs.Paying.{due_entered}
 use Rattle.vlm_locks.proofs.Rising.{new_above}
 use Rattle.vlm_locks.proofs.new_locks.enter_at.Goals as goal
@@ -25,16 +26,15 @@ add_lock_reserved-requires-clause-parent c =
     rw c.granted_if_at_once.ensures (parent_same e.parent (new_row e) (granted_if_at_once e.at_once (new_row e)) c.args.store.now (entered_same e.at_once (new_row e)) c.requires.may_enter.parent)
 
 pub add_lock_reserved-requires-clause-there : goal.add_lock_reserved-requires-clause-there
-add_lock_reserved-requires-clause-there c =
-    is_there c.args.store.now c.law_records_are_sound.ensures c.requires.may_enter.rest c.args.new_lock.now c.requires.may_enter.keyed c.args.res c.requires.found
+add_lock_reserved-requires-clause-there c = resource_there c.args.store.now c.args.res c.requires.found.0 c.requires.found.1.0 c.requires.found.1.1
 
 pub returns-clause-entered : goal.returns-clause-entered
 returns-clause-entered c =
     let e = c.args.new_lock.now in
     let may = c.requires.may_enter in
     let lock = c.add_lock_reserved.result in
-    entered_by c.args.store.now c.law_records_are_sound.ensures may.rest e may.keyed c.args.res c.requires.found lock (granted_if_at_once e.at_once (new_row e)) (entered_queue e.at_once) _ c.add_lock_reserved.new.self
-    (rw (c.granted_if_at_once.ensures, c.entered_queue.ensures) at c.add_lock_reserved.ensures.added) c.add_lock_reserved.ensures.fresh (entered_same e.at_once (new_row e)) may.rising may.owner
+    entered_by c.args.store.now c.add_lock_reserved.ensures.sound.before may.rest e may.keyed c.args.res c.requires.found lock (granted_if_at_once e.at_once (new_row e)) (entered_queue e.at_once) _ c.add_lock_reserved.new.self
+    (rw (c.granted_if_at_once.ensures, c.entered_queue.ensures) at c.add_lock_reserved.ensures.added) c.add_lock_reserved.ensures.sound.after c.add_lock_reserved.ensures.fresh (entered_same e.at_once (new_row e)) may.rising may.owner
     (joins_entered lock (new_row e) e.at_once c.requires.found.0)
 
 -- more is due, by what is due for it as it has entered
@@ -42,6 +42,6 @@ pub returns-clause-due : goal.returns-clause-due
 returns-clause-due c =
     let e = c.args.new_lock.now in
     let may = c.requires.may_enter in
-    let sound = c.law_records_are_sound.ensures in
+    let sound = c.add_lock_reserved.ensures.sound.before in
     due_entered c.args.store.now sound c.add_lock_reserved.result (granted_if_at_once e.at_once (new_row e)) e.owner e.parent c.args.res (entered_queue e.at_once)
-    (is_there c.args.store.now sound may.rest e may.keyed c.args.res c.requires.found) _ c.add_lock_reserved.new.self (rw (c.granted_if_at_once.ensures, c.entered_queue.ensures) at c.add_lock_reserved.ensures.added)
+    (resource_there c.args.store.now c.args.res c.requires.found.0 c.requires.found.1.0 c.requires.found.1.1) _ c.add_lock_reserved.new.self (rw (c.granted_if_at_once.ensures, c.entered_queue.ensures) at c.add_lock_reserved.ensures.added)

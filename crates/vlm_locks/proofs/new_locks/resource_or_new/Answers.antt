@@ -1,5 +1,5 @@
 use Rattle.std.proofs.Common.{Some, ap, refl, sym, subst}
-use Rattle.vlm_store.specs.Records.{FindsResource, IsNewKey, Records, new_stored_resource}
+use Rattle.vlm_store.specs.Records.{FindsResource, IsNewKey, IsSound, Records, new_stored_resource}
 use Rattle.vlm_locks.specs.Entering.{IsEntered, MayEnter, new_row}
 use Rattle.vlm_locks.proofs.Paying.{due_with_resource}
 use Rattle.vlm_locks.proofs.Made.{above_still, entered_made, made_found, made_is, parent_still, rest_still}
@@ -14,7 +14,7 @@ returns-in-None-clause-may_enter c =
     let may = c.requires.may_enter in
     let is = made_is e c.add_resource_reserved.result s c.add_resource_reserved.new.self c.add_resource_reserved.ensures.added in
     subst (MayEnter e) (sym is) (record {
-      rest = rest_still e c.add_resource_reserved.result room s may.keyed may.rest;
+      rest = rest_still e c.add_resource_reserved.result room s (subst IsSound is c.add_resource_reserved.ensures.sound.after) may.keyed may.rest;
       rising = above_still e c.add_resource_reserved.result room s e.lkid may.rising;
       owner = may.owner;
       parent = parent_still e c.add_resource_reserved.result room s e.parent (new_row e) may.parent;

@@ -16,25 +16,25 @@ first_own-next-requires c = process_there c.args.store.now c.args.owner c.args.p
 pub loop-next-init : goal.loop-next-init
 loop-next-init c =
     none_is_noted c.args.store.now (own_handles_at c.args.owner c.args.store.now) c.args.touched.now c.first_own-next.result
-    (λ t there. absurd (subst (λ (ts : List Note). IsIn t ts) c.requires.none there)) c.first_own-next.ensures
+    (λ t there. absurd (subst (λ (ts : List Note). IsIn t ts) c.requires.none there)) c.first_own-next.ensures.first
 
 -- the lock is stored
 pub of_lock-requires : goal.of_lock-requires
 of_lock-requires c =
     let so_far : AreNoted c.args.store.now (own_handles_at c.args.owner c.args.store.now) c.args.touched.now c.loop-next.touched (Some c.in-Some.lock) =
     subst (AreNoted c.args.store.now (own_handles_at c.args.owner c.args.store.now) c.args.touched.now c.loop-next.touched) c.in-Some.is c.loop-next.invariant in
-    let apart = handles_apart c.args.owner c.args.pid c.args.store.now c.law_records_are_sound.ensures c.requires.owner in
-    (let here = stored_here c.args.owner c.args.pid c.args.store.now c.law_records_are_sound.ensures c.requires.owner c.in-Some.lock (lock_in c.args.store.now (own_handles_at c.args.owner c.args.store.now) c.args.touched.now c.loop-next.touched c.in-Some.lock so_far apart) in (here.0, here.1.0))
+    let apart = handles_apart c.args.owner c.args.pid c.args.store.now c.first_own-next.ensures.sound c.requires.owner in
+    (let here = stored_here c.args.owner c.args.pid c.args.store.now c.first_own-next.ensures.sound c.requires.owner c.in-Some.lock (lock_in c.args.store.now (own_handles_at c.args.owner c.args.store.now) c.args.touched.now c.loop-next.touched c.in-Some.lock so_far apart) in (here.0, here.1.0))
 
 pub note-requires : goal.note-requires
 note-requires c =
     let so_far : AreNoted c.args.store.now (own_handles_at c.args.owner c.args.store.now) c.args.touched.now c.loop-next.touched (Some c.in-Some.lock) =
     subst (AreNoted c.args.store.now (own_handles_at c.args.owner c.args.store.now) c.args.touched.now c.loop-next.touched) c.in-Some.is c.loop-next.invariant in
-    let apart = handles_apart c.args.owner c.args.pid c.args.store.now c.law_records_are_sound.ensures c.requires.owner in
+    let apart = handles_apart c.args.owner c.args.pid c.args.store.now c.first_own-next.ensures.sound c.requires.owner in
     has_room c.args.store.now (own_handles_at c.args.owner c.args.store.now) c.args.touched.now c.loop-next.touched c.in-Some.lock so_far apart (omega (
       arith,
       c.requires.room,
-      own_at_most c.args.owner c.args.pid c.args.store.now c.law_records_are_sound.ensures c.requires.owner,
+      own_at_most c.args.owner c.args.pid c.args.store.now c.first_own-next.ensures.sound c.requires.owner,
       ap (λ (ts : List Note). length ts) c.requires.none,
     ))
 
@@ -42,15 +42,15 @@ pub next_own-next-requires : goal.next_own-next-requires
 next_own-next-requires c =
     let so_far : AreNoted c.args.store.now (own_handles_at c.args.owner c.args.store.now) c.args.touched.now c.loop-next.touched (Some c.in-Some.lock) =
     subst (AreNoted c.args.store.now (own_handles_at c.args.owner c.args.store.now) c.args.touched.now c.loop-next.touched) c.in-Some.is c.loop-next.invariant in
-    let apart = handles_apart c.args.owner c.args.pid c.args.store.now c.law_records_are_sound.ensures c.requires.owner in
-    (let here = stored_here c.args.owner c.args.pid c.args.store.now c.law_records_are_sound.ensures c.requires.owner c.in-Some.lock (lock_in c.args.store.now (own_handles_at c.args.owner c.args.store.now) c.args.touched.now c.loop-next.touched c.in-Some.lock so_far apart) in (here.0, here.1.0))
+    let apart = handles_apart c.args.owner c.args.pid c.args.store.now c.first_own-next.ensures.sound c.requires.owner in
+    (let here = stored_here c.args.owner c.args.pid c.args.store.now c.first_own-next.ensures.sound c.requires.owner c.in-Some.lock (lock_in c.args.store.now (own_handles_at c.args.owner c.args.store.now) c.args.touched.now c.loop-next.touched c.in-Some.lock so_far apart) in (here.0, here.1.0))
 
 pub loop-next-smaller : goal.loop-next-smaller
 loop-next-smaller c =
     let so_far : AreNoted c.args.store.now (own_handles_at c.args.owner c.args.store.now) c.args.touched.now c.loop-next.touched (Some c.in-Some.lock) =
     subst (AreNoted c.args.store.now (own_handles_at c.args.owner c.args.store.now) c.args.touched.now c.loop-next.touched) c.in-Some.is c.loop-next.invariant in
-    let apart = handles_apart c.args.owner c.args.pid c.args.store.now c.law_records_are_sound.ensures c.requires.owner in
-    let next = next_is c.args.store.now (own_handles_at c.args.owner c.args.store.now) c.args.touched.now c.loop-next.touched c.in-Some.lock so_far apart c.next_own-next.result (c.next_own-next.ensures c.args.owner (lock_in c.args.store.now (own_handles_at c.args.owner c.args.store.now) c.args.touched.now c.loop-next.touched c.in-Some.lock so_far apart)) in
+    let apart = handles_apart c.args.owner c.args.pid c.args.store.now c.first_own-next.ensures.sound c.requires.owner in
+    let next = next_is c.args.store.now (own_handles_at c.args.owner c.args.store.now) c.args.touched.now c.loop-next.touched c.in-Some.lock so_far apart c.next_own-next.result (c.next_own-next.ensures.next c.args.owner (lock_in c.args.store.now (own_handles_at c.args.owner c.args.store.now) c.args.touched.now c.loop-next.touched c.in-Some.lock so_far apart)) in
     omega (
       arith,
       fewer_left c.args.store.now (own_handles_at c.args.owner c.args.store.now) c.args.touched.now c.loop-next.touched c.in-Some.lock so_far apart c.next_own-next.result next,
@@ -61,15 +61,15 @@ pub loop-next-preserved : goal.loop-next-preserved
 loop-next-preserved c =
     let so_far : AreNoted c.args.store.now (own_handles_at c.args.owner c.args.store.now) c.args.touched.now c.loop-next.touched (Some c.in-Some.lock) =
     subst (AreNoted c.args.store.now (own_handles_at c.args.owner c.args.store.now) c.args.touched.now c.loop-next.touched) c.in-Some.is c.loop-next.invariant in
-    let apart = handles_apart c.args.owner c.args.pid c.args.store.now c.law_records_are_sound.ensures c.requires.owner in
-    let next = next_is c.args.store.now (own_handles_at c.args.owner c.args.store.now) c.args.touched.now c.loop-next.touched c.in-Some.lock so_far apart c.next_own-next.result (c.next_own-next.ensures c.args.owner (lock_in c.args.store.now (own_handles_at c.args.owner c.args.store.now) c.args.touched.now c.loop-next.touched c.in-Some.lock so_far apart)) in
-    let row : IsStored c.in-Some.lock c.args.store.now = (let here = stored_here c.args.owner c.args.pid c.args.store.now c.law_records_are_sound.ensures c.requires.owner c.in-Some.lock (lock_in c.args.store.now (own_handles_at c.args.owner c.args.store.now) c.args.touched.now c.loop-next.touched c.in-Some.lock so_far apart) in (here.0, here.1.0)) in
+    let apart = handles_apart c.args.owner c.args.pid c.args.store.now c.first_own-next.ensures.sound c.requires.owner in
+    let next = next_is c.args.store.now (own_handles_at c.args.owner c.args.store.now) c.args.touched.now c.loop-next.touched c.in-Some.lock so_far apart c.next_own-next.result (c.next_own-next.ensures.next c.args.owner (lock_in c.args.store.now (own_handles_at c.args.owner c.args.store.now) c.args.touched.now c.loop-next.touched c.in-Some.lock so_far apart)) in
+    let row : IsStored c.in-Some.lock c.args.store.now = (let here = stored_here c.args.owner c.args.pid c.args.store.now c.first_own-next.ensures.sound c.requires.owner c.in-Some.lock (lock_in c.args.store.now (own_handles_at c.args.owner c.args.store.now) c.args.touched.now c.loop-next.touched c.in-Some.lock so_far apart) in (here.0, here.1.0)) in
     one_more c.args.store.now (own_handles_at c.args.owner c.args.store.now) c.args.touched.now c.loop-next.touched c.in-Some.lock so_far apart c.of_lock.result c.of_lock.ensures.lock row.0 row.1 (c.of_lock.ensures.lkid row.0 row.1) c.note.new.self c.note.ensures.noted c.note.ensures.room
     c.next_own-next.result next
 
 pub returns-clause-chosen : goal.returns-clause-chosen
 returns-clause-chosen c =
-    own_chosen c.args.owner c.args.pid c.args.store.now c.law_records_are_sound.ensures c.requires.owner c.requires.rest c.loop-next.touched.noted c.loop-next.invariant.locks
+    own_chosen c.args.owner c.args.pid c.args.store.now c.first_own-next.ensures.sound c.requires.owner c.requires.rest c.loop-next.touched.noted c.loop-next.invariant.locks
     (all_noted c.args.store.now (own_handles_at c.args.owner c.args.store.now) c.args.touched.now c.loop-next.touched c.loop-next.next c.loop-next.invariant c.in_default.is
     ∙ ap (λ (ts : List Note). touched_handles ts ++ own_handles_at c.args.owner c.args.store.now) c.requires.none)
 

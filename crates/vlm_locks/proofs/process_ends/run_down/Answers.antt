@@ -1,4 +1,4 @@
-use Rattle.std.proofs.Common.{◌≡◌, ℕ, [], ◌∷◌, ◌++◌, sym, ap, ◌∙◌, subst, arith, map, true, eq-eqb, rules}
+use Rattle.std.proofs.Common.{◌≡◌, ℕ, [], ◌∷◌, ◌++◌, sym, ap, ◌∙◌, subst, arith, map, true, eq-eqb}
 use Rattle.vlm_collections.specs.Lists.{IsIn}
 use Rattle.vlm_records.specs.declared.handles.Place.TheVariants.{Queued}
 use Rattle.vlm_store.specs.Records.{locks_at, own_handles_at, but_notices}
@@ -53,7 +53,7 @@ loop-lock-smaller c =
     subst (λ at. IsIn at (own_handles_at c.args.owner s)) (sym c.located_lock-located.ensures.lock)
     (last_there c.args.owner c.args.pid s so_far.sound so_far.lives so_far.rest c.in-Some.lock (sym c.last_own.ensures ∙ c.in-Some.is)) in
     let turn : IsTurn (is_row_of c.args.pid) true c.args.owner s c.withdraw.new.store c.loop-lock.touched c.note.new.self f (plain_withdrawal c.rundown.result) = record {
-      sound = c.law_records_are_sound-in-Some-2.ensures;
+      sound = c.of_resource.ensures.sound;
       located = c.located_lock-located.ensures.located;
       mine = mine;
       its = eq-eqb f.row.pid c.args.pid (its_row c.args.owner c.args.pid s so_far.sound so_far.lives f c.located_lock-located.ensures.located mine);
@@ -84,7 +84,7 @@ loop-lock-preserved c =
     subst (λ at. IsIn at (own_handles_at c.args.owner s)) (sym c.located_lock-located.ensures.lock)
     (last_there c.args.owner c.args.pid s so_far.sound so_far.lives so_far.rest c.in-Some.lock (sym c.last_own.ensures ∙ c.in-Some.is)) in
     let turn : IsTurn (is_row_of c.args.pid) true c.args.owner s c.withdraw.new.store c.loop-lock.touched c.note.new.self f (plain_withdrawal c.rundown.result) = record {
-      sound = c.law_records_are_sound-in-Some-2.ensures;
+      sound = c.of_resource.ensures.sound;
       located = c.located_lock-located.ensures.located;
       mine = mine;
       its = eq-eqb f.row.pid c.args.pid (its_row c.args.owner c.args.pid s so_far.sound so_far.lives f c.located_lock-located.ensures.located mine);

@@ -12,7 +12,7 @@ pub returns-in-Granted-clause-done : goal.returns-in-Granted-clause-done
 returns-in-Granted-clause-done c =
     let f = c.args.located.now in
     record {
-      made = cancelled_none c.args.store.now c.law_records_are_sound.ensures f c.requires.located c.in-Granted.is c.requires.rest;
+      made = cancelled_none c.args.store.now c.requires.located.sound f c.requires.located c.in-Granted.is c.requires.rest;
       locks = λ place. refl;
       own_locks = sym (ap (λ (queue : Queue). owned_after (goes true queue) f.lock c.args.store.now.processes) c.in-Granted.is);
     }
@@ -35,7 +35,7 @@ pub returns-in-Waiting-clause-done : goal.returns-in-Waiting-clause-done
 returns-in-Waiting-clause-done c =
     let f = c.args.located.now in
     record {
-      made = cancelled_waiting c.args.store.now c.law_records_are_sound.ensures f c.requires.located c.in-Waiting.is c.remove.new.store c.remove.ensures.done.made;
+      made = cancelled_waiting c.args.store.now c.requires.located.sound f c.requires.located c.in-Waiting.is c.remove.new.store c.remove.ensures.done.made;
       locks = c.remove.ensures.done.locks;
       own_locks = c.remove.ensures.done.own_locks ∙ sym (ap (λ (queue : Queue). owned_after (goes true queue) f.lock c.args.store.now.processes) c.in-Waiting.is);
     }

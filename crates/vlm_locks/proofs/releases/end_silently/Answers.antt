@@ -1,7 +1,7 @@
-use Rattle.std.proofs.Common.{◌≤◌, ◌-◌, subst, arith}
-use Rattle.vlm_store.specs.Records.{DueChanges, due_of}
+use Rattle.std.proofs.Common.{◌-◌, subst, arith}
+use Rattle.vlm_store.specs.Records.{DueChanges}
 use Rattle.vlm_locks.proofs.Found.{process_there}
-use Rattle.vlm_locks.proofs.Owing.{one_process, untold_owed}
+use Rattle.vlm_locks.proofs.Owing.{untold_owed}
 use Rattle.vlm_locks.proofs.releases.end_silently.Goals as goal
 
 pub forgive-requires-clause-there : goal.forgive-requires-clause-there
@@ -10,11 +10,11 @@ forgive-requires-clause-there c =
     c.requires.located.owner
 
 pub forgive-requires-clause-owed : goal.forgive-requires-clause-owed
-forgive-requires-clause-owed c pid is =
-    subst (λ p. c.wanted_routines.result ≤ due_of p c.args.store.now)
-    (one_process c.args.store.now c.law_records_are_sound.ensures c.args.located.now.owner c.args.located.now.row.pid pid
-    c.requires.located.owner is)
-    (omega (arith, c.wanted_routines.ensures, c.requires.owed))
+forgive-requires-clause-owed c = record {
+  pid = c.args.located.now.row.pid;
+  process = c.requires.located.owner;
+  due = omega (arith, c.wanted_routines.ensures, c.requires.owed);
+}
 
 pub returns-clause-owed : goal.returns-clause-owed
 returns-clause-owed c =

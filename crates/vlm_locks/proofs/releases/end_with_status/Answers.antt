@@ -1,10 +1,10 @@
-use Rattle.std.proofs.Common.{◌≤◌, ◌-◌, false, ap, subst, ◌∙◌, arith}
+use Rattle.std.proofs.Common.{◌-◌, false, ap, subst, ◌∙◌, arith}
 use Rattle.vlm_model.specs.Asts.{completion_asts, processes_after_asts}
 use Rattle.vlm_words.specs.Dues.{one_where}
-use Rattle.vlm_store.specs.Records.{DueChanges, due_of}
+use Rattle.vlm_store.specs.Records.{DueChanges}
 use Rattle.vlm_locks.specs.Owing.{completions_queued}
 use Rattle.vlm_locks.proofs.Found.{process_still, process_there}
-use Rattle.vlm_locks.proofs.Owing.{blocking_fits, changes_then, due_before, ended_owed, notices_twice, one_from, same_process}
+use Rattle.vlm_locks.proofs.Owing.{blocking_fits, changes_then, due_before, ended_owed, notices_twice, one_from}
 use Rattle.vlm_locks.proofs.releases.end_with_status.Goals as goal
 
 pub end-requires : goal.end-requires
@@ -35,21 +35,23 @@ forgive-requires-clause-there c =
     c.requires.located.owner)
 
 pub forgive-requires-clause-owed : goal.forgive-requires-clause-owed
-forgive-requires-clause-owed c pid is =
+forgive-requires-clause-owed c =
     let f = c.args.located.now in
     let queued : DueChanges f.row.pid (λ due. due - completions_queued false c.args.request.now) c.args.store.now c.complete.new.store =
     changes_then f.row.pid (λ due. due - completions_queued false c.args.request.now) c.args.store.now c.end.new.store c.complete.new.store
     c.end.ensures.dues c.complete.ensures.owed in
-    subst (λ p. c.from.result ≤ due_of p c.complete.new.store)
-    (same_process c.args.store.now c.complete.new.store c.law_records_are_sound.ensures
-    (notices_twice c.args.store.now c.end.new.store c.complete.new.store c.end.ensures.only_notices c.complete.ensures.only_notices)
-    c.args.located.now.owner f.row.pid pid
-    c.requires.located.owner is)
-    (omega (
-      arith,
-      c.from.ensures ∙ one_from c.is_some.result ∙ ap one_where c.is_some.ensures,
-      blocking_fits f.row c.args.request.now c.requires.wants c.args.store.now c.complete.new.store c.requires.owed queued,
-    ))
+    record {
+      pid = f.row.pid;
+      process =
+          process_still c.args.store.now c.complete.new.store f.owner f.row.pid
+          (notices_twice c.args.store.now c.end.new.store c.complete.new.store c.end.ensures.only_notices c.complete.ensures.only_notices)
+          c.requires.located.owner;
+      due = omega (
+        arith,
+        c.from.ensures ∙ one_from c.is_some.result ∙ ap one_where c.is_some.ensures,
+        blocking_fits f.row c.args.request.now c.requires.wants c.args.store.now c.complete.new.store c.requires.owed queued,
+      );
+    }
 
 pub returns-clause-statuses : goal.returns-clause-statuses
 returns-clause-statuses c =

@@ -1,4 +1,4 @@
-use Rattle.vlm_store.specs.Records.{Records}
+use Rattle.vlm_store.specs.Records.{IsSound, Records}
 use Rattle.vlm_locks.specs.Rest.{OtherLocksStay}
 use Rattle.vlm_locks.proofs.OtherLocks.{block_alone}
 use Rattle.std.proofs.Common.{is_some, refl, sym, ap, ◌∙◌, subst}
@@ -17,7 +17,7 @@ returns-then-not-writes-clause-left c =
     let w = c.args.withdrawal.now in
     let nothing = or_parts (is_some w.value) w.invalidates (sym c.writes.ensures ∙ c.if-not-writes.true) in
     record {
-      made = left_unwritten c.args.store.now c.law_records_are_sound.ensures c.args.located.now c.requires.located (plain_withdrawal w) nothing.0 nothing.1 c.requires.rest;
+      made = left_unwritten c.args.store.now c.requires.located.sound c.args.located.now c.requires.located (plain_withdrawal w) nothing.0 nothing.1 c.requires.rest;
       locks = λ place. refl;
       own_locks = refl;
     }
@@ -30,22 +30,22 @@ returns-then-may_write-clause-left c =
     let w = plain_withdrawal c.args.withdrawal.now in
     record {
       made =
-          subst (IsChange f.res (resource_after_writer w) s) (sym c.set_value_block.ensures)
-          (left_block s c.law_records_are_sound.ensures f c.requires.located w c.resource_record.result.now.value_block c.block_after_writer.result c.requires.named (sym c.may_write.ensures ∙ c.if-may_write.true) c.requires.rest
+          subst (IsChange f.res (resource_after_writer w) s) (sym c.set_value_block.ensures.written)
+          (left_block s c.requires.located.sound f c.requires.located w c.resource_record.result.now.value_block c.block_after_writer.result c.requires.named (sym c.may_write.ensures ∙ c.if-may_write.true) (subst IsSound c.set_value_block.ensures.written c.set_value_block.ensures.sound.after) c.requires.rest
           c.resource_record.ensures.value_block c.block_after_writer.ensures);
-      locks = subst (OtherLocksStay f.lock s) (sym c.set_value_block.ensures) (block_alone f.lock f.res c.block_after_writer.result s);
-      own_locks = ap (λ (x : Records). x.processes) c.set_value_block.ensures;
+      locks = subst (OtherLocksStay f.lock s) (sym c.set_value_block.ensures.written) (block_alone f.lock f.res c.block_after_writer.result s);
+      own_locks = ap (λ (x : Records). x.processes) c.set_value_block.ensures.written;
     }
 
 pub returns-then-may_write-clause-located : goal.returns-then-may_write-clause-located
 returns-then-may_write-clause-located c =
     let f = c.args.located.now in
-    subst (IsLocated f) (sym c.set_value_block.ensures) (stands_left c.args.store.now c.law_records_are_sound.ensures f c.requires.located c.block_after_writer.result)
+    subst (IsLocated f) (sym c.set_value_block.ensures.written) (stands_left c.args.store.now c.requires.located.sound f c.requires.located c.block_after_writer.result (subst IsSound c.set_value_block.ensures.written c.set_value_block.ensures.sound.after))
 
 -- what may not write leaves nothing
 pub returns-else-may_write-clause-left : goal.returns-else-may_write-clause-left
 returns-else-may_write-clause-left c = record {
-  made = left_nothing c.args.store.now c.law_records_are_sound.ensures c.args.located.now c.requires.located (plain_withdrawal c.args.withdrawal.now) c.requires.named (sym c.may_write.ensures ∙ c.if-may_write.false) c.requires.rest;
+  made = left_nothing c.args.store.now c.requires.located.sound c.args.located.now c.requires.located (plain_withdrawal c.args.withdrawal.now) c.requires.named (sym c.may_write.ensures ∙ c.if-may_write.false) c.requires.rest;
   locks = λ place. refl;
   own_locks = refl;
 }
@@ -53,4 +53,4 @@ returns-else-may_write-clause-left c = record {
 -- it leaves the locks as they are
 pub returns-then-may_write-clause-weighs : goal.returns-then-may_write-clause-weighs
 returns-then-may_write-clause-weighs c measure =
-    rw c.set_value_block.ensures (weighs_valued c.args.store.now c.law_records_are_sound.ensures c.args.located.now.res c.block_after_writer.result measure)
+    rw c.set_value_block.ensures.written (weighs_valued c.args.store.now c.requires.located.sound c.args.located.now.res c.block_after_writer.result measure)

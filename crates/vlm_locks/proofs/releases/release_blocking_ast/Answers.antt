@@ -1,9 +1,9 @@
-use Rattle.std.proofs.Common.{◌≤◌, ◌-◌, sym, ap, ◌∙◌, subst, arith}
+use Rattle.std.proofs.Common.{◌-◌, sym, ap, ◌∙◌, subst, arith}
 use Rattle.vlm_words.specs.Dues.{one_where}
-use Rattle.vlm_store.specs.Records.{DueChanges, due_of}
+use Rattle.vlm_store.specs.Records.{DueChanges}
 use Rattle.vlm_locks.specs.Owing.{OwedMoves, left_row, row_after_end}
 use Rattle.vlm_locks.proofs.Found.{process_there}
-use Rattle.vlm_locks.proofs.Owing.{one_from, one_process, spared_owed}
+use Rattle.vlm_locks.proofs.Owing.{one_from, spared_owed}
 use Rattle.vlm_locks.proofs.releases.release_blocking_ast.Goals as goal
 
 pub forgive-requires-clause-there : goal.forgive-requires-clause-there
@@ -12,11 +12,11 @@ forgive-requires-clause-there c =
     c.requires.located.owner
 
 pub forgive-requires-clause-owed : goal.forgive-requires-clause-owed
-forgive-requires-clause-owed c pid is =
-    subst (λ p. c.from.result ≤ due_of p c.args.store.now)
-    (one_process c.args.store.now c.law_records_are_sound.ensures c.args.located.now.owner c.args.located.now.row.pid pid
-    c.requires.located.owner is)
-    (omega (arith, c.from.ensures ∙ one_from c.is_armed.result, ap one_where c.is_armed.ensures, c.requires.owed))
+forgive-requires-clause-owed c = record {
+  pid = c.args.located.now.row.pid;
+  process = c.requires.located.owner;
+  due = omega (arith, c.from.ensures ∙ one_from c.is_armed.result, ap one_where c.is_armed.ensures, c.requires.owed);
+}
 
 pub returns-clause-owed : goal.returns-clause-owed
 returns-clause-owed c =

@@ -1,12 +1,13 @@
 use Rattle.vlm_locks.specs.Rest.{OtherLocksStay}
 use Rattle.vlm_locks.proofs.OtherLocks.{removed_alone}
-use Rattle.std.proofs.Common.{sym, subst, ap}
+use Rattle.std.proofs.Common.{sym, subst, ap, map}
 use Rattle.vlm_model.specs.Withdrawals.{resource_without}
 use Rattle.vlm_locks.specs.Withdrawing.{IsChange}
-use Rattle.vlm_store.specs.Records.{Records, without_stored_lock}
+use Rattle.vlm_store.specs.Records.{Records, but_notices, without_stored_lock}
 use Rattle.vlm_locks.proofs.Changed.{changed_room}
 use Rattle.vlm_locks.proofs.Owing.{weighs_gone}
 use Rattle.vlm_locks.proofs.Stood.{stored}
+use Rattle.vlm_locks.proofs.Sound.{sound_alike}
 use Rattle.vlm_locks.proofs.Withdrawn.{removed}
 use Rattle.vlm_locks.proofs.releases.remove.Goals as goal
 
@@ -23,7 +24,10 @@ returns-clause-done c =
     record {
       made =
           subst (IsChange f.res (resource_without f.row.lkid) s) (sym c.remove_lock.ensures.removed)
-          (changed_room f.res (resource_without f.row.lkid) s (without_stored_lock f.lock s) _ (removed s c.law_records_are_sound.ensures f c.requires.located c.requires.rest));
+          (changed_room f.res (resource_without f.row.lkid) s (without_stored_lock f.lock s) _ (removed s c.requires.located.sound f c.requires.located
+          (sound_alike c.remove_lock.new.self (without_stored_lock f.lock s) (ap (λ (x : Records). x.resources) (sym c.remove_lock.ensures.removed))
+          (ap (λ (x : Records). map but_notices x.processes) (sym c.remove_lock.ensures.removed)) c.remove_lock.ensures.sound.after)
+          c.requires.rest));
       locks = subst (OtherLocksStay f.lock s) (sym c.remove_lock.ensures.removed) (removed_alone f.lock _ s);
       own_locks = ap (λ (x : Records). x.processes) c.remove_lock.ensures.removed;
     }
@@ -33,5 +37,5 @@ pub returns-clause-loses : goal.returns-clause-loses
 returns-clause-loses c =
     let s = c.args.store.now in
     let f = c.args.located.now in
-    weighs_gone s c.law_records_are_sound.ensures f.lock f.row (stored s f c.requires.located) c.remove_lock.new.self
+    weighs_gone s c.requires.located.sound f.lock f.row (stored s f c.requires.located) c.remove_lock.new.self
     (ap (λ (x : Records). x.resources) c.remove_lock.ensures.removed)

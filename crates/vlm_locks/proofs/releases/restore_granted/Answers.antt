@@ -25,7 +25,7 @@ move_lock-requires-clause-lock c =
 abbrev pub moved : (c : goal.After-move_lock) → c.move_lock.new.self ≡ with_lists (moving (Queued c.args.located.now.res Granted) (record { at = c.args.located.now.lock; row = row_after_cancel c.args.located.now.row })) c.args.store.now
 moved c =
     let f = c.args.located.now in
-    c.move_lock.ensures
+    c.move_lock.ensures.moved
     ∙ ap (λ (x : LockRow). with_lists (moving (Queued f.res Granted) (record { at = f.lock; row = x })) c.args.store.now) c.without_want.ensures
 
 -- the lock alone is moved
@@ -34,7 +34,7 @@ returns-clause-done c =
     let s = c.args.store.now in
     let f = c.args.located.now in
     record {
-      made = cancelled_conversion s c.law_records_are_sound.ensures f c.requires.located c.requires.converting c.requires.rest c.move_lock.new.self (moved c);
+      made = cancelled_conversion s c.requires.located.sound f c.requires.located c.requires.converting c.requires.rest c.move_lock.new.self c.move_lock.ensures.sound.after (moved c);
       locks = subst (OtherLocksStay f.lock s) (sym (moved c)) (moved_alone (Queued f.res Granted) (record { at = f.lock; row = row_after_cancel f.row }) s);
       own_locks = ap (λ (x : Records). x.processes) (moved c);
     }
@@ -45,4 +45,4 @@ returns-clause-due c =
     let s = c.args.store.now in
     let f = c.args.located.now in
     subst (DueMoves f.row (row_after_cancel f.row) s) (sym (moved c))
-    (due_moved s c.law_records_are_sound.ensures f.lock f.row (row_after_cancel f.row) f.res Granted (stored s f c.requires.located) (subst IsSome (sym c.requires.located.found) refl))
+    (due_moved s c.requires.located.sound f.lock f.row (row_after_cancel f.row) f.res Granted (stored s f c.requires.located) (subst IsSome (sym c.requires.located.found) refl))

@@ -122,4 +122,4 @@ returns-else-withdrawal c = record {
 pub end_notices-requires-clause-owed : goal.end_notices-requires-clause-owed
 end_notices-requires-clause-owed c =
     let f = c.args.located.now in
-    due_fits c.args.store.now c.law_records_are_sound.ensures c.requires.paid f.lock f.row (stored c.args.store.now f c.requires.located)
+    due_fits c.args.store.now c.requires.located.sound c.requires.paid f.lock f.row (stored c.args.store.now f c.requires.located)

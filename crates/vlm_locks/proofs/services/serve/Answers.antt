@@ -11,8 +11,8 @@ pub returns-then-nothing_queued-clause-served : goal.returns-then-nothing_queued
 returns-then-nothing_queued-clause-served c =
     let res = c.args.res in
     let s = c.args.store.now in
-    let sound = c.law_records_are_sound.ensures in
-    let nothing = subst (λ b. IfSome (resource_at res s.resources) (λ r. b ≡ nothing_queued (plain_resource r))) c.if-nothing_queued.true c.nothing_queued.ensures in
+    let sound = c.nothing_queued.ensures.sound in
+    let nothing = subst (λ b. IfSome (resource_at res s.resources) (λ r. b ≡ nothing_queued (plain_resource r))) c.if-nothing_queued.true c.nothing_queued.ensures.nothing in
     served res s s s (none_granted res s sound c.requires.there nothing) (none_blocks res s sound c.requires.there nothing)
 
 pub returns-clause-served : goal.returns-clause-served

@@ -3,7 +3,7 @@ use Rattle.vlm_locks.proofs.Owing.{due_fits, paid_granted}
 use Rattle.vlm_locks.proofs.services.serve_queue.Goals as goal
 
 pub loop-lock-init : goal.loop-lock-init
-loop-lock-init c = (serving_begun c.args.queue c.args.res c.args.value_block.now c.args.store.now c.law_records_are_sound.ensures c.requires.there, c.requires.paid)
+loop-lock-init c = (serving_begun c.args.queue c.args.res c.args.value_block.now c.args.store.now c.requires.sound c.requires.there, c.requires.paid)
 
 pub loop-lock-smaller : goal.loop-lock-smaller
 loop-lock-smaller c =

@@ -10,7 +10,7 @@ use Rattle.vlm_locks.proofs.sweeps.sweep.Goals as goal
 
 pub loop-touch-init : goal.loop-touch-init
 loop-touch-init c =
-    (sweeping_begun (touched_handles c.args.touches.now) c.args.store.now c.law_records_are_sound.ensures c.requires.in_order c.requires.settled c.requires.rest, c.requires.paid)
+    (sweeping_begun (touched_handles c.args.touches.now) c.args.store.now c.requires.in_order c.requires.settled c.requires.rest, c.requires.paid)
 
 pub sweep_one-requires-clause-there : goal.sweep_one-requires-clause-there
 sweep_one-requires-clause-there c =
@@ -26,7 +26,7 @@ loop-touch-preserved c =
     let swept : (was : Parted c.touch-item.result.at c.loop-touch.store.resources) → IsSwept c.touch-item.result.at c.loop-touch.store c.sweep_one.new.store was =
     subst (λ res. (was : Parted res c.loop-touch.store.resources) → IsSwept res c.loop-touch.store c.sweep_one.new.store was) c.res.ensures c.sweep_one.ensures.swept in (
       sweeping_next touched c.touch-item.result.at (drop (c.loop-touch.touch-index + 1) touched) c.args.store.now c.loop-touch.store c.sweep_one.new.store so_far
-          (swept so_far.left.0) c.law_a_sweep_touches_only_what_is_not_settled.ensures.next (is_touched_at touched c.loop-touch.touch-index c.touch-item.result.at at.0 at.1) c.law_records_are_sound.ensures c.requires.rest,
+          (swept so_far.left.0) c.law_a_sweep_touches_only_what_is_not_settled.ensures.next (is_touched_at touched c.loop-touch.touch-index c.touch-item.result.at at.0 at.1) c.sweep_one.ensures.sound c.requires.rest,
       c.sweep_one.ensures.paid,
     )
 

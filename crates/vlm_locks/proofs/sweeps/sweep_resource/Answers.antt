@@ -9,10 +9,9 @@ is_swept : (c : After-sweep_one) → IsSweeping (c.args.res ∷ []) [] c.args.st
 is_swept c =
     let res = c.args.res in
     let s = c.args.store.now in
-    let sound = c.law_records_are_sound.ensures in
-    let begun = sweeping_begun (res ∷ []) s sound (one_in_order res s c.requires.there) c.requires.settled c.requires.rest in
+    let begun = sweeping_begun (res ∷ []) s (one_in_order res s c.requires.there) c.requires.settled c.requires.rest in
     sweeping_next (res ∷ []) res [] s s c.sweep_one.new.store begun (c.sweep_one.ensures.swept begun.left.0) c.law_a_sweep_touches_only_what_is_not_settled.ensures.next
-    (rw (eq-eqb res res refl) refl) sound c.requires.rest
+    (rw (eq-eqb res res refl) refl) c.sweep_one.ensures.sound c.requires.rest
 
 pub returns-clause-resources : goal.returns-clause-resources
 returns-clause-resources c = swept_resources (c.args.res ∷ []) c.args.store.now c.sweep_one.new.store (is_swept c) c.law_a_sweep_touches_only_what_is_not_settled.ensures.done

@@ -1,7 +1,5 @@
-use Rattle.std.proofs.Common.{◌≤◌, ◌<◌, subst, arith}
-use Rattle.vlm_store.specs.Records.{due_of}
+use Rattle.std.proofs.Common.{arith}
 use Rattle.vlm_locks.proofs.Found.{process_there}
-use Rattle.vlm_locks.proofs.Owing.{one_process}
 use Rattle.vlm_locks.proofs.Warned.{warned_owed, warning_fits}
 use Rattle.vlm_locks.proofs.warnings.queue_warning.Goals as goal
 
@@ -11,10 +9,11 @@ pub forgive-requires-clause-there : goal.forgive-requires-clause-there
 forgive-requires-clause-there c = process_there c.args.store.now c.args.at c.args.row.now.pid c.requires.process
 
 pub forgive-requires-clause-owed : goal.forgive-requires-clause-owed
-forgive-requires-clause-owed c pid is =
-    subst (λ p. 1 ≤ due_of p c.args.store.now)
-    (one_process c.args.store.now c.law_records_are_sound.ensures c.args.at c.args.row.now.pid pid c.requires.process is)
-    (warning_fits c.args.row.now c.args.store.now c.requires.armed c.requires.owed)
+forgive-requires-clause-owed c = record {
+  pid = c.args.row.now.pid;
+  process = c.requires.process;
+  due = warning_fits c.args.row.now c.args.store.now c.requires.armed c.requires.owed;
+}
 
 pub returns-in_default-clause-owed : goal.returns-in_default-clause-owed
 returns-in_default-clause-owed c =
@@ -26,10 +25,11 @@ pub forgive-requires-in_default-blocking-clause-there : goal.forgive-requires-in
 forgive-requires-in_default-blocking-clause-there c = process_there c.args.store.now c.args.at c.args.row.now.pid c.requires.process
 
 pub forgive-requires-in_default-blocking-clause-owed : goal.forgive-requires-in_default-blocking-clause-owed
-forgive-requires-in_default-blocking-clause-owed c pid is =
-    subst (λ p. 1 ≤ due_of p c.args.store.now)
-    (one_process c.args.store.now c.law_records_are_sound.ensures c.args.at c.args.row.now.pid pid c.requires.process is)
-    (warning_fits c.args.row.now c.args.store.now c.requires.armed c.requires.owed)
+forgive-requires-in_default-blocking-clause-owed c = record {
+  pid = c.args.row.now.pid;
+  process = c.requires.process;
+  due = warning_fits c.args.row.now c.args.store.now c.requires.armed c.requires.owed;
+}
 
 pub returns-in_default-blocking-clause-owed : goal.returns-in_default-blocking-clause-owed
 returns-in_default-blocking-clause-owed c =
@@ -42,10 +42,11 @@ pub queue_ast-requires-clause-there : goal.queue_ast-requires-clause-there
 queue_ast-requires-clause-there c = process_there c.args.store.now c.args.at c.args.row.now.pid c.requires.process
 
 pub queue_ast-requires-clause-owed : goal.queue_ast-requires-clause-owed
-queue_ast-requires-clause-owed c pid is =
-    subst (λ p. 0 < due_of p c.args.store.now)
-    (one_process c.args.store.now c.law_records_are_sound.ensures c.args.at c.args.row.now.pid pid c.requires.process is)
-    (omega (arith, warning_fits c.args.row.now c.args.store.now c.requires.armed c.requires.owed))
+queue_ast-requires-clause-owed c = record {
+  pid = c.args.row.now.pid;
+  process = c.requires.process;
+  due = omega (arith, warning_fits c.args.row.now c.args.store.now c.requires.armed c.requires.owed);
+}
 
 pub returns-clause-owed : goal.returns-clause-owed
 returns-clause-owed c =

@@ -1,19 +1,15 @@
-use Rattle.std.proofs.Common.{◌≤◌, ◌-◌, refl}
+use Rattle.std.proofs.Common.{◌-◌, refl}
 use Rattle.vlm_store.specs.Records.{owed_less}
-use Rattle.vlm_procs.proofs.Written.{notices_alone, owed_changes, owed_here, plain_stay}
+use Rattle.vlm_procs.proofs.Written.{notices_alone, owed_changes, plain_stay}
 use Rattle.vlm_procs.proofs.asts.forgive.Goals as goal
 
-pub forgive-requires-clause-owed : goal.forgive-requires-clause-owed
-forgive-requires-clause-owed c =
-    owed_here (λ due. c.args.count ≤ due) c.args.store.now c.args.at c.law_records_are_sound.ensures c.requires.there c.requires.owed
-
 pub returns-clause-processes : goal.returns-clause-processes
-returns-clause-processes c = rw c.forgive.ensures (plain_stay c.args.store.now c.args.at (owed_less c.args.count) (λ p. refl))
+returns-clause-processes c = rw c.forgive.ensures.forgiven (plain_stay c.args.store.now c.args.at (owed_less c.args.count) (λ p. refl))
 
 pub returns-clause-owed : goal.returns-clause-owed
 returns-clause-owed c pid is =
-    rw c.forgive.ensures
-    (owed_changes (owed_less c.args.count) (λ due. due - c.args.count) (λ x. refl) (λ x. refl) c.args.store.now c.args.at pid c.law_records_are_sound.ensures is)
+    rw c.forgive.ensures.forgiven
+    (owed_changes (owed_less c.args.count) (λ due. due - c.args.count) (λ x. refl) (λ x. refl) c.args.store.now c.args.at pid c.forgive.ensures.sound is)
 
 pub returns-clause-only_notices : goal.returns-clause-only_notices
-returns-clause-only_notices c = rw c.forgive.ensures (notices_alone c.args.store.now c.args.at (owed_less c.args.count) (λ p. refl))
+returns-clause-only_notices c = rw c.forgive.ensures.forgiven (notices_alone c.args.store.now c.args.at (owed_less c.args.count) (λ p. refl))

@@ -18,7 +18,7 @@ returns-clause-owed c =
     let s = c.args.store.now in
     on_ok_weaker c.owe.result
     (λ (is : c.owe.new.self ≡ record s { processes = on_stored c.args.at (owed_more c.args.count) s.processes }). let P : Records → Type 0 = λ t. (pid : ℕ) → IsProcess c.args.at pid s → DueChanges pid (λ due. due + c.args.count) s t in
-    subst P (sym is) (λ pid is_it. owed_changes (owed_more c.args.count) (λ due. due + c.args.count) (λ x. refl) (λ x. refl) s c.args.at pid c.law_records_are_sound.ensures is_it))
+    subst P (sym is) (λ pid is_it. owed_changes (owed_more c.args.count) (λ due. due + c.args.count) (λ x. refl) (λ x. refl) s c.args.at pid c.owe.ensures.sound is_it))
     c.owe.ensures.owed
 
 pub returns-clause-only_notices : goal.returns-clause-only_notices

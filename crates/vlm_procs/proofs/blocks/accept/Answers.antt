@@ -8,13 +8,13 @@ use Rattle.vlm_procs.proofs.blocks.accept.Goals as goal
 
 pub returns-clause-written : goal.returns-clause-written
 unfolding processes_after_acceptance
-returns-clause-written c pid is = rw c.set_request.ensures (changed_block c.args.store.now c.args.at pid c.args.number (requested 0 c.args.lkid) c.law_records_are_sound.ensures is)
+returns-clause-written c pid is = rw c.set_request.ensures.written (changed_block c.args.store.now c.args.at pid c.args.number (requested 0 c.args.lkid) c.set_request.ensures.sound is)
 
 pub returns-clause-dues : goal.returns-clause-dues
 returns-clause-dues c =
-    rw c.set_request.ensures
+    rw c.set_request.ensures.written
     (dues-on_stored c.args.at (changed_process (with_changed_block c.args.number (requested 0 c.args.lkid))) (λ x. refl) (λ x. refl) c.args.store.now)
 
 pub returns-clause-only_notices : goal.returns-clause-only_notices
 returns-clause-only_notices c =
-    rw c.set_request.ensures (notices_alone c.args.store.now c.args.at (changed_process (with_changed_block c.args.number (requested 0 c.args.lkid))) (λ p. refl))
+    rw c.set_request.ensures.written (notices_alone c.args.store.now c.args.at (changed_process (with_changed_block c.args.number (requested 0 c.args.lkid))) (λ p. refl))

@@ -1,5 +1,5 @@
 use Rattle.std.proofs.Common.{rules}
 use Rattle.vlm_queue.proofs.queues.is_empty.Goals as goal
 
-pub returns : goal.returns
-returns c = search rules
+pub returns-clause-empty : goal.returns-clause-empty
+returns-clause-empty c = search rules

@@ -10,7 +10,7 @@ next_resource-at-requires c =
 
 pub loop-preserved : goal.loop-preserved
 loop-preserved c =
-    c.next_resource-at.ensures
+    c.next_resource-at.ensures.next
     ∙ simp unary_clauses (resource_after-index c.loop.counter c.args.store.now.resources c.in-Some.res c.first_resource-at.ensures.sound.resources_apart (sym c.loop.invariant ∙ c.in-Some.is))
 
 pub returns-clause-there : goal.returns-clause-there

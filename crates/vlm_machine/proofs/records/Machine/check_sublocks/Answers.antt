@@ -1,6 +1,6 @@
 use Rattle.std.proofs.Common.{sym, ap, ◌∙◌, subst}
 use Rattle.vlm_store.specs.Plain.{plain_resources}
-use Rattle.vlm_store.specs.Records.{HasNoSublocks, IsSound, IsStored}
+use Rattle.vlm_store.specs.Records.{HasNoSublocks, IsStored}
 use Rattle.vlm_locks.specs.Withdrawing.{goes}
 use Rattle.vlm_locks.proofs.Stood.{stored}
 use Rattle.vlm_machine.specs.Machine.{MachineState}
@@ -16,14 +16,14 @@ has_sublocks-requires c =
 pub returns-then-has_sublocks-clause-refusal : goal.returns-then-has_sublocks-clause-refusal
 returns-then-has_sublocks-clause-refusal c =
     let f = c.args.located.now in
-    sublocks_refused c.args.self.now (rw (← c.self.view_is) c.law_records_are_sound.ensures) f c.requires.located c.args.cancels c.if-not-cancels.true
+    sublocks_refused c.args.self.now c.requires.located.sound f c.requires.located c.args.cancels c.if-not-cancels.true
     (λ none. c.if-has_sublocks.ensures.some (subst (λ (k : MachineState). HasNoSublocks f.lock k.records) (sym c.self.view_is) none))
 
 pub returns-else-not-cancels-clause-refusal : goal.returns-else-not-cancels-clause-refusal
 returns-else-not-cancels-clause-refusal c =
     let m = c.args.self.now in
     let f = c.args.located.now in
-    let sound : IsSound m.records = rw (← c.self.view_is) c.law_records_are_sound.ensures in
+    let sound = c.requires.located.sound in
     elim c.else-not-cancels.branch [
       | else-not-cancels-via-then-not-cancels+else-has_sublocks w ↦
           sublocks_pass m sound f c.requires.located c.args.cancels c.requires.between.identifications.none_is_0
@@ -37,7 +37,7 @@ pub returns-else-not-cancels-clause-childless : goal.returns-else-not-cancels-cl
 returns-else-not-cancels-clause-childless c =
     let m = c.args.self.now in
     let f = c.args.located.now in
-    let sound : IsSound m.records = rw (← c.self.view_is) c.law_records_are_sound.ensures in
+    let sound = c.requires.located.sound in
     elim c.else-not-cancels.branch [
       | else-not-cancels-via-then-not-cancels+else-has_sublocks w ↦
           λ _. subst (λ (k : MachineState). HasNoSublocks f.lock k.records) c.self.view_is w.if-has_sublocks.ensures.none

@@ -19,6 +19,6 @@ invariant_of-self c = record {
 pub invariant_of-self-2 : goal.invariant_of-self-2
 invariant_of-self-2 c =
     record {
-      rest = rests_declared c.self.inside.store c.add_process.new.self _ c.in_ok-add_process.field-0 c.next_pid-pid.result c.args.declaration.now c.in_ok-add_process.ensures.added c.self.invariant.rest;
+      rest = rests_declared c.self.inside.store c.add_process.new.self _ c.in_ok-add_process.field-0 c.next_pid-pid.result c.args.declaration.now c.in_ok-add_process.ensures.added c.in_ok-add_process.ensures.sound.after c.self.invariant.rest;
       paid = paid_declared c.self.inside.store c.add_process.new.self _ c.in_ok-add_process.field-0 c.next_pid-pid.result c.args.declaration.now c.in_ok-add_process.ensures.added c.self.invariant.paid;
     }

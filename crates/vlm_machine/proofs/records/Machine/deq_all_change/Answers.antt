@@ -12,14 +12,14 @@ use Rattle.vlm_machine.proofs.records.Machine.deq_all_change.Goals as goal
 pub give_up_together-requires-clause-can_end : goal.give_up_together-requires-clause-can_end
 give_up_together-requires-clause-can_end c =
     subst (λ (m : MachineState). CanEndProcesses c.args.touched.now m.records) (sym c.self.view_is)
-    (can_end c.args.self.now c.args.touched.now (rw (← c.self.view_is) c.law_records_are_sound.ensures) (rw (← c.self.view_is) c.self.invariant.rest)
+    (can_end c.args.self.now c.args.touched.now (rw (← c.self.view_is) c.self.invariant.rest)
     (rw (← c.self.view_is) c.self.invariant.paid) c.requires.between c.requires.notes)
 
 -- with a chosen lock its sublocks are chosen
 pub give_up_together-requires-clause-closed : goal.give_up_together-requires-clause-closed
 give_up_together-requires-clause-closed c =
     subst (λ (m : MachineState). SublocksGoToo c.args.choice m.records) (sym c.self.view_is)
-    (sublocks_go_too c.args.self.now (rw (← c.self.view_is) c.law_records_are_sound.ensures) (rw (← c.self.view_is) c.self.invariant.rest) c.requires.between
+    (sublocks_go_too c.args.self.now (rw (← c.self.view_is) c.self.invariant.rest.sound) (rw (← c.self.view_is) c.self.invariant.rest) c.requires.between
     c.args.choice c.args.checked.now.caller.pid c.requires.own)
 
 pub returns-clause-change : goal.returns-clause-change
@@ -31,7 +31,7 @@ returns-clause-change c =
     let nothing = gives_nothing d c.requires.all checked.fitting in
     let invalidates = c.has-invalidates.ensures ∙ ap (λ bits. has_flag bits invvalblk) checked.flags in
     ap (λ (m : MachineState). plain_state (record m { records = new.store })) c.self.view_is
-    ∙ state_given_up c.args.self.now (rw (← c.self.view_is) c.law_records_are_sound.ensures) (rw (← c.self.view_is) c.self.invariant.rest) c.requires.between d c.requires.all
+    ∙ state_given_up c.args.self.now (rw (← c.self.view_is) c.self.invariant.rest.sound) (rw (← c.self.view_is) c.self.invariant.rest) c.requires.between d c.requires.all
     (cancels_nothing d c.requires.all checked.fitting) nothing.0 nothing.1 choice (c.requires.choice ∙ ap scope_of checked.lkid) new.store c.args.touched.now new.touched
     (subst (λ (m : MachineState). AreGivenUp choice (has_flag d.flags invvalblk) d.pid m.records new.store c.args.touched.now new.touched) c.self.view_is
     (subst (λ pid. AreGivenUp choice (has_flag d.flags invvalblk) pid c.self.inside.store new.store c.args.touched.now new.touched) checked.pid

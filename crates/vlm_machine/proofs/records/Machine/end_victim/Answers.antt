@@ -1,7 +1,7 @@
 use Rattle.std.proofs.Common.{◌≡◌, true, sym, ap, ◌∙◌, subst}
 use Rattle.vlm_model.specs.Withdrawals.{Withdrawal}
 use Rattle.vlm_store.specs.Plain.{plain_resources}
-use Rattle.vlm_store.specs.Records.{HasNoSublocks, IsSound}
+use Rattle.vlm_store.specs.Records.{HasNoSublocks}
 use Rattle.vlm_locks.specs.Standing.{IsLocated}
 use Rattle.vlm_locks.specs.Withdrawing.{goes}
 use Rattle.vlm_machine.specs.Between.{IsBetweenSteps}
@@ -15,7 +15,7 @@ pub withdraw-requires-clause-childless : goal.withdraw-requires-clause-childless
 withdraw-requires-clause-childless c =
     let m = c.args.self.now in
     let f = c.args.located.now in
-    let sound : IsSound m.records = rw (← c.self.view_is) c.law_records_are_sound.ensures in
+    let sound = c.requires.located.sound in
     let stays : c.victim-withdrawal.result.stays ≡ true = ap (λ (w : Withdrawal). w.stays) c.victim-withdrawal.ensures in
     λ takes.
     subst (λ (k : MachineState). HasNoSublocks f.lock k.records) (sym c.self.view_is)

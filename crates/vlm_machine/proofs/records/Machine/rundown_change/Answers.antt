@@ -9,7 +9,7 @@ use Rattle.vlm_machine.proofs.records.Machine.rundown_change.Goals as goal
 pub end_process-requires-clause-can_end : goal.end_process-requires-clause-can_end
 end_process-requires-clause-can_end c =
     subst (λ (m : MachineState). CanEndProcesses c.args.touched.now m.records) (sym c.self.view_is)
-    (can_end c.args.self.now c.args.touched.now (rw (← c.self.view_is) c.law_records_are_sound.ensures) (rw (← c.self.view_is) c.self.invariant.rest)
+    (can_end c.args.self.now c.args.touched.now (rw (← c.self.view_is) c.self.invariant.rest)
     (rw (← c.self.view_is) c.self.invariant.paid) c.requires.between c.requires.notes)
 
 pub returns-clause-change : goal.returns-clause-change

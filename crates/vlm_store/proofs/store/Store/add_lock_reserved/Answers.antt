@@ -28,7 +28,7 @@ use Rattle.vlm_store.proofs.Marked.{nodes-own, own_marked, waits-own}
 use Rattle.vlm_store.proofs.Kinship.{kin_handles, kin_placed, kin_rows, kin_tallied, own_below, own_pids, own_process_linked, own_process_whole, owner-queued, parent-queued, records_processes}
 use Rattle.vlm_store.proofs.Layouts.{joining-under_handle, lists_changed_beside}
 use Rattle.vlm_store.specs.KeyIndexes.{spares_in}
-use Rattle.vlm_store.proofs.Living.{parent_within}
+use Rattle.vlm_store.proofs.Living.{is_sound, parent_within}
 use Rattle.vlm_store.proofs.store.Store.add_lock_reserved.Goals as goal
 use Rattle.vlm_store.proofs.Order.{keys_same, order_handles, order_linked, order_whole}
 
@@ -267,3 +267,6 @@ add-slot-requires-clause-within c = (has_its_room c.self.inside c.args.row.now.l
 
 pub insert-requires : goal.insert-requires
 insert-requires c = (omega arith, rw c.lkid.ensures (has_its_room c.self.inside c.args.row.now.lkid (rw (← c.self.view_is) at c.requires.room)).2)
+
+pub returns-clause-sound : goal.returns-clause-sound
+returns-clause-sound c = record { before = rw (← c.self.view_is) (is_sound c.self.inside c.self.invariant); after = is_sound _ (invariant_of-self c) }

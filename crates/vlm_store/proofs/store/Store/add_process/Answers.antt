@@ -22,7 +22,7 @@ use Rattle.vlm_store.proofs.Indexing.{table_added, table_grown}
 use Rattle.vlm_store.proofs.Kept.{on_err}
 use Rattle.vlm_store.proofs.Kinship.{processes_changed}
 use Rattle.vlm_records.proofs.Places.{there_by_part, no_list_is}
-use Rattle.vlm_store.proofs.Living.{no_process_found, process_named, process_there}
+use Rattle.vlm_store.proofs.Living.{is_sound, no_process_found, process_named, process_there}
 use Rattle.vlm_store.proofs.Marked.{added_marked, and_true, grown_marked, nodes_of_pid, nodes_same, none_written, unmarked, waits_by_order, waits_not, written_others}
 use Rattle.vlm_collections.specs.Nodes.{is_node}
 use Rattle.vlm_store.specs.Pending.{is_of_nodes, waits_in}
@@ -209,3 +209,6 @@ returns-in_err-make_room-3-clause-succeeds c has =
     let named = process_named c.self.inside c.self.invariant p.at p.process.pid (p, (beside.1.0, refl, refl)) in
     let never = c.in_err-make_room-3.ensures.succeeds p.process.pid beside.1.1 beside.1.2 (c.self.invariant.marked.room p.at p.process.pid named.1) in
     cc
+
+pub returns-clause-sound : goal.returns-clause-sound
+returns-clause-sound c = record { before = rw (← c.self.view_is) (is_sound c.self.inside c.self.invariant); after = is_sound _ (invariant_of-self-2 c) }

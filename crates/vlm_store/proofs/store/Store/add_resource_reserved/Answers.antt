@@ -1,3 +1,4 @@
+use Rattle.vlm_store.proofs.Living.{is_sound}
 use Rattle.vlm_collections.specs.Parts.{handle_in, spare_for, spares_of}
 use Rattle.vlm_store.specs.declared.store.Store.TheInside.{Inside}
 use Rattle.slab.specs.Slab.{HasRoomFor, get as slot_of}
@@ -165,3 +166,6 @@ add_resource-requires-clause-within c = (has_its_room c.self.inside c.args.hash 
 
 pub insert-requires-clause-room : goal.insert-requires-clause-room
 insert-requires-clause-room c = (has_its_room c.self.inside c.args.hash (rw (← c.self.view_is) at c.requires.room)).2
+
+pub returns-clause-sound : goal.returns-clause-sound
+returns-clause-sound c = record { before = rw (← c.self.view_is) (is_sound c.self.inside c.self.invariant); after = is_sound _ (invariant_of-self c) }

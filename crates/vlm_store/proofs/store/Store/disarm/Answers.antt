@@ -12,7 +12,7 @@ use Rattle.vlm_store.proofs.Indexing.{Indexes-same}
 use Rattle.vlm_store.proofs.Kept.{faces_same}
 use Rattle.vlm_store.proofs.Kinship.{queued_below, queued_lkids, queued_named, queued_owned, queued_processes}
 use Rattle.vlm_store.proofs.Layouts.{disarming-under_handle, lists_changed}
-use Rattle.vlm_store.proofs.Living.{lock_there}
+use Rattle.vlm_store.proofs.Living.{is_sound, lock_there}
 use Rattle.vlm_store.proofs.Order.{keys_same, order_handles, order_linked, order_whole}
 use Rattle.vlm_store.proofs.RoomShown.{queues_room}
 use Rattle.vlm_store.proofs.store.Store.disarm.Goals as goal
@@ -47,8 +47,8 @@ invariant_of-self c =
       living = kept.living;
     }
 
-pub returns : goal.returns
-returns c =
+pub returns-clause-disarmed : goal.returns-clause-disarmed
+returns-clause-disarmed c =
     let s = c.self.inside in
     let q' = c.disarm.new.self in
     let rest = c.disarm.ensures.kept.rest in
@@ -59,3 +59,6 @@ returns c =
     (order_handles but_queues (λ r. refl) s.queues.resources q'.resources rest s.order c.self.invariant.linked)
     (queued_processes s.processes s.queues.locks q'.locks c.disarm.ensures.kept.kin s.process_order c.self.invariant.owned c.self.invariant.below)
     (queues_room s q' c.disarm.ensures.kept.locks_room c.disarm.ensures.kept.resources_room) refl)
+
+pub returns-clause-sound : goal.returns-clause-sound
+returns-clause-sound c = record { before = rw (← c.self.view_is) (is_sound c.self.inside c.self.invariant); after = is_sound _ (invariant_of-self c) }

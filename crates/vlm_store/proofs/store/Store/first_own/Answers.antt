@@ -2,7 +2,7 @@ use Rattle.std.proofs.Common.{◌∙◌, ap, sym}
 use Rattle.vlm_collections.specs.Lists.{first_handle}
 use Rattle.vlm_collections.proofs.Walks.{first_handle-in}
 use Rattle.vlm_records.specs.Kin.{own_handles}
-use Rattle.vlm_store.proofs.Living.{process_there}
+use Rattle.vlm_store.proofs.Living.{is_sound, process_there}
 use Rattle.vlm_store.proofs.Siblings.{own_handles_is, own_listed}
 use Rattle.vlm_store.proofs.store.Store.first_own.Goals as goal
 
@@ -16,16 +16,22 @@ of-requires c =
     (c.self.invariant.owned.linked c.args.process).within c.in_ok-at.at
     (first_handle-in (own_handles s.processes s.queues.locks c.args.process) c.in_ok-at.at (c.in_ok-at.ensures ∙ ap first_handle listed))
 
-pub returns : goal.returns
-returns c =
+pub returns-clause-first : goal.returns-clause-first
+returns-clause-first c =
     let s = c.self.inside in
     let listed = own_listed s c.self.invariant c.args.process c.index.result.now (rw c.slot.ensures at c.index.ensures) in
     let seen = own_handles_is s c.self.invariant c.args.process (rw (← c.self.view_is) at c.requires) in
     rw (← c.self.view_is, c.of.ensures) (c.in_ok-at.ensures ∙ ap first_handle (listed ∙ sym seen))
 
-pub returns-in_err-at : goal.returns-in_err-at
-returns-in_err-at c =
+pub returns-in_err-at-clause-first : goal.returns-in_err-at-clause-first
+returns-in_err-at-clause-first c =
     let s = c.self.inside in
     let listed = own_listed s c.self.invariant c.args.process c.index.result.now (rw c.slot.ensures at c.index.ensures) in
     let seen = own_handles_is s c.self.invariant c.args.process (rw (← c.self.view_is) at c.requires) in
     rw (← c.self.view_is) (c.from_residual.ensures ∙ c.in_err-at.ensures ∙ ap first_handle (listed ∙ sym seen))
+
+pub returns-clause-sound : goal.returns-clause-sound
+returns-clause-sound c = rw (← c.self.view_is) (is_sound c.self.inside c.self.invariant)
+
+pub returns-in_err-at-clause-sound : goal.returns-in_err-at-clause-sound
+returns-in_err-at-clause-sound c = rw (← c.self.view_is) (is_sound c.self.inside c.self.invariant)

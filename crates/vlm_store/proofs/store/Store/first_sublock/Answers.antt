@@ -2,7 +2,7 @@ use Rattle.std.proofs.Common.{◌∙◌, ap, sym}
 use Rattle.vlm_collections.specs.Lists.{first_handle}
 use Rattle.vlm_collections.proofs.Walks.{first_handle-in}
 use Rattle.vlm_records.specs.Kin.{below_handles}
-use Rattle.vlm_store.proofs.Living.{lock_there}
+use Rattle.vlm_store.proofs.Living.{is_sound, lock_there}
 use Rattle.vlm_store.proofs.Siblings.{below_listed, sublocks_is}
 use Rattle.vlm_store.proofs.store.Store.first_sublock.Goals as goal
 
@@ -18,16 +18,22 @@ of-requires c =
     (c.self.invariant.below.linked c.args.lock).within c.in_ok-at.at
     (first_handle-in (below_handles s.queues.locks c.args.lock) c.in_ok-at.at (c.in_ok-at.ensures ∙ ap first_handle listed))
 
-pub returns : goal.returns
-returns c =
+pub returns-clause-first : goal.returns-clause-first
+returns-clause-first c =
     let s = c.self.inside in
     let listed = below_listed s c.self.invariant c.args.lock c.index.result.now (rw c.slot.ensures at c.index.ensures) in
     let seen = sublocks_is s c.self.invariant c.args.lock (rw (← c.self.view_is) at c.requires) in
     rw (← c.self.view_is, c.of.ensures) (c.in_ok-at.ensures ∙ ap first_handle (listed ∙ sym seen))
 
-pub returns-in_err-at : goal.returns-in_err-at
-returns-in_err-at c =
+pub returns-in_err-at-clause-first : goal.returns-in_err-at-clause-first
+returns-in_err-at-clause-first c =
     let s = c.self.inside in
     let listed = below_listed s c.self.invariant c.args.lock c.index.result.now (rw c.slot.ensures at c.index.ensures) in
     let seen = sublocks_is s c.self.invariant c.args.lock (rw (← c.self.view_is) at c.requires) in
     rw (← c.self.view_is) (c.from_residual.ensures ∙ c.in_err-at.ensures ∙ ap first_handle (listed ∙ sym seen))
+
+pub returns-clause-sound : goal.returns-clause-sound
+returns-clause-sound c = rw (← c.self.view_is) (is_sound c.self.inside c.self.invariant)
+
+pub returns-in_err-at-clause-sound : goal.returns-in_err-at-clause-sound
+returns-in_err-at-clause-sound c = rw (← c.self.view_is) (is_sound c.self.inside c.self.invariant)

@@ -1,3 +1,4 @@
+use Rattle.vlm_store.proofs.Living.{is_sound}
 use Rattle.vlm_collections.specs.Parts.{handle_in}
 use Rattle.vlm_store.specs.Index.{hash_key}
 use Rattle.vlm_store.proofs.RoomShown.{queues_room}
@@ -108,8 +109,8 @@ invariant_of-self c =
       living = kept.living;
     }
 
-pub returns : goal.returns
-returns c =
+pub returns-clause-moved : goal.returns-clause-moved
+returns-clause-moved c =
     let s = c.self.inside in
     let kept = c.self.invariant in
     let q2 = c.move_to.new.self in
@@ -148,3 +149,6 @@ move_to-requires-clause-laid_out c = record {
       let kin = wait_list_kin s.queues.locks c.leave_wait_list.new.locks c.leave_wait_list.ensures.rest in
       armed_kin which s.queues c.leave_wait_list.new.locks kin (kin_handles s.queues c.leave_wait_list.new.locks kin c.self.invariant.placed) (kin_rows s.queues c.leave_wait_list.new.locks kin) (c.self.invariant.armed which);
 }
+
+pub returns-clause-sound : goal.returns-clause-sound
+returns-clause-sound c = record { before = rw (← c.self.view_is) (is_sound c.self.inside c.self.invariant); after = is_sound _ (invariant_of-self c) }

@@ -3,7 +3,7 @@ use Rattle.std.proofs.lemmas.Option.{none-some}
 use Rattle.vlm_collections.specs.Lists.{Lists, handle_after}
 use Rattle.vlm_collections.proofs.Walks.{handle_after-in}
 use Rattle.vlm_records.specs.Kin.{own_handles, own_in, own_links, owner_in}
-use Rattle.vlm_store.proofs.Living.{lock_there}
+use Rattle.vlm_store.proofs.Living.{is_sound, lock_there}
 use Rattle.vlm_store.proofs.Siblings.{own_listed, own_of_lock}
 use Rattle.vlm_store.proofs.store.Store.next_own.Goals as goal
 
@@ -31,18 +31,24 @@ of-requires c =
     (c.self.invariant.owned.linked owner).within c.in_ok-at.at
     (handle_after-in c.args.lock (own_handles s.processes s.queues.locks owner) c.in_ok-at.at ((rw c.slot-3.ensures at c.in_ok-at.ensures) ∙ ap (handle_after c.args.lock) listed))
 
-pub returns : goal.returns
-returns c process found =
+pub returns-clause-next : goal.returns-clause-next
+returns-clause-next c process found =
     let s = c.self.inside in
     let owner = c.index.result.now.owner in
     let listed = own_listed s c.self.invariant owner c.index-2.result.now (rw c.slot-2.ensures at c.index-2.ensures) in
     let seen = own_of_lock s c.self.invariant c.args.lock owner process (ap owner_in (rw c.slot.ensures at c.index.ensures)) (rw (← c.self.view_is) at found) in
     rw (← c.self.view_is, c.of.ensures) ((rw c.slot-3.ensures at c.in_ok-at.ensures) ∙ ap (handle_after c.args.lock) (listed ∙ seen))
 
-pub returns-in_err-at : goal.returns-in_err-at
-returns-in_err-at c process found =
+pub returns-in_err-at-clause-next : goal.returns-in_err-at-clause-next
+returns-in_err-at-clause-next c process found =
     let s = c.self.inside in
     let owner = c.index.result.now.owner in
     let listed = own_listed s c.self.invariant owner c.index-2.result.now (rw c.slot-2.ensures at c.index-2.ensures) in
     let seen = own_of_lock s c.self.invariant c.args.lock owner process (ap owner_in (rw c.slot.ensures at c.index.ensures)) (rw (← c.self.view_is) at found) in
     rw (← c.self.view_is) (c.from_residual.ensures ∙ (rw c.slot-3.ensures at c.in_err-at.ensures) ∙ ap (handle_after c.args.lock) (listed ∙ seen))
+
+pub returns-clause-sound : goal.returns-clause-sound
+returns-clause-sound c = rw (← c.self.view_is) (is_sound c.self.inside c.self.invariant)
+
+pub returns-in_err-at-clause-sound : goal.returns-in_err-at-clause-sound
+returns-in_err-at-clause-sound c = rw (← c.self.view_is) (is_sound c.self.inside c.self.invariant)

@@ -1,6 +1,6 @@
 use Rattle.std.proofs.Common.{arith}
 use Rattle.std.proofs.lemmas.Result.{on_err_weaker, on_ok_weaker}
-use Rattle.vlm_store.proofs.Living.{process_there}
+use Rattle.vlm_store.proofs.Living.{is_sound, process_there}
 use Rattle.vlm_store.proofs.Rewriting.{asts_kept, owed_shown, same_shown}
 use Rattle.vlm_store.proofs.store.Store.owe.Goals as goal
 
@@ -29,3 +29,6 @@ returns-clause-refused c =
     (on_err_weaker c.owe.result
     (same_shown c.self.inside c.self.invariant c.args.at c.index_mut.result.now c.owe.new.self (rw c.slot.ensures at c.index_mut.ensures.value))
     c.owe.ensures.refused)
+
+pub returns-clause-sound : goal.returns-clause-sound
+returns-clause-sound c = rw (← c.self.view_is) (is_sound c.self.inside c.self.invariant)

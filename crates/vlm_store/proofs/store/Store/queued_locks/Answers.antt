@@ -1,3 +1,4 @@
+use Rattle.vlm_store.proofs.Living.{is_sound}
 use Rattle.std.proofs.Common.{◌∙◌, sym, ap, subst}
 use Rattle.vlm_collections.specs.Lists.{IsIn}
 use Rattle.vlm_collections.proofs.Walks.{first_handle-in}
@@ -26,3 +27,6 @@ returns-clause-all c at queued =
     let handles = wait_list_handles c.self.inside.queues.locks c.self.inside.wait_list in
     subst (IsIn at) (sym (ap (λ next. handles_on next handles) c.first.ensures ∙ on_first handles))
     (queued_listed c.self.inside c.self.invariant at (subst (IsQueued at) (sym c.self.view_is) queued))
+
+pub returns-clause-sound : goal.returns-clause-sound
+returns-clause-sound c = rw (← c.self.view_is) (is_sound c.self.inside c.self.invariant)

@@ -21,7 +21,7 @@ use Rattle.vlm_store.proofs.Marked.{nodes-own, own_marked, waits-own}
 use Rattle.vlm_store.proofs.Kinship.{below_kin, below_owned, kin_handles, kin_noted, kin_placed, kin_rows, kin_tallied, own_kin, own_pids, own_process_linked, own_process_whole, owner-below, records_processes}
 use Rattle.vlm_store.proofs.Layouts.{leaving-under_handle, lists_changed_beside}
 use Rattle.vlm_store.proofs.Leaving.{left_below, left_kin, left_lkids, left_named, left_owned, left_processes}
-use Rattle.vlm_store.proofs.Living.{childless, lock_there}
+use Rattle.vlm_store.proofs.Living.{childless, is_sound, lock_there}
 use Rattle.vlm_records.proofs.Places.{same_then, through}
 use Rattle.vlm_store.specs.KeyIndexes.{spares_in}
 use Rattle.vlm_store.proofs.store.Store.remove_lock.Goals as goal
@@ -172,3 +172,6 @@ remove-requires-clause-laid_out c = record {
       (wait_list_kin c.leave_process.new.locks c.leave_wait_list.new.locks wait_listed.rest) in
       armed_kin which s.queues c.leave_wait_list.new.locks kin (kin_handles s.queues c.leave_wait_list.new.locks kin kept.placed) (kin_rows s.queues c.leave_wait_list.new.locks kin) (kept.armed which);
 }
+
+pub returns-clause-sound : goal.returns-clause-sound
+returns-clause-sound c = record { before = rw (← c.self.view_is) (is_sound c.self.inside c.self.invariant); after = is_sound _ (invariant_of-self c) }

@@ -14,7 +14,7 @@ use Rattle.vlm_store.proofs.Declaring.{names_stay, no_own, owns_stay, pid_by_ord
 use Rattle.vlm_store.proofs.Indexing.{table_removed}
 use Rattle.vlm_store.proofs.Kinship.{processes_changed}
 use Rattle.vlm_records.proofs.Places.{there_by_part}
-use Rattle.vlm_store.proofs.Living.{held, own_is, process_listed, process_there}
+use Rattle.vlm_store.proofs.Living.{held, is_sound, own_is, process_listed, process_there}
 use Rattle.vlm_records.proofs.Making.{map-nil, whole_left}
 use Rattle.vlm_store.specs.Pending.{is_of_nodes, waits_in}
 use Rattle.vlm_store.proofs.Marked.{nodes_same, pids_apart, removed_marked, waits_by_order}
@@ -103,3 +103,6 @@ returns-clause-given_back c =
     (room_shown (λ a b. IsGivenBack a.processes b.processes) (tables s.queues s.order (beside_shown s)) (tables s.queues s.order (beside_shown s'))
     (is_given_back s.processes c.take_out.new.processes c.args.at [] [] left.given_back
     (c.self.invariant.processes_linked.within c.args.at (process_listed s c.self.invariant c.args.at (rw (← c.self.view_is) at c.requires.there))) (λ number. omega arith)))
+
+pub returns-clause-sound : goal.returns-clause-sound
+returns-clause-sound c = record { before = rw (← c.self.view_is) (is_sound c.self.inside c.self.invariant); after = is_sound _ (invariant_of-self c) }

@@ -1,3 +1,4 @@
+use Rattle.vlm_store.proofs.Living.{is_sound}
 use Rattle.vlm_collections.specs.Parts.{handle_in, spares_of}
 use Rattle.vlm_store.specs.Index.{hash_key}
 use Rattle.vlm_store.proofs.WaitListed.{wait_list_same}
@@ -85,3 +86,6 @@ returns-clause-given_back c =
     (room_shown (λ a b. IsGivenBack a.resources b.resources) (tables s.queues s.order (beside_shown s)) (tables q' s'.order (beside_shown s'))
     (is_given_back s.queues.resources q'.resources c.args.res (spares_in s.resource_index) (spares_in c.remove.new.self) gone.given_back
     (c.self.invariant.linked.within c.args.res (HasResource-order (tables s.queues s.order (beside_shown s)) c.args.res (rw (← c.self.view_is) at c.requires.there))) c.remove.ensures.room))
+
+pub returns-clause-sound : goal.returns-clause-sound
+returns-clause-sound c = record { before = rw (← c.self.view_is) (is_sound c.self.inside c.self.invariant); after = is_sound _ (invariant_of-self c) }

@@ -2,7 +2,7 @@ use Rattle.std.proofs.Common.{ap}
 use Rattle.vlm_words.specs.State.{Process as PlainProcess}
 use Rattle.vlm_records.specs.StatusBlocks.{requested, with_changed_block}
 use Rattle.vlm_store.specs.Records.{changed_process}
-use Rattle.vlm_store.proofs.Living.{process_there}
+use Rattle.vlm_store.proofs.Living.{is_sound, process_there}
 use Rattle.vlm_store.proofs.Rewriting.{changed_face, rewritten_kept, rewritten_shown}
 use Rattle.vlm_store.proofs.store.Store.set_request.Goals as goal
 
@@ -16,10 +16,13 @@ invariant_of-self c =
     (rewritten_kept c.self.inside c.self.invariant c.args.at c.index_mut.result.now c.set_request.new.self (rw c.slot.ensures at c.index_mut.ensures.value)
     put.own put.order (ap (λ (p : PlainProcess). p.pid) put.plain) (ap (λ (p : PlainProcess). p.asts) put.plain))
 
-pub returns : goal.returns
-returns c =
+pub returns-clause-written : goal.returns-clause-written
+returns-clause-written c =
     let put = c.set_request.ensures in
     rw (← c.self.view_is, c.slot.ensures)
     (rewritten_shown c.self.inside c.self.invariant c.args.at c.index_mut.result.now c.set_request.new.self (rw c.slot.ensures at c.index_mut.ensures.value)
     put.own put.order (ap (λ (p : PlainProcess). p.pid) put.plain) (changed_process (with_changed_block c.args.number (requested c.args.status c.args.lkid)))
     (changed_face (with_changed_block c.args.number (requested c.args.status c.args.lkid)) c.index_mut.result.now c.set_request.new.self put.plain put.due c.args.at))
+
+pub returns-clause-sound : goal.returns-clause-sound
+returns-clause-sound c = rw (← c.self.view_is) (is_sound c.self.inside c.self.invariant)

@@ -2,7 +2,7 @@ use Rattle.std.proofs.Common.{ap}
 use Rattle.vlm_words.specs.State.{Process as PlainProcess}
 use Rattle.vlm_words.specs.Processes.{process_with_block}
 use Rattle.vlm_store.specs.Records.{changed_process}
-use Rattle.vlm_store.proofs.Living.{process_there}
+use Rattle.vlm_store.proofs.Living.{is_sound, process_there}
 use Rattle.vlm_store.proofs.Rewriting.{changed_face, rewritten_kept, rewritten_shown}
 use Rattle.vlm_store.proofs.store.Store.set_status_block.Goals as goal
 
@@ -16,10 +16,13 @@ invariant_of-self c =
     (rewritten_kept c.self.inside c.self.invariant c.args.at c.index_mut.result.now c.put_status_block.new.self (rw c.slot.ensures at c.index_mut.ensures.value)
     put.own put.order (ap (λ (p : PlainProcess). p.pid) put.plain) (ap (λ (p : PlainProcess). p.asts) put.plain))
 
-pub returns : goal.returns
-returns c =
+pub returns-clause-written : goal.returns-clause-written
+returns-clause-written c =
     let put = c.put_status_block.ensures in
     rw (← c.self.view_is, c.slot.ensures)
     (rewritten_shown c.self.inside c.self.invariant c.args.at c.index_mut.result.now c.put_status_block.new.self (rw c.slot.ensures at c.index_mut.ensures.value)
     put.own put.order (ap (λ (p : PlainProcess). p.pid) put.plain) (changed_process (process_with_block c.args.number c.args.block))
     (changed_face (process_with_block c.args.number c.args.block) c.index_mut.result.now c.put_status_block.new.self put.plain put.due c.args.at))
+
+pub returns-clause-sound : goal.returns-clause-sound
+returns-clause-sound c = rw (← c.self.view_is) (is_sound c.self.inside c.self.invariant)

@@ -1,3 +1,4 @@
+use Rattle.vlm_store.proofs.Living.{is_sound}
 use Rattle.vlm_collections.specs.Parts.{handle_in}
 use Rattle.vlm_store.specs.Index.{hash_key}
 use Rattle.vlm_store.proofs.WaitListed.{wait_list_same}
@@ -50,8 +51,8 @@ invariant_of-self c =
       living = kept.living;
     }
 
-pub returns : goal.returns
-returns c =
+pub returns-clause-written : goal.returns-clause-written
+returns-clause-written c =
     let s = c.self.inside in
     let q' = c.set_value_block.new.self in
     let set = rw c.slot.ensures at c.set_value_block.ensures in
@@ -61,3 +62,6 @@ returns c =
     (λ lists. rw (set.face, lists (Queued c.args.res Granted), lists (Queued c.args.res Conversion), lists (Queued c.args.res Waiting)) refl)
     (queued_processes s.processes s.queues.locks q'.locks (same_eq but_queued s.queues.locks q'.locks set.locks) s.process_order c.self.invariant.owned c.self.invariant.below)
     (queues_room s q' (ap room_in set.locks) set.resources_room) refl)
+
+pub returns-clause-sound : goal.returns-clause-sound
+returns-clause-sound c = record { before = rw (← c.self.view_is) (is_sound c.self.inside c.self.invariant); after = is_sound _ (invariant_of-self c) }

@@ -5,7 +5,7 @@ use Rattle.vlm_records.specs.declared.processes.Process.{Process}
 use Rattle.vlm_records.specs.Kin.{plain_process, process_links}
 use Rattle.vlm_store.specs.Holdings.{process_face_in}
 use Rattle.vlm_store.specs.Records.{changed_process}
-use Rattle.vlm_store.proofs.Living.{process_is, process_there}
+use Rattle.vlm_store.proofs.Living.{is_sound, process_is, process_there}
 use Rattle.vlm_store.proofs.Marked.{told_of}
 use Rattle.vlm_store.proofs.Rewriting.{changed_face, rewritten_shown, written_kept}
 use Rattle.vlm_store.proofs.store.Store.take_ast.Goals as goal
@@ -41,3 +41,6 @@ returns-clause-left c =
     (changed_process without_oldest_ast)
     (changed_face without_oldest_ast was now
     (ap plain_process rest ∙ ap (λ (asts : List Ast). record (plain_process was) { asts = asts }) c.take_ast.ensures.left) c.take_ast.ensures.due c.args.at))
+
+pub returns-clause-sound : goal.returns-clause-sound
+returns-clause-sound c = rw (← c.self.view_is) (is_sound c.self.inside c.self.invariant)

@@ -1,3 +1,4 @@
+use Rattle.vlm_store.proofs.Living.{is_sound}
 use Rattle.vlm_store.specs.Index.{hash_key}
 use Rattle.vlm_store.proofs.WaitListed.{empty_wait_list}
 use Rattle.std.proofs.Common.{◌≡◌, ◌∙◌, ℕ, None, refl, sym, ap}
@@ -50,10 +51,13 @@ invariant_of-result c =
       living = empty_marked is_of_nodes c.new-5.result c.new-10.result no_processes c.new-10.ensures;
     }
 
-pub returns : goal.returns
-returns c =
+pub returns-clause-empty : goal.returns-clause-empty
+returns-clause-empty c =
     let q : Queues = record { locks = c.new.result; resources = c.new-2.result } in
     let no_locks : (k : ℕ) → get q.locks k ≡ None = λ k. rw c.new.ensures.empty refl in
     let no_processes : (p : ℕ) → get c.new-5.result p ≡ None = λ p. rw c.new-5.ensures.empty refl in
     empty_records q no_locks (λ r. rw c.new-2.ensures.empty refl) c.new-4.result c.new-4.ensures _
     (empty_processes c.new-5.result q.locks no_processes no_locks c.new-6.result c.new-6.ensures)
+
+pub returns-clause-sound : goal.returns-clause-sound
+returns-clause-sound c = is_sound _ (invariant_of-result c)
