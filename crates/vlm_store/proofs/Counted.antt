@@ -38,7 +38,7 @@ no_longer (x ∷ xs) ys apart others within =
     omega (arith, rest, one)
 
 -- two lists with the same handles are equally long
-as_long : (xs ys : List ℕ) → IsApart xs → IsApart ys → ((k : ℕ) → IsIn k xs → IsIn k ys) → ((k : ℕ) → IsIn k ys → IsIn k xs) → length xs ≡ length ys
+pub as_long : (xs ys : List ℕ) → IsApart xs → IsApart ys → ((k : ℕ) → IsIn k xs → IsIn k ys) → ((k : ℕ) → IsIn k ys → IsIn k xs) → length xs ≡ length ys
 as_long xs ys apart others within back = omega (arith, no_longer xs ys apart others within, no_longer ys xs others apart back)
 
 -- ---- the handles of a process's own locks

@@ -19,6 +19,7 @@ pub mod Members
 pub mod Order
 pub mod Plain
 pub mod QueuedSeen
+pub mod QueuedTotals
 pub mod Records
 pub mod Rewriting
 pub mod RoomShown

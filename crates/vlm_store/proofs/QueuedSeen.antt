@@ -56,7 +56,7 @@ on_next at (first ∷ rest) apart found =
 
 -- ---- which locks they are
 
-listed_at : (slot : Option Lock) → wait_list_in slot ≡ Some tt → (place : Place) × ((noted_in slot ≡ Some place) × (is_queued place ≡ true))
+pub listed_at : (slot : Option Lock) → wait_list_in slot ≡ Some tt → (place : Place) × ((noted_in slot ≡ Some place) × (is_queued place ≡ true))
 listed_at None is = absurd (none-some tt is)
 listed_at (Some l) is = (l.place, (refl, of_place l.place is))
   where

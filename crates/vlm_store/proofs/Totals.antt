@@ -85,14 +85,14 @@ as_many {T} (h ∷ hs) slots apart there all =
 
 module _ (handles : Place → List ℕ) where
   -- the handles in the queues of a resource
-  abbrev of_resource : ℕ → List ℕ
+  abbrev pub of_resource : ℕ → List ℕ
   of_resource r = handles (Queued r Granted) ++ (handles (Queued r Conversion) ++ handles (Queued r Waiting))
 
-  abbrev of_all : List ℕ → List ℕ
+  abbrev pub of_all : List ℕ → List ℕ
   of_all order = flat_map of_resource order
 
   -- one of them stands in a queue of that resource
-  in_resource : (r k : ℕ) → IsIn k (of_resource r) → (queue : Queue) × IsIn k (handles (Queued r queue))
+  pub in_resource : (r k : ℕ) → IsIn k (of_resource r) → (queue : Queue) × IsIn k (handles (Queued r queue))
   in_resource r k there =
       elim (in_either k (handles (Queued r Granted)) (handles (Queued r Conversion) ++ handles (Queued r Waiting)) there) [
         | inl granted ↦ (Granted, granted)
@@ -102,7 +102,7 @@ module _ (handles : Place → List ℕ) where
         ]
       ]
 
-  resource_in : (r k : ℕ) (queue : Queue) → IsIn k (handles (Queued r queue)) → IsIn k (of_resource r)
+  pub resource_in : (r k : ℕ) (queue : Queue) → IsIn k (handles (Queued r queue)) → IsIn k (of_resource r)
   resource_in r k Granted there = in_ahead k (handles (Queued r Granted)) (handles (Queued r Conversion) ++ handles (Queued r Waiting)) there
   resource_in r k Conversion there =
       in_behind k (handles (Queued r Granted)) (handles (Queued r Conversion) ++ handles (Queued r Waiting))
@@ -111,7 +111,7 @@ module _ (handles : Place → List ℕ) where
       in_behind k (handles (Queued r Granted)) (handles (Queued r Conversion) ++ handles (Queued r Waiting))
       (in_behind k (handles (Queued r Conversion)) (handles (Queued r Waiting)) there)
 
-  in_all : (order : List ℕ) (k : ℕ) → IsIn k (of_all order) → (r : ℕ) × (IsIn r order × IsIn k (of_resource r))
+  pub in_all : (order : List ℕ) (k : ℕ) → IsIn k (of_all order) → (r : ℕ) × (IsIn r order × IsIn k (of_resource r))
   in_all [] k none = absurd none
   in_all (r ∷ rest) k there =
       elim (in_either k (of_resource r) (of_all rest) there) [
@@ -119,7 +119,7 @@ module _ (handles : Place → List ℕ) where
         | inr later ↦ let found = in_all rest k later in (found.0, (inr found.1.0, found.1.1))
       ]
 
-  all_in : (order : List ℕ) (r k : ℕ) → IsIn r order → IsIn k (of_resource r) → IsIn k (of_all order)
+  pub all_in : (order : List ℕ) (r k : ℕ) → IsIn r order → IsIn k (of_resource r) → IsIn k (of_all order)
   all_in [] r k none there = absurd none
   all_in (q ∷ rest) r k (inl here) there = in_ahead k (of_resource q) (of_all rest) (subst (λ n. IsIn k (of_resource n)) (sym here) there)
   all_in (q ∷ rest) r k (inr later) there = in_behind k (of_resource q) (of_all rest) (all_in rest r k later there)
@@ -142,7 +142,7 @@ module _ (handles : Place → List ℕ) where
           | inr waiting ↦ let same : Queued r Granted ≡ Queued r Waiting = one k (Queued r Granted) (Queued r Waiting) first waiting in cc
         ])
 
-    all_apart : (order : List ℕ) → IsApart order → IsApart (of_all order)
+    pub all_apart : (order : List ℕ) → IsApart order → IsApart (of_all order)
     all_apart [] apart = tt
     all_apart (r ∷ rest) apart =
         IsApart-append (of_resource r) (of_all rest) (resource_apart r) (all_apart rest apart.1)

@@ -1,10 +1,11 @@
 //! A walk over all queued locks.
 
-ghost use Rattle.std.specs.Prelude.{ℕ};
+ghost use Rattle.std.specs.Prelude.{◌≡◌, ℕ};
 ghost use Rattle.std.specs.Iterator.{YieldsFirst, item_count};
 ghost use Rattle.vlm_collections.specs.Lists.{IsIn};
 ghost use Rattle.vlm_store.specs.Queued.{AreQueued, IsQueued};
 ghost use Rattle.vlm_store.specs.Records.{IsSound};
+ghost use Rattle.vlm_store.specs.Total.{queued_total};
 
 use crate::store::Store;
 use slab::Slab;
@@ -62,5 +63,12 @@ impl Store {
             wait_list: self.wait_list,
             next: self.wait_list.first(&self.queues.locks),
         }
+    }
+
+    /// How many requests are queued, on all resources. It takes constant time.
+    pub fn queued_count(&self) -> usize
+        ensures { result ≡ queued_total self.now }
+    {
+        self.wait_list.len(&self.queues.locks)
     }
 }
