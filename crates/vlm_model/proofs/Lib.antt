@@ -46,6 +46,7 @@ pub mod Acceptances
 pub mod Reasons
 pub mod Waiting
 pub mod Queued
+pub mod QueueOrder
 pub mod EndWrites
 pub mod Writing
 pub mod Ended

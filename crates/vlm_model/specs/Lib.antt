@@ -27,6 +27,7 @@ pub mod Joining
 pub mod Numbers
 pub mod Reasons
 pub mod Queued
+pub mod QueueOrder
 pub mod Written
 pub mod Taking
 pub mod Standing

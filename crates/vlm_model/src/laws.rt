@@ -17,6 +17,7 @@ ghost use Rattle.vlm_model.specs.Circles.{FindsWhoIsCaught};
 ghost use Rattle.vlm_model.specs.Numbers.{NumbersAreGivenOnce};
 ghost use Rattle.vlm_model.specs.Pending.{ProcessesRise};
 ghost use Rattle.vlm_model.specs.Queued.{NoqueueIsKept};
+ghost use Rattle.vlm_model.specs.QueueOrder.{QueuesAreInOrderOfRequests};
 ghost use Rattle.vlm_model.specs.Writers.{OnlyWritersChangeValues};
 ghost use Rattle.vlm_model.specs.Returned.{GrantsReturnValues};
 ghost use Rattle.vlm_model.specs.Written.{WritesNamedBlocks};
@@ -176,6 +177,13 @@ pub fn law_a_refusal_has_its_reason()
 /// No request with NOQUEUE is queued.
 pub fn law_noqueue_is_kept()
     ensures { (history : History) (last : State) → Run history last → NoqueueIsKept last }
+{}
+
+/// Each queue is in the order of its requests: in the conversion queue and in the waiting queue of each resource the
+/// numbers of the requests rise. Each of them is below the next request number.
+pub fn law_queues_are_in_the_order_of_requests()
+    ensures { (history : History) (last : State) → Run history last
+        → QueuesAreInOrderOfRequests last }
 {}
 
 /// A step writes the status blocks that it names and the blocks of the requests that end in it, and no other. An
