@@ -92,7 +92,7 @@ module _ (s : Records) (sound : IsSound s) where
       apart_in ks apart.1 (λ x in_x. stored x (inr in_x)),
     )
 
-    apart_of : (queue : Queue) → RowsApart (rows_of_locks (queued queue own))
+    pub apart_of : (queue : Queue) → RowsApart (rows_of_locks (queued queue own))
     apart_of queue =
         apart_in (queued queue own) (subst AreApart (queue_at s sound own there queue) (sound.locks_apart (Queued own.at queue)))
         (queued_stored s sound own there queue)

@@ -10,3 +10,5 @@ pub mod Ranked
 pub mod Noted
 pub mod Led
 pub mod Dated
+pub mod Blocking
+pub mod BlockerWalks

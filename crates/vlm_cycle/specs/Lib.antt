@@ -5,3 +5,4 @@ pub mod Leading
 pub mod Ranking
 pub mod Notes
 pub mod Ranks
+pub mod Blocking

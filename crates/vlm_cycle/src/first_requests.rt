@@ -11,8 +11,8 @@ use vlm_queue::head;
 use vlm_store::{LockAt, ResAt, Store};
 use vlm_words::resources::Queue;
 
-// The lock with the first queued request on a resource, if there is one.
-fn first_queued(store: &Store, res: ResAt) -> Option<LockAt>
+/// The lock with the first queued request on a resource, if there is one.
+pub(crate) fn first_queued(store: &Store, res: ResAt) -> Option<LockAt>
     requires { HasResource res store.now }
     ensures { result ≡ first_at (locks_at (Place.Queued res Queue.Conversion) store.now
         ++ locks_at (Place.Queued res Queue.Waiting) store.now) }

@@ -7,6 +7,8 @@
 //! Most requests need no search. Processes are ranked, and one pass over the queues checks that none waits for one of a
 //! higher rank. Then a request that waits only for lower ranks is not deadlocked. No promise depends on a rank: a wrong
 //! rank costs searches, and changes no answer.
+//!
+//! A walk gives the locks for which one request waits, one after another (`next_blockers`).
 #![tactic(auto)]
 
 mod blocker_ranks;
@@ -14,6 +16,7 @@ mod blockers;
 mod conflicts;
 mod deadlocks;
 mod first_requests;
+mod next_blockers;
 mod rank_checks;
 mod ranked_requests;
 mod ranks;
@@ -23,5 +26,6 @@ mod tarjan_walk;
 mod victims;
 mod waits;
 
+pub use next_blockers::next_blocker;
 pub use scratch::Scratch;
 pub use victims::victim;

@@ -27,8 +27,8 @@ use vlm_queue::{head, next};
 use vlm_store::{LockAt, ResAt, Store, StoredRow};
 use vlm_words::resources::Queue;
 
-// The number of a row's queued request, 0 if there is none.
-fn wanted_number(row: &StoredRow) -> u64
+/// The number of a row's queued request, 0 if there is none.
+pub(crate) fn wanted_number(row: &StoredRow) -> u64
     ensures { result ≡ wanted_number row.now }
 {
     match row.want() {
