@@ -1,4 +1,6 @@
 pub mod Core
+pub mod Locks
+pub mod Blockers
 pub mod Readers
 pub mod Running
 pub mod Made

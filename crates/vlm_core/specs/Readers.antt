@@ -1,5 +1,5 @@
 -- What the readers look for.
-use Rattle.std.specs.Prelude.{◌≡◌, ◌==◌, ◌<◌, ◌≤◌, ℕ, Bool, if◌then◌else◌, List, [], ◌∷◌, find, Option, None, Some}
+use Rattle.std.specs.Prelude.{◌≡◌, ◌==◌, ◌<◌, ◌≤◌, ◌+◌, length, sum_by, ℕ, Bool, if◌then◌else◌, List, [], ◌∷◌, find, Option, None, Some}
 use Rattle.vlm_model.specs.Pending.{first_pending}
 use Rattle.vlm_words.specs.declared.resources.Domain.{Domain}
 use Rattle.vlm_words.specs.declared.resources.Key.{Key}
@@ -34,3 +34,11 @@ has_pid pid p = p.pid == pid
 -- the key of a resource by its parent resource, or with parent 0 of a root
 abbrev pub key_of : ℕ → Domain → List ℕ → Key
 key_of parent domain name = if parent == 0 then Root domain name else Below parent name
+
+-- how many locks there are, in all queues
+abbrev pub all_locks : List Resource → ℕ
+all_locks resources = sum_by (λ r. length r.granted + length r.converting + length r.waiting) resources
+
+-- how many requests are queued: conversions and waiting locks
+abbrev pub all_queued : List Resource → ℕ
+all_queued resources = sum_by (λ r. length r.converting + length r.waiting) resources

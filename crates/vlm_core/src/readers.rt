@@ -4,11 +4,12 @@
 ghost use Rattle.std.specs.Prelude.{◌≡◌, IfSome, IsNone, find, length, slice_get};
 ghost use Rattle.std.specs.Option.{option_map};
 ghost use Rattle.vlm_model.specs.Pending.{first_pending};
+ghost use Rattle.vlm_model.specs.Quotas.{locks_of};
 ghost use Rattle.vlm_words.specs.State.{process_of};
 ghost use Rattle.vlm_model.specs.StatusBlocks.{status_block_at};
 ghost use Rattle.vlm_procs.specs.Views.{process_view};
 ghost use Rattle.vlm_queue.specs.Views.{resource_view, row_shown, usage};
-ghost use Rattle.vlm_core.specs.Readers.{IsFirstPending, NonePendingBelow, after_first, has_pid, key_of, root_of};
+ghost use Rattle.vlm_core.specs.Readers.{IsFirstPending, NonePendingBelow, after_first, all_locks, all_queued, has_pid, key_of, root_of};
 ghost use Rattle.vlm_words.specs.Resources.{is_at};
 
 use crate::public::Core;
@@ -21,7 +22,7 @@ use vlm_words::names::Name;
 use vlm_words::resources::{Domain, Key, Queue};
 
 // The key of a resource: with parent 0 of a root.
-fn key_of(parent: u32, domain: Domain, name: Name) -> Key
+pub(crate) fn key_of(parent: u32, domain: Domain, name: Name) -> Key
     ensures { result ≡ key_of parent domain name }
 {
     if parent == 0 {
@@ -108,6 +109,31 @@ impl Core {
         ensures { result ≡ length self.now.resources }
     {
         self.machine.store.resource_count()
+    }
+
+    /// How many locks there are, waiting ones included. It takes constant time.
+    pub fn lock_count(&self) -> usize
+        ensures { result ≡ all_locks self.now.resources }
+    {
+        self.machine.store.total_locks()
+    }
+
+    /// How many requests are queued: conversions and waiting locks. It takes constant time.
+    pub fn queued_count(&self) -> usize
+        ensures { result ≡ all_queued self.now.resources }
+    {
+        self.machine.store.queued_count()
+    }
+
+    /// How many locks a process has, waiting ones included; 0 if no living process has the identification. It takes
+    /// constant time.
+    pub fn own_count(&self, pid: u32) -> usize
+        ensures { result ≡ locks_of pid self.now.resources }
+    {
+        match self.machine.store.process(pid) {
+            Some(process) => self.machine.store.lock_count(process),
+            None => 0,
+        }
     }
 
     /// The resource at an index, from 0, by rising serial, with its value block and tail. `None` after the last. The cost

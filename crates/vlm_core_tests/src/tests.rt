@@ -1,6 +1,7 @@
 //! What no contract says: worked answers, the order of refusals, sizes of records, memory that is refused.
 
 mod asts;
+mod blockers;
 mod faults;
 mod lines;
 mod lists;

@@ -46,7 +46,7 @@ granted_want_nothing s fit res lock there = of_found (resource_at res s.resource
 
 module _ (s : Records) (sound : IsSound s) where
   -- no lock has the identification 0
-  none_is_0 : sum_by (rows_on 0) (plain_resources s) ≡ 0 → (at : ℕ) (row : LockRow) → Stores s at row → row.lkid ≢ 0
+  pub none_is_0 : sum_by (rows_on 0) (plain_resources s) ≡ 0 → (at : ℕ) (row : LockRow) → Stores s at row → row.lkid ≢ 0
   none_is_0 none at row stored is =
       let there = in_queue s at row stored in
       let one = counted_on 0 there.resource there.queue (record { at = at; row = row }) there.among is in

@@ -1,0 +1,30 @@
+use Rattle.std.proofs.Common.{◌∙◌, Option, ap, subst, sym}
+use Rattle.vlm_words.specs.declared.locks.LockRow.{LockRow}
+use Rattle.vlm_words.specs.State.{State}
+use Rattle.vlm_machine.specs.Machine.{plain_state}
+use Rattle.vlm_core.specs.declared.locks.LockView.{LockView}
+use Rattle.vlm_core.specs.declared.public.Core.TheInside.{Inside}
+use Rattle.vlm_core.specs.Blockers.{ShowsFirstBlocker}
+use Rattle.vlm_core.proofs.Blocked.{first_is, none_named, records_in_order}
+use Rattle.vlm_core.proofs.public.Core.first_blocker.Goals as goal
+
+-- no lock has the identification
+pub returns-in_err-lock : goal.returns-in_err-lock
+returns-in_err-lock c =
+    let are = ap (λ (t : State). t.resources) (sym c.self.view_is) ∙ ap (λ (core : Inside). (plain_state core.machine).resources) (sym c.self-inside.view_is) in
+    subst (λ (view : Option (Option LockView)). ShowsFirstBlocker c.args.self.now c.args.lkid view) (sym c.from_residual.ensures)
+    (λ r queue row has named. none_named _ c.in_err-lock.ensures.sound c.args.self.now are c.args.lkid c.in_err-lock.ensures.found r queue row has named)
+
+pub blocker_view-requires-clause-ordered : goal.blocker_view-requires-clause-ordered
+blocker_view-requires-clause-ordered c =
+    let are = ap (λ (t : State). t.resources) (sym c.self.view_is) ∙ ap (λ (core : Inside). (plain_state core.machine).resources) (sym c.self-inside.view_is) in
+    records_in_order c.args.self.now _ are c.in_order.ensures
+
+-- the first lock is shown
+pub returns : goal.returns
+returns c =
+    let are = ap (λ (t : State). t.resources) (sym c.self.view_is) ∙ ap (λ (core : Inside). (plain_state core.machine).resources) (sym c.self-inside.view_is) in
+    let found = c.in_ok-lock.ensures.found in
+    let f = c.located_lock-waiting.result in
+    let its = sym (ap (λ (x : LockRow). x.lkid) (c.located_lock-waiting.ensures.only found.0 found.1.0)) ∙ found.1.1 in
+    first_is _ c.in_ok-lock.ensures.sound c.args.self.now are f c.located_lock-waiting.ensures.located c.args.lkid its c.blocker_view.result c.blocker_view.ensures
