@@ -9,14 +9,13 @@
  *   `keys` to `keys_len`. They are not null even where the length is 0. No two arguments overlap.
  * - malloc, realloc and free are those of one allocator, which aligns as C says. No call is made from a signal handler
  *   or in the forked child of a process with threads.
- * - The library and this header are of one version.
  * All else that is passed is checked, and answered by a condition value.
  *
  * Set `size` of every struct before a call. A struct that is passed in has 0 in each reserved word. A struct that a call
  * writes is written whole, its reserved words as 0, or not at all; its reserved words are not read. A call answers
  * VLM_BADPARAM and changes nothing in the lock manager
  * - with a struct of another size, or a reserved word that is not 0;
- * - with a mark (syslck, has_ast, has_bast, has_value, has_tail) that is neither 0 nor 1, or a mode that does not exist;
+ * - with a mark (has_keys, syslck, has_ast, has_bast, has_value, has_tail) that is neither 0 nor 1, or a mode that does not exist;
  * - with a node, group, quota, number of status blocks, status block or flags above what the core's field holds;
  * - with both `lock` and `lock_block` of a struct;
  * - on a handle with no lock manager.
@@ -27,8 +26,10 @@
  * blocking ASTs of its granted locks. So a process learns of a grant before it learns that the granted lock blocks
  * somebody, and a converting lock gets no blocking AST. A cache protocol over blocking ASTs needs no more.
  *
- * Where strangers choose the names of resources, open by vlm_open_with_keys with 16 bytes that nobody can foresee:
- * vlm_open hashes by fixed keys, and then names can be chosen that meet in the index.
+ * vlm_open compares the version of this header with that of the library, and refuses another one.
+ *
+ * Where strangers choose the names of resources, give vlm_open 16 bytes of keys that nobody can foresee. Without keys it
+ * hashes by fixed ones, and then names can be chosen that meet in the index.
  */
 #ifndef VLM_H
 #define VLM_H
@@ -44,6 +45,9 @@ extern "C" {
 #define VLM_ASSERT(fact) _Static_assert(fact, #fact)
 #endif
 #define VLM_ASSERT_AT(type, member, offset) VLM_ASSERT(offsetof(type, member) == (offset))
+
+/* The version of this header, 0.1.0: one byte for each of its numbers. */
+#define VLM_VERSION 0x000100
 
 /* Condition values. The numbers, DEPARTED and WIDENOTVALID are this library's own. */
 enum {
@@ -114,6 +118,15 @@ VLM_ASSERT(sizeof(vlm) == 16);
 VLM_ASSERT_AT(vlm, core, 0);
 VLM_ASSERT_AT(vlm, is_held, 8);
 
+typedef struct vlm_options {
+    uint32_t size;
+    uint32_t version;  /* VLM_VERSION */
+    uint32_t has_keys; /* 1 where names are hashed by `keys` */
+    uint8_t keys[16];
+    uint32_t reserved[9];
+} vlm_options;
+#define VLM_OPTIONS { sizeof(vlm_options), VLM_VERSION, 0, { 0 }, { 0 } }
+
 typedef struct vlm_declaration {
     uint32_t size;
     uint32_t node;   /* 1 to 8 */
@@ -182,7 +195,8 @@ struct vlm_process {
     uint32_t quota;
     uint64_t blocks;  /* how many status blocks it has */
     uint64_t pending; /* how many ASTs are pending for it */
-    uint32_t reserved[6];
+    uint64_t locks;   /* how many locks it has, waiting ones included */
+    uint32_t reserved[4];
 };
 
 /* A function of the library has this name too, so C++ and C say `struct vlm_resource`. */
@@ -211,6 +225,20 @@ struct vlm_row {
     uint32_t reserved[3];
 };
 
+/* A lock with its place, as the system service $GETLKI tells of it. */
+typedef struct vlm_lock {
+    uint32_t size;
+    uint32_t lkid;
+    uint32_t pid;
+    uint32_t held;     /* a mode, or VLM_NO_MODE */
+    uint32_t want;     /* a mode, or VLM_NO_MODE */
+    uint32_t queue;    /* VLM_GRANTED, VLM_CONVERSION or VLM_WAITING */
+    uint32_t resource; /* the serial of its resource */
+    uint32_t parent;   /* its parent lock, or 0 */
+    uint32_t block;    /* the status block of its last accepted request */
+    uint32_t reserved[7];
+} vlm_lock;
+
 typedef struct vlm_ast {
     uint32_t size;
     uint32_t kind;
@@ -219,6 +247,13 @@ typedef struct vlm_ast {
     uint32_t lkid;
     uint32_t reserved[3];
 } vlm_ast;
+
+VLM_ASSERT(sizeof(struct vlm_options) == 64);
+VLM_ASSERT_AT(struct vlm_options, size, 0);
+VLM_ASSERT_AT(struct vlm_options, version, 4);
+VLM_ASSERT_AT(struct vlm_options, has_keys, 8);
+VLM_ASSERT_AT(struct vlm_options, keys, 12);
+VLM_ASSERT_AT(struct vlm_options, reserved, 28);
 
 VLM_ASSERT(sizeof(struct vlm_declaration) == 32);
 VLM_ASSERT_AT(struct vlm_declaration, size, 0);
@@ -282,7 +317,8 @@ VLM_ASSERT_AT(struct vlm_process, syslck, 16);
 VLM_ASSERT_AT(struct vlm_process, quota, 20);
 VLM_ASSERT_AT(struct vlm_process, blocks, 24);
 VLM_ASSERT_AT(struct vlm_process, pending, 32);
-VLM_ASSERT_AT(struct vlm_process, reserved, 40);
+VLM_ASSERT_AT(struct vlm_process, locks, 40);
+VLM_ASSERT_AT(struct vlm_process, reserved, 48);
 
 VLM_ASSERT(sizeof(struct vlm_resource) == 144);
 VLM_ASSERT_AT(struct vlm_resource, size, 0);
@@ -306,6 +342,18 @@ VLM_ASSERT_AT(struct vlm_row, held, 12);
 VLM_ASSERT_AT(struct vlm_row, want, 16);
 VLM_ASSERT_AT(struct vlm_row, reserved, 20);
 
+VLM_ASSERT(sizeof(struct vlm_lock) == 64);
+VLM_ASSERT_AT(struct vlm_lock, size, 0);
+VLM_ASSERT_AT(struct vlm_lock, lkid, 4);
+VLM_ASSERT_AT(struct vlm_lock, pid, 8);
+VLM_ASSERT_AT(struct vlm_lock, held, 12);
+VLM_ASSERT_AT(struct vlm_lock, want, 16);
+VLM_ASSERT_AT(struct vlm_lock, queue, 20);
+VLM_ASSERT_AT(struct vlm_lock, resource, 24);
+VLM_ASSERT_AT(struct vlm_lock, parent, 28);
+VLM_ASSERT_AT(struct vlm_lock, block, 32);
+VLM_ASSERT_AT(struct vlm_lock, reserved, 36);
+
 VLM_ASSERT(sizeof(struct vlm_ast) == 32);
 VLM_ASSERT_AT(struct vlm_ast, size, 0);
 VLM_ASSERT_AT(struct vlm_ast, kind, 4);
@@ -314,11 +362,16 @@ VLM_ASSERT_AT(struct vlm_ast, param, 12);
 VLM_ASSERT_AT(struct vlm_ast, lkid, 16);
 VLM_ASSERT_AT(struct vlm_ast, reserved, 20);
 
-/* Puts a new lock manager into a handle that has none. NORMAL, INSFMEM, BADPARAM where it has one. */
-uint32_t vlm_open(vlm *handle);
+/* The version of the library, in the form of VLM_VERSION. */
+uint32_t vlm_version(void);
 
-/* The same, with 16 bytes as keys of its index of names. BADPARAM also where there are not 16. */
-uint32_t vlm_open_with_keys(vlm *handle, const uint8_t *keys, size_t keys_len);
+/* Puts a new lock manager into a handle that has none. NORMAL, INSFMEM, BADPARAM where it has one, or where the options
+ * are malformed or of another version. So a program begins with
+ *
+ *     vlm handle = VLM_CLOSED;
+ *     vlm_options options = VLM_OPTIONS;
+ *     if (vlm_open(&handle, &options) != VLM_NORMAL) ... */
+uint32_t vlm_open(vlm *handle, const vlm_options *options);
 
 /* Frees the lock manager of a handle, if it has one. */
 void vlm_close(vlm *handle);
@@ -369,6 +422,8 @@ uint32_t vlm_pending(vlm *handle, uint32_t pid, size_t *count);
 size_t vlm_process_count(vlm *handle); /* 0 also on a handle with no lock manager */
 uint32_t vlm_process(vlm *handle, size_t place, struct vlm_process *process);
 size_t vlm_resource_count(vlm *handle); /* 0 also on a handle with no lock manager */
+size_t vlm_lock_count(vlm *handle);     /* waiting locks included; 0 also on a handle with no lock manager */
+size_t vlm_queued_count(vlm *handle);   /* the queued requests; 0 also on a handle with no lock manager */
 uint32_t vlm_resource(vlm *handle, size_t place, struct vlm_resource *resource);
 uint32_t vlm_row(vlm *handle, size_t resource, uint32_t queue, size_t place, struct vlm_row *row);
 
@@ -387,6 +442,33 @@ uint32_t vlm_row(vlm *handle, size_t resource, uint32_t queue, size_t place, str
 uint32_t vlm_next_process(vlm *handle, uint32_t pid, struct vlm_process *process);
 uint32_t vlm_next_resource(vlm *handle, struct vlm_resource *resource);
 uint32_t vlm_find(vlm *handle, struct vlm_resource *resource);
+
+/* The readings of single locks. Each takes constant time, except where it says more. NORMAL, or BADPARAM and nothing is
+ * written: there is no such lock, process, resource or queue, or not any more. Lock, process, resource and queue are named
+ * by the first arguments; a resource by its members, as for vlm_find.
+ *
+ * vlm_find_lock reads the lock with an identification, and vlm_lock_resource the resource of a lock. The others walk. A
+ * first call reads the first lock: of a queue of a resource (in queue order), of a process, or below a parent lock (in
+ * the order of making). A next call reads the lock after the one that it names, in the same queue, of the same process, or
+ * below the same parent. After the last one they write a struct with lkid 0 and modes VLM_NO_MODE. So a walk is
+ *
+ *     vlm_lock lock = {.size = sizeof lock};
+ *     for (status = vlm_first_own(&handle, pid, &lock); status == VLM_NORMAL && lock.lkid != 0;
+ *          status = vlm_next_own(&handle, lock.lkid, &lock)) ...
+ *
+ * Blockers are the locks for which the queued request of a lock waits, as a search for a deadlock follows them: granted
+ * ones first, then converting, then waiting ones, each in queue order. NODLCKWT and NODLCKBLK count. A granted lock has
+ * none. A call passes over the locks of the resource that are in nobody's way, and takes time for each. */
+uint32_t vlm_find_lock(vlm *handle, uint32_t lkid, vlm_lock *lock);
+uint32_t vlm_lock_resource(vlm *handle, uint32_t lkid, struct vlm_resource *resource);
+uint32_t vlm_first_row(vlm *handle, const struct vlm_resource *resource, uint32_t queue, vlm_lock *lock);
+uint32_t vlm_next_row(vlm *handle, uint32_t lkid, vlm_lock *lock);
+uint32_t vlm_first_own(vlm *handle, uint32_t pid, vlm_lock *lock);
+uint32_t vlm_next_own(vlm *handle, uint32_t lkid, vlm_lock *lock);
+uint32_t vlm_first_sublock(vlm *handle, uint32_t lkid, vlm_lock *lock);
+uint32_t vlm_next_sublock(vlm *handle, uint32_t lkid, vlm_lock *lock);
+uint32_t vlm_first_blocker(vlm *handle, uint32_t lkid, vlm_lock *lock);
+uint32_t vlm_next_blocker(vlm *handle, uint32_t lkid, uint32_t blocker, vlm_lock *lock);
 
 /* The name of a condition value as the manual has it, of this library's own the plain one; null for a number that is
  * none. */

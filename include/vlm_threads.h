@@ -75,7 +75,7 @@ typedef struct vlm_threads_options {
     uint32_t size;
     uint32_t delivery;            /* VLM_THREADS_BY_LAYER or VLM_THREADS_BY_PROGRAM */
     uint32_t search_milliseconds; /* the time between two searches for deadlocks, or 0: the layer never searches */
-    uint32_t has_keys;            /* 1: names are hashed by keys; 0: by fixed keys, as vlm_open does */
+    uint32_t has_keys;            /* 1: names are hashed by keys; 0: by fixed keys */
     uint8_t keys[16];
     uint32_t reserved[8];
 } vlm_threads_options;

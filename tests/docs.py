@@ -147,7 +147,7 @@ def calls(_program):
 
 
 def version(_program):
-    """One version, in the program, the packages for Rust and Python, the changes and the manual pages."""
+    """One version, in the program, the packages, the changes and the manual pages, and its number in the libraries."""
     wanted = help_texts()["VERSION"]
     for name, pattern in (("bindings/rust/Cargo.toml", r'^version = "([^"]+)"'), ("CHANGELOG.md", r"^## ([\d.]+)"),
                           ("bindings/python/pyproject.toml", r'^version = "([^"]+)"'),
@@ -156,6 +156,12 @@ def version(_program):
         found = re.search(pattern, text_of(name), re.M)
         if not found or found[1] != wanted:
             yield f"{name} has no version {wanted}"
+    number = "0x" + "".join(f"{int(part):02x}" for part in wanted.split("."))
+    for name in ("include/vlm.h", "crates/vlm_c/src/arguments.rt", "bindings/rust/src/raw.rs",
+                 "bindings/python/vlm/_library.py"):
+        found = re.search(r"VERSION[^\n]*?(0x[0-9a-f_]+)", text_of(name))
+        if not found or found[1].replace("_", "") != number:
+            yield f"{name} has no version {number}"
 
 
 def kit(_program):

@@ -1,7 +1,8 @@
 """What `./vlm install` leaves, and programs in C, Rust and Python over it. The programs of examples/c and tests/c are
 compiled by each C compiler that is there, plain and with each sanitizer that it links, and run, under valgrind too. One
-finds the libraries by pkg-config and by CMake. The header is compiled as C++. The tests of bindings/rust run where
-cargo is, those of bindings/python by the Python that runs this. Each missing tool is named."""
+finds the libraries by pkg-config and by CMake, and one plays the worked scripts. The header is compiled as C++. The
+tests of bindings/rust run where cargo is, those of bindings/python by the Python that runs this. Each missing tool is
+named."""
 
 import functools
 import os
@@ -14,11 +15,13 @@ import tempfile
 from functools import partial
 from pathlib import Path
 
-from harness import ROOM, Test, TOP, difference, kit_folder
+from harness import PLAY, ROOM, Ended, Test, TOP, difference, kit_folder, run
 
 # The longest run of a test program, and of an installation, which may prove the library first.
 SECONDS, INSTALL_SECONDS = 120, 3_600
 SOURCES = sorted((TOP / "examples" / "c").glob("*.c")) + sorted((TOP / "tests" / "c").glob("*.c"))
+# It plays a script. What it is to print is beside each script, so it has no file `.out` and a folder of its own.
+PLAYER = TOP / "tests" / "c" / "scripts" / "play.c"
 COMPILERS = ("gcc", "clang")
 SANITIZERS = ("none", "address,undefined", "thread")
 TOOLS = (*COMPILERS, "g++", "clang++", "valgrind", "pkg-config", "cmake", "man", "cargo")
@@ -176,12 +179,17 @@ def shortened(share):
     return ["env", f"VLM_TEST_SHARE={share}"]
 
 
-def over_library(source, compiler, sanitizer, _program):
-    """What is wrong with a program over the library, and with its run. A plain one runs under valgrind too."""
+def compiled(source, compiler, sanitizer):
+    """A program over the library, and what is wrong with making it."""
     built = room() / f"{source.stem} {compiler} {sanitizer}"
     wrapped = [f"-Wl,--wrap={name}" for name in WRAPPED.get(source.stem, ())]
     words = [*options(sanitizer), *wrapped, source, *layer(source, sanitizer), *package()]
-    wrong = list(ran(compiler, *words, "-o", built))
+    return built, list(ran(compiler, *words, "-o", built))
+
+
+def over_library(source, compiler, sanitizer, _program):
+    """What is wrong with a program over the library, and with its run. A plain one runs under valgrind too."""
+    built, wrong = compiled(source, compiler, sanitizer)
     yield from wrong
     if wrong:
         return
@@ -190,6 +198,30 @@ def over_library(source, compiler, sanitizer, _program):
         yield from printed(source, *shortened(200), *VALGRIND, built)
         if uses_layer(source):
             yield from printed(source, *shortened(200), *HELGRIND, built)
+
+
+def worked_scripts():
+    """The worked scripts that the library can play: no call of it names the status block 0."""
+    found = [it.with_suffix("") for it in sorted(PLAY.glob("*.stdout"))]
+    return [it for it in found if b"@0" not in it.read_bytes()]
+
+
+def played(player):
+    """What is wrong with what a player prints for the worked scripts."""
+    for script in worked_scripts():
+        ended = run([player], script=script.read_bytes())
+        wanted = Ended(0, script.with_suffix(".stdout").read_bytes(), b"")
+        yield from (f"{script.name}: {it}" for it in difference(ended, wanted))
+
+
+def plays(compiler, _program):
+    """What is wrong with the player of a compiler, plain and with sanitizers. It has one thread."""
+    if len(worked_scripts()) < 60:
+        yield f"the worked scripts are {worked_scripts()}"
+    for sanitizer in SANITIZERS:
+        if sanitizer != "thread" and links(compiler, sanitizer):
+            player, wrong = compiled(PLAYER, compiler, sanitizer)
+            yield from wrong or played(player)
 
 
 def readme(_program):
@@ -266,7 +298,8 @@ extern int calls;
 void *rattle_alloc(size_t a, size_t b);
 int main(void) {
     vlm handle = VLM_CLOSED;
-    uint32_t status = vlm_open(&handle);
+    vlm_options options = VLM_OPTIONS;
+    uint32_t status = vlm_open(&handle, &options);
     vlm_close(&handle);
     return status != VLM_NORMAL || rattle_alloc(1, 1) != NULL || calls != 1;
 }
@@ -347,6 +380,8 @@ def once():
     found = [Test(f"{source.stem} by {compiler} with the sanitizer {sanitizer}",
                   partial(over_library, source, compiler, sanitizer))
              for compiler in COMPILERS for sanitizer in SANITIZERS if links(compiler, sanitizer) for source in SOURCES]
+    found += [Test(f"the worked scripts in C by {compiler}", partial(plays, compiler))
+              for compiler in COMPILERS if shutil.which(compiler)]
     found += [Test(f"the header by {compiler}", partial(header, compiler))
               for compiler in ("g++", "clang++") if shutil.which(compiler)]
     found += [Test(f"two heaps in a program by {compiler}", partial(two_heaps, compiler))

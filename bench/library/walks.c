@@ -1,6 +1,8 @@
 /* Walks over what a lock manager holds, and a look for pending ASTs: what a monitor and a dispatcher do.
  *
  *     walks resources N     declares a process, makes N resources with a lock each, and walks over them
+ *     walks dump N          the same, and over the locks in each queue of each
+ *     walks rows N          makes N locks on one resource, and walks over its queues
  *     walks processes N     declares N processes, and walks over them
  *     walks pending N       declares N processes without an AST, and calls vlm_take_any N times
  *
@@ -14,6 +16,7 @@
 #include <time.h>
 
 static vlm handle = VLM_CLOSED;
+static const vlm_options options = VLM_OPTIONS;
 
 /* Ends the program where a call does not answer what it is to answer. */
 static void need(uint32_t status)
@@ -32,14 +35,16 @@ static uint32_t declare(uint32_t node)
     return pid;
 }
 
-static void make_resources(long count)
+/* Makes locks on as many resources, or all on one. */
+static void make_locks(long count, int is_one)
 {
     uint32_t pid = 0, lkid;
     for (long made = 0; made < count; made++) {
         if (made % 65535 == 0)
             pid = declare(1);
         vlm_request request = {.size = sizeof request, .pid = pid, .mode = VLM_NL, .block = 1};
-        need(vlm_enq(&handle, &request, (const uint8_t *)&made, sizeof made, &lkid));
+        long name = is_one ? 0 : made;
+        need(vlm_enq(&handle, &request, (const uint8_t *)&name, sizeof name, &lkid));
     }
 }
 
@@ -55,6 +60,21 @@ static long walk_resources(void)
     struct vlm_resource resource = {.size = sizeof resource};
     while (vlm_next_resource(&handle, &resource) == VLM_NORMAL && resource.serial != 0)
         seen++;
+    return seen;
+}
+
+/* The locks of all queues of all resources. */
+static long walk_rows(void)
+{
+    long seen = 0;
+    struct vlm_resource resource = {.size = sizeof resource};
+    vlm_lock lock = {.size = sizeof lock};
+    while (vlm_next_resource(&handle, &resource) == VLM_NORMAL && resource.serial != 0)
+        for (uint32_t queue = VLM_GRANTED; queue <= VLM_WAITING; queue++) {
+            need(vlm_first_row(&handle, &resource, queue, &lock));
+            for (; lock.lkid != 0; seen++)
+                need(vlm_next_row(&handle, lock.lkid, &lock));
+        }
     return seen;
 }
 
@@ -83,11 +103,12 @@ int main(int argc, char **argv)
         return 2;
     long count = atol(argv[2]), seen;
     int resources = strcmp(argv[1], "resources") == 0, processes = strcmp(argv[1], "processes") == 0;
+    int rows = strcmp(argv[1], "rows") == 0, dump = strcmp(argv[1], "dump") == 0;
     struct timespec from, to;
-    need(vlm_open(&handle));
-    resources ? make_resources(count) : make_processes(count);
+    need(vlm_open(&handle, &options));
+    resources || rows || dump ? make_locks(count, rows) : make_processes(count);
     clock_gettime(CLOCK_MONOTONIC, &from);
-    seen = resources ? walk_resources() : processes ? walk_processes() : look_for_pending(count);
+    seen = resources ? walk_resources() : rows || dump ? walk_rows() : processes ? walk_processes() : look_for_pending(count);
     clock_gettime(CLOCK_MONOTONIC, &to);
     if (seen != count)
         return 3;

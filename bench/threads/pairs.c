@@ -85,10 +85,11 @@ static void add_holders(long count) {
 /* vlm.h under a mutex. */
 
 static vlm handle = VLM_CLOSED;
+static const vlm_options options = VLM_OPTIONS;
 static pthread_mutex_t mutex = PTHREAD_MUTEX_INITIALIZER;
 static pthread_cond_t ended = PTHREAD_COND_INITIALIZER;
 
-static void open_raw(void) { must(vlm_open(&handle) == VLM_NORMAL, "open"); }
+static void open_raw(void) { must(vlm_open(&handle, &options) == VLM_NORMAL, "open"); }
 
 static uint32_t raw_process(void) {
     vlm_declaration declaration = {.size = sizeof declaration, .node = 1, .quota = 9, .blocks = 1};

@@ -4,6 +4,7 @@
 #include <errno.h>
 #include <signal.h>
 #include <stdlib.h>
+#include <string.h>
 #include <sys/eventfd.h>
 #include <unistd.h>
 
@@ -84,9 +85,10 @@ static void make_primitives(vlm_threads *layer) {
 }
 
 static bool has_manager(vlm_threads *layer, const vlm_threads_options *options) {
-    uint32_t status = options->has_keys ? vlm_open_with_keys(&layer->handle, options->keys, sizeof options->keys)
-                                        : vlm_open(&layer->handle);
-    return status == VLM_NORMAL && vlmt_table_is_made(&layer->processes, 4) && vlmt_table_is_made(&layer->locks, 4);
+    vlm_options core = VLM_OPTIONS;
+    core.has_keys = options->has_keys;
+    memcpy(core.keys, options->keys, sizeof core.keys);
+    return vlm_open(&layer->handle, &core) == VLM_NORMAL && vlmt_table_is_made(&layer->processes, 4) && vlmt_table_is_made(&layer->locks, 4);
 }
 
 static bool has_delivery(vlm_threads *layer, uint32_t delivery) {

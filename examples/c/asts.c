@@ -6,6 +6,7 @@
 #include <string.h>
 
 static vlm handle = VLM_CLOSED;
+static const vlm_options options = VLM_OPTIONS;
 
 static void is_granted(uint32_t pid, const vlm_ast *ast)
 {
@@ -49,7 +50,7 @@ int main(void)
     vlm_dequeue dequeue = {.size = sizeof dequeue, .has_value = 1, .value = "fifteen letters"};
     vlm_lksb lksb = {.size = sizeof lksb};
     uint32_t p = 0, q = 0, victim = 0;
-    tell("open", vlm_open(&handle));
+    tell("open", vlm_open(&handle, &options));
     tell("declare", vlm_declare(&handle, &declaration, &p));
     tell("declare", vlm_declare(&handle, &declaration, &q));
     dequeue.pid = p;

@@ -37,9 +37,10 @@ static void show_block(vlm *handle, const char *who, uint32_t pid) {
 int main(void) {
     static const uint8_t name[] = {'A'};
     vlm handle = VLM_CLOSED;
+    vlm_options options = VLM_OPTIONS;
     uint32_t p = 0, q = 0, p_lock = 0, q_lock = 0;
 
-    tell("open", vlm_open(&handle));
+    tell("open", vlm_open(&handle, &options));
     vlm_declaration declaration = {.size = sizeof declaration, .node = 1, .group = 1, .quota = 9, .blocks = 1};
     tell("declare P", vlm_declare(&handle, &declaration, &p));
     declaration.node = 2;

@@ -1,29 +1,12 @@
-/* Prints who waits for whom. A request waits for each other lock that holds an incompatible mode, and for each request
- * that is queued before it. The monitor walks the resources, and reads the queues of each by its place in the walk. */
+/* Prints who waits for whom. The monitor walks the resources, the queued requests of each, and for each request the locks
+ * for which it waits. Each step of these walks takes constant time, except past locks that are in nobody's way. */
 #include <vlm_threads.h>
 
 #include <string.h>
 
 static const char *const modes[] = {"NL", "CR", "CW", "PR", "PW", "EX"};
 
-static const bool fits[6][6] = {
-    /*        NL    CR    CW    PR    PW    EX  */
-    /* NL */ {true, true, true, true, true, true},
-    /* CR */ {true, true, true, true, true, false},
-    /* CW */ {true, true, true, false, false, false},
-    /* PR */ {true, true, false, true, false, false},
-    /* PW */ {true, true, false, false, false, false},
-    /* EX */ {true, false, false, false, false, false},
-};
-
-/* The place of a row: a resource, a queue, and a place there. */
-struct place {
-    size_t resource;
-    uint32_t queue;
-    size_t row;
-};
-
-static void print_wait(const struct vlm_row *waits, const struct vlm_row *blocks) {
+static void print_wait(const vlm_lock *waits, const vlm_lock *blocks) {
     printf("  process %u waits for process %u: lock %u wants %s, lock %u ", (unsigned)(waits->pid & 0xffff),
            (unsigned)(blocks->pid & 0xffff), (unsigned)waits->lkid, modes[waits->want], (unsigned)blocks->lkid);
     if (blocks->held == VLM_NO_MODE)
@@ -32,39 +15,30 @@ static void print_wait(const struct vlm_row *waits, const struct vlm_row *blocks
         printf("holds %s\n", modes[blocks->held]);
 }
 
-static bool is_before(struct place a, struct place b) {
-    return a.queue < b.queue || (a.queue == b.queue && a.row < b.row);
-}
-
 /* Prints the waits of one request. */
-static void print_waits(vlm *handle, struct place at, const struct vlm_row *waits) {
-    struct vlm_row row = {.size = sizeof row};
-    struct place other = {.resource = at.resource};
-    for (other.queue = VLM_GRANTED; other.queue <= VLM_WAITING; other.queue++)
-        for (other.row = 0; vlm_row(handle, other.resource, other.queue, other.row, &row) == VLM_NORMAL; other.row++) {
-            bool conflicts = row.held != VLM_NO_MODE && !fits[waits->want][row.held];
-            bool is_queued_before = row.want != VLM_NO_MODE && is_before(other, at);
-            if (row.lkid != waits->lkid && (conflicts || is_queued_before))
-                print_wait(waits, &row);
-        }
+static void print_waits(vlm *handle, const vlm_lock *waits) {
+    vlm_lock blocks = {.size = sizeof blocks};
+    uint32_t status = vlm_first_blocker(handle, waits->lkid, &blocks);
+    for (; status == VLM_NORMAL && blocks.lkid != 0; status = vlm_next_blocker(handle, waits->lkid, blocks.lkid, &blocks))
+        print_wait(waits, &blocks);
 }
 
-/* Prints the waits for the resource at a place. */
-static void print_queues(vlm *handle, size_t resource) {
-    struct vlm_row row = {.size = sizeof row};
-    struct place at = {.resource = resource};
-    for (at.queue = VLM_CONVERSION; at.queue <= VLM_WAITING; at.queue++)
-        for (at.row = 0; vlm_row(handle, resource, at.queue, at.row, &row) == VLM_NORMAL; at.row++)
-            print_waits(handle, at, &row);
+/* Prints the waits of the requests in a queue of a resource. */
+static void print_queue(vlm *handle, const struct vlm_resource *resource, uint32_t queue) {
+    vlm_lock waits = {.size = sizeof waits};
+    uint32_t status = vlm_first_row(handle, resource, queue, &waits);
+    for (; status == VLM_NORMAL && waits.lkid != 0; status = vlm_next_row(handle, waits.lkid, &waits))
+        print_waits(handle, &waits);
 }
 
-/* The reader: no other call of the layer works while it runs. The walk goes from place 0 on. */
+/* The reader: no other call of the layer works while it runs. */
 static void print_all(void *context, vlm *handle) {
     struct vlm_resource resource = {.size = sizeof resource};
     (void)context;
-    for (size_t place = 0; vlm_next_resource(handle, &resource) == VLM_NORMAL && resource.serial != 0; place++) {
+    while (vlm_next_resource(handle, &resource) == VLM_NORMAL && resource.serial != 0) {
         printf("resource %.*s\n", (int)resource.name_len, (const char *)resource.name);
-        print_queues(handle, place);
+        print_queue(handle, &resource, VLM_CONVERSION);
+        print_queue(handle, &resource, VLM_WAITING);
     }
 }
 

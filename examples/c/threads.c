@@ -8,6 +8,7 @@
 enum { ROUNDS = 2000 };
 
 static vlm handle = VLM_CLOSED;
+static const vlm_options options = VLM_OPTIONS;
 static pthread_mutex_t mutex = PTHREAD_MUTEX_INITIALIZER;
 static pthread_cond_t ended = PTHREAD_COND_INITIALIZER;
 
@@ -49,7 +50,7 @@ int main(void)
 {
     pthread_t threads[2];
     uint32_t pids[2];
-    intptr_t wrong = vlm_open(&handle) != VLM_NORMAL;
+    intptr_t wrong = vlm_open(&handle, &options) != VLM_NORMAL;
     vlm_declaration declaration = {.size = sizeof declaration, .node = 1, .group = 1, .quota = 9, .blocks = 1};
     for (int i = 0; i < 2; i++)
         wrong += vlm_declare(&handle, &declaration, &pids[i]) != VLM_NORMAL;

@@ -14,9 +14,10 @@ static void deliver(vlm *handle, uint32_t pid) {
 
 int main(void) {
     vlm handle = VLM_CLOSED;
+    vlm_options options = VLM_OPTIONS;
     uint32_t p, q, lkid;
     vlm_lksb lksb = {.size = sizeof lksb};
-    if (vlm_open(&handle) != VLM_NORMAL)
+    if (vlm_open(&handle, &options) != VLM_NORMAL)
         return 1;
     vlm_declaration declaration = {.size = sizeof declaration, .node = 1, .group = 1, .quota = 9, .blocks = 1};
     vlm_declare(&handle, &declaration, &p);

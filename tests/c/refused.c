@@ -38,13 +38,14 @@ static int ends_as_it_should(void)
 {
     static const uint8_t name[] = {'A'};
     vlm handle = VLM_CLOSED;
+    vlm_options options = VLM_OPTIONS;
     vlm_declaration first = {.size = sizeof first, .node = 1, .group = 1, .quota = 9, .blocks = 1};
     vlm_declaration second = {.size = sizeof second, .node = 2, .group = 1, .quota = 9, .blocks = 1};
     vlm_request request = {.size = sizeof request, .mode = VLM_EX, .block = 1, .has_ast = 1, .ast = 7};
     vlm_dequeue dequeue = {.size = sizeof dequeue};
     vlm_lksb lksb = {.size = sizeof lksb};
     uint32_t p = 0, q = 0, waits = 0;
-    int good = MADE(vlm_open(&handle)) == VLM_NORMAL;
+    int good = MADE(vlm_open(&handle, &options)) == VLM_NORMAL;
     good = good && MADE(vlm_declare(&handle, &first, &p)) == VLM_NORMAL;
     good = good && MADE(vlm_declare(&handle, &second, &q)) == VLM_NORMAL;
     request.pid = p;

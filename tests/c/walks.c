@@ -223,8 +223,9 @@ static void ended(vlm *handle, uint32_t p, uint32_t q, uint32_t other) {
 
 int main(void) {
     vlm handle_itself = VLM_CLOSED, *handle = &handle_itself;
+    vlm_options options = VLM_OPTIONS;
     closed_calls(handle);
-    EXPECT(vlm_open(handle), VLM_NORMAL);
+    EXPECT(vlm_open(handle, &options), VLM_NORMAL);
     empty_calls(handle);
     uint32_t p = declared(handle, 1), other = declared(handle, 2), q = declared(handle, 1);
     processes(handle, (const uint32_t[]){p, other, q}, 3);

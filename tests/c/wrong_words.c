@@ -26,9 +26,9 @@ static void hold_at(int line, int fact, const char *text) {
 
 static const uint8_t name[] = {'A'};
 static const uint8_t long_name[200] = {1};
-static const uint8_t keys[17] = {1, 2, 3};
 
 /* What each call is given: right words, with the process and the lock if they are there. */
+static vlm_options options;
 static vlm_declaration declaration;
 static vlm_setting setting;
 static vlm_request request, conversion;
@@ -36,6 +36,7 @@ static vlm_dequeue dequeue;
 static uint32_t p, p_lock, q;
 
 static void set_words(void) {
+    options = (vlm_options){.size = sizeof options, .version = VLM_VERSION, .has_keys = 1, .keys = {1, 2, 3}};
     declaration = (vlm_declaration){.size = sizeof declaration, .node = 1, .group = 1, .quota = 1, .blocks = 2};
     setting = (vlm_setting){.size = sizeof setting, .pid = p, .block = 1};
     request = (vlm_request){.size = sizeof request, .pid = q, .mode = VLM_EX, .block = 1};
@@ -52,6 +53,7 @@ static void set_words(void) {
     } while (0)
 
 static uint32_t number;
+#define OPEN vlm_open(handle, &options)
 #define DECLARE vlm_declare(handle, &declaration, &number)
 #define SET vlm_set_value(handle, &setting)
 #define ENQ vlm_enq(handle, &request, name, sizeof name, &number)
@@ -106,8 +108,12 @@ static void wrong_words(vlm *handle) {
     EXPECT(vlm_leave(handle, 257), VLM_BADPARAM);
     EXPECT(vlm_search(handle, 257, &number), VLM_BADPARAM);
     HOLD(number == 0);
-    EXPECT(vlm_open_with_keys(handle, keys, 15), VLM_BADPARAM);
-    EXPECT(vlm_open_with_keys(handle, keys, 17), VLM_BADPARAM);
+    WITH(options, size, 63, OPEN, VLM_BADPARAM);
+    WITH(options, size, 65, OPEN, VLM_BADPARAM);
+    WITH(options, version, VLM_VERSION + 1, OPEN, VLM_BADPARAM);
+    WITH(options, version, 0, OPEN, VLM_BADPARAM);
+    WITH(options, has_keys, 2, OPEN, VLM_BADPARAM);
+    for (size_t i = 0; i < 9; i++) WITH(options, reserved[i], 1, OPEN, VLM_BADPARAM);
 }
 
 /* Structs to be written of another size, and what is not there: BADPARAM on each handle, and nothing is written. */
@@ -117,24 +123,29 @@ static void wrong_readings(vlm *handle) {
     struct vlm_process process, process_before;
     struct vlm_resource resource, resource_before;
     struct vlm_row row, row_before;
+    vlm_lock lock, lock_before;
     size_t count = 99;
     memset(&lksb, 0xA5, sizeof lksb);
     memset(&ast, 0xA5, sizeof ast);
     memset(&process, 0xA5, sizeof process);
     memset(&resource, 0xA5, sizeof resource);
     memset(&row, 0xA5, sizeof row);
+    memset(&lock, 0xA5, sizeof lock);
     for (int is_sized = 0; is_sized <= 1; is_sized++) {
         if (is_sized) {
             lksb.size = sizeof lksb;
             process.size = sizeof process;
             resource.size = sizeof resource;
             row.size = sizeof row;
+            lock.size = sizeof lock;
         }
         lksb_before = lksb;
         ast_before = ast;
         process_before = process;
         resource_before = resource;
         row_before = row;
+        lock_before = lock;
+        uint32_t own = is_sized ? 12345 : p_lock;
         EXPECT(vlm_block(handle, p, is_sized ? 3 : 1, &lksb), VLM_BADPARAM);
         EXPECT(vlm_block(handle, is_sized ? 12345 : p, 1, &lksb), VLM_BADPARAM);
         EXPECT(vlm_block(handle, p, 257, &lksb), VLM_BADPARAM);
@@ -146,9 +157,20 @@ static void wrong_readings(vlm *handle) {
         EXPECT(vlm_next_process(handle, is_sized ? 12345 : 0, &process), VLM_BADPARAM);
         EXPECT(vlm_next_resource(handle, &resource), VLM_BADPARAM);
         EXPECT(vlm_find(handle, &resource), VLM_BADPARAM);
+        EXPECT(vlm_find_lock(handle, own, &lock), VLM_BADPARAM);
+        EXPECT(vlm_lock_resource(handle, own, &resource), VLM_BADPARAM);
+        EXPECT(vlm_first_row(handle, &resource, VLM_GRANTED, &lock), VLM_BADPARAM);
+        EXPECT(vlm_next_row(handle, own, &lock), VLM_BADPARAM);
+        EXPECT(vlm_first_own(handle, is_sized ? 12345 : p, &lock), VLM_BADPARAM);
+        EXPECT(vlm_next_own(handle, own, &lock), VLM_BADPARAM);
+        EXPECT(vlm_first_sublock(handle, own, &lock), VLM_BADPARAM);
+        EXPECT(vlm_next_sublock(handle, own, &lock), VLM_BADPARAM);
+        EXPECT(vlm_first_blocker(handle, own, &lock), VLM_BADPARAM);
+        EXPECT(vlm_next_blocker(handle, own, p_lock, &lock), VLM_BADPARAM);
         EXPECT(vlm_take(handle, p, &ast), VLM_BADPARAM);
         EXPECT(vlm_take_any(handle, &number, &ast), VLM_BADPARAM);
         HOLD(number == 0);
+        HOLD(memcmp(&lock, &lock_before, sizeof lock) == 0);
         HOLD(memcmp(&lksb, &lksb_before, sizeof lksb) == 0);
         HOLD(memcmp(&ast, &ast_before, sizeof ast) == 0);
         HOLD(memcmp(&process, &process_before, sizeof process) == 0);
@@ -166,6 +188,7 @@ static void closed_calls(vlm *handle) {
     struct vlm_process process = {.size = sizeof process};
     struct vlm_resource resource = {.size = sizeof resource};
     struct vlm_row row = {.size = sizeof row};
+    vlm_lock lock = {.size = sizeof lock};
     size_t count = 99;
     number = 7;
     EXPECT(DECLARE, VLM_BADPARAM);
@@ -187,6 +210,17 @@ static void closed_calls(vlm *handle) {
     EXPECT(vlm_next_process(handle, 0, &process), VLM_BADPARAM);
     EXPECT(vlm_next_resource(handle, &resource), VLM_BADPARAM);
     EXPECT(vlm_find(handle, &resource), VLM_BADPARAM);
+    EXPECT(vlm_find_lock(handle, 1, &lock), VLM_BADPARAM);
+    EXPECT(vlm_lock_resource(handle, 1, &resource), VLM_BADPARAM);
+    EXPECT(vlm_first_row(handle, &resource, VLM_GRANTED, &lock), VLM_BADPARAM);
+    EXPECT(vlm_next_row(handle, 1, &lock), VLM_BADPARAM);
+    EXPECT(vlm_first_own(handle, p, &lock), VLM_BADPARAM);
+    EXPECT(vlm_next_own(handle, 1, &lock), VLM_BADPARAM);
+    EXPECT(vlm_first_sublock(handle, 1, &lock), VLM_BADPARAM);
+    EXPECT(vlm_next_sublock(handle, 1, &lock), VLM_BADPARAM);
+    EXPECT(vlm_first_blocker(handle, 1, &lock), VLM_BADPARAM);
+    EXPECT(vlm_next_blocker(handle, 1, 1, &lock), VLM_BADPARAM);
+    HOLD(vlm_lock_count(handle) == 0 && vlm_queued_count(handle) == 0);
     HOLD(vlm_process_count(handle) == 0 && vlm_resource_count(handle) == 0 && ast.kind == 9 && count == 99);
     HOLD(!handle->is_held && handle->core == NULL);
 }
@@ -229,8 +263,7 @@ static void refused_steps(vlm *handle) {
     EXPECT(vlm_leave(handle, 0), VLM_BADPARAM);
     EXPECT(vlm_leave(handle, 9), VLM_BADPARAM);
     EXPECT(vlm_search(handle, 0, &number), VLM_BADPARAM);
-    EXPECT(vlm_open(handle), VLM_BADPARAM);
-    EXPECT(vlm_open_with_keys(handle, keys, 16), VLM_BADPARAM);
+    EXPECT(OPEN, VLM_BADPARAM);
 }
 
 /* P's lock is the only one, granted at EX, and no AST is pending; P was declared before Q. */
@@ -248,7 +281,8 @@ static void is_as_it_was(vlm *handle) {
     HOLD(process.pid == q && vlm_process_count(handle) == 2);
     EXPECT(vlm_process(handle, 0, &process), VLM_NORMAL);
     HOLD(process.size == sizeof process && process.pid == p && process.node == 1 && process.group == 1);
-    HOLD(process.syslck == 0 && process.quota == 1 && process.blocks == 2 && process.pending == 0);
+    HOLD(process.syslck == 0 && process.quota == 1 && process.blocks == 2 && process.pending == 0 && process.locks == 1);
+    HOLD(vlm_lock_count(handle) == 1 && vlm_queued_count(handle) == 0);
 }
 
 int main(void) {
@@ -261,7 +295,8 @@ int main(void) {
     closed_calls(handle);
     unsigned closed = calls;
 
-    EXPECT(vlm_open_with_keys(handle, keys, 16), VLM_NORMAL);
+    HOLD(vlm_version() == VLM_VERSION);
+    EXPECT(OPEN, VLM_NORMAL);
     EXPECT(vlm_declare(handle, &declaration, &p), VLM_NORMAL);
     EXPECT(vlm_declare(handle, &declaration, &q), VLM_NORMAL);
     set_words();

@@ -100,7 +100,7 @@ Opened (Some s) after status = (after ≡ Some s) × (status ≡ condition_numbe
 Opened None (Some s) status = (s ≡ start) × (status ≡ condition_number Normal)
 Opened None None status = status ≡ condition_number Insfmem
 
--- a handle is opened if the keys have the right length; otherwise nothing changes, with BADPARAM
+-- a handle is opened if the options are right; otherwise nothing changes, with BADPARAM
 abbrev pub OpenedIf : Bool → Option State → Option State → ℕ → Type 0
 OpenedIf true before after status = Opened before after status
 OpenedIf false before after status = (after ≡ before) × (status ≡ condition_number Badparam)

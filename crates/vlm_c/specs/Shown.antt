@@ -8,21 +8,26 @@ use Rattle.vlm_words.specs.declared.modes.Mode.TheVariants.{Nl, Cr, Cw, Pr, Pw, 
 use Rattle.vlm_words.specs.declared.resources.Domain.{Domain}
 use Rattle.vlm_words.specs.declared.resources.Domain.TheVariants.{Group, System}
 use Rattle.vlm_words.specs.declared.resources.Queue.{Queue}
+use Rattle.vlm_words.specs.declared.resources.Queue.TheVariants.{Granted, Conversion, Waiting}
 use Rattle.vlm_words.specs.Conditions.{condition_number}
 use Rattle.vlm_words.specs.Padding.{padded}
-use Rattle.vlm_words.specs.State.{State, process_of as living_process}
+use Rattle.vlm_words.specs.State.{Process, State, process_of as living_process}
+use Rattle.vlm_model.specs.Quotas.{locks_of}
 use Rattle.vlm_model.specs.StatusBlocks.{status_block_at}
 use Rattle.vlm_procs.specs.declared.views.ProcessView.{ProcessView}
 use Rattle.vlm_procs.specs.Views.{process_view}
 use Rattle.vlm_queue.specs.declared.views.ResourceView.{ResourceView}
 use Rattle.vlm_queue.specs.declared.views.RowView.{RowView}
-use Rattle.vlm_queue.specs.Views.{resource_view, row_shown}
+use Rattle.vlm_queue.specs.Views.{resource_view, row_shown, rows_in}
+use Rattle.vlm_core.specs.declared.locks.LockView.{LockView}
 use Rattle.vlm_c.specs.declared.shown.VlmLksb.{VlmLksb}
+use Rattle.vlm_c.specs.declared.shown.VlmLock.{VlmLock}
 use Rattle.vlm_c.specs.declared.shown.VlmProcess.{VlmProcess}
 use Rattle.vlm_c.specs.declared.shown.VlmResource.{VlmResource}
 use Rattle.vlm_c.specs.declared.shown.VlmRow.{VlmRow}
 use Rattle.vlm_words.specs.Resources.{is_at}
-use Rattle.vlm_core.specs.Readers.{after_first, has_pid, key_of as core_key}
+use Rattle.vlm_core.specs.Locks.{lock_view}
+use Rattle.vlm_core.specs.Readers.{all_locks, all_queued, after_first, has_pid, key_of as core_key}
 use Rattle.vlm_c.specs.declared.arguments.ResourceKey.{ResourceKey}
 use Rattle.vlm_c.specs.Words.{queue_of}
 
@@ -30,6 +35,11 @@ use Rattle.vlm_c.specs.Words.{queue_of}
 pub record Tells {A : Type 0} (shown answer : A) (old new : Option State) : Type 0 where
   pub told : answer ≡ shown
   pub same : new ≡ old
+
+-- what a reader answers of the core, which stays; nothing without a core
+abbrev pub Reads : {A : Type 0} → (State → Option A → Type 0) → Option State → Option A → Option State → Type 0
+Reads Shows None answer after = (answer ≡ None) × (after ≡ None)
+Reads Shows (Some s) answer after = Shows s answer × (after ≡ Some s)
 
 -- a value is written, with NORMAL; with no value nothing is written, and BADPARAM is returned
 abbrev pub Told : {A : Type 0} → Option A → A → A → ℕ → Type 0
@@ -70,6 +80,16 @@ abbrev pub count_shown : Option State → ℕ
 count_shown None = 0
 count_shown (Some s) = length s.resources
 
+-- how many locks there are, waiting ones included
+abbrev pub lock_count_shown : Option State → ℕ
+lock_count_shown None = 0
+lock_count_shown (Some s) = all_locks s.resources
+
+-- how many requests are queued
+abbrev pub queued_count_shown : Option State → ℕ
+queued_count_shown None = 0
+queued_count_shown (Some s) = all_queued s.resources
+
 abbrev pub mode_number : Option Mode → ℕ
 mode_number (Some Nl) = 0
 mode_number (Some Cr) = 1
@@ -78,6 +98,57 @@ mode_number (Some Pr) = 3
 mode_number (Some Pw) = 4
 mode_number (Some Ex) = 5
 mode_number None = 255
+
+abbrev pub queue_number : Queue → ℕ
+queue_number Granted = 0
+queue_number Conversion = 1
+queue_number Waiting = 2
+
+abbrev pub lock_of : LockView → VlmLock
+lock_of lock = record {
+  size = 64;
+  lkid = lock.lkid;
+  pid = lock.pid;
+  held = mode_number lock.held;
+  want = mode_number lock.want;
+  queue = queue_number lock.queue;
+  resource = lock.resource;
+  parent = lock.parent;
+  block = lock.block;
+  reserved = replicate 7 0;
+}
+
+-- what C reads of a lock, or after the last one
+abbrev pub lock_or_none : Option LockView → VlmLock
+lock_or_none (Some lock) = lock_of lock
+lock_or_none None = record {
+  size = 64;
+  lkid = 0;
+  pid = 0;
+  held = 255;
+  want = 255;
+  queue = 0;
+  resource = 0;
+  parent = 0;
+  block = 0;
+  reserved = replicate 7 0;
+}
+
+-- the first lock in the queue of the resource with the key, if it has one; nothing if there is no such resource, or if
+-- the words name no key or no queue
+abbrev pub ShowsFirstRow : State → Option ResourceKey → Option Queue → Option (Option LockView) → Type 0
+ShowsFirstRow s None queue answer = answer ≡ None
+ShowsFirstRow s (Some key) None answer = answer ≡ None
+ShowsFirstRow s (Some key) (Some queue) answer =
+    answer ≡ option_map (λ r. option_map (lock_view r queue) (slice_get (rows_in queue r) 0))
+    (find (is_at (core_key key.parent key.domain key.name)) s.resources)
+
+-- a reader answers what the core shows, and a call writes it into a struct of the right size
+pub record ReadTold {A Words : Type 0} (Shows : State → Option A → Type 0) (words_of : A → Words)
+    (before after : Option State) (fits : Bool) (old new : Words) (status : ℕ) : Type 0 where
+  pub answer : Option A
+  pub reads : Reads Shows before answer after
+  pub told : Told (sized fits (option_map words_of answer)) old new status
 
 abbrev pub row_of : RowView → VlmRow
 row_of row = record {
@@ -113,8 +184,9 @@ abbrev pub group_of : Domain → ℕ
 group_of (Group g) = g
 group_of System = 0
 
-abbrev pub process_of : ProcessView → VlmProcess
-process_of p = record {
+-- what C reads of a process with this many locks
+abbrev pub process_of : ProcessView × ℕ → VlmProcess
+process_of (p, locks) = record {
   size = 64;
   pid = p.pid;
   node = p.node;
@@ -123,13 +195,18 @@ process_of p = record {
   quota = p.quota;
   blocks = p.blocks;
   pending = p.pending;
-  reserved = replicate 6 0;
+  locks = locks;
+  reserved = replicate 4 0;
 }
 
+-- the view of a process, and how many locks it has
+abbrev pub with_locks : State → Process → ProcessView × ℕ
+with_locks s p = (process_view p, locks_of p.pid s.resources)
+
 -- the living process at a place
-abbrev pub process_shown : Option State → ℕ → Option ProcessView
+abbrev pub process_shown : Option State → ℕ → Option (ProcessView × ℕ)
 process_shown None place = None
-process_shown (Some s) place = option_map process_view (slice_get s.processes place)
+process_shown (Some s) place = option_map (with_locks s) (slice_get s.processes place)
 
 abbrev pub resource_of : ResourceView → VlmResource
 resource_of r = record {
@@ -168,11 +245,11 @@ next_resource_shown (Some s) false (Some key) =
 
 -- the living process after another, or the first one at the start of a walk; nothing if no living process has the
 -- identification
-abbrev pub next_process_shown : Option State → Bool → ℕ → Option (Option ProcessView)
+abbrev pub next_process_shown : Option State → Bool → ℕ → Option (Option (ProcessView × ℕ))
 next_process_shown None starts pid = None
-next_process_shown (Some s) true pid = Some (option_map process_view (slice_get s.processes 0))
+next_process_shown (Some s) true pid = Some (option_map (with_locks s) (slice_get s.processes 0))
 next_process_shown (Some s) false pid =
-    option_map (λ rest. option_map process_view (slice_get rest 0)) (after_first (has_pid pid) s.processes)
+    option_map (λ rest. option_map (with_locks s) (slice_get rest 0)) (after_first (has_pid pid) s.processes)
 
 -- what C reads of a resource, or after the last one
 abbrev pub resource_or_none : Option ResourceView → VlmResource
@@ -193,7 +270,7 @@ resource_or_none None = record {
 }
 
 -- what C reads of a process, or after the last one
-abbrev pub process_or_none : Option ProcessView → VlmProcess
+abbrev pub process_or_none : Option (ProcessView × ℕ) → VlmProcess
 process_or_none (Some p) = process_of p
 process_or_none None = record {
   size = 64;
@@ -204,5 +281,6 @@ process_or_none None = record {
   quota = 0;
   blocks = 0;
   pending = 0;
-  reserved = replicate 6 0;
+  locks = 0;
+  reserved = replicate 4 0;
 }

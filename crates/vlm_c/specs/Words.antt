@@ -14,6 +14,7 @@ use Rattle.vlm_words.specs.declared.steps.Dequeue.{Dequeue}
 use Rattle.vlm_words.specs.declared.steps.Declaration.{Declaration}
 use Rattle.vlm_words.specs.declared.steps.ValueSetting.{ValueSetting}
 use Rattle.vlm_c.specs.declared.arguments.VlmDeclaration.{VlmDeclaration}
+use Rattle.vlm_c.specs.declared.arguments.VlmOptions.{VlmOptions}
 use Rattle.vlm_c.specs.declared.arguments.VlmSetting.{VlmSetting}
 use Rattle.vlm_c.specs.declared.arguments.VlmRequest.{VlmRequest}
 use Rattle.vlm_words.specs.declared.resources.Domain.{Domain}
@@ -58,6 +59,10 @@ is_blank words = list_all (λ w. w == 0) words
 -- mark 1 says that the value is given
 abbrev pub given : {A : Type 0} → ℕ → A → Option A
 given mark x = if mark == 1 then Some x else None
+
+-- the struct has its size and this version, its reserved words are 0, and its mark is 0 or 1
+unfoldable pub is_options : VlmOptions → Bool
+is_options w = (w.size == 64) && (w.version == 256) && is_blank w.reserved && nat_le w.has_keys 1
 
 -- the struct has its size, its reserved words are 0 and its numbers fit
 abbrev pub is_declaration : VlmDeclaration → Bool

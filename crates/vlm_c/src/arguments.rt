@@ -2,18 +2,24 @@
 //!
 //! A struct names no step if it has another size, a reserved word that is not 0, or a number that does not fit.
 
-ghost use Rattle.std.specs.Prelude.{◌≡◌};
-ghost use Rattle.vlm_c.specs.Words.{key_of, conversion_of, declaration_of, dequeue_of, given, is_blank, is_request, mode_of, node_of, queue_of, request_of, setting_of, take_of, which_of};
+ghost use Rattle.std.specs.Prelude.{◌≡◌, is_some};
+ghost use Rattle.vlm_c.specs.Words.{is_options, key_of, conversion_of, declaration_of, dequeue_of, given, is_blank, is_request, mode_of, node_of, queue_of, request_of, setting_of, take_of, which_of};
 
 use crate::replies::AST_SIZE;
 use crate::shown::{RESOURCE_SIZE, VlmResource};
 use std::mem::size_of;
+use vlm_core::HashKeys;
 use vlm_words::modes::Mode;
 use vlm_words::names::{Name, NameArg};
 use vlm_words::resources::{Domain, Queue};
 use vlm_words::steps::{Conversion, Declaration, Dequeue, NewRequest, ValueSetting, Which};
 
+/// The version of the library and its header, 0.1.0: one byte for each of its numbers.
+pub(crate) const VERSION: u32 = 0x00_01_00;
+
 // The `size` that C writes into each struct.
+const OPTIONS_SIZE: u32 = 64;
+
 const DECLARATION_SIZE: u32 = 32;
 
 const SETTING_SIZE: u32 = 96;
@@ -22,6 +28,8 @@ const REQUEST_SIZE: u32 = 128;
 
 const DEQUEUE_SIZE: u32 = 128;
 
+const _: () = prove!(size_of::<VlmOptions>() == 64);
+
 const _: () = prove!(size_of::<VlmDeclaration>() == 32);
 
 const _: () = prove!(size_of::<VlmSetting>() == 96);
@@ -29,6 +37,19 @@ const _: () = prove!(size_of::<VlmSetting>() == 96);
 const _: () = prove!(size_of::<VlmRequest>() == 128);
 
 const _: () = prove!(size_of::<VlmDequeue>() == 128);
+
+/// How a core is opened.
+#[repr(C)]
+#[derive(Clone, Copy)]
+pub struct VlmOptions {
+    pub size: u32,
+    /// The version of the caller's header.
+    pub version: u32,
+    /// 1 to hash names by `keys`, or 0 to hash them by fixed keys.
+    pub has_keys: u32,
+    pub keys: [u8; 16],
+    pub reserved: [u32; 9],
+}
 
 /// Declares a process.
 #[repr(C)]
@@ -215,6 +236,21 @@ fn given<T: Copy>(mark: u32, value: T) -> Option<T>
     ensures { result ≡ given mark value }
 {
     if mark == 1 { Some(value) } else { None }
+}
+
+/// The keys for the index of names; `None` if the struct is malformed or of another version.
+#[tactic(auto, unfolding(crate::specs::Words::is_options))]
+pub(crate) fn keys_of(words: &VlmOptions) -> Option<HashKeys>
+    ensures { is_some result ≡ is_options words.now }
+{
+    if words.size != OPTIONS_SIZE || words.version != VERSION || !is_blank(&words.reserved) {
+        return None;
+    }
+    match words.has_keys {
+        0 => Some(HashKeys::fixed()),
+        1 => Some(HashKeys::of(words.keys)),
+        _ => None,
+    }
 }
 
 #[tactic(auto, unfolding(crate::specs::Words::declaration_of))]

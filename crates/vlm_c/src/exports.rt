@@ -3,16 +3,16 @@
 //! Each checks all its arguments except pointers and handles. It answers BADPARAM and changes nothing if an argument
 //! is malformed or the handle has no core. docs/MACHINE.md lists the refusals of each step, and their order.
 
-ghost use Rattle.std.specs.Prelude.{◌≡◌, ◌==◌, None, Some, length};
+ghost use Rattle.std.specs.Prelude.{◌≡◌, ◌==◌, None, Some};
 ghost use Rattle.std.specs.Option.{option_map};
 ghost use Rattle.vlm_words.specs.declared.steps.Step.TheVariants.{Convert, Declare, Deq, Enq, Leave, Rundown, Search, SetValue, Take};
-ghost use Rattle.vlm_c.specs.Served.{AstReplied, Opened, OpenedIf, Replied, StatusReplied, TookAnyIf};
-ghost use Rattle.vlm_c.specs.Shown.{Told, block_shown, count_shown, found_shown, lksb_of, next_process_shown, next_resource_shown, pending_shown, process_count_shown, process_of, process_or_none, process_shown, resource_of, resource_or_none, resource_shown, row_of, row_shown_at, sized};
-ghost use Rattle.vlm_c.specs.Words.{conversion_of, declaration_of, dequeue_of, key_of, node_of, request_of, setting_of, take_of};
+ghost use Rattle.vlm_c.specs.Served.{AstReplied, OpenedIf, Replied, StatusReplied, TookAnyIf};
+ghost use Rattle.vlm_c.specs.Shown.{Told, block_shown, count_shown, found_shown, lksb_of, next_process_shown, next_resource_shown, pending_shown, process_count_shown, process_of, process_or_none, process_shown, queued_count_shown, resource_of, resource_or_none, resource_shown, row_of, row_shown_at, sized, lock_count_shown};
+ghost use Rattle.vlm_c.specs.Words.{conversion_of, declaration_of, dequeue_of, is_options, key_of, node_of, request_of, setting_of, take_of};
 
 use crate::arguments::{
-    VlmDeclaration, VlmDequeue, VlmRequest, VlmSetting, conversion_of, declaration_of, dequeue_of,
-    node_of, request_of, setting_of, take_of,
+    VERSION, VlmDeclaration, VlmDequeue, VlmOptions, VlmRequest, VlmSetting, conversion_of,
+    declaration_of, dequeue_of, keys_of, node_of, request_of, setting_of, take_of,
 };
 use crate::handle::Vlm;
 use crate::replies::{AST_SIZE, VlmAst, answer_number, answer_status, no_ast, status, write_ast};
@@ -21,13 +21,26 @@ use crate::shown::{
     lksb_of, process_of, process_or_none, resource_of, resource_or_none, row_of,
 };
 use std::alloc::Global;
-use vlm_core::{Core, HashKeys};
+use vlm_core::Core;
 use vlm_words::conditions::Cond;
 use vlm_words::steps::Step;
 
-fn opened(alloc: Global, handle: &mut Vlm, keys: HashKeys) -> u32
-    ensures { Opened handle.old.slot.core handle.new.slot.core result }
+/// The version of the library, as VLM_VERSION of its header has it.
+#[unsafe(no_mangle)]
+pub extern "C" fn vlm_version() -> u32
+    ensures { result ≡ 256 }
 {
+    VERSION
+}
+
+/// Puts a new core into a handle that has none. The options must be of this version.
+#[unsafe(no_mangle)]
+pub extern "C" fn vlm_open(alloc: Global, handle: &mut Vlm, options: &VlmOptions) -> u32
+    ensures { OpenedIf (is_options options.now) handle.old.slot.core handle.new.slot.core result }
+{
+    let Some(keys) = keys_of(options) else {
+        return status(Cond::Badparam);
+    };
     if handle.is_open() {
         return status(Cond::Badparam);
     }
@@ -38,27 +51,6 @@ fn opened(alloc: Global, handle: &mut Vlm, keys: HashKeys) -> u32
         }
         Err(_) => status(Cond::Insfmem),
     }
-}
-
-/// Puts a new core into a handle that has none. Fixed keys hash its names.
-#[unsafe(no_mangle)]
-pub extern "C" fn vlm_open(alloc: Global, handle: &mut Vlm) -> u32
-    ensures { Opened handle.old.slot.core handle.new.slot.core result }
-{
-    opened(alloc, handle, HashKeys::fixed())
-}
-
-/// Puts a new core into a handle that has none. These 16 bytes are the keys that hash its names.
-#[unsafe(no_mangle)]
-pub extern "C" fn vlm_open_with_keys(alloc: Global, handle: &mut Vlm, keys: &[u8]) -> u32
-    ensures { OpenedIf (length keys.now == 16) handle.old.slot.core handle.new.slot.core result }
-{
-    if keys.len() != 16 {
-        return status(Cond::Badparam);
-    }
-    let mut bytes = [0; 16];
-    bytes.copy_from_slice(keys);
-    opened(alloc, handle, HashKeys::of(bytes))
 }
 
 /// Frees the core of a handle, if it has one.
@@ -201,14 +193,14 @@ pub extern "C" fn vlm_search(handle: &mut Vlm, node: u32, victim: &mut u32) -> u
 }
 
 // The value, or no value if the caller's struct has another size.
-fn sized<T: Copy>(fits: bool, value: Option<T>) -> Option<T>
+pub(crate) fn sized<T: Copy>(fits: bool, value: Option<T>) -> Option<T>
     ensures { result ≡ sized fits value }
 {
     if fits { value } else { None }
 }
 
 // Writes the value. With no value it writes nothing.
-fn copy_out<T: Copy>(value: Option<T>, out: &mut T) -> u32
+pub(crate) fn copy_out<T: Copy>(value: Option<T>, out: &mut T) -> u32
     ensures { Told value out.old out.new result }
 {
     match value {
@@ -255,7 +247,9 @@ pub extern "C" fn vlm_process(handle: &mut Vlm, place: usize, out: &mut VlmProce
         out.old out.new result }
     ensures same { handle.new.slot.core ≡ handle.old.slot.core }
 {
-    let shown = handle.process(place).map(|process| process_of(&process));
+    let shown = handle
+        .process(place)
+        .map(|(process, locks)| process_of(&process, locks));
     copy_out(sized(out.size == PROCESS_SIZE, shown), out)
 }
 
@@ -279,6 +273,24 @@ pub extern "C" fn vlm_resource_count(handle: &mut Vlm) -> usize
     ensures same { handle.new.slot.core ≡ handle.old.slot.core }
 {
     handle.resource_count()
+}
+
+/// Counts the locks, waiting ones included.
+#[unsafe(no_mangle)]
+pub extern "C" fn vlm_lock_count(handle: &mut Vlm) -> usize
+    ensures told { result ≡ lock_count_shown handle.old.slot.core }
+    ensures same { handle.new.slot.core ≡ handle.old.slot.core }
+{
+    handle.lock_count()
+}
+
+/// Counts the queued requests: conversions and waiting locks.
+#[unsafe(no_mangle)]
+pub extern "C" fn vlm_queued_count(handle: &mut Vlm) -> usize
+    ensures told { result ≡ queued_count_shown handle.old.slot.core }
+    ensures same { handle.new.slot.core ≡ handle.old.slot.core }
+{
+    handle.queued_count()
 }
 
 /// Copies a resource. Places start at 0; the cost grows with the place.

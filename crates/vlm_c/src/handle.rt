@@ -1,10 +1,10 @@
 //! The handle of a core, in memory that C holds. It lends its core to one call at a time.
 
-ghost use Rattle.std.specs.Prelude.{◌≡◌, ◌==◌, None, Some};
+ghost use Rattle.std.specs.Prelude.{◌≡◌, ◌==◌, None, Some, false};
 ghost use Rattle.std.specs.Option.{is_some, option_map};
 ghost use Rattle.std.specs.Fn.{FnOnceReturnsAtMut};
 ghost use Rattle.vlm_c.specs.Served.{Called, Served, TakesFirst};
-ghost use Rattle.vlm_c.specs.Shown.{Tells, block_shown, count_shown, found_shown, next_process_shown, next_resource_shown, pending_shown, process_count_shown, process_shown, resource_shown, row_shown_at};
+ghost use Rattle.vlm_c.specs.Shown.{Tells, block_shown, count_shown, found_shown, lock_count_shown, next_process_shown, next_resource_shown, pending_shown, process_count_shown, process_shown, queued_count_shown, resource_shown, row_shown_at};
 ghost use Rattle.vlm_c.specs.Words.{key_of};
 
 use crate::arguments::{key_of, queue_of};
@@ -76,7 +76,7 @@ impl Vlm {
     }
 
     // Takes the core out, passes it to `call` and puts it back.
-    fn with_core<R, F: FnOnce(&mut Core) -> R + Drop>(&mut self, call: F) -> Option<R>
+    pub(crate) fn with_core<R, F: FnOnce(&mut Core) -> R + Drop>(&mut self, call: F) -> Option<R>
         requires { F.IsAlwaysCallable call }
         ensures { Called (FnOnceReturnsAtMut F.FnOnce call) self.old.slot.core result self.new.slot.core }
     {
@@ -136,24 +136,24 @@ impl Vlm {
         self.with_core(|core| core.process_count()).unwrap_or(0)
     }
 
-    /// The living process at a place, from 0.
-    pub(crate) fn process(&mut self, place: usize) -> Option<ProcessView>
+    /// The living process at a place, from 0, and how many locks it has.
+    pub(crate) fn process(&mut self, place: usize) -> Option<(ProcessView, usize)>
         ensures { Tells (process_shown self.old.slot.core place) result
             self.old.slot.core self.new.slot.core }
     {
-        self.with_core(|core| core.process_at(place))?
+        self.with_core(|core| process_at(core, place))?
     }
 
     /// The living process after the process with this identification, or with 0 the first one. `Some(None)` after the
     /// last one, `None` if no living process has the identification.
-    pub(crate) fn next_process(&mut self, pid: u32) -> Option<Option<ProcessView>>
+    pub(crate) fn next_process(&mut self, pid: u32) -> Option<Option<(ProcessView, usize)>>
         ensures { Tells (next_process_shown self.old.slot.core (pid == 0) pid) result
             self.old.slot.core self.new.slot.core }
     {
         if pid == 0 {
-            return self.with_core(|core| core.process_at(0));
+            return self.with_core(|core| process_at(core, 0));
         }
-        self.with_core(|core| core.process_after(pid))?
+        self.with_core(|core| process_after(core, pid))?
     }
 
     pub(crate) fn resource_count(&mut self) -> usize
@@ -161,6 +161,20 @@ impl Vlm {
             self.old.slot.core self.new.slot.core }
     {
         self.with_core(|core| core.resource_count()).unwrap_or(0)
+    }
+
+    pub(crate) fn lock_count(&mut self) -> usize
+        ensures { Tells (lock_count_shown self.old.slot.core) result
+            self.old.slot.core self.new.slot.core }
+    {
+        self.with_core(|core| core.lock_count()).unwrap_or(0)
+    }
+
+    pub(crate) fn queued_count(&mut self) -> usize
+        ensures { Tells (queued_count_shown self.old.slot.core) result
+            self.old.slot.core self.new.slot.core }
+    {
+        self.with_core(|core| core.queued_count()).unwrap_or(0)
     }
 
     /// The resource at a place, from 0.
@@ -200,6 +214,28 @@ impl Vlm {
     {
         let queue = queue_of(queue)?;
         self.with_core(|core| core.row_at(resource, queue, place))?
+    }
+}
+
+// The living process at an index, and how many locks it has.
+fn process_at(core: &Core, index: usize) -> Option<(ProcessView, usize)>
+    ensures { result ≡ process_shown (Some core.now) index }
+{
+    let process = core.process_at(index)?;
+    let locks = core.own_count(process.pid);
+    Some((process, locks))
+}
+
+// The living process after another one, and how many locks it has.
+fn process_after(core: &Core, pid: u32) -> Option<Option<(ProcessView, usize)>>
+    ensures { result ≡ next_process_shown (Some core.now) false pid }
+{
+    match core.process_after(pid)? {
+        Some(process) => {
+            let locks = core.own_count(process.pid);
+            Some(Some((process, locks)))
+        }
+        None => Some(None),
     }
 }
 

@@ -2,11 +2,11 @@
 //!
 //! | Module | Role |
 //! |---|---|
-//! | `exports` | the calls of include/vlm.h |
+//! | `exports`, `lock_exports` | the calls of include/vlm.h |
 //! | `arguments` | reads arguments as steps of the core |
 //! | `replies` | turns answers into values for C |
 //! | `shown` | the structs that readers copy out |
-//! | `handle` | the handle, which lends its core to a call |
+//! | `handle`, `lock_readers` | the handle, which lends its core to a call |
 //! | `slot` | the pointer to a core in memory that C holds |
 //! | `loose` | a box taken apart into its pointer |
 //!
@@ -16,6 +16,8 @@
 mod arguments;
 mod exports;
 mod handle;
+mod lock_exports;
+mod lock_readers;
 mod loose;
 mod replies;
 mod shown;

@@ -2,14 +2,14 @@
 
 ghost use Rattle.std.specs.Prelude.{◌≡◌, ◌≤◌, length};
 ghost use Rattle.vlm_words.specs.Padding.{padded};
-ghost use Rattle.vlm_c.specs.Shown.{lksb_of, mode_number, process_of, process_or_none, resource_of, resource_or_none, row_of};
+ghost use Rattle.vlm_c.specs.Shown.{lksb_of, lock_of, lock_or_none, mode_number, process_of, process_or_none, queue_number, resource_of, resource_or_none, row_of};
 
 use std::mem::size_of;
-use vlm_core::{ProcessView, ResourceView, RowView};
+use vlm_core::{LockView, ProcessView, ResourceView, RowView};
 use vlm_words::blocks::Block;
 use vlm_words::modes::Mode;
 use vlm_words::names::Name;
-use vlm_words::resources::Domain;
+use vlm_words::resources::{Domain, Queue};
 
 // The `size` that C writes into each struct.
 pub(crate) const LKSB_SIZE: u32 = 80;
@@ -20,6 +20,8 @@ pub(crate) const RESOURCE_SIZE: u32 = 144;
 
 pub(crate) const ROW_SIZE: u32 = 32;
 
+pub(crate) const LOCK_SIZE: u32 = 64;
+
 const _: () = prove!(size_of::<VlmLksb>() == 80);
 
 const _: () = prove!(size_of::<VlmProcess>() == 64);
@@ -27,6 +29,8 @@ const _: () = prove!(size_of::<VlmProcess>() == 64);
 const _: () = prove!(size_of::<VlmResource>() == 144);
 
 const _: () = prove!(size_of::<VlmRow>() == 32);
+
+const _: () = prove!(size_of::<VlmLock>() == 64);
 
 /// A lock status block.
 #[repr(C)]
@@ -55,8 +59,11 @@ pub struct VlmProcess {
     pub quota: u32,
     /// How many status blocks it has, numbered from 1.
     pub blocks: u64,
+    /// How many ASTs are pending for it.
     pub pending: u64,
-    pub reserved: [u32; 6],
+    /// How many locks it has, waiting ones included.
+    pub locks: u64,
+    pub reserved: [u32; 4],
 }
 
 /// A resource without its queues.
@@ -96,6 +103,29 @@ pub struct VlmRow {
     pub reserved: [u32; 3],
 }
 
+/// A lock with its place.
+#[repr(C)]
+#[derive(Clone, Copy)]
+pub struct VlmLock {
+    pub size: u32,
+    /// 0 after the last lock of a walk.
+    pub lkid: u32,
+    pub pid: u32,
+    /// A mode, or 255 for no mode.
+    pub held: u32,
+    /// A mode, or 255 for no mode.
+    pub want: u32,
+    /// 0 granted, 1 conversion, 2 waiting.
+    pub queue: u32,
+    /// The serial of its resource.
+    pub resource: u32,
+    /// Its parent lock, or 0.
+    pub parent: u32,
+    /// The status block of its last accepted request.
+    pub block: u32,
+    pub reserved: [u32; 7],
+}
+
 pub(crate) fn lksb_of(block: &Block) -> VlmLksb
     ensures { result ≡ lksb_of block.now }
 {
@@ -109,8 +139,9 @@ pub(crate) fn lksb_of(block: &Block) -> VlmLksb
     }
 }
 
-pub(crate) fn process_of(process: &ProcessView) -> VlmProcess
-    ensures { result ≡ process_of process.now }
+/// The struct of a process that has this many locks.
+pub(crate) fn process_of(process: &ProcessView, locks: usize) -> VlmProcess
+    ensures { result ≡ process_of (process.now, locks) }
 {
     VlmProcess {
         size: PROCESS_SIZE,
@@ -121,7 +152,8 @@ pub(crate) fn process_of(process: &ProcessView) -> VlmProcess
         quota: u32::from(process.quota),
         blocks: process.blocks as u64,
         pending: process.pending as u64,
-        reserved: [0; 6],
+        locks: locks as u64,
+        reserved: [0; 4],
     }
 }
 
@@ -136,6 +168,54 @@ fn mode_number(mode: Option<Mode>) -> u32
         Some(Mode::Pw) => 4,
         Some(Mode::Ex) => 5,
         None => 255,
+    }
+}
+
+fn queue_number(queue: Queue) -> u32
+    ensures { result ≡ queue_number queue }
+{
+    match queue {
+        Queue::Granted => 0,
+        Queue::Conversion => 1,
+        Queue::Waiting => 2,
+    }
+}
+
+pub(crate) fn lock_of(lock: &LockView) -> VlmLock
+    ensures { result ≡ lock_of lock.now }
+{
+    VlmLock {
+        size: LOCK_SIZE,
+        lkid: lock.lkid,
+        pid: lock.pid,
+        held: mode_number(lock.held),
+        want: mode_number(lock.want),
+        queue: queue_number(lock.queue),
+        resource: lock.resource,
+        parent: lock.parent,
+        block: u32::from(lock.block),
+        reserved: [0; 7],
+    }
+}
+
+/// The struct of a lock, or one with lock 0 and no mode after the last one.
+pub(crate) fn lock_or_none(lock: &Option<LockView>) -> VlmLock
+    ensures { result ≡ lock_or_none lock.now }
+{
+    match lock {
+        Some(lock) => lock_of(lock),
+        None => VlmLock {
+            size: LOCK_SIZE,
+            lkid: 0,
+            pid: 0,
+            held: mode_number(None),
+            want: mode_number(None),
+            queue: 0,
+            resource: 0,
+            parent: 0,
+            block: 0,
+            reserved: [0; 7],
+        },
     }
 }
 
@@ -219,11 +299,11 @@ pub(crate) fn resource_or_none(resource: &Option<ResourceView>) -> VlmResource
 }
 
 /// The struct of a process, or all 0 after the last one.
-pub(crate) fn process_or_none(process: &Option<ProcessView>) -> VlmProcess
+pub(crate) fn process_or_none(process: &Option<(ProcessView, usize)>) -> VlmProcess
     ensures { result ≡ process_or_none process.now }
 {
     match process {
-        Some(process) => process_of(process),
+        Some((process, locks)) => process_of(process, *locks),
         None => VlmProcess {
             size: PROCESS_SIZE,
             pid: 0,
@@ -233,7 +313,8 @@ pub(crate) fn process_or_none(process: &Option<ProcessView>) -> VlmProcess
             quota: 0,
             blocks: 0,
             pending: 0,
-            reserved: [0; 6],
+            locks: 0,
+            reserved: [0; 4],
         },
     }
 }
