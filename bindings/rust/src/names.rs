@@ -77,3 +77,13 @@ pub enum Domain {
     /// The names of the whole system.
     System,
 }
+
+impl Domain {
+    /// The two words by which the library names a domain: 1 for the system, and the group.
+    pub(crate) fn words(self) -> (u32, u32) {
+        match self {
+            Domain::System => (1, 0),
+            Domain::Group(group) => (0, u32::from(group)),
+        }
+    }
+}

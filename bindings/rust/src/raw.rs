@@ -13,6 +13,9 @@ pub struct Vlm {
     is_held: bool,
 }
 
+/// The version of the header that this file follows, 0.1.0: one byte for each of its numbers.
+const VERSION: u32 = 0x00_01_00;
+
 /// Defines structs of the library, each with its size as its first member and a rest of zeros, and pins the sizes
 /// that the header asserts.
 macro_rules! structs {
@@ -35,6 +38,7 @@ macro_rules! structs {
 }
 
 structs! {
+    Options 64 { version: u32 = VERSION, has_keys: u32 = 0, keys: [u8; 16] = [0; 16], reserved: [u32; 9] = [0; 9] }
     Declaration 32 { node: u32 = 0, group: u32 = 0, syslck: u32 = 0, quota: u32 = 0, blocks: u32 = 0, reserved: [u32; 2] = [0; 2] }
     Setting 96 {
         pid: u32 = 0, block: u32 = 0, has_tail: u32 = 0, value: [u8; 16] = [0; 16], tail: [u8; 48] = [0; 48],
@@ -51,7 +55,7 @@ structs! {
     Lksb 80 { status: u32 = 0, lkid: u32 = 0, reserved: u32 = 0, value: [u8; 16] = [0; 16], tail: [u8; 48] = [0; 48] }
     Process 64 {
         pid: u32 = 0, node: u32 = 0, group: u32 = 0, syslck: u32 = 0, quota: u32 = 0, blocks: u64 = 0, pending: u64 = 0,
-        reserved: [u32; 6] = [0; 6],
+        locks: u64 = 0, reserved: [u32; 4] = [0; 4],
     }
     Resource 144 {
         serial: u32 = 0, parent: u32 = 0, is_system: u32 = 0, group: u32 = 0, value_valid: u32 = 0, tail_valid: u32 = 0,
@@ -59,11 +63,30 @@ structs! {
         reserved: [u32; 4] = [0; 4],
     }
     Row 32 { lkid: u32 = 0, pid: u32 = 0, held: u32 = 0, want: u32 = 0, reserved: [u32; 3] = [0; 3] }
+    Lock 64 {
+        lkid: u32 = 0, pid: u32 = 0, held: u32 = 0, want: u32 = 0, queue: u32 = 0, resource: u32 = 0, parent: u32 = 0,
+        block: u32 = 0, reserved: [u32; 7] = [0; 7],
+    }
     Ast 32 { kind: u32 = 0, routine: u32 = 0, param: u32 = 0, lkid: u32 = 0, reserved: [u32; 3] = [0; 3] }
 }
 
+impl Resource {
+    /// The words that name a resource. None where the name does not fit.
+    pub fn named(parent: u32, is_system: u32, group: u32, name: &[u8]) -> Option<Resource> {
+        let mut words = Resource {
+            parent,
+            is_system,
+            group,
+            name_len: u32::try_from(name.len()).ok()?,
+            ..Resource::new()
+        };
+        words.name.get_mut(..name.len())?.copy_from_slice(name);
+        Some(words)
+    }
+}
+
 extern "C" {
-    fn vlm_open_with_keys(handle: *mut Vlm, keys: *const u8, keys_len: usize) -> u32;
+    fn vlm_open(handle: *mut Vlm, options: *const Options) -> u32;
     fn vlm_close(handle: *mut Vlm);
     fn vlm_declare(handle: *mut Vlm, declaration: *const Declaration, pid: *mut u32) -> u32;
     fn vlm_set_value(handle: *mut Vlm, setting: *const Setting) -> u32;
@@ -91,6 +114,23 @@ extern "C" {
     fn vlm_next_process(handle: *mut Vlm, pid: u32, process: *mut Process) -> u32;
     fn vlm_next_resource(handle: *mut Vlm, resource: *mut Resource) -> u32;
     fn vlm_find(handle: *mut Vlm, resource: *mut Resource) -> u32;
+    fn vlm_lock_count(handle: *mut Vlm) -> usize;
+    fn vlm_queued_count(handle: *mut Vlm) -> usize;
+    fn vlm_find_lock(handle: *mut Vlm, lkid: u32, lock: *mut Lock) -> u32;
+    fn vlm_lock_resource(handle: *mut Vlm, lkid: u32, resource: *mut Resource) -> u32;
+    fn vlm_first_row(
+        handle: *mut Vlm,
+        resource: *const Resource,
+        queue: u32,
+        lock: *mut Lock,
+    ) -> u32;
+    fn vlm_next_row(handle: *mut Vlm, lkid: u32, lock: *mut Lock) -> u32;
+    fn vlm_first_own(handle: *mut Vlm, pid: u32, lock: *mut Lock) -> u32;
+    fn vlm_next_own(handle: *mut Vlm, lkid: u32, lock: *mut Lock) -> u32;
+    fn vlm_first_sublock(handle: *mut Vlm, lkid: u32, lock: *mut Lock) -> u32;
+    fn vlm_next_sublock(handle: *mut Vlm, lkid: u32, lock: *mut Lock) -> u32;
+    fn vlm_first_blocker(handle: *mut Vlm, lkid: u32, lock: *mut Lock) -> u32;
+    fn vlm_next_blocker(handle: *mut Vlm, lkid: u32, blocker: u32, lock: *mut Lock) -> u32;
 }
 
 /// A handle that owns its lock manager. Steps take it by `&mut`. Readings take it by `&`, though C wants to write to it
@@ -146,6 +186,18 @@ calls! {
         next_process = vlm_next_process(pid: u32, process: &mut Process) -> u32;
         next_resource = vlm_next_resource(resource: &mut Resource) -> u32;
         find = vlm_find(resource: &mut Resource) -> u32;
+        lock_count = vlm_lock_count() -> usize;
+        queued_count = vlm_queued_count() -> usize;
+        find_lock = vlm_find_lock(lkid: u32, lock: &mut Lock) -> u32;
+        lock_resource = vlm_lock_resource(lkid: u32, resource: &mut Resource) -> u32;
+        first_row = vlm_first_row(resource: &Resource, queue: u32, lock: &mut Lock) -> u32;
+        next_row = vlm_next_row(lkid: u32, lock: &mut Lock) -> u32;
+        first_own = vlm_first_own(pid: u32, lock: &mut Lock) -> u32;
+        next_own = vlm_next_own(lkid: u32, lock: &mut Lock) -> u32;
+        first_sublock = vlm_first_sublock(lkid: u32, lock: &mut Lock) -> u32;
+        next_sublock = vlm_next_sublock(lkid: u32, lock: &mut Lock) -> u32;
+        first_blocker = vlm_first_blocker(lkid: u32, lock: &mut Lock) -> u32;
+        next_blocker = vlm_next_blocker(lkid: u32, blocker: u32, lock: &mut Lock) -> u32;
     }
 }
 
@@ -156,8 +208,13 @@ impl Handle {
             core: ptr::null_mut(),
             is_held: false,
         };
-        // SAFETY: a handle of zeros has no lock manager, and the keys are as many as is said.
-        let status = unsafe { vlm_open_with_keys(&mut raw, keys.as_ptr(), keys.len()) };
+        let options = Options {
+            has_keys: 1,
+            keys,
+            ..Options::new()
+        };
+        // SAFETY: a handle of zeros has no lock manager, and the references don't overlap.
+        let status = unsafe { vlm_open(&mut raw, &options) };
         let handle = Handle {
             raw: UnsafeCell::new(raw),
         };

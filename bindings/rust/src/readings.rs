@@ -2,9 +2,9 @@
 
 use crate::condition::answered;
 use crate::manager::LockManager;
-use crate::names::{Domain, ProcessId, Queue};
+use crate::names::{Domain, LockId, ProcessId, Queue};
 use crate::raw;
-use crate::views::{Process, Resource, Row, StatusBlock};
+use crate::views::{Lock, Process, Resource, Row, StatusBlock};
 
 impl LockManager {
     /// The status block of this number, from 1, of a process. None where there is none.
@@ -60,10 +60,7 @@ impl LockManager {
     /// # }
     /// ```
     pub fn find(&self, domain: Domain, name: &[u8]) -> Option<Resource> {
-        let (is_system, group) = match domain {
-            Domain::System => (1, 0),
-            Domain::Group(group) => (0, u32::from(group)),
-        };
+        let (is_system, group) = domain.words();
         self.found(0, is_system, group, name)
     }
 
@@ -77,15 +74,32 @@ impl LockManager {
     }
 
     fn found(&self, parent: u32, is_system: u32, group: u32, name: &[u8]) -> Option<Resource> {
-        let mut words = raw::Resource {
-            parent,
-            is_system,
-            group,
-            name_len: u32::try_from(name.len()).ok()?,
-            ..raw::Resource::new()
-        };
-        words.name.get_mut(..name.len())?.copy_from_slice(name);
+        let mut words = raw::Resource::named(parent, is_system, group, name)?;
         answered(self.handle.find(&mut words)).ok()?;
+        Some(Resource::of(&words))
+    }
+
+    /// How many locks there are, waiting ones included.
+    pub fn lock_count(&self) -> usize {
+        self.handle.lock_count()
+    }
+
+    /// How many requests are queued: conversions and waiting locks.
+    pub fn queued_count(&self) -> usize {
+        self.handle.queued_count()
+    }
+
+    /// The lock of this identification. None where there is none. It takes constant time.
+    pub fn lock(&self, lock: LockId) -> Option<Lock> {
+        let mut words = raw::Lock::new();
+        answered(self.handle.find_lock(lock.0, &mut words)).ok()?;
+        Some(Lock::of(&words))
+    }
+
+    /// The resource of a lock. None where there is no such lock. It takes constant time.
+    pub fn resource_of(&self, lock: LockId) -> Option<Resource> {
+        let mut words = raw::Resource::new();
+        answered(self.handle.lock_resource(lock.0, &mut words)).ok()?;
         Some(Resource::of(&words))
     }
 

@@ -1,7 +1,7 @@
 //! What a lock manager shows.
 
 use crate::condition::Condition;
-use crate::names::{mode_of, Domain, LockId, Mode, ProcessId};
+use crate::names::{mode_of, Domain, LockId, Mode, ProcessId, Queue};
 use crate::raw;
 
 /// A kind of AST.
@@ -60,6 +60,8 @@ pub struct Process {
     pub blocks: u8,
     /// How many ASTs are pending for it.
     pub pending: usize,
+    /// How many locks it has, waiting ones included.
+    pub locks: usize,
 }
 
 /// A resource without its queues.
@@ -96,6 +98,28 @@ pub struct Row {
     pub held: Option<Mode>,
     /// The mode that it waits for, if it waits.
     pub want: Option<Mode>,
+}
+
+/// A lock with its place, as the system service $GETLKI tells of it.
+#[derive(Clone, Copy, Debug, PartialEq, Eq)]
+#[non_exhaustive]
+pub struct Lock {
+    /// Its identification.
+    pub id: LockId,
+    /// Its process.
+    pub process: ProcessId,
+    /// The mode that it holds, if it holds one.
+    pub held: Option<Mode>,
+    /// The mode that it waits for, if it waits.
+    pub want: Option<Mode>,
+    /// The queue in which it is.
+    pub queue: Queue,
+    /// The serial of its resource.
+    pub resource: u32,
+    /// Its parent lock; a lock on a root has none.
+    pub parent: Option<LockId>,
+    /// The status block of its last accepted request.
+    pub block: u8,
 }
 
 impl Ast {
@@ -136,6 +160,7 @@ impl Process {
             quota: words.quota as u16,
             blocks: words.blocks as u8,
             pending: words.pending as usize,
+            locks: words.locks as usize,
         }
     }
 }
@@ -155,6 +180,33 @@ impl Resource {
             value_valid: words.value_valid == 1,
             tail: words.tail,
             tail_valid: words.tail_valid == 1,
+        }
+    }
+}
+
+impl Resource {
+    /// The words that name it. None where its name does not fit.
+    pub(crate) fn key(&self) -> Option<raw::Resource> {
+        let (is_system, group) = self.domain.words();
+        raw::Resource::named(self.parent.unwrap_or(0), is_system, group, &self.name)
+    }
+}
+
+impl Lock {
+    pub(crate) fn of(words: &raw::Lock) -> Lock {
+        Lock {
+            id: LockId(words.lkid),
+            process: ProcessId(words.pid),
+            held: mode_of(words.held),
+            want: mode_of(words.want),
+            queue: match words.queue {
+                1 => Queue::Conversion,
+                2 => Queue::Waiting,
+                _ => Queue::Granted,
+            },
+            resource: words.resource,
+            parent: (words.parent != 0).then_some(LockId(words.parent)),
+            block: words.block as u8,
         }
     }
 }

@@ -4,9 +4,9 @@ use std::iter::FusedIterator;
 
 use crate::condition::answered;
 use crate::manager::LockManager;
-use crate::names::Queue;
+use crate::names::{LockId, ProcessId, Queue};
 use crate::raw;
-use crate::views::{Process, Resource, Row};
+use crate::views::{Lock, Process, Resource};
 
 /// The living processes, in order of making: see [`LockManager::processes`].
 pub struct Processes<'a> {
@@ -49,29 +49,69 @@ impl Iterator for Resources<'_> {
 
 impl FusedIterator for Resources<'_> {}
 
-/// The locks in a queue of a resource, from its head: see [`LockManager::rows`].
-pub struct Rows<'a> {
+/// Locks, one after another: see [`LockManager::rows`], [`LockManager::locks_of`], [`LockManager::sublocks`] and
+/// [`LockManager::blockers`].
+pub struct Locks<'a> {
     manager: &'a LockManager,
-    // The place of the resource; none where it is gone.
-    resource: Option<usize>,
-    queue: Queue,
-    next: usize,
+    walk: LockWalk,
+    // The lock that comes next, if there is one.
+    next: Option<raw::Lock>,
 }
 
-impl Iterator for Rows<'_> {
-    type Item = Row;
+/// Which lock comes after another one.
+#[derive(Clone, Copy)]
+enum LockWalk {
+    Queue,
+    Process,
+    Sublocks,
+    // The blockers of this lock.
+    Blockers(u32),
+}
 
-    fn next(&mut self) -> Option<Row> {
-        let row = self.manager.row(self.resource?, self.queue, self.next);
-        match row {
-            Some(_) => self.next += 1,
-            None => self.resource = None,
+impl<'a> Locks<'a> {
+    /// A walk that begins with the lock that `first` reads, if there is one.
+    fn from(
+        manager: &'a LockManager,
+        walk: LockWalk,
+        first: impl FnOnce(&raw::Handle, &mut raw::Lock) -> u32,
+    ) -> Locks<'a> {
+        let mut words = raw::Lock::new();
+        let status = first(&manager.handle, &mut words);
+        if answered(status).is_err() || words.lkid == 0 {
+            return Locks::none(manager, walk);
         }
-        row
+        Locks {
+            manager,
+            walk,
+            next: Some(words),
+        }
+    }
+
+    fn none(manager: &'a LockManager, walk: LockWalk) -> Locks<'a> {
+        Locks {
+            manager,
+            walk,
+            next: None,
+        }
     }
 }
 
-impl FusedIterator for Rows<'_> {}
+impl Iterator for Locks<'_> {
+    type Item = Lock;
+
+    fn next(&mut self) -> Option<Lock> {
+        let given = self.next.take()?;
+        *self = Locks::from(self.manager, self.walk, |handle, after| match self.walk {
+            LockWalk::Queue => handle.next_row(given.lkid, after),
+            LockWalk::Process => handle.next_own(given.lkid, after),
+            LockWalk::Sublocks => handle.next_sublock(given.lkid, after),
+            LockWalk::Blockers(lkid) => handle.next_blocker(lkid, given.lkid, after),
+        });
+        Some(Lock::of(&given))
+    }
+}
+
+impl FusedIterator for Locks<'_> {}
 
 impl LockManager {
     /// The living processes, in order of making. Each step takes constant time.
@@ -101,10 +141,8 @@ impl LockManager {
         }
     }
 
-    /// The locks in a queue of a resource, from its head. A resource that is gone has none.
-    ///
-    /// The start costs a walk to the resource. Each step costs time that grows with the place of the resource and the
-    /// place in the queue.
+    /// The locks in a queue of a resource, from its head. A resource that is gone has none. Each step takes constant
+    /// time.
     ///
     /// ```
     /// use vlm::{Declaration, LockManager, Mode, Queue, Request};
@@ -114,21 +152,55 @@ impl LockManager {
     /// let p = manager.declare(&Declaration { node: 1, quota: 9, blocks: 1, ..Declaration::default() })?;
     /// manager.enq(&Request::new(p, Mode::Ex, 1), b"A")?;
     /// for resource in manager.resources() {
-    ///     for row in manager.rows(&resource, Queue::Granted) {
-    ///         println!("{:?} holds {:?}", row.process, row.held);
+    ///     for lock in manager.rows(&resource, Queue::Granted) {
+    ///         println!("{:?} holds {:?}", lock.process, lock.held);
     ///     }
     /// }
     /// # Ok(())
     /// # }
     /// ```
-    pub fn rows(&self, resource: &Resource, queue: Queue) -> Rows<'_> {
-        Rows {
-            manager: self,
-            resource: self
-                .resources()
-                .position(|other| other.serial == resource.serial),
-            queue,
-            next: 0,
-        }
+    pub fn rows(&self, resource: &Resource, queue: Queue) -> Locks<'_> {
+        let Some(key) = resource.key() else {
+            return Locks::none(self, LockWalk::Queue);
+        };
+        Locks::from(self, LockWalk::Queue, |handle, first| {
+            handle.first_row(&key, queue as u32, first)
+        })
+    }
+
+    /// The locks of a process, in order of making. Each step takes constant time.
+    pub fn locks_of(&self, process: ProcessId) -> Locks<'_> {
+        Locks::from(self, LockWalk::Process, |handle, first| {
+            handle.first_own(process.0, first)
+        })
+    }
+
+    /// The sublocks of a lock, in order of making. Each step takes constant time.
+    pub fn sublocks(&self, parent: LockId) -> Locks<'_> {
+        Locks::from(self, LockWalk::Sublocks, |handle, first| {
+            handle.first_sublock(parent.0, first)
+        })
+    }
+
+    /// The locks for which the queued request of a lock waits, as a search for a deadlock follows them: granted ones
+    /// first, then converting, then waiting ones. A granted lock waits for none. A step takes time for each lock of the
+    /// resource that it passes over.
+    ///
+    /// ```
+    /// use vlm::{Declaration, LockManager, Mode, Request};
+    ///
+    /// # fn main() -> Result<(), vlm::Condition> {
+    /// let mut manager = LockManager::new()?;
+    /// let p = manager.declare(&Declaration { node: 1, quota: 9, blocks: 2, ..Declaration::default() })?;
+    /// let held = manager.enq(&Request::new(p, Mode::Ex, 1), b"A")?.lock;
+    /// let waiting = manager.enq(&Request::new(p, Mode::Ex, 2), b"A")?.lock;
+    /// assert!(manager.blockers(waiting).map(|lock| lock.id).eq([held]));
+    /// # Ok(())
+    /// # }
+    /// ```
+    pub fn blockers(&self, lock: LockId) -> Locks<'_> {
+        Locks::from(self, LockWalk::Blockers(lock.0), |handle, first| {
+            handle.first_blocker(lock.0, first)
+        })
     }
 }

@@ -1,6 +1,8 @@
 //! Walks over resources and their queues, and what is found by name.
 
-use vlm::{Declaration, DeqFlags, Dequeue, Domain, LockManager, Mode, ProcessId, Queue, Request};
+use vlm::{
+    Declaration, DeqFlags, Dequeue, Domain, LockId, LockManager, Mode, ProcessId, Queue, Request,
+};
 
 /// A lock manager with a process of node 1 and one of node 2.
 fn two() -> (LockManager, ProcessId, ProcessId) {
@@ -75,8 +77,11 @@ fn resources_are_walked_and_found() {
         .collect();
     assert_eq!(rows, [(p, Some(Mode::Nl), None), (q, Some(Mode::Pr), None)]);
     assert_eq!(
-        manager.row(0, Queue::Granted, 1),
-        manager.rows(&walked[0], Queue::Granted).nth(1)
+        manager.row(0, Queue::Granted, 1).map(|row| row.lock),
+        manager
+            .rows(&walked[0], Queue::Granted)
+            .nth(1)
+            .map(|lock| lock.id)
     );
     manager
         .dequeue(&Dequeue {
@@ -86,6 +91,70 @@ fn resources_are_walked_and_found() {
         .expect("a step");
     assert_eq!(manager.rows(&walked[1], Queue::Granted).count(), 0);
     assert_eq!(manager.row(usize::MAX, Queue::Waiting, usize::MAX), None);
+}
+
+#[test]
+fn single_locks_are_found_and_walked() {
+    let (mut manager, p, q) = two();
+    let parent = manager
+        .enq(&Request::new(p, Mode::Cr, 1), b"A")
+        .expect("a lock")
+        .lock;
+    let sub = Request {
+        parent: Some(parent.into()),
+        ..Request::new(p, Mode::Nl, 1)
+    };
+    let first = manager.enq(&sub, b"S").expect("a lock").lock;
+    let second = manager.enq(&sub, b"T").expect("a lock").lock;
+    let waiting = manager
+        .enq(&Request::new(q, Mode::Ex, 1), b"A")
+        .expect("a lock")
+        .lock;
+    assert_eq!((manager.lock_count(), manager.queued_count()), (4, 1));
+    assert!(manager
+        .locks_of(p)
+        .map(|lock| lock.id)
+        .eq([parent, first, second]));
+    assert!(manager
+        .sublocks(parent)
+        .map(|lock| lock.id)
+        .eq([first, second]));
+    assert!(manager.blockers(waiting).map(|lock| lock.id).eq([parent]));
+    assert_eq!(manager.blockers(parent).count(), 0);
+    let found = manager.lock(waiting).expect("it waits");
+    assert_eq!(
+        (found.held, found.want, found.queue),
+        (None, Some(Mode::Ex), Queue::Waiting)
+    );
+    assert_eq!(
+        (found.process, found.resource, found.parent, found.block),
+        (q, 1, None, 1)
+    );
+    assert_eq!(
+        manager.lock(first).and_then(|lock| lock.parent),
+        Some(parent)
+    );
+    assert_eq!(
+        manager.resource_of(second).map(|resource| resource.name),
+        Some(b"T".to_vec())
+    );
+    assert_eq!(
+        manager
+            .processes()
+            .map(|process| process.locks)
+            .collect::<Vec<_>>(),
+        [3, 1]
+    );
+    let nobody = LockId(99);
+    assert_eq!(
+        (manager.lock(nobody), manager.resource_of(nobody)),
+        (None, None)
+    );
+    assert_eq!(
+        manager.sublocks(nobody).count() + manager.blockers(nobody).count(),
+        0
+    );
+    assert_eq!(manager.locks_of(ProcessId(1)).count(), 0);
 }
 
 #[test]

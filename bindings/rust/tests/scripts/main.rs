@@ -187,7 +187,7 @@ impl Play {
             };
             self.say(format!(
                 "  {word} {} process {} {modes}",
-                row.lock.0, row.process.0
+                row.id.0, row.process.0
             ));
         }
     }
