@@ -31,6 +31,8 @@ def calls_of(manager, process):
         (manager.search, [(1, 2)], {}), (manager.rows, [[*manager.resources(), None], tuple(Queue)], {}),
         (manager.forget, [(repr, len)], {}), (manager.deliver, [(process, None)], {}), (manager.take_any, [], {}),
         (manager.find, [NAMES], {"group": NUMBERS, "parent": NUMBERS}),
+        (manager.find_lock, [NUMBERS], {}), (manager.resource_of, [NUMBERS], {}), (manager.sublocks, [NUMBERS], {}),
+        (manager.blockers, [NUMBERS], {}), (manager.locks_of, [(process, None)], {}),
         (process.enq, [NAMES, MODES, BLOCKS], {**REQUEST, "parent": LOCKS}),
         (process.convert, [LOCKS, MODES, BLOCKS], REQUEST), (tried, [NAMES, MODES], {"flags": tuple(Flags)}),
         (process.deq, [LOCKS], {"flags": tuple(DequeueFlags), "value": TEXTS, "tail": TEXTS}),
@@ -61,12 +63,13 @@ class Arguments(unittest.TestCase):
                     except REFUSALS:
                         pass
                 self.shows_all(manager)
-        self.assertEqual(len(made), 18)
+        self.assertEqual(len(made), 23)
 
     def shows_all(self, manager):
         for resource in manager.resources():
             for queue in Queue:
-                list(manager.rows(resource, queue))
+                for row in manager.rows(resource, queue):
+                    list(manager.blockers(row.lock))
 
     def test_numbers_out_of_range_are_named(self):
         with LockManager() as manager:
@@ -83,17 +86,16 @@ class Arguments(unittest.TestCase):
                 process.deq(InBlock(0))
             self.assertRaises(AccVio, process.deq, InBlock(2))
 
-    def test_places_that_are_gone(self):
+    def test_resources_that_are_gone(self):
         with LockManager() as manager:
             process = manager.declare(blocks=1)
             process.enq("A", Mode.EX, 1)
             resource, = manager.resources()
-            for place, serial in ((-1, 9), (0, 2), (1 << 70, 9), (1 << 70, 0), (None, 2)):
-                moved = Resource(place, serial, None, 0, b"A", b"", True, b"", True)
-                self.assertEqual(list(manager.rows(moved, Queue.GRANTED)), [])
-            for place in (None, 0, -1, 7, 1 << 70):
-                moved = Resource(place, resource.serial, None, 0, b"A", b"", True, b"", True)
-                self.assertEqual(len(list(manager.rows(moved, Queue.GRANTED))), 1)
+            self.assertEqual(len(list(manager.rows(resource, Queue.GRANTED))), 1)
+            for name, group, parent in ((b"B", 0, None), (b"A", 1, None), (b"A", None, None), (b"A", 0, 1), (b"", 0, None),
+                                        (b"A" * 99, 0, None)):
+                gone = Resource(1, parent, group, name, b"", True, b"", True)
+                self.assertEqual(list(manager.rows(gone, Queue.GRANTED)), [])
             self.assertRaises(ValueError, manager.rows, resource, 3)
 
     def test_a_process_that_nobody_declared(self):

@@ -4,8 +4,8 @@ import gc
 import unittest
 import weakref
 
-from vlm import (Accepted, Ast, AstKind, BadParam, Condition, DequeueFlags, Flags, InBlock, LockManager, Mode,
-                 ProcessView, Queue, Row)
+from vlm import (Accepted, Ast, AstKind, BadParam, Condition, DequeueFlags, Flags, InBlock, LockManager, LockView,
+                 Mode, ProcessView, Queue)
 
 EMPTY = bytes(16)
 
@@ -17,18 +17,20 @@ class Calls(unittest.TestCase):
         self.p = self.manager.declare(node=1, group=7, quota=9, blocks=3)
         self.q = self.manager.declare(node=2, group=7, quota=9, blocks=3, syslck=True)
 
-    def rows(self, queue, place=0):
-        return list(self.manager.rows(list(self.manager.resources())[place], queue))
+    def rows(self, queue, resource=None):
+        """The locks in a queue, of the first resource if none is named."""
+        rows = self.manager.rows(resource or next(self.manager.resources()), queue)
+        return [(it.lock, it.pid, it.held, it.want) for it in rows]
 
     def test_processes_are_shown(self):
-        views = [ProcessView(self.p.pid, 1, 7, False, 9, 3, 0), ProcessView(self.q.pid, 2, 7, True, 9, 3, 0)]
+        views = [ProcessView(self.p.pid, 1, 7, False, 9, 3, 0, 0), ProcessView(self.q.pid, 2, 7, True, 9, 3, 0, 0)]
         self.assertEqual(list(self.manager.processes()), views)
 
     def test_a_request_is_granted_and_given_up(self):
         self.assertEqual(self.p.enq("A", Mode.EX, 1, Flags.SYNCSTS), Accepted(1, True))
         self.assertEqual(self.q.enq(b"A", Mode.PR, 1), Accepted(2, False))
-        self.assertEqual(self.rows(Queue.GRANTED), [Row(1, self.p.pid, Mode.EX, None)])
-        self.assertEqual(self.rows(Queue.WAITING), [Row(2, self.q.pid, None, Mode.PR)])
+        self.assertEqual(self.rows(Queue.GRANTED), [(1, self.p.pid, Mode.EX, None)])
+        self.assertEqual(self.rows(Queue.WAITING), [(2, self.q.pid, None, Mode.PR)])
         self.assertEqual(self.q.status_block(1).status, None)
         self.p.deq(1)
         self.assertEqual(self.q.status_block(1).status, Condition.NORMAL)
@@ -44,7 +46,7 @@ class Calls(unittest.TestCase):
         self.assertEqual((block.value, block.tail), (b"seven".ljust(16, b"\0"), b"tail".ljust(48, b"\0")))
         self.assertEqual(self.rows(Queue.CONVERSION), [])
         self.p.convert(1, Mode.EX, 1)
-        self.assertEqual(self.rows(Queue.CONVERSION), [Row(1, self.p.pid, Mode.NL, Mode.EX)])
+        self.assertEqual(self.rows(Queue.CONVERSION), [(1, self.p.pid, Mode.NL, Mode.EX)])
         self.p.cancel(1)
         self.assertEqual(self.p.status_block(1).status, Condition.CANCEL)
 
@@ -58,9 +60,9 @@ class Calls(unittest.TestCase):
         self.assertEqual((own.serial, own.group, own.name, own.value), (2, 7, b"\0\xff", EMPTY))
         self.assertEqual((own.value_valid, own.tail_valid, own.tail), (True, True, bytes(48)))
         self.q.deq(0, DequeueFlags.DEQALL)
-        self.assertEqual(list(self.manager.rows(own, Queue.GRANTED)), [Row(2, self.p.pid, Mode.EX, None)])
+        self.assertEqual(self.rows(Queue.GRANTED, own), [(2, self.p.pid, Mode.EX, None)])
         self.p.deq(2)
-        self.assertEqual(list(self.manager.rows(own, Queue.GRANTED)), [])
+        self.assertEqual(self.rows(Queue.GRANTED, own), [])
 
     def test_resources_are_found(self):
         root = self.q.enq("A", Mode.NL, 1, Flags.SYSTEM).lock
@@ -69,15 +71,35 @@ class Calls(unittest.TestCase):
         self.assertEqual([it.serial for it in self.manager.resources()], [1, 2, 3])
         system, own = self.manager.find("A"), self.manager.find("A", group=7)
         below = self.manager.find(b"\0\xff", parent=system.serial)
-        self.assertEqual([(it.serial, it.place) for it in (system, own, below)], [(1, None), (2, None), (3, None)])
+        self.assertEqual([it.serial for it in (system, own, below)], [1, 2, 3])
         self.assertEqual((below.parent, below.group), (1, None))
-        self.assertEqual(list(self.manager.rows(own, Queue.GRANTED)), [Row(2, self.p.pid, Mode.EX, None)])
+        self.assertEqual(self.rows(Queue.GRANTED, own), [(2, self.p.pid, Mode.EX, None)])
         absent = [("B", {}), ("A", {"group": 8}), ("A", {"group": 1 << 31}), ("A", {"parent": 1}), ("A", {"parent": 0}),
                   ("", {}), ("A" * 32, {}), ("A" * 33, {})]
         self.assertEqual([self.manager.find(name, **where) for name, where in absent], [None] * len(absent))
         self.p.deq(2)
         self.assertEqual(self.manager.find("A", group=7), None)
-        self.assertEqual(list(self.manager.rows(own, Queue.GRANTED)), [])
+        self.assertEqual(self.rows(Queue.GRANTED, own), [])
+
+    def test_locks_are_found_and_walked(self):
+        parent = self.p.enq("A", Mode.CR, 1).lock
+        first, second = (self.p.enq(name, Mode.NL, 2, parent=parent).lock for name in ("S", "T"))
+        waiting = self.q.enq("A", Mode.EX, 3).lock
+        manager = self.manager
+        self.assertEqual((manager.lock_count(), manager.queued_count()), (4, 1))
+        self.assertEqual([it.lock for it in manager.locks_of(self.p)], [parent, first, second])
+        self.assertEqual([it.lock for it in manager.sublocks(parent)], [first, second])
+        self.assertEqual([it.lock for it in manager.blockers(waiting)], [parent])
+        self.assertEqual(list(manager.blockers(parent)), [])
+        self.assertEqual(manager.find_lock(waiting),
+                         LockView(waiting, self.q.pid, None, Mode.EX, Queue.WAITING, 1, None, 3))
+        self.assertEqual((manager.find_lock(first).parent, manager.find_lock(first).block), (parent, 2))
+        self.assertEqual(manager.resource_of(second).name, b"T")
+        self.assertEqual([it.locks for it in manager.processes()], [3, 1])
+        self.assertEqual((manager.find_lock(99), manager.resource_of(99)), (None, None))
+        self.assertEqual([*manager.sublocks(99), *manager.blockers(99)], [])
+        self.p.rundown()
+        self.assertEqual(list(manager.locks_of(self.p)), [])
 
     def test_a_walk_takes_constant_time_a_step(self):
         process = self.manager.declare(blocks=1)

@@ -52,7 +52,7 @@ class Library(unittest.TestCase):
     def test_it_is_another_library(self):
         (self.lib / "libvlm.so.0").write_text("no library")
         self.assertIn("ImportError: the library ", imported(VLM_PREFIX=self.room.name))
-        self.assertIn("vlm_open_with_keys", imported(VLM_LIBRARY="libc.so.6"))
+        self.assertIn("vlm_open", imported(VLM_LIBRARY="libc.so.6"))
 
 
 if __name__ == "__main__":

@@ -16,11 +16,11 @@ from .errors import (Abort, AccVio, BadParam, Cancel, CancelGrant, CvtUngrant, D
 from .held import Held
 from .manager import LockManager
 from .process import Process
-from .values import (Accepted, Ast, AstKind, Condition, DequeueFlags, Flags, InBlock, Mode, ProcessView, Queue,
-                     Resource, Row, StatusBlock)
+from .values import (Accepted, Ast, AstKind, Condition, DequeueFlags, Flags, InBlock, LockView, Mode, ProcessView,
+                     Queue, Resource, StatusBlock)
 
 __all__ = ["Abort", "AccVio", "Accepted", "Ast", "AstKind", "BadParam", "Cancel", "CancelGrant", "Condition",
            "CvtUngrant", "Deadlock", "Departed", "DequeueFlags", "ExDepth", "ExEnqLm", "Flags", "Held", "InBlock",
-           "InsfMem", "IvBufLen", "IvLockId", "LockManager", "Mode", "NoLockId", "NoSysLck", "NonExpr", "NotQueued",
-           "ParNotGrant", "Process", "ProcessView", "Queue", "Resource", "Row", "StatusBlock", "SubLocks", "TimedOut",
+           "InsfMem", "IvBufLen", "IvLockId", "LockManager", "LockView", "Mode", "NoLockId", "NoSysLck", "NonExpr", "NotQueued",
+           "ParNotGrant", "Process", "ProcessView", "Queue", "Resource", "StatusBlock", "SubLocks", "TimedOut",
            "Unsupported", "VlmError"]

@@ -45,6 +45,10 @@ def _reserved(count: int) -> Tuple[str, Any]:
     return ("reserved", c_uint32 * count)
 
 
+# The version of the header that this file follows, 0.1.0: one byte for each of its numbers.
+VERSION = 0x000100
+
+Options = _struct("Options", 64, *_words("version has_keys"), ("keys", c_uint8 * 16), _reserved(9))
 Declaration = _struct("Declaration", 32, *_words("node group syslck quota blocks"), _reserved(2))
 Setting = _struct("Setting", 96, *_words("pid block has_tail"), _VALUE, _TAIL, _reserved(4))
 Request = _struct("Request", 128, *_words("pid mode flags block lock lock_block has_ast ast has_bast bast param"),
@@ -52,16 +56,16 @@ Request = _struct("Request", 128, *_words("pid mode flags block lock lock_block 
 Dequeue = _struct("Dequeue", 128, *_words("pid flags lock lock_block has_value has_tail"), _VALUE, _TAIL, _reserved(9))
 Lksb = _struct("Lksb", 80, *_words("status lkid reserved"), _VALUE, _TAIL)
 Process = _struct("Process", 64, *_words("pid node group syslck quota"), ("blocks", c_uint64), ("pending", c_uint64),
-                  _reserved(6))
+                  ("locks", c_uint64), _reserved(4))
 Resource = _struct("Resource", 144, *_words("serial parent is_system group value_valid tail_valid name_len"),
                    ("name", c_uint8 * 32), _VALUE, _TAIL, _reserved(4))
-Row = _struct("Row", 32, *_words("lkid pid held want"), _reserved(3))
+Lock = _struct("Lock", 64, *_words("lkid pid held want queue resource parent block"), _reserved(7))
 Ast = _struct("Ast", 32, *_words("kind routine param lkid"), _reserved(3))
 
 _NUMBER = POINTER(c_uint32)
-# What each call takes after the handle. All but three answer a condition value.
+# What each call takes after the handle. Each answers a condition value, except those in _ANSWERS.
 _CALLS = {
-    "vlm_open_with_keys": [c_char_p, c_size_t],
+    "vlm_open": [POINTER(Options)],
     "vlm_close": [],
     "vlm_declare": [POINTER(Declaration), _NUMBER],
     "vlm_set_value": [POINTER(Setting)],
@@ -76,15 +80,25 @@ _CALLS = {
     "vlm_block": [c_uint32, c_uint32, POINTER(Lksb)],
     "vlm_pending": [c_uint32, POINTER(c_size_t)],
     "vlm_process_count": [],
-    "vlm_process": [c_size_t, POINTER(Process)],
     "vlm_resource_count": [],
-    "vlm_resource": [c_size_t, POINTER(Resource)],
-    "vlm_row": [c_size_t, c_uint32, c_size_t, POINTER(Row)],
     "vlm_next_process": [c_uint32, POINTER(Process)],
     "vlm_next_resource": [POINTER(Resource)],
     "vlm_find": [POINTER(Resource)],
+    "vlm_lock_count": [],
+    "vlm_queued_count": [],
+    "vlm_find_lock": [c_uint32, POINTER(Lock)],
+    "vlm_lock_resource": [c_uint32, POINTER(Resource)],
+    "vlm_first_row": [POINTER(Resource), c_uint32, POINTER(Lock)],
+    "vlm_next_row": [c_uint32, POINTER(Lock)],
+    "vlm_first_own": [c_uint32, POINTER(Lock)],
+    "vlm_next_own": [c_uint32, POINTER(Lock)],
+    "vlm_first_sublock": [c_uint32, POINTER(Lock)],
+    "vlm_next_sublock": [c_uint32, POINTER(Lock)],
+    "vlm_first_blocker": [c_uint32, POINTER(Lock)],
+    "vlm_next_blocker": [c_uint32, c_uint32, POINTER(Lock)],
 }
-_ANSWERS = {"vlm_close": None, "vlm_process_count": c_size_t, "vlm_resource_count": c_size_t}
+_ANSWERS = {"vlm_close": None, "vlm_process_count": c_size_t, "vlm_resource_count": c_size_t,
+            "vlm_lock_count": c_size_t, "vlm_queued_count": c_size_t}
 
 
 def _place() -> str:

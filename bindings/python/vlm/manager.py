@@ -4,16 +4,15 @@ import os
 import threading
 import weakref
 from ctypes import c_uint32
-from itertools import count
 from types import TracebackType
-from typing import Any, Callable, Iterator, Optional, Tuple, Type
+from typing import Any, Callable, Iterator, Optional, Sequence, Tuple, Type
 
 from . import _library as raw
 from ._arguments import mark, name_bytes, word
 from ._routines import Routines
 from .errors import BadParam, checked
 from .process import Process, ast_of
-from .values import Ast, Condition, Mode, Name, ProcessView, Queue, Resource, Row
+from .values import Ast, Condition, LockView, Mode, Name, ProcessView, Queue, Resource
 
 
 class LockManager:
@@ -29,7 +28,11 @@ class LockManager:
         self._changed = threading.Condition()
         self._routines = Routines()
         keys = os.urandom(16) if keys is None else bytes(memoryview(keys))
-        self._step("vlm_open_with_keys", keys, len(keys))
+        if len(keys) != 16:
+            raise BadParam
+        options = raw.Options(version=raw.VERSION, has_keys=1)
+        options.keys[:] = keys
+        self._step("vlm_open", options)
         self._closing = weakref.finalize(self, raw.LIBRARY.vlm_close, self._handle)
         # At the end of the program a thread may still be in a call, so nothing is freed then.
         self._closing.atexit = False
@@ -121,35 +124,54 @@ class LockManager:
     def resources(self) -> Iterator[Resource]:
         """The resources, by rising serial, as they are at the call."""
         with self._changed:
-            return iter([_resource(words, place) for place, words in enumerate(self._walk_resources())])
+            return iter([_resource(words) for words in self._walk_resources()])
+
+    def lock_count(self) -> int:
+        """How many locks there are, waiting ones included."""
+        return self._call("vlm_lock_count")
+
+    def queued_count(self) -> int:
+        """How many requests are queued: conversions and waiting locks."""
+        return self._call("vlm_queued_count")
 
     def find(self, name: Name, *, group: Optional[int] = None, parent: Optional[int] = None) -> Optional[Resource]:
         """The resource of a root's name in a group, or without a group in the domain of the system; or the resource of
         this name below the resource with the serial `parent`. It takes constant time."""
-        text = name_bytes(name)
-        words = raw.Resource(parent=word(parent or 0, "the parent"), is_system=mark(group is None),
-                             group=word(group or 0, "the group"), name_len=len(text))
-        if parent == 0 or len(text) > len(words.name):
-            return None
-        words.name[:len(text)] = list(text)
-        try:
-            checked(self._call("vlm_find", words))
-        except BadParam:
-            return None
-        return _resource(words, None)
+        words = _key(name_bytes(name), group, parent or 0)
+        return None if parent == 0 else self._resource_by("vlm_find", words)
 
-    def rows(self, resource: Resource, queue: Queue) -> Iterator[Row]:
-        """The locks in a queue of a resource, as they are at the call. A resource that is gone has none. Each row costs
-        time that grows with the place of the resource and the place in the queue."""
-        with self._changed:
-            place = self._place_of(resource)
-            return iter([] if place is None else list(self._rows(place, Queue(queue))))
+    def find_lock(self, lock: int) -> Optional[LockView]:
+        """The lock of this identification. It takes constant time."""
+        return next(self._locks("vlm_find_lock", None, word(lock, "the lock")), None)
+
+    def resource_of(self, lock: int) -> Optional[Resource]:
+        """The resource of a lock. It takes constant time."""
+        return self._resource_by("vlm_lock_resource", raw.Resource(), word(lock, "the lock"))
+
+    def rows(self, resource: Resource, queue: Queue) -> Iterator[LockView]:
+        """The locks in a queue of a resource, as they are at the call. A resource that is gone has none."""
+        words = _key(resource.name, resource.group, resource.parent or 0)
+        return self._walk_locks("vlm_first_row", "vlm_next_row", words, int(Queue(queue)))
+
+    def locks_of(self, process: Process) -> Iterator[LockView]:
+        """The locks of a process, in the order in which they were made, as they are at the call."""
+        return self._walk_locks("vlm_first_own", "vlm_next_own", process.pid)
+
+    def sublocks(self, lock: int) -> Iterator[LockView]:
+        """The sublocks of a lock, in the order in which they were made, as they are at the call."""
+        return self._walk_locks("vlm_first_sublock", "vlm_next_sublock", word(lock, "the lock"))
+
+    def blockers(self, lock: int) -> Iterator[LockView]:
+        """The locks for which the queued request of a lock waits, as a search for a deadlock follows them: granted ones
+        first, then converting, then waiting ones. A granted lock waits for none."""
+        number = word(lock, "the lock")
+        return self._walk_locks("vlm_first_blocker", "vlm_next_blocker", number, also=[number])
 
     def _walk_processes(self) -> Iterator[ProcessView]:
         words = raw.Process()
         while self._goes_on("vlm_next_process", words.pid, words) and words.pid:
             yield ProcessView(words.pid, words.node, words.group, words.syslck == 1, words.quota, words.blocks,
-                              words.pending)
+                              words.pending, words.locks)
 
     def _walk_resources(self) -> Iterator[raw.Sized]:
         """The words of each resource. The same words serve for all."""
@@ -161,24 +183,21 @@ class LockManager:
         """Makes a step of a walk. A closed lock manager has nothing to walk over."""
         return self._call(name, *arguments) == Condition.NORMAL
 
-    def _place_of(self, resource: Resource) -> Optional[int]:
-        """Where a resource is by now: mostly where it was."""
-        words = raw.Resource()
-        if resource.place is not None and 0 <= resource.place < self._call("vlm_resource_count"):
-            checked(self._call("vlm_resource", resource.place, words))
-            if words.serial == resource.serial:
-                return resource.place
-        places = (place for place, it in enumerate(self._walk_resources()) if it.serial == resource.serial)
-        return next(places, None)
+    def _resource_by(self, name: str, words: raw.Sized, *arguments: Any) -> Optional[Resource]:
+        """The resource that a call reads, if there is one."""
+        return _resource(words) if self._goes_on(name, *arguments, words) else None
 
-    def _rows(self, resource: int, queue: Queue) -> Iterator[Row]:
-        words = raw.Row()
-        for place in count():
-            try:
-                checked(self._call("vlm_row", resource, queue, place, words))
-            except BadParam:
-                return
-            yield Row(words.lkid, words.pid, _mode(words.held), _mode(words.want))
+    def _locks(self, first: str, following: Optional[str], *arguments: Any, also: Sequence[int] = ()) -> Iterator[LockView]:
+        """The locks of a walk, by its first call and its following calls, which also take these numbers."""
+        words = raw.Lock()
+        goes_on = self._goes_on(first, *arguments, words)
+        while goes_on and words.lkid:
+            yield _lock(words)
+            goes_on = following is not None and self._goes_on(following, *also, words.lkid, words)
+
+    def _walk_locks(self, first: str, following: str, *arguments: Any, also: Sequence[int] = ()) -> Iterator[LockView]:
+        with self._changed:
+            return iter(list(self._locks(first, following, *arguments, also=also)))
 
 
 def _mode(number: int) -> Optional[Mode]:
@@ -186,7 +205,21 @@ def _mode(number: int) -> Optional[Mode]:
     return None if number == 255 else Mode(number)
 
 
-def _resource(words: raw.Sized, place: Optional[int]) -> Resource:
-    return Resource(place, words.serial, words.parent or None, None if words.is_system else words.group,
+def _lock(words: raw.Sized) -> LockView:
+    return LockView(words.lkid, words.pid, _mode(words.held), _mode(words.want), Queue(words.queue), words.resource,
+                    words.parent or None, words.block)
+
+
+def _key(name: bytes, group: Optional[int], parent: int) -> raw.Sized:
+    """The words that name a resource. A name that does not fit names none."""
+    words = raw.Resource(parent=word(parent, "the parent"), is_system=mark(group is None and not parent),
+                         group=word(group or 0, "the group"), name_len=len(name))
+    fitting = name[:len(words.name)]
+    words.name[:len(fitting)] = fitting
+    return words
+
+
+def _resource(words: raw.Sized) -> Resource:
+    return Resource(words.serial, words.parent or None, None if words.is_system else words.group,
                     bytes(words.name)[:words.name_len], bytes(words.value), words.value_valid == 1,
                     bytes(words.tail), words.tail_valid == 1)

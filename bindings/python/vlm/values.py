@@ -132,15 +132,16 @@ class ProcessView:
     syslck: bool
     quota: int
     blocks: int
+    # How many ASTs are pending for it.
     pending: int
+    # How many locks it has, waiting ones included.
+    locks: int
 
 
 @dataclass(frozen=True)
 class Resource:
     """A resource, without its queues."""
 
-    # Its place among the resources when it was read, from 0. None if `find` read it.
-    place: Optional[int]
     # Counts the resources from 1, in the order in which they were made.
     serial: int
     # The serial of the parent resource, or None for a root.
@@ -155,13 +156,22 @@ class Resource:
 
 
 @dataclass(frozen=True)
-class Row:
-    """A lock in a queue of a resource."""
+class LockView:
+    """A lock with its place, as the system service $GETLKI tells of it."""
 
     lock: int
     pid: int
+    # The mode that it holds, or None while it waits.
     held: Optional[Mode]
+    # The mode that its queued request wants, or None while it is granted.
     want: Optional[Mode]
+    queue: Queue
+    # The serial of its resource.
+    resource: int
+    # Its parent lock, or None on a root.
+    parent: Optional[int]
+    # The status block of its last accepted request.
+    block: int
 
 
 # A resource name; a str is encoded as UTF-8.
