@@ -14,7 +14,7 @@ ghost use Rattle.vlm_journal.specs.Journals.{IsPostOf, JournalFrom};
 ghost use Rattle.vlm_journal.specs.Written.{IsWritten};
 
 use crate::entries::{Entry, Part};
-use crate::laws::{law_departed, law_delivery, law_entry};
+use crate::laws::{law_delivery, law_departed, law_entry};
 use std::alloc::{AllocError, Global};
 use std::marker::Model;
 use std::mem;

@@ -3,7 +3,7 @@
 //! and the hub.
 #![tactic(auto)]
 
-pub mod journaled_core;
 pub mod entries;
+pub mod journaled_core;
 pub mod laws;
 pub mod posts;

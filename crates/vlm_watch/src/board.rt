@@ -52,7 +52,11 @@ impl Board {
     /// Publishes the rows of the keys in the present state of the journaled core, and answers a told value of all that is
     /// published. If the writer's log can't grow or there were 2 ^ 64 - 1 changes, it is refused, and nothing is
     /// published. It may wait for readers of the change before the last. Its cost grows only with the number of keys.
-    pub fn publish<R: Wait>(&mut self, rt: &R, journaled: &JournaledCore) -> Result<Told, AllocError>
+    pub fn publish<R: Wait>(
+        &mut self,
+        rt: &R,
+        journaled: &JournaledCore,
+    ) -> Result<Told, AllocError>
         ensures same { (name_of self.new ≡ name_of self.old) × (keys_of self.new ≡ keys_of self.old) }
         ensures published { OnOk result (HasPublished journaled.now self.old self.new) }
         ensures told { IfOk result (λ told. (told_board told ≡ name_of self.old)
