@@ -203,9 +203,19 @@ static void act(struct worker *worker) {
         nanosleep(&(struct timespec){.tv_nsec = 50000}, NULL);
 }
 
+/* Cancels what is pending, so that no lock is granted any more when all threads have ended. */
+static void cancel_pending(struct worker *worker) {
+    for (int i = 0; i < SLOTS; i++)
+        while (state_of(&worker->slots[i]) == PENDING) {
+            deq(layer, worker->pid, worker->slots[i].started, VLM_DEQ_CANCEL);
+            nanosleep(&(struct timespec){.tv_nsec = 50000}, NULL);
+        }
+}
+
 static void *work(void *given) {
     for (long call = rounds(CALLS / THREADS); call; call--)
         act(given);
+    cancel_pending(given);
     return NULL;
 }
 
