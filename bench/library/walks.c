@@ -3,6 +3,7 @@
  *     walks resources N     declares a process, makes N resources with a lock each, and walks over them
  *     walks dump N          the same, and over the locks in each queue of each
  *     walks rows N          makes N locks on one resource, and walks over its queues
+ *     walks pairs N         makes 1,000 locks, then N times asks for EX on one more resource and gives it up
  *     walks processes N     declares N processes, and walks over them
  *     walks pending N       declares N processes without an AST, and calls vlm_take_any N times
  *
@@ -87,6 +88,19 @@ static long walk_processes(void)
     return seen;
 }
 
+static long make_pairs(long count)
+{
+    static const uint8_t name[] = "one more";
+    uint32_t pid = declare(1);
+    vlm_request request = {.size = sizeof request, .pid = pid, .mode = VLM_EX, .block = 1};
+    vlm_dequeue dequeue = {.size = sizeof dequeue, .pid = pid};
+    for (long made = 0; made < count; made++) {
+        need(vlm_enq(&handle, &request, name, sizeof name, &dequeue.lock));
+        need(vlm_deq(&handle, &dequeue));
+    }
+    return count;
+}
+
 static long look_for_pending(long count)
 {
     for (long made = 0; made < count; made++) {
@@ -104,11 +118,12 @@ int main(int argc, char **argv)
     long count = atol(argv[2]), seen;
     int resources = strcmp(argv[1], "resources") == 0, processes = strcmp(argv[1], "processes") == 0;
     int rows = strcmp(argv[1], "rows") == 0, dump = strcmp(argv[1], "dump") == 0;
+    int pairs = strcmp(argv[1], "pairs") == 0;
     struct timespec from, to;
     need(vlm_open(&handle, &options));
-    resources || rows || dump ? make_locks(count, rows) : make_processes(count);
+    resources || rows || dump || pairs ? make_locks(pairs ? 1000 : count, rows) : make_processes(count);
     clock_gettime(CLOCK_MONOTONIC, &from);
-    seen = resources ? walk_resources() : rows || dump ? walk_rows() : processes ? walk_processes() : look_for_pending(count);
+    seen = resources ? walk_resources() : rows || dump ? walk_rows() : pairs ? make_pairs(count) : processes ? walk_processes() : look_for_pending(count);
     clock_gettime(CLOCK_MONOTONIC, &to);
     if (seen != count)
         return 3;
