@@ -1,4 +1,4 @@
 pub mod Slots
-pub mod Words
+pub mod Keys
 pub mod Served
 pub mod Shown

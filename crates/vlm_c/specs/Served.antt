@@ -1,10 +1,7 @@
 -- What the calls that make a step do.
-use Rattle.std.specs.Prelude.{◌≡◌, ◌⊎◌, ℕ, Bool, true, false, Option, Some, None, replicate}
-use Rattle.vlm_words.specs.declared.asts.Ast.{Ast}
-use Rattle.vlm_words.specs.declared.asts.AstKind.{AstKind}
-use Rattle.vlm_words.specs.declared.asts.AstKind.TheVariants.{Completion, Blocking}
+use Rattle.std.specs.Prelude.{◌≡◌, ◌⊎◌, ℕ, Bool, true, false, Option, Some, None}
 use Rattle.vlm_words.specs.declared.conditions.Cond.TheVariants.{Normal, Insfmem, Badparam}
-use Rattle.vlm_words.specs.declared.steps.Answer.TheVariants.{Process as process_answer, Lock, Victim, Taken, Plain}
+use Rattle.vlm_words.specs.declared.steps.Answer.TheVariants.{Plain}
 use Rattle.vlm_words.specs.declared.steps.Answer.{Answer}
 use Rattle.vlm_words.specs.declared.steps.Step.{Step}
 use Rattle.vlm_words.specs.Conditions.{condition_number}
@@ -12,7 +9,8 @@ use Rattle.vlm_words.specs.declared.steps.Step.TheVariants.{Take}
 use Rattle.vlm_words.specs.State.{State, start}
 use Rattle.vlm_core.specs.Readers.{IsFirstPending, NonePendingBelow}
 use Rattle.vlm_model.specs.Stepped.{Outcome}
-use Rattle.vlm_c.specs.declared.replies.VlmAst.{VlmAst}
+use Rattle.vlm_ffi.specs.declared.replies.VlmAst.{VlmAst}
+use Rattle.vlm_ffi.specs.Replies.{answer_number, answer_status, ast_written, no_ast}
 
 -- the call relates the core before, its result and the core after; with no core it does not run
 abbrev pub Called : {R : Type 0} → (State → R → State → Type 0)
@@ -28,49 +26,6 @@ Served None step after answer = (after ≡ None) × (answer ≡ Plain Badparam)
 Served (Some s) None after answer = (after ≡ Some s) × (answer ≡ Plain Badparam)
 Served (Some s) (Some step) None answer = ⊥
 Served (Some s) (Some step) (Some s') answer = Outcome s step s' answer
-
-abbrev pub answer_status : Answer → ℕ
-answer_status (process_answer pid) = condition_number Normal
-answer_status (Lock cond lkid) = condition_number cond
-answer_status (Victim lkid) = condition_number Normal
-answer_status (Taken ast) = condition_number Normal
-answer_status (Plain cond) = condition_number cond
-
--- the identification in an answer, or 0
-abbrev pub answer_number : Answer → ℕ
-answer_number (process_answer pid) = pid
-answer_number (Lock cond lkid) = lkid
-answer_number (Victim (Some lkid)) = lkid
-answer_number (Victim None) = 0
-answer_number (Taken ast) = 0
-answer_number (Plain cond) = 0
-
-abbrev pub kind_number : AstKind → ℕ
-kind_number Completion = 1
-kind_number Blocking = 2
-
-abbrev pub ast_of : Ast → VlmAst
-ast_of a = record {
-  size = 32;
-  kind = kind_number a.kind;
-  routine = a.routine;
-  param = a.param;
-  lkid = a.lkid;
-  reserved = replicate 3 0;
-}
-
--- what C reads if no AST is pending
-abbrev pub no_ast : VlmAst
-no_ast = record { size = 32; kind = 0; routine = 0; param = 0; lkid = 0; reserved = replicate 3 0 }
-
--- the caller's struct after a Take; a refusal leaves it as it was
-abbrev pub ast_written : Answer → VlmAst → VlmAst
-ast_written (Taken (Some ast)) old = ast_of ast
-ast_written (Taken None) old = no_ast
-ast_written (process_answer pid) old = old
-ast_written (Lock cond lkid) old = old
-ast_written (Victim lkid) old = old
-ast_written (Plain cond) old = old
 
 -- a call makes a step, returns the status of its answer and writes the identification in it
 pub record Replied (before : Option State) (step : Option Step) (after : Option State)

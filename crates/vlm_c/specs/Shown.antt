@@ -2,14 +2,10 @@
 use Rattle.std.specs.Prelude.{◌≡◌, ℕ, Bool, true, false, length, replicate, slice_get, Option, Some, None, nat_le, find, if◌then◌else◌}
 use Rattle.std.specs.Option.{option_map}
 use Rattle.vlm_words.specs.declared.blocks.Block.{Block}
-use Rattle.vlm_words.specs.declared.conditions.Cond.TheVariants.{Normal, Badparam}
-use Rattle.vlm_words.specs.declared.modes.Mode.{Mode}
-use Rattle.vlm_words.specs.declared.modes.Mode.TheVariants.{Nl, Cr, Cw, Pr, Pw, Ex}
 use Rattle.vlm_words.specs.declared.resources.Domain.{Domain}
 use Rattle.vlm_words.specs.declared.resources.Domain.TheVariants.{Group, System}
 use Rattle.vlm_words.specs.declared.resources.Queue.{Queue}
 use Rattle.vlm_words.specs.declared.resources.Queue.TheVariants.{Granted, Conversion, Waiting}
-use Rattle.vlm_words.specs.Conditions.{condition_number}
 use Rattle.vlm_words.specs.Padding.{padded}
 use Rattle.vlm_words.specs.State.{Process, State, process_of as living_process}
 use Rattle.vlm_model.specs.Quotas.{locks_of}
@@ -28,8 +24,11 @@ use Rattle.vlm_c.specs.declared.shown.VlmRow.{VlmRow}
 use Rattle.vlm_words.specs.Resources.{is_at}
 use Rattle.vlm_core.specs.Locks.{lock_view}
 use Rattle.vlm_core.specs.Readers.{all_locks, all_queued, after_first, has_pid, key_of as core_key}
-use Rattle.vlm_c.specs.declared.arguments.ResourceKey.{ResourceKey}
-use Rattle.vlm_c.specs.Words.{queue_of}
+use Rattle.vlm_c.specs.declared.resource_keys.ResourceKey.{ResourceKey}
+use Rattle.vlm_c.specs.Keys.{queue_of}
+use Rattle.vlm_ffi.specs.Copies.{Told, sized}
+use Rattle.vlm_ffi.specs.StepWords.{bit}
+use Rattle.vlm_ffi.specs.Words.{mode_number}
 
 -- a reader answers what the core shows, and the core stays
 pub record Tells {A : Type 0} (shown answer : A) (old new : Option State) : Type 0 where
@@ -40,16 +39,6 @@ pub record Tells {A : Type 0} (shown answer : A) (old new : Option State) : Type
 abbrev pub Reads : {A : Type 0} → (State → Option A → Type 0) → Option State → Option A → Option State → Type 0
 Reads Shows None answer after = (answer ≡ None) × (after ≡ None)
 Reads Shows (Some s) answer after = Shows s answer × (after ≡ Some s)
-
--- a value is written, with NORMAL; with no value nothing is written, and BADPARAM is returned
-abbrev pub Told : {A : Type 0} → Option A → A → A → ℕ → Type 0
-Told (Some x) old new status = (new ≡ x) × (status ≡ condition_number Normal)
-Told None old new status = (new ≡ old) × (status ≡ condition_number Badparam)
-
--- the value, or no value if the caller's struct has another size
-abbrev pub sized : {A : Type 0} → Bool → Option A → Option A
-sized true x = x
-sized false x = None
 
 abbrev pub lksb_of : Block → VlmLksb
 lksb_of block = record {
@@ -89,15 +78,6 @@ lock_count_shown (Some s) = all_locks s.resources
 abbrev pub queued_count_shown : Option State → ℕ
 queued_count_shown None = 0
 queued_count_shown (Some s) = all_queued s.resources
-
-abbrev pub mode_number : Option Mode → ℕ
-mode_number (Some Nl) = 0
-mode_number (Some Cr) = 1
-mode_number (Some Cw) = 2
-mode_number (Some Pr) = 3
-mode_number (Some Pw) = 4
-mode_number (Some Ex) = 5
-mode_number None = 255
 
 abbrev pub queue_number : Queue → ℕ
 queue_number Granted = 0
@@ -169,10 +149,6 @@ row_in s resource None place = None
 abbrev pub row_shown_at : Option State → ℕ → ℕ → ℕ → Option RowView
 row_shown_at None resource queue place = None
 row_shown_at (Some s) resource queue place = row_in s resource (queue_of queue) place
-
-abbrev pub bit : Bool → ℕ
-bit true = 1
-bit false = 0
 
 -- 1 for the system's domain
 abbrev pub system_bit : Domain → ℕ

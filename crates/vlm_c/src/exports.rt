@@ -7,21 +7,28 @@ ghost use Rattle.std.specs.Prelude.{◌≡◌, ◌==◌, None, Some};
 ghost use Rattle.std.specs.Option.{option_map};
 ghost use Rattle.vlm_words.specs.declared.steps.Step.TheVariants.{Convert, Declare, Deq, Enq, Leave, Rundown, Search, SetValue, Take};
 ghost use Rattle.vlm_c.specs.Served.{AstReplied, OpenedIf, Replied, StatusReplied, TookAnyIf};
-ghost use Rattle.vlm_c.specs.Shown.{Told, block_shown, count_shown, found_shown, lksb_of, next_process_shown, next_resource_shown, pending_shown, process_count_shown, process_of, process_or_none, process_shown, queued_count_shown, resource_of, resource_or_none, resource_shown, row_of, row_shown_at, sized, lock_count_shown};
-ghost use Rattle.vlm_c.specs.Words.{conversion_of, declaration_of, dequeue_of, is_options, key_of, node_of, request_of, setting_of, take_of};
+ghost use Rattle.vlm_ffi.specs.Copies.{Told, sized};
+ghost use Rattle.vlm_c.specs.Shown.{block_shown, count_shown, found_shown, lksb_of, next_process_shown, next_resource_shown, pending_shown, process_count_shown, process_of, process_or_none, process_shown, queued_count_shown, resource_of, resource_or_none, resource_shown, row_of, row_shown_at, lock_count_shown};
+ghost use Rattle.vlm_c.specs.Keys.{key_of};
+ghost use Rattle.vlm_ffi.specs.Replies.{take_of};
+ghost use Rattle.vlm_ffi.specs.Words.{conversion_of, declaration_of, dequeue_of, is_options, node_of, request_of, setting_of};
 
-use crate::arguments::{
-    VERSION, VlmDeclaration, VlmDequeue, VlmOptions, VlmRequest, VlmSetting, conversion_of,
-    declaration_of, dequeue_of, keys_of, node_of, request_of, setting_of, take_of,
-};
 use crate::handle::Vlm;
-use crate::replies::{AST_SIZE, VlmAst, answer_number, answer_status, no_ast, status, write_ast};
 use crate::shown::{
     LKSB_SIZE, PROCESS_SIZE, RESOURCE_SIZE, ROW_SIZE, VlmLksb, VlmProcess, VlmResource, VlmRow,
     lksb_of, process_of, process_or_none, resource_of, resource_or_none, row_of,
 };
 use std::alloc::Global;
 use vlm_core::Core;
+use vlm_ffi::arguments::{
+    VERSION, VlmDeclaration, VlmDequeue, VlmOptions, VlmRequest, VlmSetting, conversion_of,
+    declaration_of, dequeue_of, keys_of, request_of, setting_of,
+};
+use vlm_ffi::copies::{copy_out, sized};
+use vlm_ffi::numbers::node_of;
+use vlm_ffi::replies::{
+    AST_SIZE, VlmAst, answer_number, answer_status, no_ast, status, take_of, write_ast,
+};
 use vlm_words::conditions::Cond;
 use vlm_words::steps::Step;
 
@@ -62,6 +69,7 @@ pub extern "C" fn vlm_close(alloc: Global, handle: &mut Vlm)
 }
 
 // Makes the step and writes the identification in the answer, or 0.
+#[inline(always)]
 fn reply(handle: &mut Vlm, step: Option<Step>, number: &mut u32) -> u32
     ensures { Replied handle.old.slot.core step handle.new.slot.core result number.new }
 {
@@ -71,6 +79,7 @@ fn reply(handle: &mut Vlm, step: Option<Step>, number: &mut u32) -> u32
 }
 
 // Makes a step whose answer has no identification.
+#[inline(always)]
 fn status_reply(handle: &mut Vlm, step: Option<Step>) -> u32
     ensures { StatusReplied handle.old.slot.core step handle.new.slot.core result }
 {
@@ -190,26 +199,6 @@ pub extern "C" fn vlm_search(handle: &mut Vlm, node: u32, victim: &mut u32) -> u
     ensures { Replied handle.old.slot.core (option_map Search (node_of node)) handle.new.slot.core result victim.new }
 {
     reply(handle, node_of(node).map(|node| Step::Search(node)), victim)
-}
-
-// The value, or no value if the caller's struct has another size.
-pub(crate) fn sized<T: Copy>(fits: bool, value: Option<T>) -> Option<T>
-    ensures { result ≡ sized fits value }
-{
-    if fits { value } else { None }
-}
-
-// Writes the value. With no value it writes nothing.
-pub(crate) fn copy_out<T: Copy>(value: Option<T>, out: &mut T) -> u32
-    ensures { Told value out.old out.new result }
-{
-    match value {
-        Some(value) => {
-            *out = value;
-            status(Cond::Normal)
-        }
-        None => status(Cond::Badparam),
-    }
 }
 
 /// Copies a status block of a process.

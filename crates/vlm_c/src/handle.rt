@@ -5,15 +5,15 @@ ghost use Rattle.std.specs.Option.{is_some, option_map};
 ghost use Rattle.std.specs.Fn.{FnOnceReturnsAtMut};
 ghost use Rattle.vlm_c.specs.Served.{Called, Served, TakesFirst};
 ghost use Rattle.vlm_c.specs.Shown.{Tells, block_shown, count_shown, found_shown, lock_count_shown, next_process_shown, next_resource_shown, pending_shown, process_count_shown, process_shown, queued_count_shown, resource_shown, row_shown_at};
-ghost use Rattle.vlm_c.specs.Words.{key_of};
+ghost use Rattle.vlm_c.specs.Keys.{key_of};
 
-use crate::arguments::{key_of, queue_of};
-use crate::loose::Loose;
+use crate::resource_keys::{key_of, queue_of};
 use crate::shown::VlmResource;
 use crate::slot::Slot;
 use std::alloc::Global;
 use std::mem::replace;
 use vlm_core::{Core, ProcessView, ResourceView, RowView};
+use vlm_ffi::loose::Loose;
 use vlm_words::blocks::Block;
 use vlm_words::conditions::Cond;
 use vlm_words::steps::{Answer, Step};
@@ -29,7 +29,9 @@ pub struct Vlm {
 
 impl Drop for Vlm {
     fn drop(self) {
-        let _core = self.into_core();
+        if let Some(core) = self.into_core() {
+            free(core);
+        }
     }
 }
 
@@ -76,6 +78,7 @@ impl Vlm {
     }
 
     // Takes the core out, passes it to `call` and puts it back.
+    #[inline(always)]
     pub(crate) fn with_core<R, F: FnOnce(&mut Core) -> R + Drop>(&mut self, call: F) -> Option<R>
         requires { F.IsAlwaysCallable call }
         ensures { Called (FnOnceReturnsAtMut F.FnOnce call) self.old.slot.core result self.new.slot.core }
@@ -88,6 +91,7 @@ impl Vlm {
     }
 
     /// With no core or no step it changes nothing and answers BADPARAM.
+    #[inline(always)]
     pub(crate) fn make_step(&mut self, step: Option<Step>) -> Answer
         ensures { Served self.old.slot.core step self.new.slot.core result }
     {
@@ -216,6 +220,10 @@ impl Vlm {
         self.with_core(|core| core.row_at(resource, queue, place))?
     }
 }
+
+// Kept out of line: inlined, each call would have room for a core on its stack.
+#[inline(never)]
+fn free(_core: Box<Core>) {}
 
 // The living process at an index, and how many locks it has.
 fn process_at(core: &Core, index: usize) -> Option<(ProcessView, usize)>

@@ -7,15 +7,16 @@ ghost use Rattle.std.specs.Prelude.{◌≡◌, ◌==◌};
 ghost use Rattle.std.specs.Option.{option_map};
 ghost use Rattle.vlm_core.specs.Blockers.{ShowsFirstBlocker, ShowsNextBlocker};
 ghost use Rattle.vlm_core.specs.Locks.{IsLaterOwn, IsLaterSublock, ShowsFirstOwn, ShowsFirstSublock, ShowsNamed, ShowsNextInQueue, ShowsNextOf, ShowsResourceOf};
-ghost use Rattle.vlm_c.specs.Shown.{ReadTold, ShowsFirstRow, Told, lock_of, lock_or_none, resource_of, sized};
-ghost use Rattle.vlm_c.specs.Words.{key_of, queue_of};
+ghost use Rattle.vlm_ffi.specs.Copies.{Told, sized};
+ghost use Rattle.vlm_c.specs.Shown.{ReadTold, ShowsFirstRow, lock_of, lock_or_none, resource_of};
+ghost use Rattle.vlm_c.specs.Keys.{key_of, queue_of};
 
-use crate::exports::{copy_out, sized};
 use crate::handle::Vlm;
 use crate::shown::{
     LOCK_SIZE, RESOURCE_SIZE, VlmLock, VlmResource, lock_of, lock_or_none, resource_of,
 };
 use vlm_core::LockView;
+use vlm_ffi::copies::{copy_out, sized};
 
 // Writes the next lock of a walk.
 fn write_next(next: Option<Option<LockView>>, out: &mut VlmLock) -> u32
@@ -47,65 +48,6 @@ pub extern "C" fn vlm_lock_resource(handle: &mut Vlm, lkid: u32, out: &mut VlmRe
     copy_out(sized(out.size == RESOURCE_SIZE, shown), out)
 }
 
-/// Copies the first lock in a queue of the resource that parent, domain and name of the struct name.
-#[unsafe(no_mangle)]
-pub extern "C" fn vlm_first_row(
-    handle: &mut Vlm,
-    resource: &VlmResource,
-    queue: u32,
-    out: &mut VlmLock,
-) -> u32
-    ensures { ReadTold (λ s. ShowsFirstRow s (key_of resource.now) (queue_of queue)) lock_or_none
-        handle.old.slot.core handle.new.slot.core (out.old.size == 64) out.old out.new result }
-{
-    write_next(handle.first_row(resource, queue), out)
-}
-
-/// Copies the next lock in the queue of a lock.
-#[unsafe(no_mangle)]
-pub extern "C" fn vlm_next_row(handle: &mut Vlm, lkid: u32, out: &mut VlmLock) -> u32
-    ensures { ReadTold (λ s. ShowsNextInQueue s lkid) lock_or_none handle.old.slot.core handle.new.slot.core
-        (out.old.size == 64) out.old out.new result }
-{
-    write_next(handle.next_row(lkid), out)
-}
-
-/// Copies the first lock of a process, in the order of making.
-#[unsafe(no_mangle)]
-pub extern "C" fn vlm_first_own(handle: &mut Vlm, pid: u32, out: &mut VlmLock) -> u32
-    ensures { ReadTold (λ s. ShowsFirstOwn s pid) lock_or_none handle.old.slot.core handle.new.slot.core
-        (out.old.size == 64) out.old out.new result }
-{
-    write_next(handle.first_own(pid), out)
-}
-
-/// Copies the next lock of the same process.
-#[unsafe(no_mangle)]
-pub extern "C" fn vlm_next_own(handle: &mut Vlm, lkid: u32, out: &mut VlmLock) -> u32
-    ensures { ReadTold (λ s. ShowsNextOf s IsLaterOwn lkid) lock_or_none handle.old.slot.core handle.new.slot.core
-        (out.old.size == 64) out.old out.new result }
-{
-    write_next(handle.next_own(lkid), out)
-}
-
-/// Copies the first sublock of a lock, in the order of making.
-#[unsafe(no_mangle)]
-pub extern "C" fn vlm_first_sublock(handle: &mut Vlm, lkid: u32, out: &mut VlmLock) -> u32
-    ensures { ReadTold (λ s. ShowsFirstSublock s lkid) lock_or_none handle.old.slot.core handle.new.slot.core
-        (out.old.size == 64) out.old out.new result }
-{
-    write_next(handle.first_sublock(lkid), out)
-}
-
-/// Copies the next sublock of the same parent lock.
-#[unsafe(no_mangle)]
-pub extern "C" fn vlm_next_sublock(handle: &mut Vlm, lkid: u32, out: &mut VlmLock) -> u32
-    ensures { ReadTold (λ s. ShowsNextOf s IsLaterSublock lkid) lock_or_none handle.old.slot.core handle.new.slot.core
-        (out.old.size == 64) out.old out.new result }
-{
-    write_next(handle.next_sublock(lkid), out)
-}
-
 /// Copies the first lock for which the queued request of a lock waits.
 #[unsafe(no_mangle)]
 pub extern "C" fn vlm_first_blocker(handle: &mut Vlm, lkid: u32, out: &mut VlmLock) -> u32
@@ -127,4 +69,63 @@ pub extern "C" fn vlm_next_blocker(
         handle.new.slot.core (out.old.size == 64) out.old out.new result }
 {
     write_next(handle.next_blocker(lkid, blocker), out)
+}
+
+/// Copies the first lock of a process, in the order of making.
+#[unsafe(no_mangle)]
+pub extern "C" fn vlm_first_own(handle: &mut Vlm, pid: u32, out: &mut VlmLock) -> u32
+    ensures { ReadTold (λ s. ShowsFirstOwn s pid) lock_or_none handle.old.slot.core handle.new.slot.core
+        (out.old.size == 64) out.old out.new result }
+{
+    write_next(handle.first_own(pid), out)
+}
+
+/// Copies the first sublock of a lock, in the order of making.
+#[unsafe(no_mangle)]
+pub extern "C" fn vlm_first_sublock(handle: &mut Vlm, lkid: u32, out: &mut VlmLock) -> u32
+    ensures { ReadTold (λ s. ShowsFirstSublock s lkid) lock_or_none handle.old.slot.core handle.new.slot.core
+        (out.old.size == 64) out.old out.new result }
+{
+    write_next(handle.first_sublock(lkid), out)
+}
+
+/// Copies the next lock of the same process.
+#[unsafe(no_mangle)]
+pub extern "C" fn vlm_next_own(handle: &mut Vlm, lkid: u32, out: &mut VlmLock) -> u32
+    ensures { ReadTold (λ s. ShowsNextOf s IsLaterOwn lkid) lock_or_none handle.old.slot.core handle.new.slot.core
+        (out.old.size == 64) out.old out.new result }
+{
+    write_next(handle.next_own(lkid), out)
+}
+
+/// Copies the next sublock of the same parent lock.
+#[unsafe(no_mangle)]
+pub extern "C" fn vlm_next_sublock(handle: &mut Vlm, lkid: u32, out: &mut VlmLock) -> u32
+    ensures { ReadTold (λ s. ShowsNextOf s IsLaterSublock lkid) lock_or_none handle.old.slot.core handle.new.slot.core
+        (out.old.size == 64) out.old out.new result }
+{
+    write_next(handle.next_sublock(lkid), out)
+}
+
+/// Copies the first lock in a queue of the resource that parent, domain and name of the struct name.
+#[unsafe(no_mangle)]
+pub extern "C" fn vlm_first_row(
+    handle: &mut Vlm,
+    resource: &VlmResource,
+    queue: u32,
+    out: &mut VlmLock,
+) -> u32
+    ensures { ReadTold (λ s. ShowsFirstRow s (key_of resource.now) (queue_of queue)) lock_or_none
+        handle.old.slot.core handle.new.slot.core (out.old.size == 64) out.old out.new result }
+{
+    write_next(handle.first_row(resource, queue), out)
+}
+
+/// Copies the next lock in the queue of a lock.
+#[unsafe(no_mangle)]
+pub extern "C" fn vlm_next_row(handle: &mut Vlm, lkid: u32, out: &mut VlmLock) -> u32
+    ensures { ReadTold (λ s. ShowsNextInQueue s lkid) lock_or_none handle.old.slot.core handle.new.slot.core
+        (out.old.size == 64) out.old out.new result }
+{
+    write_next(handle.next_row(lkid), out)
 }

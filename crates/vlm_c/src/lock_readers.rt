@@ -3,10 +3,10 @@
 ghost use Rattle.vlm_core.specs.Blockers.{ShowsFirstBlocker, ShowsNextBlocker};
 ghost use Rattle.vlm_core.specs.Locks.{IsLaterOwn, IsLaterSublock, ShowsFirstOwn, ShowsFirstSublock, ShowsNamed, ShowsNextInQueue, ShowsNextOf, ShowsResourceOf};
 ghost use Rattle.vlm_c.specs.Shown.{Reads, ShowsFirstRow};
-ghost use Rattle.vlm_c.specs.Words.{key_of, queue_of};
+ghost use Rattle.vlm_c.specs.Keys.{key_of, queue_of};
 
-use crate::arguments::{key_of, queue_of};
 use crate::handle::Vlm;
+use crate::resource_keys::{key_of, queue_of};
 use crate::shown::VlmResource;
 use vlm_core::{LockView, ResourceView};
 
@@ -21,6 +21,42 @@ impl Vlm {
         ensures { Reads (λ s. ShowsResourceOf s lkid) self.old.slot.core result self.new.slot.core }
     {
         self.with_core(|core| core.resource_of_lock(lkid))?
+    }
+
+    pub(crate) fn first_blocker(&mut self, lkid: u32) -> Option<Option<LockView>>
+        ensures { Reads (λ s. ShowsFirstBlocker s lkid) self.old.slot.core result self.new.slot.core }
+    {
+        self.with_core(|core| core.first_blocker(lkid))?
+    }
+
+    pub(crate) fn next_blocker(&mut self, lkid: u32, after: u32) -> Option<Option<LockView>>
+        ensures { Reads (λ s. ShowsNextBlocker s lkid after) self.old.slot.core result self.new.slot.core }
+    {
+        self.with_core(|core| core.next_blocker(lkid, after))?
+    }
+
+    pub(crate) fn first_own(&mut self, pid: u32) -> Option<Option<LockView>>
+        ensures { Reads (λ s. ShowsFirstOwn s pid) self.old.slot.core result self.new.slot.core }
+    {
+        self.with_core(|core| core.first_own(pid))?
+    }
+
+    pub(crate) fn first_sublock(&mut self, lkid: u32) -> Option<Option<LockView>>
+        ensures { Reads (λ s. ShowsFirstSublock s lkid) self.old.slot.core result self.new.slot.core }
+    {
+        self.with_core(|core| core.first_sublock(lkid))?
+    }
+
+    pub(crate) fn next_own(&mut self, lkid: u32) -> Option<Option<LockView>>
+        ensures { Reads (λ s. ShowsNextOf s IsLaterOwn lkid) self.old.slot.core result self.new.slot.core }
+    {
+        self.with_core(|core| core.next_own(lkid))?
+    }
+
+    pub(crate) fn next_sublock(&mut self, lkid: u32) -> Option<Option<LockView>>
+        ensures { Reads (λ s. ShowsNextOf s IsLaterSublock lkid) self.old.slot.core result self.new.slot.core }
+    {
+        self.with_core(|core| core.next_sublock(lkid))?
     }
 
     /// The first lock in a queue of the named resource. `Some(None)` if the queue is empty, `None` if there is no such
@@ -38,41 +74,5 @@ impl Vlm {
         ensures { Reads (λ s. ShowsNextInQueue s lkid) self.old.slot.core result self.new.slot.core }
     {
         self.with_core(|core| core.next_in_queue(lkid))?
-    }
-
-    pub(crate) fn first_own(&mut self, pid: u32) -> Option<Option<LockView>>
-        ensures { Reads (λ s. ShowsFirstOwn s pid) self.old.slot.core result self.new.slot.core }
-    {
-        self.with_core(|core| core.first_own(pid))?
-    }
-
-    pub(crate) fn next_own(&mut self, lkid: u32) -> Option<Option<LockView>>
-        ensures { Reads (λ s. ShowsNextOf s IsLaterOwn lkid) self.old.slot.core result self.new.slot.core }
-    {
-        self.with_core(|core| core.next_own(lkid))?
-    }
-
-    pub(crate) fn first_sublock(&mut self, lkid: u32) -> Option<Option<LockView>>
-        ensures { Reads (λ s. ShowsFirstSublock s lkid) self.old.slot.core result self.new.slot.core }
-    {
-        self.with_core(|core| core.first_sublock(lkid))?
-    }
-
-    pub(crate) fn next_sublock(&mut self, lkid: u32) -> Option<Option<LockView>>
-        ensures { Reads (λ s. ShowsNextOf s IsLaterSublock lkid) self.old.slot.core result self.new.slot.core }
-    {
-        self.with_core(|core| core.next_sublock(lkid))?
-    }
-
-    pub(crate) fn first_blocker(&mut self, lkid: u32) -> Option<Option<LockView>>
-        ensures { Reads (λ s. ShowsFirstBlocker s lkid) self.old.slot.core result self.new.slot.core }
-    {
-        self.with_core(|core| core.first_blocker(lkid))?
-    }
-
-    pub(crate) fn next_blocker(&mut self, lkid: u32, after: u32) -> Option<Option<LockView>>
-        ensures { Reads (λ s. ShowsNextBlocker s lkid after) self.old.slot.core result self.new.slot.core }
-    {
-        self.with_core(|core| core.next_blocker(lkid, after))?
     }
 }

@@ -1,14 +1,13 @@
 //! The structs that readers copy out to C. include/vlm.h describes their members.
 
-ghost use Rattle.std.specs.Prelude.{◌≡◌, ◌≤◌, length};
-ghost use Rattle.vlm_words.specs.Padding.{padded};
-ghost use Rattle.vlm_c.specs.Shown.{lksb_of, lock_of, lock_or_none, mode_number, process_of, process_or_none, queue_number, resource_of, resource_or_none, row_of};
+ghost use Rattle.std.specs.Prelude.{◌≡◌};
+ghost use Rattle.vlm_c.specs.Shown.{lksb_of, lock_of, lock_or_none, process_of, process_or_none, queue_number, resource_of, resource_or_none, row_of};
 
 use std::mem::size_of;
 use vlm_core::{LockView, ProcessView, ResourceView, RowView};
+use vlm_ffi::numbers::mode_number;
+use vlm_ffi::padding::name_cells;
 use vlm_words::blocks::Block;
-use vlm_words::modes::Mode;
-use vlm_words::names::Name;
 use vlm_words::resources::{Domain, Queue};
 
 // The `size` that C writes into each struct.
@@ -157,20 +156,6 @@ pub(crate) fn process_of(process: &ProcessView, locks: usize) -> VlmProcess
     }
 }
 
-fn mode_number(mode: Option<Mode>) -> u32
-    ensures { result ≡ mode_number mode }
-{
-    match mode {
-        Some(Mode::Nl) => 0,
-        Some(Mode::Cr) => 1,
-        Some(Mode::Cw) => 2,
-        Some(Mode::Pr) => 3,
-        Some(Mode::Pw) => 4,
-        Some(Mode::Ex) => 5,
-        None => 255,
-    }
-}
-
 fn queue_number(queue: Queue) -> u32
     ensures { result ≡ queue_number queue }
 {
@@ -232,25 +217,6 @@ pub(crate) fn row_of(row: &RowView) -> VlmRow
     }
 }
 
-fn padded<const N: usize>(bytes: &[u8]) -> [u8; N]
-    requires { length bytes.now ≤ N }
-    ensures { result ≡ padded N bytes.now }
-{
-    let mut cells = [0; N];
-    cells[..bytes.len()].copy_from_slice(bytes);
-    cells
-}
-
-// The padded name and its length.
-#[tactic(auto, using(crate::proofs::Lengths::name_short))]
-fn cells_of(name: Name) -> ([u8; 32], u32)
-    ensures cells { result.0 ≡ padded 32 name }
-    ensures len { result.1 ≡ length name }
-{
-    let bytes = name.bytes();
-    (padded(bytes), bytes.len() as u32)
-}
-
 pub(crate) fn resource_of(resource: &ResourceView) -> VlmResource
     ensures { result ≡ resource_of resource.now }
 {
@@ -258,7 +224,7 @@ pub(crate) fn resource_of(resource: &ResourceView) -> VlmResource
         Domain::Group(group) => (0, u32::from(group)),
         Domain::System => (1, 0),
     };
-    let (name, name_len) = cells_of(resource.name);
+    let (name, name_len) = name_cells(resource.name);
     VlmResource {
         size: RESOURCE_SIZE,
         serial: resource.serial,

@@ -1,11 +1,8 @@
 -- The steps that the structs and numbers of C name.
 use Rattle.std.specs.Prelude.{ℕ, List, Bool, ◌==◌, ◌&&◌, nat_lt, nat_le, take, Option, Some, None, if◌then◌else◌}
 use Rattle.std.specs.List.{list_all}
-use Rattle.std.specs.Result.{result_ok}
 use Rattle.vlm_words.specs.declared.modes.Mode.{Mode}
 use Rattle.vlm_words.specs.declared.modes.Mode.TheVariants.{Nl, Cr, Cw, Pr, Pw, Ex}
-use Rattle.vlm_words.specs.declared.resources.Queue.{Queue}
-use Rattle.vlm_words.specs.declared.resources.Queue.TheVariants.{Granted, Conversion as conversion_queue, Waiting}
 use Rattle.vlm_words.specs.declared.steps.Which.{Which}
 use Rattle.vlm_words.specs.declared.steps.Which.TheVariants.{Id, Block}
 use Rattle.vlm_words.specs.declared.steps.NewRequest.{NewRequest}
@@ -13,16 +10,11 @@ use Rattle.vlm_words.specs.declared.steps.Conversion.{Conversion}
 use Rattle.vlm_words.specs.declared.steps.Dequeue.{Dequeue}
 use Rattle.vlm_words.specs.declared.steps.Declaration.{Declaration}
 use Rattle.vlm_words.specs.declared.steps.ValueSetting.{ValueSetting}
-use Rattle.vlm_c.specs.declared.arguments.VlmDeclaration.{VlmDeclaration}
-use Rattle.vlm_c.specs.declared.arguments.VlmOptions.{VlmOptions}
-use Rattle.vlm_c.specs.declared.arguments.VlmSetting.{VlmSetting}
-use Rattle.vlm_c.specs.declared.arguments.VlmRequest.{VlmRequest}
-use Rattle.vlm_words.specs.declared.resources.Domain.{Domain}
-use Rattle.vlm_words.specs.declared.resources.Domain.TheVariants.{Group, System}
-use Rattle.vlm_words.specs.Names.{name_of}
-use Rattle.vlm_c.specs.declared.arguments.ResourceKey.{ResourceKey}
-use Rattle.vlm_c.specs.declared.arguments.VlmDequeue.{VlmDequeue}
-use Rattle.vlm_c.specs.declared.shown.VlmResource.{VlmResource}
+use Rattle.vlm_ffi.specs.declared.arguments.VlmDeclaration.{VlmDeclaration}
+use Rattle.vlm_ffi.specs.declared.arguments.VlmOptions.{VlmOptions}
+use Rattle.vlm_ffi.specs.declared.arguments.VlmSetting.{VlmSetting}
+use Rattle.vlm_ffi.specs.declared.arguments.VlmRequest.{VlmRequest}
+use Rattle.vlm_ffi.specs.declared.arguments.VlmDequeue.{VlmDequeue}
 
 unfoldable pub mode_of : ℕ → Option Mode
 mode_of n =
@@ -33,11 +25,15 @@ mode_of n =
     else (if n == 4 then Some Pw
     else (if n == 5 then Some Ex else None)))))
 
-unfoldable pub queue_of : ℕ → Option Queue
-queue_of n =
-    if n == 0 then Some Granted
-    else (if n == 1 then Some conversion_queue
-    else (if n == 2 then Some Waiting else None))
+-- 255 is no mode
+abbrev pub mode_number : Option Mode → ℕ
+mode_number (Some Nl) = 0
+mode_number (Some Cr) = 1
+mode_number (Some Cw) = 2
+mode_number (Some Pr) = 3
+mode_number (Some Pw) = 4
+mode_number (Some Ex) = 5
+mode_number None = 255
 
 -- with block 0 the identification names the lock; otherwise the block does, and the identification is 0
 unfoldable pub which_of : ℕ → ℕ → Option Which
@@ -48,10 +44,6 @@ which_of lock block =
 -- every byte passes; the core checks that it is a node
 abbrev pub node_of : ℕ → Option ℕ
 node_of n = if nat_le n 255 then Some n else None
-
--- the caller's struct for the AST has its size
-abbrev pub take_of : ℕ → ℕ → Option ℕ
-take_of pid size = if size == 32 then Some pid else None
 
 abbrev pub is_blank : List ℕ → Bool
 is_blank words = list_all (λ w. w == 0) words
@@ -139,18 +131,3 @@ unfoldable pub dequeue_of : VlmDequeue → Option Dequeue
 dequeue_of w =
     if (w.size == 128) && is_blank w.reserved && nat_le w.flags 65535 && nat_le w.has_value 1 && nat_le w.has_tail 1
     then dequeue_with w (which_of w.lock w.lock_block) else None
-
--- the domain of a resource: the system's, or a group's
-abbrev pub domain_of : ℕ → ℕ → Domain
-domain_of is_system group = if is_system == 1 then System else Group group
-
--- the key with this name, if it is one
-abbrev pub key_with : VlmResource → Option (List ℕ) → Option ResourceKey
-key_with w None = None
-key_with w (Some name) = Some (record { parent = w.parent; domain = domain_of w.is_system w.group; name = name })
-
--- the struct has its size, and its numbers fit
-unfoldable pub key_of : VlmResource → Option ResourceKey
-key_of w =
-    if (w.size == 144) && nat_le w.is_system 1 && nat_le w.group 65535 && nat_le w.name_len 32
-    then key_with w (result_ok (name_of (take 32 (take w.name_len w.name)))) else None

@@ -2,15 +2,15 @@
 
 ghost use Rattle.std.specs.Prelude.{◌≡◌};
 ghost use Rattle.vlm_words.specs.Conditions.{condition_number};
-ghost use Rattle.vlm_c.specs.Served.{answer_number, answer_status, ast_of, ast_written, kind_number, no_ast};
+ghost use Rattle.vlm_ffi.specs.Replies.{answer_number, answer_status, ast_of, ast_written, kind_number, no_ast, take_of};
 
 use std::mem::size_of;
 use vlm_words::asts::{Ast, AstKind};
 use vlm_words::conditions::Cond;
 use vlm_words::steps::Answer;
 
-// The `size` that C writes into the struct.
-pub(crate) const AST_SIZE: u32 = 32;
+/// The `size` that C writes into the struct.
+pub const AST_SIZE: u32 = 32;
 
 const _: () = prove!(size_of::<VlmAst>() == 32);
 
@@ -28,13 +28,15 @@ pub struct VlmAst {
     pub reserved: [u32; 3],
 }
 
-pub(crate) fn status(cond: Cond) -> u32
+/// The number of a condition.
+pub fn status(cond: Cond) -> u32
     ensures { result ≡ condition_number cond }
 {
     u32::from(cond.number())
 }
 
-pub(crate) fn answer_status(answer: &Answer) -> u32
+/// The number of the condition in an answer.
+pub fn answer_status(answer: &Answer) -> u32
     ensures { result ≡ answer_status answer.now }
 {
     match answer {
@@ -43,7 +45,8 @@ pub(crate) fn answer_status(answer: &Answer) -> u32
     }
 }
 
-pub(crate) fn answer_number(answer: &Answer) -> u32
+/// The identification in an answer, or 0: a process, a lock, or the lock of a victim.
+pub fn answer_number(answer: &Answer) -> u32
     ensures { result ≡ answer_number answer.now }
 {
     match answer {
@@ -52,7 +55,8 @@ pub(crate) fn answer_number(answer: &Answer) -> u32
     }
 }
 
-fn kind_number(kind: AstKind) -> u32
+/// The number of a kind of AST: 1 for completion, 2 for blocking.
+pub fn kind_number(kind: AstKind) -> u32
     ensures { result ≡ kind_number kind }
 {
     match kind {
@@ -61,7 +65,15 @@ fn kind_number(kind: AstKind) -> u32
     }
 }
 
-fn ast_of(ast: &Ast) -> VlmAst
+/// Checks the size of the struct that receives the AST.
+pub fn take_of(pid: u32, size: u32) -> Option<u32>
+    ensures { result ≡ take_of pid size }
+{
+    if size == AST_SIZE { Some(pid) } else { None }
+}
+
+/// The struct of an AST.
+pub fn ast_of(ast: &Ast) -> VlmAst
     ensures { result ≡ ast_of ast.now }
 {
     VlmAst {
@@ -75,7 +87,7 @@ fn ast_of(ast: &Ast) -> VlmAst
 }
 
 /// What C reads if no AST is pending.
-pub(crate) fn no_ast() -> VlmAst
+pub fn no_ast() -> VlmAst
     ensures { result ≡ no_ast }
 {
     VlmAst {
@@ -89,7 +101,7 @@ pub(crate) fn no_ast() -> VlmAst
 }
 
 /// Writes the taken AST; without one it writes that no AST is pending. A refusal writes nothing.
-pub(crate) fn write_ast(answer: &Answer, out: &mut VlmAst)
+pub fn write_ast(answer: &Answer, out: &mut VlmAst)
     ensures { out.new ≡ ast_written answer.now out.old }
 {
     match answer {

@@ -3,30 +3,27 @@
 //! A struct names no step if it has another size, a reserved word that is not 0, or a number that does not fit.
 
 ghost use Rattle.std.specs.Prelude.{◌≡◌, is_some};
-ghost use Rattle.vlm_c.specs.Words.{is_options, key_of, conversion_of, declaration_of, dequeue_of, given, is_blank, is_request, mode_of, node_of, queue_of, request_of, setting_of, take_of, which_of};
+ghost use Rattle.vlm_ffi.specs.Words.{conversion_of, declaration_of, dequeue_of, given, is_blank, is_options, is_request, request_of, setting_of, which_of};
 
-use crate::replies::AST_SIZE;
-use crate::shown::{RESOURCE_SIZE, VlmResource};
+use crate::numbers::mode_of;
 use std::mem::size_of;
-use vlm_core::HashKeys;
-use vlm_words::modes::Mode;
-use vlm_words::names::{Name, NameArg};
-use vlm_words::resources::{Domain, Queue};
+use vlm_collections::HashKeys;
+use vlm_words::names::NameArg;
 use vlm_words::steps::{Conversion, Declaration, Dequeue, NewRequest, ValueSetting, Which};
 
 /// The version of the library and its header, 0.1.0: one byte for each of its numbers.
-pub(crate) const VERSION: u32 = 0x00_01_00;
+pub const VERSION: u32 = 0x00_01_00;
 
 // The `size` that C writes into each struct.
 const OPTIONS_SIZE: u32 = 64;
 
-const DECLARATION_SIZE: u32 = 32;
+pub(crate) const DECLARATION_SIZE: u32 = 32;
 
-const SETTING_SIZE: u32 = 96;
+pub(crate) const SETTING_SIZE: u32 = 96;
 
-const REQUEST_SIZE: u32 = 128;
+pub(crate) const REQUEST_SIZE: u32 = 128;
 
-const DEQUEUE_SIZE: u32 = 128;
+pub(crate) const DEQUEUE_SIZE: u32 = 128;
 
 const _: () = prove!(size_of::<VlmOptions>() == 64);
 
@@ -128,86 +125,6 @@ pub struct VlmDequeue {
     pub reserved: [u32; 9],
 }
 
-#[tactic(auto, unfolding(crate::specs::Words::mode_of))]
-pub(crate) fn mode_of(number: u32) -> Option<Mode>
-    ensures { result ≡ mode_of number }
-{
-    match number {
-        0 => Some(Mode::Nl),
-        1 => Some(Mode::Cr),
-        2 => Some(Mode::Cw),
-        3 => Some(Mode::Pr),
-        4 => Some(Mode::Pw),
-        5 => Some(Mode::Ex),
-        _ => None,
-    }
-}
-
-#[tactic(auto, unfolding(crate::specs::Words::queue_of))]
-pub(crate) fn queue_of(number: u32) -> Option<Queue>
-    ensures { result ≡ queue_of number }
-{
-    match number {
-        0 => Some(Queue::Granted),
-        1 => Some(Queue::Conversion),
-        2 => Some(Queue::Waiting),
-        _ => None,
-    }
-}
-
-/// What a resource is found by: its parent resource or 0, the domain of its root, and its name.
-#[derive(Clone, Copy)]
-pub(crate) struct ResourceKey {
-    pub(crate) parent: u32,
-    pub(crate) domain: Domain,
-    pub(crate) name: Name,
-}
-
-/// The key that the words of a resource name.
-#[tactic(auto, unfolding(crate::specs::Words::key_of))]
-pub(crate) fn key_of(words: &VlmResource) -> Option<ResourceKey>
-    ensures { result ≡ key_of words.now }
-{
-    if words.size != RESOURCE_SIZE
-        || words.is_system > 1
-        || words.group > 65_535
-        || words.name_len > 32
-    {
-        return None;
-    }
-    let name = NameArg::of(&words.name[..words.name_len as usize])
-        .name()
-        .ok()?;
-    let domain = if words.is_system == 1 {
-        Domain::System
-    } else {
-        Domain::Group(words.group as u16)
-    };
-    Some(ResourceKey {
-        parent: words.parent,
-        domain,
-        name,
-    })
-}
-
-/// Every byte passes. The core checks that it is a node.
-pub(crate) fn node_of(number: u32) -> Option<u8>
-    ensures { result ≡ node_of number }
-{
-    if number <= 255 {
-        Some(number as u8)
-    } else {
-        None
-    }
-}
-
-/// Checks the size of the struct that receives the AST.
-pub(crate) fn take_of(pid: u32, size: u32) -> Option<u32>
-    ensures { result ≡ take_of pid size }
-{
-    if size == AST_SIZE { Some(pid) } else { None }
-}
-
 #[tactic(auto, unfolding(crate::specs::Words::which_of))]
 fn which_of(lock: u32, block: u32) -> Option<Which>
     ensures { result ≡ which_of lock block }
@@ -240,7 +157,7 @@ fn given<T: Copy>(mark: u32, value: T) -> Option<T>
 
 /// The keys for the index of names; `None` if the struct is malformed or of another version.
 #[tactic(auto, unfolding(crate::specs::Words::is_options))]
-pub(crate) fn keys_of(words: &VlmOptions) -> Option<HashKeys>
+pub fn keys_of(words: &VlmOptions) -> Option<HashKeys>
     ensures { is_some result ≡ is_options words.now }
 {
     if words.size != OPTIONS_SIZE || words.version != VERSION || !is_blank(&words.reserved) {
@@ -254,7 +171,7 @@ pub(crate) fn keys_of(words: &VlmOptions) -> Option<HashKeys>
 }
 
 #[tactic(auto, unfolding(crate::specs::Words::declaration_of))]
-pub(crate) fn declaration_of(words: &VlmDeclaration) -> Option<Declaration>
+pub fn declaration_of(words: &VlmDeclaration) -> Option<Declaration>
     ensures { result ≡ declaration_of words.now }
 {
     if words.size != DECLARATION_SIZE || !is_blank(&words.reserved) {
@@ -276,7 +193,7 @@ pub(crate) fn declaration_of(words: &VlmDeclaration) -> Option<Declaration>
 }
 
 #[tactic(auto, unfolding(crate::specs::Words::setting_of))]
-pub(crate) fn setting_of(words: &VlmSetting) -> Option<ValueSetting>
+pub fn setting_of(words: &VlmSetting) -> Option<ValueSetting>
     ensures { result ≡ setting_of words.now }
 {
     if words.size != SETTING_SIZE || !is_blank(&words.reserved) {
@@ -305,7 +222,7 @@ fn is_request(words: &VlmRequest) -> bool
 }
 
 #[tactic(auto, unfolding(crate::specs::Words::request_of))]
-pub(crate) fn request_of(words: &VlmRequest, name: &[u8]) -> Option<NewRequest>
+pub fn request_of(words: &VlmRequest, name: &[u8]) -> Option<NewRequest>
     ensures { result ≡ request_of words.now name.now }
 {
     if !is_request(words) {
@@ -327,7 +244,7 @@ pub(crate) fn request_of(words: &VlmRequest, name: &[u8]) -> Option<NewRequest>
 }
 
 #[tactic(auto, unfolding(crate::specs::Words::conversion_of))]
-pub(crate) fn conversion_of(words: &VlmRequest) -> Option<Conversion>
+pub fn conversion_of(words: &VlmRequest) -> Option<Conversion>
     ensures { result ≡ conversion_of words.now }
 {
     if !is_request(words) {
@@ -348,7 +265,7 @@ pub(crate) fn conversion_of(words: &VlmRequest) -> Option<Conversion>
 }
 
 #[tactic(auto, unfolding(crate::specs::Words::dequeue_of))]
-pub(crate) fn dequeue_of(words: &VlmDequeue) -> Option<Dequeue>
+pub fn dequeue_of(words: &VlmDequeue) -> Option<Dequeue>
     ensures { result ≡ dequeue_of words.now }
 {
     if words.size != DEQUEUE_SIZE || !is_blank(&words.reserved) {

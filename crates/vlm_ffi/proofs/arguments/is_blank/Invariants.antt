@@ -1,6 +1,6 @@
 use Rattle.std.proofs.Common.{◌≡◌, take}
-use Rattle.vlm_c.specs.Words.{is_blank}
-use Rattle.vlm_c.proofs.arguments.is_blank.Given as goal
+use Rattle.vlm_ffi.specs.Words.{is_blank}
+use Rattle.vlm_ffi.proofs.arguments.is_blank.Given as goal
 
 -- blank are the words before this one
 abbrev pub invariant-loop-word : goal.invariant-loop-word
