@@ -1,6 +1,6 @@
-"""Makes the libraries for programs in C: libvlm.a and libvlm.so, from the archive of the proved crate and the layer for
-threads. The kit's tools link and pack. The C compiler of the system compiles the layer and makes the shared library, so
-that both fit its C library."""
+"""Makes the libraries for programs in C: libvlm.a and libvlm.so, from the archives of the proved crates and the layers in
+C. The kit's tools link and pack. The C compiler of the system compiles the layers and makes the shared library, so that
+both fit its C library."""
 
 import os
 import shlex
@@ -11,7 +11,9 @@ from pathlib import Path
 
 from project import MISSING, TOP, fail
 
-# The sources of the layer for threads.
+# The crates that C calls, and the object that is made of the archive of each. Only who calls the hub links its object.
+CRATES = {"vlm_c": "vlm.o", "vlm_hub_c": "vlm_hub.o"}
+# The sources of the layers in C.
 LAYER = sorted((TOP / "bindings" / "c").glob("*.c"))
 SONAME = "libvlm.so.0"
 # The names that both libraries show. All others are local to them.
@@ -68,12 +70,14 @@ def make_layer(made):
     hide_names(made)
 
 
-def make_objects(folder, archive):
+def make_objects(folder, archives):
     """Makes the objects of both libraries in a folder."""
-    core, layer = folder / "vlm.o", folder / "vlm_threads.o"
-    make_core(core, archive)
+    layer = folder / "vlm_threads.o"
     make_layer(layer)
-    return [core, layer]
+    made = [folder / CRATES[archive.parent.parent.name] for archive in archives]
+    for core, archive in zip(made, archives):
+        make_core(core, archive)
+    return [*made, layer]
 
 
 def make_shared(made, objects, folder):
@@ -89,11 +93,11 @@ def link(name, file):
     return file.parent / name
 
 
-def make_libraries(lib, archive, version):
-    """Makes both libraries in the folder lib, from the archive that the proof of vlm_c left."""
+def make_libraries(lib, archives, version):
+    """Makes both libraries in the folder lib, from the archives that the proofs of the crates left."""
     with tempfile.TemporaryDirectory() as room:
         folder = Path(room)
-        objects = make_objects(folder, archive)
+        objects = make_objects(folder, archives)
         make_by_kit(lib / "libvlm.a", "llvm-ar", "qcs", lib / "libvlm.a", *objects)
         shared = lib / f"libvlm.so.{version}"
         make_shared(shared, objects, folder)

@@ -105,11 +105,6 @@ StopsWatch script fault old new =
 abbrev pub PrintsFirst : RootKey → Option (List ℕ) → Option (List ℕ) → Option (List ℕ) → Type 0
 PrintsFirst key script old new = (left : ℕ) × Wrote old new (IsWatchText key script left)
 
--- only a first part of the lines of some first steps was written
-abbrev pub PrintsPart : RootKey → Option (List ℕ) → Option (List ℕ) → Option (List ℕ) → Type 0
-PrintsPart key script old new =
-    (left : ℕ) × (text : List ℕ) × IsWatchText key script left text × PassesPart old new text
-
 -- the standard output of a watch: the lines of all steps; the lines of the first steps if the watch ends early; only a
 -- part of these if a write fails; nothing if the script has a fault or is not read
 abbrev pub PrintsWatch : RootKey → Option (List ℕ) → Result (Unit {0}) WatchFault
@@ -118,7 +113,8 @@ PrintsWatch key script (Ok done) old new = Wrote old new (IsWatchText key script
 PrintsWatch key script (Err NoSeat) old new = PrintsFirst key script old new
 PrintsWatch key script (Err NoAnswer) old new = PrintsFirst key script old new
 PrintsWatch key script (Err (Play Memory)) old new = (new ≡ old) ⊎ PrintsFirst key script old new
-PrintsWatch key script (Err (Play Write)) old new = PrintsPart key script old new
+PrintsWatch key script (Err (Play Write)) old new =
+    (left : ℕ) × (text : List ℕ) × IsWatchText key script left text × PassesPart old new text
 PrintsWatch key script (Err (Play (Line number fault))) old new =
     StopsWatch script (Line number fault) old new
 PrintsWatch key script (Err (Play Read)) old new = StopsWatch script Read old new

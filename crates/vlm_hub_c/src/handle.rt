@@ -1,0 +1,132 @@
+//! The handle of a hub or of a port, in memory that C holds. It lends what it holds to one call at a time.
+
+ghost use Rattle.std.specs.Prelude.{◌≡◌, None, Some};
+ghost use Rattle.std.specs.Option.{is_some, option_map};
+ghost use Rattle.std.specs.Fn.{FnOnceReturnsAtMut};
+ghost use Rattle.vlm_hub_c.specs.Lending.{LendsHub, LendsPort};
+
+use crate::held::{Held, OwnedHub};
+use crate::slot::Slot;
+use std::alloc::Global;
+use std::mem::replace;
+use vlm_ffi::loose::Loose;
+use vlm_ports::Port;
+
+/// All bytes 0 are a handle with nothing.
+#[repr(C)]
+pub struct Handle {
+    slot: Slot,
+    is_held: bool,
+    alloc: Global,
+    ghost agrees: { is_held ≡ is_some slot.held },
+}
+
+impl Drop for Handle {
+    fn drop(self) {
+        if let Some(held) = self.into_held() {
+            free(held);
+        }
+    }
+}
+
+impl Handle {
+    pub(crate) fn closed(alloc: Global) -> Handle
+        ensures { result.slot.held ≡ None }
+    {
+        Handle {
+            slot: Slot::empty(),
+            is_held: false,
+            alloc,
+        }
+    }
+
+    pub(crate) fn holding(held: Box<Held>, alloc: Global) -> Handle
+        ensures { result.slot.held ≡ Some held.value }
+    {
+        sendable(Handle {
+            slot: Slot::of(Loose::of(held)),
+            is_held: true,
+            alloc,
+        })
+    }
+
+    fn into_held(self) -> Option<Box<Held>>
+        ensures { option_map (λ b. b.value) result ≡ self.slot.held }
+    {
+        let Handle {
+            slot,
+            is_held,
+            alloc,
+        } = self;
+        if is_held {
+            Some(slot.into_loose(alloc).into_box())
+        } else {
+            None
+        }
+    }
+
+    /// Whether it holds a hub or a port.
+    pub(crate) fn is_open(&mut self) -> bool
+        ensures told { result ≡ is_some self.old.slot.held }
+        ensures same { self.new.slot.held ≡ self.old.slot.held }
+    {
+        self.is_held
+    }
+
+    // Lends the hub to a call. A handle without a hub stays as it is, and the call does not run.
+    pub(crate) fn with_hub<R, F: FnOnce(&mut OwnedHub) -> R + Drop>(&mut self, call: F) -> Option<R>
+        requires { F.IsAlwaysCallable call }
+        ensures { LendsHub (FnOnceReturnsAtMut F.FnOnce call) self.old.slot.held result self.new.slot.held }
+    {
+        let alloc = self.alloc;
+        let mut held = replace(self, Handle::closed(alloc)).into_held()?;
+        let result = lend_hub(&mut *held, call);
+        *self = Handle::holding(held, alloc);
+        result
+    }
+
+    // Lends the port to a call. A handle without a port stays as it is, and the call does not run.
+    #[inline(always)]
+    pub(crate) fn with_port<R, F: FnOnce(&mut Port) -> R + Drop>(&mut self, call: F) -> Option<R>
+        requires { F.IsAlwaysCallable call }
+        ensures { LendsPort (FnOnceReturnsAtMut F.FnOnce call) self.old.slot.held result self.new.slot.held }
+    {
+        let alloc = self.alloc;
+        let mut held = replace(self, Handle::closed(alloc)).into_held()?;
+        let result = lend_port(&mut *held, call);
+        *self = Handle::holding(held, alloc);
+        result
+    }
+}
+
+fn lend_hub<R, F: FnOnce(&mut OwnedHub) -> R + Drop>(held: &mut Held, call: F) -> Option<R>
+    requires { F.IsAlwaysCallable call }
+    ensures { LendsHub (FnOnceReturnsAtMut F.FnOnce call) (Some held.old) result (Some held.new) }
+{
+    match held {
+        Held::Hub(owned) => Some(call(&mut **owned)),
+        Held::Port(_) => None,
+    }
+}
+
+#[inline(always)]
+fn lend_port<R, F: FnOnce(&mut Port) -> R + Drop>(held: &mut Held, call: F) -> Option<R>
+    requires { F.IsAlwaysCallable call }
+    ensures { LendsPort (FnOnceReturnsAtMut F.FnOnce call) (Some held.old) result (Some held.new) }
+{
+    match held {
+        Held::Port(port) => Some(call(port)),
+        Held::Hub(_) => None,
+    }
+}
+
+// Kept out of line: inlined, each call would have room for a hub on its stack.
+#[inline(never)]
+fn free(_held: Box<Held>) {}
+
+// Its bound proves `Send`: C may use a handle in any thread.
+fn sendable<T: Send>(value: T) -> T
+    ensures { result ≡ value }
+{
+    value
+}
