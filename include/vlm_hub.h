@@ -200,6 +200,37 @@ uint32_t vlm_port_take(vlm_port *port, vlm_item *item);
 /* Frees the port of a handle. The hub may go on, or be closed already. */
 void vlm_port_close(vlm_port *port);
 
+/* Replay. Makes the step of a journal's entry on a lock manager, by the calls of vlm.h. All entries of a hub, in their
+ * order, bring a new lock manager to the state of the hub's. NORMAL: the answer is the entry's. A step that was
+ * answered INSFMEM changed nothing, and is not made. INSFMEM: memory was refused here; replay the same entry again.
+ * BADPARAM: the answer is another one, or this is no entry. */
+static inline uint32_t vlm_replay(vlm *handle, const vlm_entry *entry) {
+    vlm_ast ast = { sizeof(vlm_ast), 0, 0, 0, 0, { 0, 0, 0 } };
+    uint32_t status = 0, number = 0;
+    if (entry->size != sizeof *entry || entry->name_len > sizeof entry->name)
+        return VLM_BADPARAM;
+    if (entry->status == VLM_INSFMEM)
+        return VLM_NORMAL;
+    switch (entry->step) {
+    case VLM_STEP_DECLARE: status = vlm_declare(handle, &entry->declaration, &number); break;
+    case VLM_STEP_SET_VALUE: status = vlm_set_value(handle, &entry->setting); break;
+    case VLM_STEP_ENQ: status = vlm_enq(handle, &entry->request, entry->name, entry->name_len, &number); break;
+    case VLM_STEP_CONVERT: status = vlm_convert(handle, &entry->request, &number); break;
+    case VLM_STEP_DEQ: status = vlm_deq(handle, &entry->dequeue); break;
+    case VLM_STEP_RUNDOWN: status = vlm_rundown(handle, entry->pid); break;
+    case VLM_STEP_LEAVE: status = vlm_leave(handle, entry->node); break;
+    case VLM_STEP_SEARCH: status = vlm_search(handle, entry->node, &number); break;
+    case VLM_STEP_TAKE: status = vlm_take(handle, entry->pid, &ast); break;
+    default: break;
+    }
+    if (status == VLM_INSFMEM)
+        return VLM_INSFMEM;
+    return status == entry->status && number == entry->number && ast.kind == entry->ast.kind
+            && ast.routine == entry->ast.routine && ast.param == entry->ast.param && ast.lkid == entry->ast.lkid
+        ? VLM_NORMAL
+        : VLM_BADPARAM;
+}
+
 #ifdef __cplusplus
 }
 #endif
