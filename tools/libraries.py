@@ -1,4 +1,4 @@
-"""Makes the libraries for programs in C: libvlm.a and libvlm.so, from the archive of the proved crate and the layer for
+"""Makes the libraries for programs in C: libvlm.a and libvlm.so, from the archive of the proved crate and the layers for
 threads. The kit's tools link and pack. The C compiler of the system compiles the layer and makes the shared library, so
 that both fit its C library."""
 
@@ -11,7 +11,7 @@ from pathlib import Path
 
 from project import MISSING, TOP, fail
 
-# The sources of the layer for threads.
+# The sources of the layers for threads, of vlm_threads.h and vlm_hub_wait.h.
 LAYER = sorted((TOP / "bindings" / "c").glob("*.c"))
 SONAME = "libvlm.so.0"
 # The names that both libraries show. All others are local to them.
@@ -60,7 +60,7 @@ def make_core(made, archive):
 
 
 def make_layer(made):
-    """Makes one object of the layer for threads. It is a member of its own: only who calls it needs threads."""
+    """Makes one object of the layers for threads. It is a member of its own: only who calls it needs threads."""
     parts = [made.with_name(f"{source.stem}.part.o") for source in LAYER]
     for source, part in zip(LAYER, parts):
         make(part, *compiler(), *COMPILE, source, "-o", part)
