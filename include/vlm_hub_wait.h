@@ -78,9 +78,9 @@ typedef struct vlm_hub_service {
     uint32_t lost;       /* 0; vlm_hub_tell_lost writes it: bit n for node n */
     uint32_t reserved;   /* 0 */
     vlm_hub *hub;
-    vlm_bell *bell;    /* the hub's: posts ring it */
-    vlm_bell *bells;   /* those of the nodes, node 1 first */
-    size_t bell_count; /* the hub's nodes, or fewer */
+    vlm_bell *bell;     /* the hub's: posts ring it */
+    vlm_bell *bells;    /* those of the nodes, node 1 first */
+    size_t bell_count;  /* how many they are */
     vlm_entry *entries; /* place for a part of the journal, or null: nothing cuts the journal, and it grows */
     size_t capacity;    /* how many entries fit there, VLM_LEAST_CAPACITY or more; else 0 */
     uint32_t (*keep)(void *context, const vlm_entry *entries, const vlm_cut *cut); /* gets each part, or null */

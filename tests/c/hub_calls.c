@@ -84,6 +84,25 @@ static void each_step(vlm_hub *hub, vlm_port *ports) {
     NOTHING(&ports[1]);
 }
 
+static bool is_zero(const void *bytes, size_t size) {
+    static const uint8_t zeros[128];
+    return size <= sizeof zeros && memcmp(bytes, zeros, size) == 0;
+}
+#define IS_ZERO(member) is_zero(&(member), sizeof(member))
+
+/* The members of an entry that belong to other steps. */
+static void the_rest_is_zero(const vlm_entry *entry) {
+    HOLD(entry->step == VLM_STEP_DECLARE || IS_ZERO(entry->declaration));
+    HOLD(entry->step == VLM_STEP_SET_VALUE || IS_ZERO(entry->setting));
+    HOLD(entry->step == VLM_STEP_ENQ || entry->step == VLM_STEP_CONVERT || IS_ZERO(entry->request));
+    HOLD(entry->step == VLM_STEP_ENQ || (entry->name_len == 0 && IS_ZERO(entry->name)));
+    HOLD(entry->step == VLM_STEP_DEQ || IS_ZERO(entry->dequeue));
+    HOLD(entry->step == VLM_STEP_TAKE || IS_ZERO(entry->ast));
+    HOLD(entry->step == VLM_STEP_TAKE || entry->step == VLM_STEP_RUNDOWN || entry->pid == 0);
+    HOLD(entry->step == VLM_STEP_LEAVE || entry->step == VLM_STEP_SEARCH || entry->node == 0);
+    HOLD(IS_ZERO(entry->reserved) && is_zero(entry->name + entry->name_len, sizeof entry->name - entry->name_len));
+}
+
 /* The journal of each_step, entry by entry. */
 static void its_journal(vlm_hub *hub) {
     ENTRY(hub, 0, 1, VLM_STEP_DECLARE, VLM_NORMAL);
@@ -96,7 +115,6 @@ static void its_journal(vlm_hub *hub) {
     vlm_entry entry = entry_at(hub, 0);
     HOLD(entry.number == first_of(1) && entry.declaration.size == sizeof entry.declaration);
     HOLD(entry.declaration.node == 1 && entry.declaration.quota == 200 && entry.declaration.blocks == 4);
-    HOLD(entry.name_len == 0 && entry.pid == 0 && entry.node == 0 && entry.ast.kind == VLM_NO_AST);
     entry = entry_at(hub, 2);
     HOLD(entry.setting.size == sizeof entry.setting && entry.setting.pid == first_of(1) && entry.setting.value[2] == 3);
     HOLD(entry.number == 0);
@@ -108,6 +126,10 @@ static void its_journal(vlm_hub *hub) {
     HOLD(entry.pid == first_of(1) && entry.number == 0 && entry.ast.size == sizeof entry.ast);
     HOLD(entry.ast.kind == VLM_BLOCKING && entry.ast.routine == 8 && entry.ast.param == 9 && entry.ast.lkid == 1);
     size_t last = vlm_hub_entries(hub) - 1;
+    for (size_t place = 0; place <= last; place++) {
+        entry = entry_at(hub, place);
+        the_rest_is_zero(&entry);
+    }
     ENTRY(hub, last, 2, VLM_STEP_LEAVE, VLM_DEPARTED);
     HOLD(entry_at(hub, last).node == 2);
     ENTRY(hub, last - 2, 2, VLM_STEP_RUNDOWN, VLM_NORMAL);

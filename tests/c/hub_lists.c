@@ -12,9 +12,9 @@ struct worker {
     vlm_port port;
     uint32_t node;
     uint64_t random;
-    uint32_t declared;           /* how many processes its list has declared so far */
-    uint32_t answers, posts;     /* how many there were */
-    uint32_t count;              /* of its items */
+    uint32_t declared;       /* how many processes its list has declared so far */
+    uint32_t posts, answers; /* how many there were */
+    uint32_t count;          /* of its items */
     vlm_item items[ITEMS];
 };
 

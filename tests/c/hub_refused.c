@@ -51,9 +51,9 @@ static bool again(vlm_port *port, uint32_t status, uint32_t *number) {
 }
 
 /* Makes a step of a node, a second time if it was short of memory, and answers its number. */
-#define STEP(port, post, number)             \
-    do {                                     \
-        if (again((port), (post), &(number))) \
+#define STEP(port, post, number)                     \
+    do {                                             \
+        if (again((port), (post), &(number)))        \
             HOLD(!again((port), (post), &(number))); \
     } while (0)
 

@@ -71,7 +71,7 @@ static inline vlm_item taken(vlm_port *port) {
 static inline size_t turns(vlm_hub *hub) {
     size_t made, all = 0;
     do {
-        EXPECT(vlm_hub_turn(hub, &made), VLM_NORMAL);
+        HOLD(vlm_hub_turn(hub, &made) == VLM_NORMAL);
         all += made;
     } while (made);
     return all;

@@ -289,6 +289,21 @@ static void full_items(void) {
     close_all();
 }
 
+/* A port that is closed while the hub runs: the hub makes its posts, and serves the other port. */
+static void closed_port(void) {
+    open_all();
+    pthread_t server = started(serve, NULL);
+    for (int i = 0; i < PLACES; i++)
+        EXPECT(vlm_port_posted(vlm_port_search(&ports[0]), &hub_bell), VLM_NORMAL);
+    vlm_port_close(&ports[0]);
+    for (int i = 0; i < 2 * PLACES; i++)
+        search(2);
+    vlm_hub_stop(&service);
+    pthread_join(server, NULL);
+    HOLD(vlm_hub_entries(&hub) == 3 * PLACES);
+    close_all();
+}
+
 /* A turn rings exactly the bells of the nodes that got an item. */
 static void turns_ring(void) {
     size_t made;
@@ -443,6 +458,7 @@ int main(void) {
     wrong_services();
     parts();
     full_items();
+    closed_port();
     race_of_posts();
     by_functions();
     printf("bells of a hub: %u wrong\n", wrong);
