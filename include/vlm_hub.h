@@ -203,11 +203,11 @@ void vlm_port_close(vlm_port *port);
 /* Replay. Makes the step of a journal's entry on a lock manager, by the calls of vlm.h. All entries of a hub, in their
  * order, bring a new lock manager to the state of the hub's. NORMAL: the answer is the entry's. A step that was
  * answered INSFMEM changed nothing, and is not made. INSFMEM: memory was refused here; replay the same entry again.
- * BADPARAM: the answer is another one, or this is no entry. */
+ * BADPARAM: the answer is another one, or this is no entry, or the handle has no lock manager. */
 static inline uint32_t vlm_replay(vlm *handle, const vlm_entry *entry) {
     vlm_ast ast = { sizeof(vlm_ast), 0, 0, 0, 0, { 0, 0, 0 } };
     uint32_t status = 0, number = 0;
-    if (entry->size != sizeof *entry || entry->name_len > sizeof entry->name)
+    if (!handle->is_held || entry->size != sizeof *entry || entry->name_len > sizeof entry->name)
         return VLM_BADPARAM;
     if (entry->status == VLM_INSFMEM)
         return VLM_NORMAL;
@@ -221,7 +221,7 @@ static inline uint32_t vlm_replay(vlm *handle, const vlm_entry *entry) {
     case VLM_STEP_LEAVE: status = vlm_leave(handle, entry->node); break;
     case VLM_STEP_SEARCH: status = vlm_search(handle, entry->node, &number); break;
     case VLM_STEP_TAKE: status = vlm_take(handle, entry->pid, &ast); break;
-    default: break;
+    default: return VLM_BADPARAM;
     }
     if (status == VLM_INSFMEM)
         return VLM_INSFMEM;

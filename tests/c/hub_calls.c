@@ -155,11 +155,17 @@ static void it_replays(const vlm_entry *entries, uint64_t count) {
     changed.name_len = 0;
     changed.step = 10;
     EXPECT(vlm_replay(&handle, &changed), VLM_BADPARAM);
-    HOLD(vlm_process_count(&handle) == 0);
-    for (uint64_t i = 0; i < count; i++)
-        EXPECT(vlm_replay(&handle, &entries[i]), VLM_NORMAL);
-    changed = entries[0];
+    changed = (vlm_entry){.size = sizeof changed};
     EXPECT(vlm_replay(&handle, &changed), VLM_BADPARAM);
+    HOLD(vlm_process_count(&handle) == 0);
+    for (uint64_t i = 0; i < count; i++) {
+        changed = entries[i];
+        changed.number++;
+        if (entries[i].step == VLM_STEP_SEARCH) /* (it changes nothing here) */
+            EXPECT(vlm_replay(&handle, &changed), VLM_BADPARAM);
+        EXPECT(vlm_replay(&handle, &entries[i]), VLM_NORMAL);
+    }
+    EXPECT(vlm_replay(&handle, &entries[0]), VLM_BADPARAM);
     vlm_close(&handle);
 }
 
