@@ -32,7 +32,7 @@
 extern "C" {
 #endif
 
-/* A bell. A ring lasts until a wait takes it, so a ring before the wait is not lost. One wait takes all earlier rings. */
+/* A bell. A ring lasts until a wait takes it, so a ring before the wait is not lost. One wait takes all rings so far. */
 typedef struct vlm_bell {
     void (*ring)(void *context);                       /* null: the bell is an eventfd */
     uint32_t (*wait)(void *context, int milliseconds); /* NORMAL or TIMEOUT */

@@ -169,7 +169,7 @@ def uses_layer(source):
 
 def is_for_helgrind(source):
     """Whether helgrind is to watch the threads of a program. A hub orders threads by atomics, and it sees none."""
-    return uses_layer(source) and not source.stem.startswith("hub_")
+    return uses_layer(source) and not source.stem.startswith("hub")
 
 
 def layer(source, sanitizer):

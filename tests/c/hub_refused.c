@@ -3,8 +3,8 @@
  * nothing. Linked with -Wl,--wrap=malloc,--wrap=realloc. */
 #include "hub_test.h"
 
-/* The first allocation that is refused, from 1, how many are, how many were asked for, and how many calls and steps were
- * answered INSFMEM. */
+/* The first allocation that is refused, from 1, how many are, how many were asked for, and how many calls and steps
+ * were answered INSFMEM. */
 static long refused, span, asked, told;
 
 static bool is_refused(void) {
