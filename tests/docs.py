@@ -138,12 +138,14 @@ def flags(_program):
 
 
 def calls(_program):
-    """The manual page of the library has one line for each call of the header."""
-    there = re.findall(r"^(?:static inline )?(?:uint32_t|size_t|void|const char \*) ?(vlm_\w+)\(",
-                       text_of("include/vlm.h"), re.M)
-    named = re.findall(r"^(vlm_\w+)\t", text_of("man/vlm.3").partition(".SH CALLS")[2].partition(".SH ")[0], re.M)
-    if len(there) < 20 or sorted(there) != sorted(named):
-        yield f"the header and man/vlm.3 differ in {sorted(set(there) ^ set(named)) or 'a call that is named twice'}"
+    """The manual page of the library has one line for each call of the headers."""
+    page = text_of("man/vlm.3")
+    for section, headers in (("CALLS", ("vlm.h",)), ("HUB", ("vlm_hub.h", "vlm_hub_wait.h"))):
+        there = re.findall(r"^(?:static inline )?(?:uint32_t|size_t|void|const char \*) ?(vlm_\w+)\(",
+                           "".join(text_of(f"include/{name}") for name in headers), re.M)
+        named = re.findall(r"^(vlm_\w+)\t", page.partition(f".SH {section}\n")[2].partition(".SH ")[0], re.M)
+        if len(there) < 20 or sorted(there) != sorted(named):
+            yield f"{headers[0]} and man/vlm.3 differ in {sorted(set(there) ^ set(named)) or 'a call named twice'}"
 
 
 def version(_program):
@@ -298,11 +300,14 @@ def shown_programs(_program):
 
 
 def shown_calls(_program):
-    """docs/THREADS.md names each call of the layer for threads, and no other."""
-    there = set(re.findall(r"^[\w *]*\b(vlm_threads_\w+)\(", text_of("include/vlm_threads.h"), re.M))
-    named = set(re.findall(r"`(vlm_threads_\w+)`", text_of("docs/THREADS.md")))
-    if len(there) < 20 or there != named:
-        yield f"docs/THREADS.md and the header differ in {sorted(there ^ named)}"
+    """docs/THREADS.md names each call of the layer for threads, and docs/HUB.md each of a hub in C, and no other."""
+    for page, headers, word in (("THREADS.md", ("vlm_threads.h",), r"vlm_threads_\w+"),
+                                ("HUB.md", ("vlm_hub.h", "vlm_hub_wait.h"), r"vlm_(?:(?:hub|port|bell)_\w+|replay)")):
+        text = "".join(text_of(f"include/{name}") for name in headers)
+        there = set(re.findall(rf"^[\w *]*\b({word})\(", text, re.M))
+        named = set(re.findall(f"`({word})`", text_of(f"docs/{page}")))
+        if len(there) < 20 or there != named:
+            yield f"docs/{page} and the header differ in {sorted(there ^ named)}"
 
 
 def stripped(text):

@@ -1,6 +1,6 @@
 """What `./vlm install` leaves, and programs in C, Rust and Python over it. The programs of examples/c and tests/c are
 compiled by each C compiler that is there, plain and with each sanitizer that it links, and run, under valgrind too. One
-finds the libraries by pkg-config and by CMake, and one plays the worked scripts. The header is compiled as C++. The
+finds the libraries by pkg-config and by CMake, and one plays the worked scripts. The headers are compiled as C++. The
 tests of bindings/rust run where cargo is, those of bindings/python by the Python that runs this. Each missing tool is
 named."""
 
@@ -32,9 +32,10 @@ FILES = ("bin/vlm", *(f"include/{it.name}" for it in (TOP / "include").glob("*.h
          "lib/pkgconfig/vlm.pc", "share/man/man1/vlm.1", "share/man/man3/vlm.3")
 VALGRIND = ["valgrind", "-q", "--leak-check=full", "--show-leak-kinds=all", "--error-exitcode=9"]
 HELGRIND = ["valgrind", "-q", "--tool=helgrind", f"--suppressions={TOP}/tests/c/helgrind.supp", "--error-exitcode=9"]
-# The layer for threads, and the functions that some tests put their own in the place of.
+# The layers for threads and for the threads of a hub, and the functions that some tests put their own in the place of.
 LAYER_SOURCES = sorted((TOP / "bindings" / "c").glob("*.c"))
 WRAPPED = {"refused": ("malloc", "realloc"),
+           "hub_refused": ("malloc", "realloc"),
            "threads_refused": ("malloc", "realloc", "calloc", "pthread_create", "eventfd")}
 
 
@@ -163,11 +164,16 @@ def printed(source, *words, **how):
 
 
 def uses_layer(source):
-    return re.search(r'#include ["<](vlm_threads|threads_test)\.h', source.read_text()) is not None
+    return re.search(r'#include ["<](vlm_threads|threads_test|vlm_hub_wait)\.h', source.read_text()) is not None
+
+
+def is_for_helgrind(source):
+    """Whether helgrind is to watch the threads of a program. A hub orders threads by atomics, and it sees none."""
+    return uses_layer(source) and not source.stem.startswith("hub")
 
 
 def layer(source, sanitizer):
-    """The words by which a program has the layer for threads. A sanitizer is to see into it; else it comes with the
+    """The words by which a program has the layers of bindings/c. A sanitizer is to see into it; else it comes with the
     library, if that has it."""
     if not uses_layer(source) or (sanitizer == "none" and (prefix() / "include" / "vlm_threads.h").exists()):
         return []
@@ -196,7 +202,7 @@ def over_library(source, compiler, sanitizer, _program):
     yield from printed(source, *([] if sanitizer == "none" else shortened(50)), built)
     if sanitizer == "none" and shutil.which("valgrind"):
         yield from printed(source, *shortened(200), *VALGRIND, built)
-        if uses_layer(source):
+        if is_for_helgrind(source):
             yield from printed(source, *shortened(200), *HELGRIND, built)
 
 
@@ -334,9 +340,9 @@ def manual(_program):
 
 
 def header(compiler, _program):
-    """What is wrong with the header as C++."""
+    """What is wrong with the headers as C++."""
     source = room() / f"header {compiler}.cc"
-    source.write_text('#include "vlm.h"\n#include "vlm_threads.h"\n')
+    source.write_text("".join(f'#include "{it.name}"\n' for it in sorted((TOP / "include").glob("*.h"))))
     yield from ran(compiler, "-std=c++17", *STRICT, "-fsyntax-only", f"-I{prefix()}/include", f"-I{TOP}/include", source)
 
 
@@ -382,7 +388,7 @@ def once():
              for compiler in COMPILERS for sanitizer in SANITIZERS if links(compiler, sanitizer) for source in SOURCES]
     found += [Test(f"the worked scripts in C by {compiler}", partial(plays, compiler))
               for compiler in COMPILERS if shutil.which(compiler)]
-    found += [Test(f"the header by {compiler}", partial(header, compiler))
+    found += [Test(f"the headers by {compiler}", partial(header, compiler))
               for compiler in ("g++", "clang++") if shutil.which(compiler)]
     found += [Test(f"two heaps in a program by {compiler}", partial(two_heaps, compiler))
               for compiler in COMPILERS if shutil.which(compiler)]

@@ -11,9 +11,11 @@ from pathlib import Path
 
 from project import MISSING, TOP, fail
 
-# The crates that C calls, and the object that is made of the archive of each. Only who calls the hub links its object.
+# The crates that C calls, and the object that is made of the archive of each.
 CRATES = {"vlm_c": "vlm.o", "vlm_hub_c": "vlm_hub.o"}
-# The sources of the layers in C.
+# The layers in C, and the sources of each. An object for each, so a program links only what it calls.
+SOURCES = sorted((TOP / "bindings" / "c").glob("*.c"))
+LAYERS = {layer: [it for it in SOURCES if it.stem.startswith(layer)] for layer in ("vlm_threads", "vlm_hub_wait")}
 LAYER = sorted((TOP / "bindings" / "c").glob("*.c"))
 SONAME = "libvlm.so.0"
 # The names that both libraries show. All others are local to them.
@@ -61,10 +63,10 @@ def make_core(made, archive):
     hide_names(made)
 
 
-def make_layer(made):
-    """Makes one object of the layer for threads. It is a member of its own: only who calls it needs threads."""
-    parts = [made.with_name(f"{source.stem}.part.o") for source in LAYER]
-    for source, part in zip(LAYER, parts):
+def make_layer(made, sources):
+    """Makes one object of the sources of a layer."""
+    parts = [made.with_name(f"{source.stem}.part.o") for source in sources]
+    for source, part in zip(sources, parts):
         make(part, *compiler(), *COMPILE, source, "-o", part)
     make_by_kit(made, "ld.lld", "-r", *parts, "-o", made)
     hide_names(made)
@@ -72,12 +74,13 @@ def make_layer(made):
 
 def make_objects(folder, archives):
     """Makes the objects of both libraries in a folder."""
-    layer = folder / "vlm_threads.o"
-    make_layer(layer)
-    made = [folder / CRATES[archive.parent.parent.name] for archive in archives]
-    for core, archive in zip(made, archives):
-        make_core(core, archive)
-    return [*made, layer]
+    cores = [folder / CRATES[archive.parent.parent.name] for archive in archives]
+    for made, archive in zip(cores, archives):
+        make_core(made, archive)
+    layers = [folder / f"{layer}.o" for layer in LAYERS]
+    for made, sources in zip(layers, LAYERS.values()):
+        make_layer(made, sources)
+    return [*cores, *layers]
 
 
 def make_shared(made, objects, folder):
