@@ -1,10 +1,14 @@
 """Each call of a hub and its ports once, and what it tells."""
 
+import os
 import pickle
 import random
+import subprocess
+import sys
 import time
 import unittest
 from concurrent.futures import ThreadPoolExecutor
+from pathlib import Path
 
 import vlm
 from test_arguments import ANY, REFUSALS
@@ -13,6 +17,29 @@ from vlm import (Answer, Ast, AstItem, AstKind, BadParam, Condition, Departed, D
 
 SECONDS = 30
 NODES, ROUNDS = 4, 50
+# Fills the journal until memory is refused, to the turns and then to a cut. With memory again nothing is lost.
+FILLS = """
+import resource
+from vlm import Hub, TurnEnded
+with open("/proc/self/statm") as statm:
+    taken = int(statm.read().split()[0]) * resource.getpagesize()
+hub, made = Hub(1), 0
+port = hub.port(1)
+resource.setrlimit(resource.RLIMIT_AS, (taken + (16 << 20), resource.RLIM_INFINITY))
+try:
+    while True:
+        port.search()
+        made += hub.turn()
+        port.take()
+except TurnEnded as ended:
+    print("refused", made + ended.made == hub.entry_count())
+try:
+    hub.cut()
+except MemoryError:
+    print("refused", made == hub.entry_count())
+resource.setrlimit(resource.RLIMIT_AS, (resource.RLIM_INFINITY,) * 2)
+print(hub.turn(), len(hub.cut()) == made + 1, hub.entry_count())
+"""
 # The places between a port and its hub, each way.
 PLACES = 64
 
@@ -160,6 +187,13 @@ class Calls(unittest.TestCase):
         error = pickle.loads(pickle.dumps(TurnEnded(3)))
         self.assertEqual((error.made, error.condition, isinstance(error, InsfMem)), (3, Condition.INSFMEM, True))
         self.assertIs(vlm.VlmError.by_condition[Condition.INSFMEM], InsfMem)
+
+
+class Memory(unittest.TestCase):
+    def test_a_journal_without_memory_loses_nothing(self):
+        ended = subprocess.run([sys.executable, "-c", FILLS], capture_output=True, text=True, timeout=120,
+                               env={**os.environ, "PYTHONPATH": str(Path(vlm.__file__).parents[1])})
+        self.assertEqual((ended.stdout, ended.stderr), ("refused True\nrefused True\n1 True 0\n", ""))
 
 
 class Node:

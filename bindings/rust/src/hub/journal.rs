@@ -30,7 +30,7 @@ impl Entry {
     /// How many bytes an entry has in a file.
     pub const SIZE: usize = 512;
 
-    fn of(words: &raw::Entry) -> Entry {
+    pub(super) fn of(words: &raw::Entry) -> Entry {
         Entry {
             sender: Some(words.sender as u8).filter(|node| *node != 0),
             step: Step::of(words),
@@ -209,7 +209,7 @@ impl Hub {
     /// Hands out all entries since the last cut, and begins a new part. The parts in their order are the whole journal.
     /// A hub that runs for long must cut: nothing else shortens its journal.
     ///
-    /// It takes its memory first. INSFMEM: nothing is cut.
+    /// It takes its memory first, some 700 bytes for each entry, so cut often. INSFMEM: nothing is cut.
     ///
     /// ```
     /// use vlm::hub::Hub;

@@ -40,6 +40,8 @@ mod port;
 #[allow(unsafe_code)]
 mod raw;
 mod steps;
+#[cfg(test)]
+mod tests;
 
 use std::error::Error;
 use std::fmt;

@@ -16,10 +16,10 @@ structs! {
         kind: u32 = 0, status: u32 = 0, number: u32 = 0, pid: u32 = 0, reserved: [u32; 3] = [0; 3],
         ast: Ast = Ast::new(),
     }
-    // (a member of another step is 0, with its size)
+    // The AST always has its size, also where it is none. A member of another step is all 0, its size too.
     Entry 512 {
         sender: u32 = 0, step: u32 = 0, pid: u32 = 0, node: u32 = 0, status: u32 = 0, number: u32 = 0,
-        name_len: u32 = 0, ast: Ast = Ast { size: 0, ..Ast::new() }, name: [u8; 32] = [0; 32],
+        name_len: u32 = 0, ast: Ast = Ast::new(), name: [u8; 32] = [0; 32],
         declaration: Declaration = Declaration { size: 0, ..Declaration::new() },
         setting: Setting = Setting { size: 0, ..Setting::new() },
         request: Request = Request { size: 0, ..Request::new() },
