@@ -104,10 +104,12 @@ class Calls(unittest.TestCase):
         self.answer(self.first)
         self.first.search()
 
-    def test_a_step_of_another_node_is_refused(self):
+    def test_a_step_of_another_node_or_a_malformed_one_is_refused(self):
         p, q = self.declared()
         self.assertRaises(BadParam, self.first.rundown, q)
         self.assertRaises(BadParam, self.second.enq, p, "A", Mode.EX, 1)
+        self.assertRaises(BadParam, self.first.enq, p, "A", 6, 1)
+        self.assertRaises(BadParam, self.first.declare, blocks=256)
         self.assertRaises(ValueError, self.first.rundown, 1 << 32)
         self.assertRaises(TypeError, self.first.enq, p, "A", Mode.EX, 1, completion=repr)
         self.assertEqual(self.hub.turn(), 0)

@@ -155,8 +155,8 @@ class Hub(_Owner):
 class Port(_Owner):
     """The port of a node: `Hub.port` gives it. It posts steps of the node, and takes items.
 
-    No call waits. A post raises Full if the port knows no free place, and BadParam if a process is not of the node. The
-    answer to a post comes as an item, also where it is a refusal.
+    No call waits. A post raises Full if the port knows no free place, and BadParam if an argument is malformed or a
+    process is not of the node. All else is answered by an item.
     """
 
     def __init__(self) -> None:
