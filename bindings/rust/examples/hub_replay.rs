@@ -1,7 +1,7 @@
 //! A journal is kept in a file and replayed. Three nodes take locks through a hub, each in a thread of its own. The
 //! hub's thread cuts the journal from time to time and appends each part to a file. Two lock managers replay it: a
-//! standby makes the steps of each part after its cut, and another one makes those of the file at the end. Both end with
-//! the same processes, locks and status blocks.
+//! standby makes the steps of each part after its cut, and another one makes those of the file at the end. Both end
+//! with the same processes, locks and status blocks.
 
 mod hub_node;
 

@@ -55,11 +55,11 @@ impl Entry {
         Some(entry).filter(|entry| is_known && entry.to_bytes() == *bytes)
     }
 
-    /// Makes the step in another lock manager, and compares the answers. A lock manager that has replayed a journal from
-    /// its first entry has all that the hub's has.
+    /// Makes the step in another lock manager, and compares the answers. A new lock manager that has replayed all
+    /// entries of a hub, in their order, is in the state of the hub's.
     ///
-    /// A step that was answered INSFMEM had changed nothing, so it is left out. If memory is refused here, the answer in
-    /// [`Difference::made`] is INSFMEM: replay the same entry again.
+    /// A step that was answered INSFMEM had changed nothing, so it is left out. If memory is refused here, the answer
+    /// in [`Difference::made`] is INSFMEM: replay the same entry again.
     pub fn replay(&self, manager: &mut LockManager) -> Result<(), Difference> {
         if self.answer.condition == Condition::Insfmem {
             return Ok(());

@@ -12,8 +12,8 @@ use crate::views::Ast;
 
 /// The port of a node: it posts steps of the node, and takes items. No call waits or takes memory.
 ///
-/// A post is refused by BADPARAM if it is a step of another node: a declaration for that node, or a step of its process.
-/// A port may go to another thread, and live longer than its hub: nobody answers it then.
+/// A post is refused by BADPARAM if it is a step of another node: a declaration for that node, or a step of its
+/// process. A port may go to another thread, and live longer than its hub: nobody answers it then.
 ///
 /// ```compile_fail
 /// fn shared<T: Sync>(_: T) {}
