@@ -11,16 +11,17 @@ looks.
 """
 
 from .errors import (Abort, AccVio, BadParam, Cancel, CancelGrant, CvtUngrant, Deadlock, Departed, ExDepth, ExEnqLm,
-                     InsfMem, IvBufLen, IvLockId, NoLockId, NoSysLck, NonExpr, NotQueued, ParNotGrant, SubLocks,
-                     TimedOut, Unsupported, VlmError)
+                     Full, InsfMem, IvBufLen, IvLockId, NoLockId, NoSysLck, NonExpr, NotQueued, ParNotGrant, SubLocks,
+                     TimedOut, TurnEnded, Unsupported, VlmError)
 from .held import Held
+from .hub import Answer, AstItem, Entry, Hub, Port, StepKind
 from .manager import LockManager
 from .process import Process
 from .values import (Accepted, Ast, AstKind, Condition, DequeueFlags, Flags, InBlock, LockView, Mode, ProcessView,
                      Queue, Resource, StatusBlock)
 
-__all__ = ["Abort", "AccVio", "Accepted", "Ast", "AstKind", "BadParam", "Cancel", "CancelGrant", "Condition",
-           "CvtUngrant", "Deadlock", "Departed", "DequeueFlags", "ExDepth", "ExEnqLm", "Flags", "Held", "InBlock",
-           "InsfMem", "IvBufLen", "IvLockId", "LockManager", "LockView", "Mode", "NoLockId", "NoSysLck", "NonExpr", "NotQueued",
-           "ParNotGrant", "Process", "ProcessView", "Queue", "Resource", "StatusBlock", "SubLocks", "TimedOut",
-           "Unsupported", "VlmError"]
+__all__ = ["Abort", "AccVio", "Accepted", "Answer", "Ast", "AstItem", "AstKind", "BadParam", "Cancel", "CancelGrant",
+           "Condition", "CvtUngrant", "Deadlock", "Departed", "DequeueFlags", "Entry", "ExDepth", "ExEnqLm", "Flags",
+           "Full", "Held", "Hub", "InBlock", "InsfMem", "IvBufLen", "IvLockId", "LockManager", "LockView", "Mode",
+           "NoLockId", "NoSysLck", "NonExpr", "NotQueued", "ParNotGrant", "Port", "Process", "ProcessView", "Queue",
+           "Resource", "StatusBlock", "StepKind", "SubLocks", "TimedOut", "TurnEnded", "Unsupported", "VlmError"]

@@ -1,4 +1,4 @@
-"""Finds the shared library, and declares its structs and calls as include/vlm.h has them."""
+"""Finds the shared library, and declares its structs and calls as include/vlm.h and include/vlm_hub.h have them."""
 
 import ctypes
 import os
@@ -10,7 +10,7 @@ FILE = "libvlm.so.0"
 
 
 class Handle(ctypes.Structure):
-    """A handle of a lock manager, or of none."""
+    """A handle of a lock manager, a hub or a port, or of nothing."""
 
     _fields_ = [("core", c_void_p), ("is_held", c_bool)]
 
@@ -61,6 +61,13 @@ Resource = _struct("Resource", 144, *_words("serial parent is_system group value
                    ("name", c_uint8 * 32), _VALUE, _TAIL, _reserved(4))
 Lock = _struct("Lock", 64, *_words("lkid pid held want queue resource parent block"), _reserved(7))
 Ast = _struct("Ast", 32, *_words("kind routine param lkid"), _reserved(3))
+Item = _struct("Item", 64, *_words("kind status number pid"), _reserved(3), ("ast", Ast))
+Entry = _struct("Entry", 512, *_words("sender step pid node status number name_len"), ("ast", Ast),
+                ("name", c_uint8 * 32), ("declaration", Declaration), ("setting", Setting), ("request", Request),
+                ("dequeue", Dequeue), _reserved(8))
+Cut = _struct("Cut", 32, *_words("entry_size"), ("base", c_uint64), ("count", c_uint64), _reserved(2))
+# What a post answers that found no free place.
+FULL = 256
 
 _NUMBER = POINTER(c_uint32)
 # What each call takes after the handle. Each answers a condition value, except those in _ANSWERS.
@@ -96,9 +103,30 @@ _CALLS = {
     "vlm_next_sublock": [c_uint32, POINTER(Lock)],
     "vlm_first_blocker": [c_uint32, POINTER(Lock)],
     "vlm_next_blocker": [c_uint32, c_uint32, POINTER(Lock)],
+    "vlm_hub_open": [c_uint32, POINTER(Options)],
+    "vlm_hub_port": [c_uint32, POINTER(Handle)],
+    "vlm_hub_turn": [POINTER(c_size_t)],
+    "vlm_hub_lost": [c_uint32],
+    "vlm_hub_nodes": [],
+    "vlm_hub_entries": [],
+    "vlm_hub_entry": [c_size_t, POINTER(Entry)],
+    "vlm_hub_cut": [POINTER(Entry), c_size_t, POINTER(Cut)],
+    "vlm_hub_close": [],
+    "vlm_port_node": [],
+    "vlm_port_declare": [POINTER(Declaration)],
+    "vlm_port_set_value": [POINTER(Setting)],
+    "vlm_port_enq": [POINTER(Request), c_char_p, c_size_t],
+    "vlm_port_convert": [POINTER(Request)],
+    "vlm_port_deq": [POINTER(Dequeue)],
+    "vlm_port_rundown": [c_uint32],
+    "vlm_port_search": [],
+    "vlm_port_bye": [],
+    "vlm_port_take": [POINTER(Item)],
+    "vlm_port_close": [],
 }
 _ANSWERS = {"vlm_close": None, "vlm_process_count": c_size_t, "vlm_resource_count": c_size_t,
-            "vlm_lock_count": c_size_t, "vlm_queued_count": c_size_t}
+            "vlm_lock_count": c_size_t, "vlm_queued_count": c_size_t, "vlm_hub_nodes": c_size_t,
+            "vlm_hub_entries": c_size_t, "vlm_hub_close": None, "vlm_port_close": None}
 
 
 def _place() -> str:

@@ -25,6 +25,10 @@ class TimedOut(TimeoutError):
     """A wait for a grant took too long. The request was cancelled."""
 
 
+class Full(Exception):
+    """The port knows no free place, and nothing was posted. Take items, and post again."""
+
+
 class NotQueued(VlmError, condition=Condition.NOTQUEUED):
     """With NOQUEUE, the request cannot be granted at once."""
 
@@ -75,6 +79,14 @@ class NoLockId(VlmError, condition=Condition.NOLOCKID):
 
 class InsfMem(VlmError, condition=Condition.INSFMEM):
     """Memory was refused."""
+
+
+class TurnEnded(InsfMem):
+    """The journal got no more memory after `made` entries of a turn. No post is lost, and another turn may go on."""
+
+    def __init__(self, made: int) -> None:
+        super().__init__(made)
+        self.made = made
 
 
 class IvBufLen(VlmError, condition=Condition.IVBUFLEN):

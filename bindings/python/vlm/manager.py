@@ -1,6 +1,5 @@
 """The lock manager."""
 
-import os
 import threading
 import weakref
 from ctypes import c_uint32
@@ -8,9 +7,10 @@ from types import TracebackType
 from typing import Any, Callable, Iterator, Optional, Sequence, Tuple, Type
 
 from . import _library as raw
+from . import _words
 from ._arguments import mark, name_bytes, word
 from ._routines import Routines
-from .errors import BadParam, checked
+from .errors import checked
 from .process import Process, ast_of
 from .values import Ast, Condition, LockView, Mode, Name, ProcessView, Queue, Resource
 
@@ -27,12 +27,7 @@ class LockManager:
         # Who has it may make a call. It is notified after each step that may end a request or queue an AST.
         self._changed = threading.Condition()
         self._routines = Routines()
-        keys = os.urandom(16) if keys is None else bytes(memoryview(keys))
-        if len(keys) != 16:
-            raise BadParam
-        options = raw.Options(version=raw.VERSION, has_keys=1)
-        options.keys[:] = keys
-        self._step("vlm_open", options)
+        self._step("vlm_open", _words.options(keys))
         self._closing = weakref.finalize(self, raw.LIBRARY.vlm_close, self._handle)
         # At the end of the program a thread may still be in a call, so nothing is freed then.
         self._closing.atexit = False
@@ -69,9 +64,7 @@ class LockManager:
     def declare(self, node: int = 1, *, group: int = 0, quota: int = 65_535, blocks: int = 16,
                 syslck: bool = False) -> Process:
         """Declares a process of a node from 1 to 8: how many locks it may have, and how many status blocks it has."""
-        words = raw.Declaration(node=word(node, "the node"), group=word(group, "the group"), syslck=mark(syslck),
-                                quota=word(quota, "the quota"), blocks=word(blocks, "the number of status blocks"))
-        pid = c_uint32()
+        words, pid = _words.declaration(node, group, quota, blocks, syslck), c_uint32()
         self._step("vlm_declare", words, pid)
         return Process(self, pid.value, blocks)
 

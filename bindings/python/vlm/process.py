@@ -1,11 +1,12 @@
 """A process, with its locks and status blocks."""
 
 from contextlib import suppress
-from ctypes import c_size_t, c_uint8, c_uint32
+from ctypes import c_size_t, c_uint32
 from typing import TYPE_CHECKING, List, Optional
 
 from . import _library as raw
-from ._arguments import lock_named, mark, name_bytes, part, seconds, word
+from . import _words
+from ._arguments import name_bytes, part, seconds, word
 from ._waiting import awaited, free_block, told
 from .errors import VlmError, checked
 from .held import Held
@@ -13,9 +14,6 @@ from .values import Accepted, Ast, AstKind, Condition, DequeueFlags, Flags, Mode
 
 if TYPE_CHECKING:
     from .manager import LockManager
-
-_VALUE = c_uint8 * 16
-_TAIL = c_uint8 * 48
 
 
 class Process:
@@ -55,22 +53,16 @@ class Process:
     def _request(self, which: Optional[Which], *, completion: Optional[Routine], blocking: Optional[Routine],
                  **numbers: int) -> raw.Sized:
         """The words of a request."""
-        lock, lock_block = lock_named(which)
-        words = {name: word(number, name) for name, number in numbers.items()}
-        has_ast, ast = self.manager._routines.words_of(completion)
-        has_bast, bast = self.manager._routines.words_of(blocking)
-        return raw.Request(pid=self.pid, lock=lock, lock_block=lock_block, has_ast=has_ast, ast=ast, has_bast=has_bast,
-                           bast=bast, **words)
+        words, routines = _words.request(self.pid, which, **numbers), self.manager._routines
+        words.has_ast, words.ast = routines.words_of(completion)
+        words.has_bast, words.bast = routines.words_of(blocking)
+        return words
 
     def deq(self, lock: Which, flags: DequeueFlags = DequeueFlags.NONE, *, value: Optional[bytes] = None,
             tail: Optional[bytes] = None) -> None:
         """Gives a lock up, or several with DEQALL, or cancels its request ($DEQ). A lock that holds PW or EX writes the
         value into the value block; shorter ones are filled up with zeros."""
-        number, lock_block = lock_named(lock)
-        words = raw.Dequeue(pid=self.pid, flags=word(flags, "flags"), lock=number, lock_block=lock_block,
-                            has_value=mark(value is not None), has_tail=mark(tail is not None),
-                            value=_VALUE(*part(value, 16, "the value")), tail=_TAIL(*part(tail, 48, "the tail")))
-        self.manager._step("vlm_deq", words)
+        self.manager._step("vlm_deq", _words.dequeue(self.pid, lock, flags, value, tail))
 
     def cancel(self, lock: Which) -> None:
         """Cancels the queued request of a lock. A lock that was converting holds what it held."""
@@ -78,9 +70,7 @@ class Process:
 
     def set_value(self, block: int, value: bytes, tail: Optional[bytes] = None) -> None:
         """Sets the value part of a status block, and its tail if one is given."""
-        words = raw.Setting(pid=self.pid, block=word(block, "the status block"), has_tail=mark(tail is not None),
-                            value=_VALUE(*part(value, 16, "the value")), tail=_TAIL(*part(tail, 48, "the tail")))
-        self.manager._step("vlm_set_value", words)
+        self.manager._step("vlm_set_value", _words.setting(self.pid, block, value, tail))
 
     def take(self) -> Optional[Ast]:
         """Takes the oldest pending AST, if there is one."""

@@ -100,6 +100,14 @@ impl Condition {
             .map_or("an unknown condition", |(_, name)| *name)
     }
 
+    /// NORMAL or SYNCH, or the refusal of a step.
+    pub(crate) fn accepted(self) -> Result<Condition, Condition> {
+        match self {
+            Condition::Normal | Condition::Synch => Ok(self),
+            refusal => Err(refusal),
+        }
+    }
+
     /// Whether it is the status of a request that was granted.
     pub fn is_grant(self) -> bool {
         matches!(
@@ -122,8 +130,5 @@ impl Error for Condition {}
 
 /// NORMAL or SYNCH, or the refusal of the call.
 pub(crate) fn answered(status: u32) -> Result<Condition, Condition> {
-    match Condition::of(status) {
-        accepted @ (Condition::Normal | Condition::Synch) => Ok(accepted),
-        refusal => Err(refusal),
-    }
+    Condition::of(status).accepted()
 }

@@ -1,11 +1,12 @@
 //! The lock manager of OpenVMS ($ENQ, $DEQ) for Rust programs: a safe wrapper of its proved static library.
 //!
-//! There are two forms of it:
+//! There are three forms of it:
 //!
 //! - [`Shared`] is for threads. A call waits for its grant, a [`Guard`] gives its lock up on drop, and closures are
 //!   told that a lock is in the way.
 //! - [`LockManager`] has the calls of the library. None of them waits: a request that has to wait stays queued, its
 //!   status block tells of its end, and an AST is pending where it names a routine.
+//! - [`hub`] is for threads that never wait: each posts its steps at a port of its own, and takes answers and ASTs.
 //!
 //! docs/LIBRARY.md of the repository says what is proved of the library and what each call answers. The wrapper itself
 //! is Rust, and nothing of it is proved.
@@ -35,11 +36,27 @@
 //! # Ok(())
 //! # }
 //! ```
+//!
+//! ```
+//! use vlm::hub::{Hub, Item};
+//!
+//! # fn main() -> Result<(), Box<dyn std::error::Error>> {
+//! let mut hub = Hub::new(2)?;
+//! let mut port = hub.port(1)?; // for the thread of node 1
+//! port.search()?;
+//! hub.turn()?;
+//! if let Some(Item::Answer(answer)) = port.take() {
+//!     println!("{:?}", answer.victim());
+//! }
+//! # Ok(())
+//! # }
+//! ```
 #![deny(unsafe_code)]
 #![warn(missing_docs)]
 
 mod condition;
 mod flags;
+pub mod hub;
 mod manager;
 mod names;
 #[allow(unsafe_code)]

@@ -4,9 +4,9 @@ use std::collections::hash_map::RandomState;
 use std::hash::{BuildHasher, Hasher};
 
 use crate::condition::{answered, Condition};
-use crate::names::{lock_named, LockId, ProcessId, Which};
+use crate::names::{LockId, ProcessId, Which};
 use crate::raw;
-use crate::requests::{bit, Accepted, Declaration, Dequeue, Request, Setting};
+use crate::requests::{Accepted, Declaration, Dequeue, Request, Setting};
 use crate::views::Ast;
 
 /// A lock manager of its own: two of them share nothing. No call waits. It may go to another thread; threads that share
@@ -20,15 +20,20 @@ pub struct LockManager {
     pub(crate) handle: raw::Handle,
 }
 
+/// Keys of the standard library's own.
+pub(crate) fn random_keys() -> [u8; 16] {
+    let mut keys = [0; 16];
+    for half in keys.chunks_mut(8) {
+        half.copy_from_slice(&RandomState::new().build_hasher().finish().to_le_bytes());
+    }
+    keys
+}
+
 impl LockManager {
     /// A lock manager with nothing in it. Its index of names hashes by keys of the standard library's own, which nobody
     /// can foresee. INSFMEM where memory is refused.
     pub fn new() -> Result<LockManager, Condition> {
-        let mut keys = [0; 16];
-        for half in keys.chunks_mut(8) {
-            half.copy_from_slice(&RandomState::new().build_hasher().finish().to_le_bytes());
-        }
-        LockManager::with_keys(keys)
+        LockManager::with_keys(random_keys())
     }
 
     /// A lock manager whose index of names hashes by these keys. INSFMEM where memory is refused.
@@ -41,31 +46,15 @@ impl LockManager {
 
     /// Declares a process. BADPARAM, DEPARTED, INSFMEM.
     pub fn declare(&mut self, declaration: &Declaration) -> Result<ProcessId, Condition> {
-        let words = raw::Declaration {
-            node: u32::from(declaration.node),
-            group: u32::from(declaration.group),
-            syslck: bit(declaration.syslck),
-            quota: u32::from(declaration.quota),
-            blocks: u32::from(declaration.blocks),
-            ..raw::Declaration::new()
-        };
         let mut pid = 0;
-        answered(self.handle.declare(&words, &mut pid))?;
+        answered(self.handle.declare(&declaration.words(), &mut pid))?;
         Ok(ProcessId(pid))
     }
 
     /// Sets the value part of a status block of the process, and its tail where one is given. DEPARTED, NONEXPR,
     /// ACCVIO.
     pub fn set_value(&mut self, setting: &Setting) -> Result<(), Condition> {
-        let words = raw::Setting {
-            pid: setting.process.0,
-            block: u32::from(setting.block),
-            has_tail: bit(setting.tail.is_some()),
-            value: setting.value,
-            tail: setting.tail.unwrap_or([0; 48]),
-            ..raw::Setting::new()
-        };
-        answered(self.handle.set_value(&words))?;
+        answered(self.handle.set_value(&setting.words()))?;
         Ok(())
     }
 
@@ -77,10 +66,7 @@ impl LockManager {
         let status = self
             .handle
             .enq(&request.words(request.parent), name, &mut lkid);
-        Ok(Accepted {
-            lock: LockId(lkid),
-            at_once: answered(status)? == Condition::Synch,
-        })
+        Ok(Accepted::of(answered(status)?, lkid))
     }
 
     /// Asks for another mode of a granted lock ($ENQ with CONVERT). DEPARTED, NONEXPR, BADPARAM, ACCVIO, IVLOCKID,
@@ -94,10 +80,7 @@ impl LockManager {
         let status = self
             .handle
             .convert(&request.words(Some(lock.into())), &mut lkid);
-        Ok(Accepted {
-            lock: LockId(lkid),
-            at_once: answered(status)? == Condition::Synch,
-        })
+        Ok(Accepted::of(answered(status)?, lkid))
     }
 
     /// Gives a lock up ($DEQ): what [`LockManager::dequeue`] does without flags and without a value.
@@ -108,19 +91,7 @@ impl LockManager {
     /// Gives locks up, or cancels a request ($DEQ). DEPARTED, NONEXPR, BADPARAM, ACCVIO, IVLOCKID, CANCELGRANT,
     /// SUBLOCKS.
     pub fn dequeue(&mut self, dequeue: &Dequeue) -> Result<(), Condition> {
-        let (lock, lock_block) = lock_named(dequeue.lock);
-        let words = raw::Dequeue {
-            pid: dequeue.process.0,
-            flags: u32::from(dequeue.flags.0),
-            lock,
-            lock_block,
-            has_value: bit(dequeue.value.is_some()),
-            has_tail: bit(dequeue.tail.is_some()),
-            value: dequeue.value.unwrap_or([0; 16]),
-            tail: dequeue.tail.unwrap_or([0; 48]),
-            ..raw::Dequeue::new()
-        };
-        answered(self.handle.deq(&words))?;
+        answered(self.handle.deq(&dequeue.words()))?;
         Ok(())
     }
 

@@ -69,6 +69,14 @@ pub(crate) fn lock_named(lock: Option<Which>) -> (u32, u32) {
     }
 }
 
+/// The lock that these two words name.
+pub(crate) fn which_of(lock: u32, lock_block: u32) -> Option<Which> {
+    match NonZeroU8::new(lock_block as u8) {
+        _ if lock != 0 => Some(Which::Lock(LockId(lock))),
+        number => number.map(Which::Block),
+    }
+}
+
 /// The space of names that a root resource is in.
 #[derive(Clone, Copy, Debug, PartialEq, Eq, Hash)]
 pub enum Domain {

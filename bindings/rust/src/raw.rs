@@ -1,5 +1,5 @@
 //! The library's structs and calls as C has them, and a handle that owns a lock manager. All that is unsafe stands
-//! here.
+//! here, and for hubs in `hub/raw.rs`.
 
 use std::cell::UnsafeCell;
 use std::ffi::c_void;
@@ -16,8 +16,8 @@ pub struct Vlm {
 /// The version of the header that this file follows, 0.1.0: one byte for each of its numbers.
 const VERSION: u32 = 0x00_01_00;
 
-/// Defines structs of the library, each with its size as its first member and a rest of zeros, and pins the sizes
-/// that the header asserts.
+/// Defines structs of the library, each with its size as its first member and a rest of zeros. Pins the sizes that the
+/// header asserts. There is no padding, so each member is where C has it.
 macro_rules! structs {
     ($($name:ident $bytes:literal { $($field:ident: $kind:ty = $zero:expr),* $(,)? })*) => { $(
         #[repr(C)]
@@ -34,8 +34,10 @@ macro_rules! structs {
         }
 
         const _: () = assert!(size_of::<$name>() == $bytes);
+        const _: () = assert!(size_of::<u32>() $(+ size_of::<$kind>())* == $bytes);
     )* };
 }
+pub(crate) use structs;
 
 structs! {
     Options 64 { version: u32 = VERSION, has_keys: u32 = 0, keys: [u8; 16] = [0; 16], reserved: [u32; 9] = [0; 9] }
@@ -68,6 +70,17 @@ structs! {
         block: u32 = 0, reserved: [u32; 7] = [0; 7],
     }
     Ast 32 { kind: u32 = 0, routine: u32 = 0, param: u32 = 0, lkid: u32 = 0, reserved: [u32; 3] = [0; 3] }
+}
+
+impl Options {
+    /// The options of a lock manager that hashes names by these keys.
+    pub fn with_keys(keys: [u8; 16]) -> Options {
+        Options {
+            has_keys: 1,
+            keys,
+            ..Options::new()
+        }
+    }
 }
 
 impl Resource {
@@ -150,10 +163,10 @@ impl Drop for Handle {
     }
 }
 
-/// Defines safe calls of the handle: each passes references to initialized values that don't overlap.
+/// Defines safe calls of a handle: each passes references to initialized values that don't overlap.
 macro_rules! calls {
-    ($(by $handle:ty { $($name:ident = $call:ident($($arg:ident: $kind:ty),*) -> $answer:ty;)* })*) => {
-        impl Handle { $($(
+    (of $owner:ident; $(by $handle:ty { $($name:ident = $call:ident($($arg:ident: $kind:ty),*) -> $answer:ty;)* })*) => {
+        impl $owner { $($(
             pub fn $name(self: $handle, $($arg: $kind),*) -> $answer {
                 // SAFETY: the handle is as a call left it. It is no `Sync`, and no call runs code of this crate, so it
                 // is in no other call. Each reference points to an initialized value of its type, and no two overlap.
@@ -162,8 +175,10 @@ macro_rules! calls {
         )*)* }
     };
 }
+pub(crate) use calls;
 
 calls! {
+    of Handle;
     by &mut Handle {
         declare = vlm_declare(declaration: &Declaration, pid: &mut u32) -> u32;
         set_value = vlm_set_value(setting: &Setting) -> u32;
@@ -208,13 +223,8 @@ impl Handle {
             core: ptr::null_mut(),
             is_held: false,
         };
-        let options = Options {
-            has_keys: 1,
-            keys,
-            ..Options::new()
-        };
         // SAFETY: a handle of zeros has no lock manager, and the references don't overlap.
-        let status = unsafe { vlm_open(&mut raw, &options) };
+        let status = unsafe { vlm_open(&mut raw, &Options::with_keys(keys)) };
         let handle = Handle {
             raw: UnsafeCell::new(raw),
         };

@@ -1,11 +1,12 @@
 //! What a program gives to a step, and the answer of a request.
 
+use crate::condition::Condition;
 use crate::flags::{DeqFlags, EnqFlags};
-use crate::names::{lock_named, LockId, Mode, ProcessId, Which};
+use crate::names::{lock_named, mode_of, which_of, LockId, Mode, ProcessId, Which};
 use crate::raw;
 
 /// What a process is declared with.
-#[derive(Clone, Copy, Debug, Default)]
+#[derive(Clone, Copy, Debug, Default, PartialEq, Eq)]
 pub struct Declaration {
     /// Its node, 1 to 8.
     pub node: u8,
@@ -19,8 +20,31 @@ pub struct Declaration {
     pub blocks: u8,
 }
 
+impl Declaration {
+    pub(crate) fn words(&self) -> raw::Declaration {
+        raw::Declaration {
+            node: u32::from(self.node),
+            group: u32::from(self.group),
+            syslck: bit(self.syslck),
+            quota: u32::from(self.quota),
+            blocks: u32::from(self.blocks),
+            ..raw::Declaration::new()
+        }
+    }
+
+    pub(crate) fn of(words: &raw::Declaration) -> Declaration {
+        Declaration {
+            node: words.node as u8,
+            group: words.group as u16,
+            syslck: words.syslck == 1,
+            quota: words.quota as u16,
+            blocks: words.blocks as u8,
+        }
+    }
+}
+
 /// What the value part of a status block is set to.
-#[derive(Clone, Copy, Debug)]
+#[derive(Clone, Copy, Debug, PartialEq, Eq)]
 pub struct Setting {
     /// The caller.
     pub process: ProcessId,
@@ -32,8 +56,30 @@ pub struct Setting {
     pub tail: Option<[u8; 48]>,
 }
 
+impl Setting {
+    pub(crate) fn words(&self) -> raw::Setting {
+        raw::Setting {
+            pid: self.process.0,
+            block: u32::from(self.block),
+            has_tail: bit(self.tail.is_some()),
+            value: self.value,
+            tail: self.tail.unwrap_or([0; 48]),
+            ..raw::Setting::new()
+        }
+    }
+
+    pub(crate) fn of(words: &raw::Setting) -> Setting {
+        Setting {
+            process: ProcessId(words.pid),
+            block: words.block as u8,
+            value: words.value,
+            tail: (words.has_tail == 1).then_some(words.tail),
+        }
+    }
+}
+
 /// A new request or a conversion.
-#[derive(Clone, Copy, Debug)]
+#[derive(Clone, Copy, Debug, PartialEq, Eq)]
 pub struct Request {
     /// The caller.
     pub process: ProcessId,
@@ -86,6 +132,20 @@ impl Request {
             ..raw::Request::new()
         }
     }
+
+    /// The request of these words, with the lock that they name as its parent. None if there is no such mode.
+    pub(crate) fn of(words: &raw::Request) -> Option<Request> {
+        Some(Request {
+            process: ProcessId(words.pid),
+            mode: mode_of(words.mode)?,
+            block: words.block as u8,
+            flags: EnqFlags(words.flags as u16),
+            parent: which_of(words.lock, words.lock_block),
+            completion: (words.has_ast == 1).then_some(words.ast),
+            blocking: (words.has_bast == 1).then_some(words.bast),
+            param: words.param,
+        })
+    }
 }
 
 /// A request that was accepted.
@@ -98,8 +158,18 @@ pub struct Accepted {
     pub at_once: bool,
 }
 
+impl Accepted {
+    /// The request of this lock, which was accepted by NORMAL or SYNCH.
+    pub(crate) fn of(condition: Condition, lkid: u32) -> Accepted {
+        Accepted {
+            lock: LockId(lkid),
+            at_once: condition == Condition::Synch,
+        }
+    }
+}
+
 /// What is to be given up, or cancelled.
-#[derive(Clone, Copy, Debug)]
+#[derive(Clone, Copy, Debug, PartialEq, Eq)]
 pub struct Dequeue {
     /// The caller.
     pub process: ProcessId,
@@ -124,9 +194,34 @@ impl Dequeue {
             tail: None,
         }
     }
+
+    pub(crate) fn words(&self) -> raw::Dequeue {
+        let (lock, lock_block) = lock_named(self.lock);
+        raw::Dequeue {
+            pid: self.process.0,
+            flags: u32::from(self.flags.0),
+            lock,
+            lock_block,
+            has_value: bit(self.value.is_some()),
+            has_tail: bit(self.tail.is_some()),
+            value: self.value.unwrap_or([0; 16]),
+            tail: self.tail.unwrap_or([0; 48]),
+            ..raw::Dequeue::new()
+        }
+    }
+
+    pub(crate) fn of(words: &raw::Dequeue) -> Dequeue {
+        Dequeue {
+            process: ProcessId(words.pid),
+            lock: which_of(words.lock, words.lock_block),
+            flags: DeqFlags(words.flags as u16),
+            value: (words.has_value == 1).then_some(words.value),
+            tail: (words.has_tail == 1).then_some(words.tail),
+        }
+    }
 }
 
 /// 1 for yes and 0 for no.
-pub(crate) fn bit(so: bool) -> u32 {
+fn bit(so: bool) -> u32 {
     u32::from(so)
 }

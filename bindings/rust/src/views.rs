@@ -137,6 +137,19 @@ impl Ast {
             lock: LockId(words.lkid),
         })
     }
+
+    pub(crate) fn words(&self) -> raw::Ast {
+        raw::Ast {
+            kind: match self.kind {
+                AstKind::Completion => 1,
+                AstKind::Blocking => 2,
+            },
+            routine: self.routine,
+            param: self.param,
+            lkid: self.lock.0,
+            ..raw::Ast::new()
+        }
+    }
 }
 
 impl StatusBlock {

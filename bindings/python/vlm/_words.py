@@ -1,0 +1,47 @@
+"""The words of the steps that a caller describes."""
+
+import os
+from ctypes import c_uint8
+from typing import Optional
+
+from . import _library as raw
+from ._arguments import lock_named, mark, part, word
+from .errors import BadParam
+from .values import DequeueFlags, Which
+
+_VALUE = c_uint8 * 16
+_TAIL = c_uint8 * 48
+
+
+def options(keys: Optional[bytes]) -> raw.Sized:
+    """The options of a lock manager that hashes names by these 16 bytes of keys, or without them by random ones."""
+    keys = os.urandom(16) if keys is None else bytes(memoryview(keys))
+    if len(keys) != 16:
+        raise BadParam
+    words = raw.Options(version=raw.VERSION, has_keys=1)
+    words.keys[:] = keys
+    return words
+
+
+def declaration(node: int, group: int, quota: int, blocks: int, syslck: bool) -> raw.Sized:
+    return raw.Declaration(node=word(node, "the node"), group=word(group, "the group"), syslck=mark(syslck),
+                           quota=word(quota, "the quota"), blocks=word(blocks, "the number of status blocks"))
+
+
+def setting(pid: int, block: int, value: bytes, tail: Optional[bytes]) -> raw.Sized:
+    return raw.Setting(pid=pid, block=word(block, "the status block"), has_tail=mark(tail is not None),
+                       value=_VALUE(*part(value, 16, "the value")), tail=_TAIL(*part(tail, 48, "the tail")))
+
+
+def request(pid: int, which: Optional[Which], **numbers: int) -> raw.Sized:
+    """The words of a request without routines."""
+    lock, lock_block = lock_named(which)
+    words = {name: word(number, name) for name, number in numbers.items()}
+    return raw.Request(pid=pid, lock=lock, lock_block=lock_block, **words)
+
+
+def dequeue(pid: int, lock: Which, flags: DequeueFlags, value: Optional[bytes], tail: Optional[bytes]) -> raw.Sized:
+    number, lock_block = lock_named(lock)
+    return raw.Dequeue(pid=pid, flags=word(flags, "flags"), lock=number, lock_block=lock_block,
+                       has_value=mark(value is not None), has_tail=mark(tail is not None),
+                       value=_VALUE(*part(value, 16, "the value")), tail=_TAIL(*part(tail, 48, "the tail")))

@@ -1,0 +1,163 @@
+//! A node's end of a hub: posts and items.
+
+use std::error::Error;
+use std::fmt;
+
+use super::answers::Answer;
+use super::raw;
+use crate::condition::{answered, Condition};
+use crate::names::{ProcessId, Which};
+use crate::requests::{Declaration, Dequeue, Request, Setting};
+use crate::views::Ast;
+
+/// The port of a node: it posts steps of the node, and takes items. No call waits or takes memory.
+///
+/// A post is refused by BADPARAM if it is a step of another node: a declaration for that node, or a step of its
+/// process. A port may go to another thread, and live longer than its hub: nobody answers it then.
+///
+/// ```compile_fail
+/// fn shared<T: Sync>(_: T) {}
+/// shared(vlm::hub::Hub::new(1).unwrap().port(1));
+/// ```
+pub struct Port {
+    handle: raw::Port,
+}
+
+impl Port {
+    pub(super) fn of(handle: raw::Port) -> Port {
+        Port { handle }
+    }
+
+    /// Its node, 1 to 8.
+    pub fn node(&self) -> u8 {
+        self.handle.node() as u8
+    }
+
+    /// Posts a declaration of a process. [`Answer::process`] reads its answer.
+    pub fn declare(&mut self, declaration: &Declaration) -> Result<(), PostError> {
+        posted(self.handle.declare(&declaration.words()))
+    }
+
+    /// Posts a setting of the value part of a status block. [`Answer::done`] reads its answer.
+    pub fn set_value(&mut self, setting: &Setting) -> Result<(), PostError> {
+        posted(self.handle.set_value(&setting.words()))
+    }
+
+    /// Posts a request for a new lock ($ENQ). [`Answer::accepted`] reads its answer.
+    pub fn enq(&mut self, request: &Request, name: &[u8]) -> Result<(), PostError> {
+        posted(self.handle.enq(&request.words(request.parent), name))
+    }
+
+    /// Posts a request for another mode of a lock ($ENQ with CONVERT). [`Answer::accepted`] reads its answer.
+    pub fn convert(&mut self, request: &Request, lock: impl Into<Which>) -> Result<(), PostError> {
+        posted(self.handle.convert(&request.words(Some(lock.into()))))
+    }
+
+    /// Posts that a lock is given up ($DEQ): what [`Port::dequeue`] does without flags and without a value.
+    pub fn deq(&mut self, process: ProcessId, lock: impl Into<Which>) -> Result<(), PostError> {
+        self.dequeue(&Dequeue::new(process, Some(lock.into())))
+    }
+
+    /// Posts that locks are given up, or a request is cancelled ($DEQ). [`Answer::done`] reads its answer.
+    pub fn dequeue(&mut self, dequeue: &Dequeue) -> Result<(), PostError> {
+        posted(self.handle.deq(&dequeue.words()))
+    }
+
+    /// Posts the end of a process. [`Answer::done`] reads its answer.
+    pub fn rundown(&mut self, process: ProcessId) -> Result<(), PostError> {
+        posted(self.handle.rundown(process.0))
+    }
+
+    /// Posts a search for a deadlock. [`Answer::victim`] reads its answer.
+    pub fn search(&mut self) -> Result<(), PostError> {
+        posted(self.handle.search())
+    }
+
+    /// Posts the departure of the node, with all its processes. [`Answer::done`] reads its answer.
+    pub fn bye(&mut self) -> Result<(), PostError> {
+        posted(self.handle.bye())
+    }
+
+    /// Takes the next item, if the port knows of one.
+    ///
+    /// ```
+    /// use vlm::hub::{Hub, Item};
+    ///
+    /// # fn main() -> Result<(), Box<dyn std::error::Error>> {
+    /// let mut hub = Hub::new(1)?;
+    /// let mut port = hub.port(1)?;
+    /// port.search()?;
+    /// assert_eq!(port.take(), None);
+    /// assert_eq!(hub.turn()?, 1);
+    /// match port.take() {
+    ///     Some(Item::Answer(answer)) => assert_eq!(answer.victim(), Ok(None)),
+    ///     other => println!("{other:?}"),
+    /// }
+    /// # Ok(())
+    /// # }
+    /// ```
+    pub fn take(&mut self) -> Option<Item> {
+        let mut words = raw::Item::new();
+        answered(self.handle.take(&mut words)).ok()?;
+        Item::of(&words)
+    }
+}
+
+/// An item for a node.
+#[derive(Clone, Copy, Debug, PartialEq, Eq)]
+#[non_exhaustive]
+pub enum Item {
+    /// The answer to the oldest post that had no answer yet.
+    Answer(Answer),
+    /// An AST of one of the node's processes. The program calls the routine. A port reads no status block, so a
+    /// completion AST says that a request has ended, and not how.
+    Ast {
+        /// The process.
+        process: ProcessId,
+        /// The AST.
+        ast: Ast,
+    },
+}
+
+impl Item {
+    /// The item of these words. None where there was no item.
+    fn of(words: &raw::Item) -> Option<Item> {
+        match words.kind {
+            1 => Some(Item::Answer(Answer::of_item(words))),
+            2 => Some(Item::Ast {
+                process: ProcessId(words.pid),
+                ast: Ast::of(&words.ast)?,
+            }),
+            _ => None,
+        }
+    }
+}
+
+/// Why a step was not posted.
+#[derive(Clone, Copy, Debug, PartialEq, Eq)]
+#[non_exhaustive]
+pub enum PostError {
+    /// The port knows no free place. Take items, and post again.
+    Full,
+    /// BADPARAM: it is a step of another node.
+    Refused(Condition),
+}
+
+impl fmt::Display for PostError {
+    fn fmt(&self, f: &mut fmt::Formatter<'_>) -> fmt::Result {
+        match self {
+            PostError::Full => f.write_str("no free place"),
+            PostError::Refused(condition) => condition.fmt(f),
+        }
+    }
+}
+
+impl Error for PostError {}
+
+/// The answer of a post.
+fn posted(status: u32) -> Result<(), PostError> {
+    if status == raw::FULL {
+        return Err(PostError::Full);
+    }
+    answered(status).map(drop).map_err(PostError::Refused)
+}
