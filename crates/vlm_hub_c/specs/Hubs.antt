@@ -15,7 +15,7 @@ use Rattle.vlm_journal.specs.Accounts.{GoesOn, made}
 use Rattle.vlm_ports.specs.declared.hub.Turn.{Turn}
 use Rattle.vlm_ports.specs.declared.hub.Turn.TheVariants.{Idle, NoMemory, Served}
 use Rattle.vlm_ports.specs.declared.port.Port.{Port}
-use Rattle.vlm_ports.specs.Hubs.{EachAsksOnce, HubGrew, IsAsWritten, IsNewHub, IsPortOf, KeepsKnown, KnowsAllTheSame, MayIdle, PutsBeforeCut, base, bases, journal, nodes, rings, state}
+use Rattle.vlm_ports.specs.Hubs.{EachAsksOnce, HubGrew, IsAsWritten, IsNewHub, IsPortOf, KeepsKnown, KnowsAllTheSame, MayIdle, OthersLast, PutsBeforeCut, base, bases, journal, nodes, rings, state, waiting}
 use Rattle.vlm_ports.specs.Ports.{AreNew}
 use Rattle.vlm_ports.specs.Turns.{IsIdleTurn, IsServedTurn, turn_entries}
 use Rattle.vlm_hub_c.specs.declared.entries.VlmCut.{VlmCut}
@@ -125,6 +125,33 @@ pub record LosesNode (node : ℕ) (before after : Option Held) (status : ℕ) : 
   pub result : Option (Option (Result Cond AllocError))
   pub lends : LendsHub (HasLost node) before result after
   pub status_told : status ≡ lost_status result
+
+-- the posts of a node are counted, as `Hub::posts_waiting` says, and the hub has the same ports
+pub record HasPostsCounted (node : ℕ) (old : OwnedHub) (count : ℕ) (new : OwnedHub) : Type 0 where
+  pub rings : rings new.hub ≡ rings old.hub
+  pub base : (base new.hub ≡ base old.hub) × (bases new.hub ≡ bases old.hub)
+  pub unmoved : IsAsWritten old.hub new.hub
+  pub counted : count ≡ length (waiting new.hub node)
+  pub known : KeepsKnown old.hub new.hub
+  pub others : OthersLast node old.hub new.hub
+  pub ports : new.ports ≡ old.ports
+
+-- the posts of one of the hub's nodes are counted; for another number nothing changes
+abbrev pub HasCounted : ℕ → OwnedHub → Option ℕ → OwnedHub → Type 0
+HasCounted node old (Some count) new = (0 < node) × (node ≤ nodes old.hub) × HasPostsCounted node old count new
+HasCounted node old None new = (new ≡ old) × ((node ≡ 0) ⊎ (8 < node) ⊎ (nodes old.hub < node))
+
+-- a call writes a count, or nothing
+abbrev pub CountTold : Option (Option ℕ) → ℕ → ℕ → ℕ → Type 0
+CountTold (Some (Some count)) old new status = (new ≡ count) × (status ≡ condition_number Normal)
+CountTold (Some None) old new status = (new ≡ old) × (status ≡ condition_number Badparam)
+CountTold None old new status = (new ≡ old) × (status ≡ condition_number Badparam)
+
+-- a call counts the posts of a node that the hub of a handle has not made
+pub record CountsPosts (node : ℕ) (before after : Option Held) (old new status : ℕ) : Type 0 where
+  pub count : Option (Option ℕ)
+  pub lends : LendsHub (HasCounted node) before count after
+  pub told : CountTold count old new status
 
 -- the entries are handed out, as `Hub::cut` says, and the hub has the same ports
 pub record IsCut (old : OwnedHub) (part : Part) (new : OwnedHub) : Type 0 where

@@ -8,6 +8,7 @@ use Rattle.vlm_journal.specs.declared.entries.Item.{Item}
 use Rattle.vlm_journal.specs.Journals.{IsPostOf}
 use Rattle.vlm_ports.specs.declared.port.Port.{Port}
 use Rattle.vlm_ports.specs.Ports.{arrived, free_places, identity, posted, taken}
+use Rattle.vlm_ffi.specs.Copies.{Told}
 use Rattle.vlm_hub_c.specs.declared.held.Held.{Held}
 use Rattle.vlm_hub_c.specs.declared.items.VlmItem.{VlmItem}
 use Rattle.vlm_hub_c.specs.declared.posts.PostEnd.{PostEnd}
@@ -73,3 +74,18 @@ abbrev pub TakesItemIf : Bool → Option Held → Option Held → VlmItem → Vl
 TakesItemIf true before after old new status = TakesItem before after old new status
 TakesItemIf false before after old new status =
     (after ≡ before) × (new ≡ old) × (status ≡ condition_number Badparam)
+
+-- the items that have come are counted, and the port knows of them
+pub record HasItemsCounted (old : Port) (count : ℕ) (new : Port) : Type 0 where
+  pub same : identity new ≡ identity old
+  pub posted : posted new ≡ posted old
+  pub free : free_places new ≡ free_places old
+  pub taken : taken new ≡ taken old
+  pub counted : count ≡ length (arrived new)
+  pub known : IsPrefix (arrived old) (arrived new)
+
+-- a call counts the items that wait for the port of a handle
+pub record CountsItems (before after : Option Held) (old new status : ℕ) : Type 0 where
+  pub count : Option ℕ
+  pub lends : LendsPort HasItemsCounted before count after
+  pub told : Told count old new status

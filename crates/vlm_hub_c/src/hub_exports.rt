@@ -9,7 +9,7 @@ ghost use Rattle.vlm_ffi.specs.Copies.{Told, sized};
 ghost use Rattle.vlm_ffi.specs.Words.{is_options};
 ghost use Rattle.vlm_hub_c.specs.Entries.{entry_of};
 ghost use Rattle.vlm_hub_c.specs.Lending.{IsSameHeld};
-ghost use Rattle.vlm_hub_c.specs.Hubs.{CutsHubIf, GivesPortIf, LosesNode, OpensHubIf, TurnsHub, cut_of, entries_shown, lost_status, node_count, turn_count, turn_status};
+ghost use Rattle.vlm_hub_c.specs.Hubs.{CountsPosts, CutsHubIf, GivesPortIf, LosesNode, OpensHubIf, TurnsHub, cut_of, entries_shown, lost_status, node_count, turn_count, turn_status};
 
 use crate::entries::{CUT_SIZE, ENTRY_SIZE, VlmCut, VlmEntry, write_entries};
 use crate::handle::Handle;
@@ -117,6 +117,20 @@ pub extern "C" fn vlm_hub_lost(handle: &mut Handle, node: u32) -> u32
 {
     let lost = handle.with_hub(|owned| owned.lose(node));
     lost_status(&lost)
+}
+
+/// Counts the posts of a node that the hub has not made.
+#[unsafe(no_mangle)]
+pub extern "C" fn vlm_hub_waiting(handle: &mut Handle, node: u32, posts: &mut usize) -> u32
+    ensures { CountsPosts node handle.old.slot.held handle.new.slot.held posts.old posts.new result }
+{
+    match handle.with_hub(|owned| owned.posts_waiting(node)) {
+        Some(Some(count)) => {
+            *posts = count;
+            status(Cond::Normal)
+        }
+        Some(None) | None => status(Cond::Badparam),
+    }
 }
 
 /// Counts the nodes that the hub serves.

@@ -3,7 +3,7 @@
 ghost use Rattle.std.specs.Prelude.{◌≡◌, ◌<◌, ◌≤◌, IfOk, length, slice_get};
 ghost use Rattle.std.specs.Option.{option_map};
 ghost use Rattle.vlm_hub_c.specs.Entries.{entry_of};
-ghost use Rattle.vlm_hub_c.specs.Hubs.{GivesPort, HasCut, HasLost, HasTurned, IsNewHeld};
+ghost use Rattle.vlm_hub_c.specs.Hubs.{GivesPort, HasCounted, HasCut, HasLost, HasTurned, IsNewHeld};
 ghost use Rattle.vlm_ports.specs.Hubs.{journal, nodes};
 
 use crate::entries::{VlmEntry, entry_of};
@@ -69,6 +69,16 @@ impl OwnedHub {
             return None;
         }
         Some(self.hub.lost(node as u8))
+    }
+
+    /// How many posts of a node it has not made. `None` if it has no such node.
+    pub(crate) fn posts_waiting(&mut self, node: u32) -> Option<usize>
+        ensures { HasCounted node self.old result self.new }
+    {
+        if node == 0 || node > 8 || node as usize > self.hub.nodes() {
+            return None;
+        }
+        Some(self.hub.posts_waiting(node as u8))
     }
 
     pub(crate) fn node_count(&mut self) -> usize

@@ -8,16 +8,17 @@ ghost use Rattle.std.specs.Option.{option_map};
 ghost use Rattle.vlm_words.specs.declared.steps.Step.TheVariants.{Convert, Declare, Deq, Enq, Leave, Rundown, Search, SetValue};
 ghost use Rattle.vlm_ffi.specs.Words.{conversion_of, declaration_of, dequeue_of, request_of, setting_of};
 ghost use Rattle.vlm_hub_c.specs.Hubs.{port_node};
-ghost use Rattle.vlm_hub_c.specs.Posts.{Posts, PostsAs, TakesItemIf};
+ghost use Rattle.vlm_hub_c.specs.Posts.{CountsItems, Posts, PostsAs, TakesItemIf};
 
 use crate::handle::Handle;
 use crate::items::{ITEM_SIZE, VlmItem, item_or_none};
-use crate::posts::{post_bye, post_search, post_status, post_step, take_item};
+use crate::posts::{count_items, post_bye, post_search, post_status, post_step, take_item};
 use std::alloc::Global;
 use vlm_ffi::arguments::{
     VlmDeclaration, VlmDequeue, VlmRequest, VlmSetting, conversion_of, declaration_of, dequeue_of,
     request_of, setting_of,
 };
+use vlm_ffi::copies::copy_out;
 use vlm_ffi::replies::status;
 use vlm_words::conditions::Cond;
 use vlm_words::steps::Step;
@@ -127,6 +128,14 @@ pub extern "C" fn vlm_port_take(handle: &mut Handle, out: &mut VlmItem) -> u32
         }
         None => status(Cond::Badparam),
     }
+}
+
+/// Counts the items that have come and are not taken.
+#[unsafe(no_mangle)]
+pub extern "C" fn vlm_port_waiting(handle: &mut Handle, items: &mut usize) -> u32
+    ensures { CountsItems handle.old.slot.held handle.new.slot.held items.old items.new result }
+{
+    copy_out(handle.with_port(|port| count_items(port)), items)
 }
 
 /// The node of the port, or 0 without a port.

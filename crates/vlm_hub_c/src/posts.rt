@@ -2,7 +2,7 @@
 
 ghost use Rattle.std.specs.Prelude.{◌≡◌};
 ghost use Rattle.vlm_words.specs.declared.steps.Step.TheVariants.{Leave, Search};
-ghost use Rattle.vlm_hub_c.specs.Posts.{HasPosted, HasTaken, post_status};
+ghost use Rattle.vlm_hub_c.specs.Posts.{HasItemsCounted, HasPosted, HasTaken, post_status};
 
 use vlm_ffi::replies::status;
 use vlm_ports::{Item, Port};
@@ -55,6 +55,13 @@ pub(crate) fn take_item(port: &mut Port) -> Option<Item>
     ensures { HasTaken port.old result port.new }
 {
     port.take()
+}
+
+/// Counts the items that have come and are not taken.
+pub(crate) fn count_items(port: &mut Port) -> usize
+    ensures { HasItemsCounted port.old result port.new }
+{
+    port.items_waiting()
 }
 
 /// What a call answers of a post. Without a port there was none.

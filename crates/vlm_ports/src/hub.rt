@@ -53,7 +53,7 @@ impl Hub {
     ghost use Rattle.vlm_model.specs.Stepped.{Outcome};
     ghost use Rattle.vlm_journal.specs.Accounts.{GoesOn, made};
     ghost use Rattle.vlm_ports.specs.Turns.{IsIdleTurn, IsServedTurn, turn_entries};
-    ghost use Rattle.vlm_ports.specs.Hubs.{EachAsksOnce, HubGrew, KnowsAllTheSame, PutsBeforeCut, IsAsWritten, IsDeliveredAt, IsNewHub, IsPortOf, IsSameBut, KeepsKnown, AllNodeRingsLast, MayIdle, MayRestAt, NoneAsks, OneAsks, base, bases, journal, nodes, rings, state};
+    ghost use Rattle.vlm_ports.specs.Hubs.{EachAsksOnce, HubGrew, KnowsAllTheSame, PutsBeforeCut, IsAsWritten, IsDeliveredAt, IsNewHub, IsPortOf, IsSameBut, KeepsKnown, AllNodeRingsLast, MayIdle, MayRestAt, NoneAsks, OneAsks, OthersLast, base, bases, journal, nodes, rings, state, waiting};
     ghost use Rattle.vlm_ports.specs.Ports.{AreNew, identity, posted, taken};
     ghost use Rattle.vlm_ports.specs.Watched.{IsUnwatched, board};
     ghost use Rattle.vlm_ports.specs.Settling.{HasSettled};
@@ -167,6 +167,21 @@ impl Hub {
     {
         let node_rings = &mut self.all_node_rings[port.node as usize - 1];
         node_rings.settle(port)
+    }
+
+    /// How many posts of a node are on its ring, which it has not made. It looks at the ring, and moves nothing.
+    pub fn posts_waiting(&mut self, node: u8) -> usize
+        requires node { (0 < node) × (node ≤ nodes self.old) }
+        ensures rings { rings self.new ≡ rings self.old }
+        ensures base { (base self.new ≡ base self.old) × (bases self.new ≡ bases self.old) }
+        ensures board { board self.new ≡ board self.old }
+        ensures unmoved { IsAsWritten self.old self.new }
+        ensures count { result ≡ length (waiting self.new node) }
+        ensures known { KeepsKnown self.old self.new }
+        ensures others { OthersLast node self.old self.new }
+    {
+        let node_rings = &mut self.all_node_rings[node as usize - 1];
+        node_rings.requests_waiting()
     }
 
     /// Hands out the entries since the last cut, and begins a new part. It takes no memory.

@@ -98,6 +98,17 @@ impl NodeRings {
         !self.requests.is_empty()
     }
 
+    /// How many posts are on the ring. It looks at the ring.
+    pub(crate) fn requests_waiting(&mut self) -> usize
+        ensures rings { node_rings_identity self.new ≡ node_rings_identity self.old }
+        ensures unmoved { HaveMovedNothing self.old self.new }
+        ensures places { places self.new ≡ places self.old }
+        ensures lasts { Lasts self.old self.new }
+        ensures count { result ≡ length (knows self.new) }
+    {
+        self.requests.slots()
+    }
+
     /// The next known post.
     pub(crate) fn request(&mut self) -> Step
         requires { 0 < length (knows self.old) }

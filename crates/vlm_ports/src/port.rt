@@ -79,6 +79,18 @@ impl Port {
         self.post(Step::Leave(self.node))
     }
 
+    /// How many items have come that it has not taken. It looks at the ring.
+    pub fn items_waiting(&mut self) -> usize
+        ensures same { identity self.new ≡ identity self.old }
+        ensures posted { posted self.new ≡ posted self.old }
+        ensures free { free_places self.new ≡ free_places self.old }
+        ensures taken { taken self.new ≡ taken self.old }
+        ensures count { result ≡ length (arrived self.new) }
+        ensures known { IsPrefix (arrived self.old) (arrived self.new) }
+    {
+        self.items.slots()
+    }
+
     /// Takes the next item. `None` if the port knows of no item that has come.
     pub fn take(&mut self) -> Option<Item>
         ensures same { identity self.new ≡ identity self.old }
