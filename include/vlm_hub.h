@@ -164,6 +164,11 @@ uint32_t vlm_hub_turn(vlm_hub *hub, size_t *made);
  * it had departed before; INSFMEM: then nothing is changed; BADPARAM if the node is not 1 to 8. */
 uint32_t vlm_hub_lost(vlm_hub *hub, uint32_t node);
 
+/* *posts is the number of posts of a node that are in its ring, and that the hub has not made. It looks at the ring, so
+ * once the node's thread has ended, none is missed. NORMAL, or BADPARAM and nothing is written: the hub has no such
+ * node. */
+uint32_t vlm_hub_waiting(vlm_hub *hub, uint32_t node, size_t *posts);
+
 /* How many nodes the hub serves, and how many entries its journal has since the last cut. 0 on a handle with no hub. */
 size_t vlm_hub_nodes(vlm_hub *hub);
 size_t vlm_hub_entries(vlm_hub *hub);
@@ -197,6 +202,10 @@ uint32_t vlm_port_bye(vlm_port *port);
 
 /* Takes the next item: kind VLM_NO_ITEM if the port knows of none. NORMAL, or BADPARAM and nothing is written. */
 uint32_t vlm_port_take(vlm_port *port, vlm_item *item);
+
+/* *items is the number of items that have come and that nobody has taken. It looks at the ring, so while the hub makes no
+ * turn, none is missed. NORMAL, or BADPARAM and nothing is written. */
+uint32_t vlm_port_waiting(vlm_port *port, size_t *items);
 
 /* Frees the port of a handle. The hub may go on, or be closed already. */
 void vlm_port_close(vlm_port *port);

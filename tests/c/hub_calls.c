@@ -401,7 +401,7 @@ static void closed_handles(vlm_hub *hub, vlm_port *port) {
     vlm_setting setting = {.size = sizeof setting, .pid = first_of(1), .block = 1};
     vlm_request request = request_of(first_of(1), VLM_EX);
     vlm_dequeue dequeue = dequeue_of(first_of(1), 1);
-    size_t made = 9;
+    size_t made = 9, waiting = 9;
     EXPECT(vlm_hub_port(hub, 1, &other), VLM_BADPARAM);
     EXPECT(vlm_hub_turn(hub, &made), VLM_BADPARAM);
     HOLD(made == 0);
@@ -418,7 +418,9 @@ static void closed_handles(vlm_hub *hub, vlm_port *port) {
     EXPECT(vlm_port_search(port), VLM_BADPARAM);
     EXPECT(vlm_port_bye(port), VLM_BADPARAM);
     EXPECT(vlm_port_take(port, &item), VLM_BADPARAM);
-    HOLD(vlm_port_node(port) == 0 && item.kind == 9);
+    EXPECT(vlm_hub_waiting(hub, 1, &waiting), VLM_BADPARAM);
+    EXPECT(vlm_port_waiting(port, &waiting), VLM_BADPARAM);
+    HOLD(vlm_port_node(port) == 0 && item.kind == 9 && waiting == 9);
     vlm_hub_close(hub);
     vlm_port_close(port);
     HOLD(!hub->is_held && !hub->held && !port->is_held && !port->held && !other.is_held);
@@ -450,6 +452,19 @@ static void closings(void) {
     closed_handles(&hub, &ports[0]);
 }
 
+/* So many posts of node 1 and items for it wait; there is no node 0, 2 or 9. */
+static void waits(vlm_hub *hub, vlm_port *port, size_t posts, size_t items) {
+    static const uint32_t others[] = {0, 2, 9, 257, UINT32_MAX};
+    size_t count = 77;
+    for (size_t i = 0; i < sizeof others / sizeof *others; i++)
+        EXPECT(vlm_hub_waiting(hub, others[i], &count), VLM_BADPARAM);
+    HOLD(count == 77);
+    EXPECT(vlm_hub_waiting(hub, 1, &count), VLM_NORMAL);
+    HOLD(count == posts);
+    EXPECT(vlm_port_waiting(port, &count), VLM_NORMAL);
+    HOLD(count == items);
+}
+
 /* The 65th post is refused. After it the 64 others are answered in their order. */
 static void full_posts(void) {
     vlm_hub hub = VLM_HUB_CLOSED;
@@ -463,7 +478,9 @@ static void full_posts(void) {
         declaration.node = 2;
         EXPECT(vlm_port_declare(&port, &declaration), VLM_BADPARAM);
         declaration.node = 1;
+        waits(&hub, &port, PLACES, 0);
         HOLD(turns(&hub) == PLACES);
+        waits(&hub, &port, 0, PLACES);
         for (uint32_t i = 0; i < PLACES; i++)
             ANSWER(&port, VLM_NORMAL, first_of(1) + round * PLACES + i);
         NOTHING(&port);

@@ -100,7 +100,10 @@ class Calls(unittest.TestCase):
         for _ in range(PLACES):
             self.first.search()
         self.assertRaises(Full, self.first.search)
+        self.assertRaises(BadParam, self.hub.waiting, 3)
+        self.assertEqual((self.hub.waiting(1), self.first.waiting()), (PLACES, 0))
         self.assertEqual(self.hub.turn(), 1)
+        self.assertEqual((self.hub.waiting(1), self.first.waiting()), (PLACES - 1, 1))
         self.answer(self.first)
         self.first.search()
 

@@ -126,6 +126,12 @@ class Hub(_Owner):
         """A node departs whose thread is gone: all its processes end. Departed says that it had departed before."""
         checked(self._call("vlm_hub_lost", word(node, "the node")))
 
+    def waiting(self, node: int) -> int:
+        """How many posts of a node the hub has not made."""
+        posts = c_size_t()
+        checked(self._call("vlm_hub_waiting", word(node, "the node"), posts))
+        return posts.value
+
     def nodes(self) -> int:
         """How many nodes the hub serves."""
         return self._call("vlm_hub_nodes")
@@ -218,6 +224,12 @@ class Port(_Owner):
         if words.kind == 1:
             return Answer(Condition(words.status), words.number)
         return AstItem(words.pid, ast_of(words.ast)) if words.kind else None
+
+    def waiting(self) -> int:
+        """How many items have come that nobody has taken."""
+        items = c_size_t()
+        checked(self._call("vlm_port_waiting", items))
+        return items.value
 
 
 def _request(pid: int, which: Optional[Which], completion: Optional[int], blocking: Optional[int],

@@ -1,6 +1,6 @@
 //! A hub of two nodes, with their ports in one hand.
 
-ghost use Rattle.std.specs.Prelude.{◌≡◌, [], IfOk};
+ghost use Rattle.std.specs.Prelude.{◌≡◌, ◌<◌, ◌≤◌, [], IfOk};
 ghost use Rattle.vlm_journal.specs.Journals.{IsPostOf};
 ghost use Rattle.vlm_ports.specs.Hubs.{IsPortOf, journal};
 ghost use Rattle.vlm_ports.specs.Ports.{identity};
@@ -81,13 +81,22 @@ impl Pair {
         }
     }
 
+    /// How many posts of a node the hub has not made, and how many items the node has not taken.
+    pub fn waiting(&mut self, node: Node) -> (usize, usize) {
+        let items = match node {
+            Node::First => self.first.items_waiting(),
+            Node::Second => self.second.items_waiting(),
+        };
+        let number = number_of(node);
+        if usize::from(number) > self.hub.nodes() {
+            return (0, items);
+        }
+        (self.hub.posts_waiting(number), items)
+    }
+
     /// A node is lost.
     pub fn lost(&mut self, node: Node) -> Result<Cond, AllocError> {
-        let number = match node {
-            Node::First => 1,
-            Node::Second => 2,
-        };
-        self.hub.lost(number)
+        self.hub.lost(number_of(node))
     }
 
     /// Hands out the entries since the last cut.
@@ -108,6 +117,15 @@ impl Pair {
     /// How many entries there are since the last cut.
     pub fn entries(&self) -> usize {
         self.hub.journal().len()
+    }
+}
+
+fn number_of(node: Node) -> u8
+    ensures { (0 < result) × (result ≤ 2) }
+{
+    match node {
+        Node::First => 1,
+        Node::Second => 2,
     }
 }
 

@@ -108,6 +108,13 @@ impl Hub {
         Ok(())
     }
 
+    /// How many posts of a node the hub has not made. BADPARAM: the hub has no such node.
+    pub fn waiting(&self, node: u8) -> Result<usize, Condition> {
+        let mut posts = 0;
+        answered(self.handle.waiting(u32::from(node), &mut posts))?;
+        Ok(posts)
+    }
+
     /// How many nodes the hub serves.
     pub fn nodes(&self) -> u8 {
         self.handle.nodes() as u8

@@ -101,6 +101,14 @@ impl Port {
         answered(self.handle.take(&mut words)).ok()?;
         Item::of(&words)
     }
+
+    /// How many items have come that nobody has taken.
+    pub fn waiting(&self) -> usize {
+        let mut items = 0;
+        // (only a closed handle refuses it, and this one is open)
+        let _ = answered(self.handle.waiting(&mut items));
+        items
+    }
 }
 
 /// An item for a node.

@@ -63,6 +63,7 @@ extern "C" {
     fn vlm_hub_port(hub: *mut VlmHub, node: u32, port: *mut VlmPort) -> u32;
     fn vlm_hub_turn(hub: *mut VlmHub, made: *mut usize) -> u32;
     fn vlm_hub_lost(hub: *mut VlmHub, node: u32) -> u32;
+    fn vlm_hub_waiting(hub: *mut VlmHub, node: u32, posts: *mut usize) -> u32;
     fn vlm_hub_nodes(hub: *mut VlmHub) -> usize;
     fn vlm_hub_entries(hub: *mut VlmHub) -> usize;
     fn vlm_hub_entry(hub: *mut VlmHub, place: usize, entry: *mut Entry) -> u32;
@@ -83,6 +84,7 @@ extern "C" {
     fn vlm_port_search(port: *mut VlmPort) -> u32;
     fn vlm_port_bye(port: *mut VlmPort) -> u32;
     fn vlm_port_take(port: *mut VlmPort, item: *mut Item) -> u32;
+    fn vlm_port_waiting(port: *mut VlmPort, items: *mut usize) -> u32;
     fn vlm_port_close(port: *mut VlmPort);
 }
 
@@ -123,6 +125,7 @@ calls! {
         lost = vlm_hub_lost(node: u32) -> u32;
     }
     by &Hub {
+        waiting = vlm_hub_waiting(node: u32, posts: &mut usize) -> u32;
         nodes = vlm_hub_nodes() -> usize;
         entries = vlm_hub_entries() -> usize;
         entry = vlm_hub_entry(place: usize, entry: &mut Entry) -> u32;
@@ -142,6 +145,7 @@ calls! {
         take = vlm_port_take(item: &mut Item) -> u32;
     }
     by &Port {
+        waiting = vlm_port_waiting(items: &mut usize) -> u32;
         node = vlm_port_node() -> u32;
     }
 }

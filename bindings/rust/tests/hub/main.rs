@@ -195,11 +195,14 @@ fn each_way_has_64_places() {
         assert_eq!(pair.first.search(), Ok(()));
     }
     assert_eq!(pair.first.search(), Err(PostError::Full));
+    assert_eq!(pair.hub.waiting(1), Ok(PLACES));
+    assert_eq!(pair.hub.waiting(3), Err(Condition::Badparam));
     assert_eq!(pair.second.search(), Ok(()));
     assert_eq!(pair.hub.turn(), Ok(2));
     for _ in 1..PLACES {
         assert_eq!(pair.hub.turn(), Ok(1));
     }
+    assert_eq!((pair.hub.waiting(1), pair.first.waiting()), (Ok(0), PLACES));
     // The port has taken no item: its items fill their places, and later posts stay where they are.
     assert_eq!(pair.first.search(), Ok(()));
     assert_eq!(pair.hub.turn(), Ok(0));

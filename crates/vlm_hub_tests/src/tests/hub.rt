@@ -134,6 +134,7 @@ fn a_greedy_node_keeps_nobody(rt: HostRuntime) -> Result<(), Fail> {
         assert!(&rt; pair.turn() == Turn::Served(2));
         assert!(&rt; is_answer(pair.take(Second), Answer::Victim(None)));
     }
+    assert!(&rt; pair.waiting(First) == (56, 8));
     let settled = pair.settle(First);
     assert!(&rt; settled.steps == 56 && settled.items == 8);
     pair.close();
