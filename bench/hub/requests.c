@@ -1,14 +1,14 @@
 /* Pairs of a request for EX and its dequeue, through the ports of a hub, and by the calls of vlm.h.
  *
- *     requests port PAIRS EVERY     one port and its hub in one thread: a request is posted, the hub makes a turn, and the
- *                                   port takes the answer. The journal is cut at EVERY entries; with 0 it is not cut
+ *     requests port PAIRS EVERY     one port and its hub in one thread: a request is posted, the hub makes a turn, and
+ *                                   the port takes the answer. The journal is cut at EVERY entries, or with 0 never
  *     requests calls PAIRS          the same requests by vlm.h
- *     requests hub NODES PAIRS      a thread for each node keeps 16 posts under way, and one more thread has the hub make
- *                                   turns and cuts its journal
+ *     requests hub NODES PAIRS      a thread for each node keeps 16 posts under way, and one more thread has the hub
+ *                                   make turns and cuts its journal
  *     requests mutex NODES PAIRS    as many threads make the same requests by vlm.h, under a mutex of the program's own
  *
- * The first two make their pairs beside 1,000 locks, and print nothing. Of the others each node has 16 resources of its
- * own and makes PAIRS pairs. They print requests a second, by the clock. */
+ * The first two make their pairs beside 1,000 locks, and print nothing. In the other two each node makes PAIRS pairs,
+ * on 16 resources of its own. They print requests a second, by the clock. */
 #define _DEFAULT_SOURCE
 
 #include <vlm_hub.h>
