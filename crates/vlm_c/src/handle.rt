@@ -29,8 +29,13 @@ pub struct Vlm {
 
 impl Drop for Vlm {
     fn drop(self) {
-        if let Some(core) = self.into_core() {
-            free(core);
+        let Vlm {
+            slot,
+            is_held,
+            alloc,
+        } = self;
+        if is_held {
+            free(slot.into_loose(alloc).into_box());
         }
     }
 }
@@ -56,19 +61,28 @@ impl Vlm {
         })
     }
 
-    pub(crate) fn into_core(self) -> Option<Box<Core>>
-        ensures { option_map (λ b. b.value) result ≡ self.slot.core }
+    // Takes the core out. The handle has none until `put` puts it back.
+    #[inline(always)]
+    fn take(&mut self) -> Option<Box<Core>>
+        ensures core { option_map (λ b. b.value) result ≡ self.old.slot.core }
+        ensures left { self.new.slot.core ≡ None }
     {
-        let Vlm {
-            slot,
-            is_held,
-            alloc,
-        } = self;
-        if is_held {
-            Some(slot.into_loose(alloc).into_box())
+        let slot = replace(&mut self.slot, Slot::empty());
+        if replace(&mut self.is_held, false) {
+            Some(slot.into_loose(self.alloc).into_box())
         } else {
             None
         }
+    }
+
+    // Only a handle without a core may get one: a slot frees nothing.
+    #[inline(always)]
+    fn put(&mut self, core: Box<Core>)
+        requires { self.old.slot.core ≡ None }
+        ensures { self.new.slot.core ≡ Some core.value }
+    {
+        self.slot = Slot::of(Loose::of(core));
+        self.is_held = true;
     }
 
     pub(crate) fn is_open(&mut self) -> bool
@@ -83,10 +97,9 @@ impl Vlm {
         requires { F.IsAlwaysCallable call }
         ensures { Called (FnOnceReturnsAtMut F.FnOnce call) self.old.slot.core result self.new.slot.core }
     {
-        let alloc = self.alloc;
-        let mut core = replace(self, Vlm::closed(alloc)).into_core()?;
+        let mut core = self.take()?;
         let result = call(&mut *core);
-        *self = Vlm::holding(core, alloc);
+        self.put(core);
         Some(result)
     }
 

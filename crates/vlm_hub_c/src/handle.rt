@@ -23,8 +23,13 @@ pub struct Handle {
 
 impl Drop for Handle {
     fn drop(self) {
-        if let Some(held) = self.into_held() {
-            free(held);
+        let Handle {
+            slot,
+            is_held,
+            alloc,
+        } = self;
+        if is_held {
+            free(slot.into_loose(alloc).into_box());
         }
     }
 }
@@ -50,19 +55,28 @@ impl Handle {
         })
     }
 
-    fn into_held(self) -> Option<Box<Held>>
-        ensures { option_map (λ b. b.value) result ≡ self.slot.held }
+    // Takes out what it holds. It holds nothing until `put` puts that back.
+    #[inline(always)]
+    fn take(&mut self) -> Option<Box<Held>>
+        ensures held { option_map (λ b. b.value) result ≡ self.old.slot.held }
+        ensures left { self.new.slot.held ≡ None }
     {
-        let Handle {
-            slot,
-            is_held,
-            alloc,
-        } = self;
-        if is_held {
-            Some(slot.into_loose(alloc).into_box())
+        let slot = replace(&mut self.slot, Slot::empty());
+        if replace(&mut self.is_held, false) {
+            Some(slot.into_loose(self.alloc).into_box())
         } else {
             None
         }
+    }
+
+    // Only a handle that holds nothing may get something: a slot frees nothing.
+    #[inline(always)]
+    fn put(&mut self, held: Box<Held>)
+        requires { self.old.slot.held ≡ None }
+        ensures { self.new.slot.held ≡ Some held.value }
+    {
+        self.slot = Slot::of(Loose::of(held));
+        self.is_held = true;
     }
 
     /// Whether it holds a hub or a port.
@@ -78,10 +92,9 @@ impl Handle {
         requires { F.IsAlwaysCallable call }
         ensures { LendsHub (FnOnceReturnsAtMut F.FnOnce call) self.old.slot.held result self.new.slot.held }
     {
-        let alloc = self.alloc;
-        let mut held = replace(self, Handle::closed(alloc)).into_held()?;
+        let mut held = self.take()?;
         let result = lend_hub(&mut *held, call);
-        *self = Handle::holding(held, alloc);
+        self.put(held);
         result
     }
 
@@ -91,10 +104,9 @@ impl Handle {
         requires { F.IsAlwaysCallable call }
         ensures { LendsPort (FnOnceReturnsAtMut F.FnOnce call) self.old.slot.held result self.new.slot.held }
     {
-        let alloc = self.alloc;
-        let mut held = replace(self, Handle::closed(alloc)).into_held()?;
+        let mut held = self.take()?;
         let result = lend_port(&mut *held, call);
-        *self = Handle::holding(held, alloc);
+        self.put(held);
         result
     }
 }

@@ -1,11 +1,12 @@
 //! The struct that C gets of an item.
 
 ghost use Rattle.std.specs.Prelude.{◌≡◌};
-ghost use Rattle.vlm_hub_c.specs.Items.{item_or_none};
+ghost use Rattle.vlm_hub_c.specs.Items.{answer_item, ast_item, no_item};
 
 use std::mem::size_of;
 use vlm_ffi::replies::{VlmAst, answer_number, answer_status, ast_of, no_ast};
-use vlm_ports::Item;
+use vlm_words::asts::Ast;
+use vlm_words::steps::Answer;
 
 // The `size` that C writes into the struct.
 pub(crate) const ITEM_SIZE: u32 = 64;
@@ -29,37 +30,47 @@ pub struct VlmItem {
     pub ast: VlmAst,
 }
 
-/// The struct of an item, or one of kind 0.
-pub(crate) fn item_or_none(item: &Option<Item>) -> VlmItem
-    ensures { result ≡ item_or_none item.now }
+/// The struct of an answer.
+pub(crate) fn answer_item(answer: &Answer) -> VlmItem
+    ensures { result ≡ answer_item answer.now }
 {
-    match item {
-        Some(Item::Answer(answer)) => VlmItem {
-            size: ITEM_SIZE,
-            kind: 1,
-            status: answer_status(answer),
-            number: answer_number(answer),
-            pid: 0,
-            reserved: [0; 3],
-            ast: no_ast(),
-        },
-        Some(Item::Ast(pid, ast)) => VlmItem {
-            size: ITEM_SIZE,
-            kind: 2,
-            status: 0,
-            number: 0,
-            pid: *pid,
-            reserved: [0; 3],
-            ast: ast_of(ast),
-        },
-        None => VlmItem {
-            size: ITEM_SIZE,
-            kind: 0,
-            status: 0,
-            number: 0,
-            pid: 0,
-            reserved: [0; 3],
-            ast: no_ast(),
-        },
+    VlmItem {
+        size: ITEM_SIZE,
+        kind: 1,
+        status: answer_status(answer),
+        number: answer_number(answer),
+        pid: 0,
+        reserved: [0; 3],
+        ast: no_ast(),
+    }
+}
+
+/// The struct of an AST for a process.
+pub(crate) fn ast_item(pid: u32, ast: &Ast) -> VlmItem
+    ensures { result ≡ ast_item pid ast.now }
+{
+    VlmItem {
+        size: ITEM_SIZE,
+        kind: 2,
+        status: 0,
+        number: 0,
+        pid,
+        reserved: [0; 3],
+        ast: ast_of(ast),
+    }
+}
+
+/// What C reads if no item has come.
+pub(crate) fn no_item() -> VlmItem
+    ensures { result ≡ no_item }
+{
+    VlmItem {
+        size: ITEM_SIZE,
+        kind: 0,
+        status: 0,
+        number: 0,
+        pid: 0,
+        reserved: [0; 3],
+        ast: no_ast(),
     }
 }

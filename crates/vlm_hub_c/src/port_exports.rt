@@ -11,7 +11,7 @@ ghost use Rattle.vlm_hub_c.specs.Hubs.{port_node};
 ghost use Rattle.vlm_hub_c.specs.Posts.{CountsItems, Posts, PostsAs, TakesItemIf};
 
 use crate::handle::Handle;
-use crate::items::{ITEM_SIZE, VlmItem, item_or_none};
+use crate::items::{ITEM_SIZE, VlmItem, answer_item, ast_item, no_item};
 use crate::posts::{count_items, post_bye, post_search, post_status, post_step, take_item};
 use std::alloc::Global;
 use vlm_ffi::arguments::{
@@ -20,6 +20,7 @@ use vlm_ffi::arguments::{
 };
 use vlm_ffi::copies::copy_out;
 use vlm_ffi::replies::status;
+use vlm_ports::Item;
 use vlm_words::conditions::Cond;
 use vlm_words::steps::Step;
 
@@ -122,12 +123,12 @@ pub extern "C" fn vlm_port_take(handle: &mut Handle, out: &mut VlmItem) -> u32
         return status(Cond::Badparam);
     }
     match handle.with_port(|port| take_item(port)) {
-        Some(item) => {
-            *out = item_or_none(&item);
-            status(Cond::Normal)
-        }
-        None => status(Cond::Badparam),
+        Some(Some(Item::Answer(answer))) => *out = answer_item(&answer),
+        Some(Some(Item::Ast(pid, ast))) => *out = ast_item(pid, &ast),
+        Some(None) => *out = no_item(),
+        None => return status(Cond::Badparam),
     }
+    status(Cond::Normal)
 }
 
 /// Counts the items that have come and are not taken.
