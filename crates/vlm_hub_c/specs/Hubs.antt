@@ -66,10 +66,14 @@ GivesPort node old (Ok b) new = (0 < node) × HasGiven (node - 1) old b.value ne
 GivesPort node old (Err cond) new = (new.hub ≡ old.hub) × (new.ports.items ≡ old.ports.items)
     × ((cond ≡ Badparam) ⊎ (cond ≡ Insfmem))
 
+-- nothing was cut: each node has the same requests and items before these entries
+abbrev pub KeepsBase : OwnedHub → OwnedHub → Type 0
+KeepsBase old new = (base new.hub ≡ base old.hub) × (bases new.hub ≡ bases old.hub)
+
 -- the hub has made a turn, as `Hub::turn` says, and has the same ports
 pub record HasTurned (old : OwnedHub) (turn : Turn) (new : OwnedHub) : Type 0 where
   pub rings : rings new.hub ≡ rings old.hub
-  pub base : (base new.hub ≡ base old.hub) × (bases new.hub ≡ bases old.hub)
+  pub base : KeepsBase old new
   pub made : HubGrew (turn_entries turn) old.hub new.hub
   pub some : IsServedTurn turn → 0 < turn_entries turn
   pub most : turn_entries turn ≤ 2 * nodes old.hub
@@ -99,7 +103,7 @@ pub record TurnsHub (before after : Option Held) (status made : ℕ) : Type 0 wh
 -- the departure of a lost node is made, as `Hub::lost` says, and the hub has the same ports
 pub record IsLost (node : ℕ) (old : OwnedHub) (result : Result Cond AllocError) (new : OwnedHub) : Type 0 where
   pub rings : rings new.hub ≡ rings old.hub
-  pub base : (base new.hub ≡ base old.hub) × (bases new.hub ≡ bases old.hub)
+  pub base : KeepsBase old new
   pub known : KnowsAllTheSame old.hub new.hub
   pub lost : IfOk result (λ cond. journal new.hub ≡ journal old.hub
       ++ record { sender = 0; step = Leave node; answer = Plain cond } ∷ [])
@@ -129,7 +133,7 @@ pub record LosesNode (node : ℕ) (before after : Option Held) (status : ℕ) : 
 -- the posts of a node are counted, as `Hub::posts_waiting` says, and the hub has the same ports
 pub record HasPostsCounted (node : ℕ) (old : OwnedHub) (count : ℕ) (new : OwnedHub) : Type 0 where
   pub rings : rings new.hub ≡ rings old.hub
-  pub base : (base new.hub ≡ base old.hub) × (bases new.hub ≡ bases old.hub)
+  pub base : KeepsBase old new
   pub unmoved : IsAsWritten old.hub new.hub
   pub counted : count ≡ length (waiting new.hub node)
   pub known : KeepsKnown old.hub new.hub
