@@ -51,20 +51,27 @@ abbrev pub OpensHubIf : Bool → ℕ → Option Held → Option Held → ℕ →
 OpensHubIf true count before after status = OpensHub count before after status
 OpensHubIf false count before after status = (after ≡ before) × (status ≡ condition_number Badparam)
 
--- the hub gives the port at a place, and has it no more
-pub record HasGiven (at : ℕ) (old : OwnedHub) (held : Held) (new : OwnedHub) : Type 0 where
-  pub port : Port
-  pub within : at < length old.ports.items
-  pub there : (d : Option Port) → slice_index_or old.ports.items at d ≡ Some port
-  pub given : held ≡ port_held port
-  pub gone : new.ports.items ≡ slice_set old.ports.items at None
+-- the port of a place goes into a block of its own; without memory it stays there, and without a port nothing changes
+abbrev pub BoxesPort : Option Port → Result (Box Held Global) Cond → Option Port → Type 0
+BoxesPort (Some p) (Ok b) after = (b.value ≡ port_held p) × (after ≡ None)
+BoxesPort (Some p) (Err cond) after = (cond ≡ Insfmem) × (after ≡ Some p)
+BoxesPort None (Ok b) after = ⊥
+BoxesPort None (Err cond) after = (cond ≡ Badparam) × (after ≡ None)
+
+-- the place of a node gives its port, and all else stays
+pub record GivesFromPlace (node : ℕ) (old : OwnedHub) (result : Result (Box Held Global) Cond) (new : OwnedHub) : Type 0 where
+  pub place : Option Port
+  pub left : Option Port
+  pub within : (0 < node) × (node ≤ length old.ports.items)
+  pub there : (d : Option Port) → slice_index_or old.ports.items (node - 1) d ≡ place
+  pub boxes : BoxesPort place result left
+  pub ports : new.ports.items ≡ slice_set old.ports.items (node - 1) left
   pub hub : new.hub ≡ old.hub
 
--- the hub gives the port of a node; without that port, or without memory, it stays as it is
-abbrev pub GivesPort : ℕ → OwnedHub → Result (Box Held Global) Cond → OwnedHub → Type 0
-GivesPort node old (Ok b) new = (0 < node) × HasGiven (node - 1) old b.value new
-GivesPort node old (Err cond) new = (new.hub ≡ old.hub) × (new.ports.items ≡ old.ports.items)
-    × ((cond ≡ Badparam) ⊎ (cond ≡ Insfmem))
+-- the hub gives the port of one of its nodes; for another number nothing changes
+unfoldable pub GivesPort : ℕ → OwnedHub → Result (Box Held Global) Cond → OwnedHub → Type 0
+GivesPort node old result new = GivesFromPlace node old result new
+    ⊎ (((node ≡ 0) ⊎ (length old.ports.items < node)) × (result ≡ Err Badparam) × (new ≡ old))
 
 -- nothing was cut: each node has the same requests and items before these entries
 abbrev pub KeepsBase : OwnedHub → OwnedHub → Type 0

@@ -3,7 +3,7 @@
 ghost use Rattle.std.specs.Prelude.{◌≡◌, ◌<◌, ◌≤◌, IfOk, length, slice_get};
 ghost use Rattle.std.specs.Option.{option_map};
 ghost use Rattle.vlm_hub_c.specs.Entries.{entry_of};
-ghost use Rattle.vlm_hub_c.specs.Hubs.{GivesPort, HasCounted, HasCut, HasLost, HasTurned, IsNewHeld};
+ghost use Rattle.vlm_hub_c.specs.Hubs.{BoxesPort, GivesPort, HasCounted, HasCut, HasLost, HasTurned, IsNewHeld};
 ghost use Rattle.vlm_ports.specs.Hubs.{journal, nodes};
 
 use crate::entries::{VlmEntry, entry_of};
@@ -11,7 +11,7 @@ use crate::held::{Held, OwnedHub};
 use std::alloc::{AllocError, Global};
 use vlm_collections::HashKeys;
 use vlm_core::Core;
-use vlm_ports::{Hub, Part, Turn};
+use vlm_ports::{Hub, Part, Port, Turn};
 use vlm_words::conditions::Cond;
 
 /// Makes a hub of 1 to 8 nodes, with a port of each.
@@ -28,9 +28,29 @@ pub(crate) fn new_hub(alloc: Global, keys: HashKeys, count: usize) -> Result<Box
     Ok(Box::new(alloc, Held::Hub(owned))?)
 }
 
+// Takes the port of a place, in a block of its own. BADPARAM if it has none. INSFMEM: the place keeps it.
+fn box_port(alloc: Global, place: &mut Option<Port>) -> Result<Box<Held>, Cond>
+    ensures { BoxesPort place.old result place.new }
+{
+    let Some(port) = place.take() else {
+        return Err(Cond::Badparam);
+    };
+    match Box::new(alloc, Held::Port(port)) {
+        Ok(held) => Ok(held),
+        Err(refused) => {
+            match refused.value {
+                Held::Port(port) => *place = Some(port),
+                Held::Hub(_hub) => {}
+            }
+            Err(Cond::Insfmem)
+        }
+    }
+}
+
 impl OwnedHub {
     /// Gives the port of a node. BADPARAM if it has no such port, or not any more. INSFMEM if there is no memory for the
     /// handle: then it keeps the port.
+    #[tactic(auto, unfolding(crate::specs::Hubs::GivesPort))]
     pub(crate) fn give_port(&mut self, alloc: Global, node: u32) -> Result<Box<Held>, Cond>
         ensures { GivesPort node self.old result self.new }
     {
@@ -40,19 +60,7 @@ impl OwnedHub {
         let Some(place) = self.ports.get_mut(node as usize - 1) else {
             return Err(Cond::Badparam);
         };
-        let Some(port) = place.take() else {
-            return Err(Cond::Badparam);
-        };
-        match Box::new(alloc, Held::Port(port)) {
-            Ok(held) => Ok(held),
-            Err(refused) => {
-                match refused.value {
-                    Held::Port(port) => *place = Some(port),
-                    Held::Hub(_hub) => {}
-                }
-                Err(Cond::Insfmem)
-            }
-        }
+        box_port(alloc, place)
     }
 
     pub(crate) fn turn(&mut self) -> Turn
