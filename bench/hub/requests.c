@@ -219,8 +219,9 @@ static double rate(int is_hub, uint32_t nodes, long pairs) {
         workers[i] = (struct worker){.pid = pids[i], .port = ports[i], .name = {(uint8_t)('A' + i)}};
         must(!pthread_create(&threads[i], NULL, is_hub ? post_all : call_all, &workers[i]), "pthread_create");
     }
-    pthread_barrier_wait(&begin);
+    /* (before the threads begin: this one may be kept from its processor until they have ended) */
     double start = seconds();
+    pthread_barrier_wait(&begin);
     if (is_hub)
         serve();
     for (uint32_t i = 0; i < nodes; i++)

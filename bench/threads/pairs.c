@@ -196,8 +196,9 @@ int main(int count, char **words) {
     pthread_barrier_init(&begin, NULL, (unsigned)all + 1);
     for (int i = 0; i < all; i++)
         must(!pthread_create(&threads[i], NULL, run_with_others, &workers[i]), "pthread_create");
-    pthread_barrier_wait(&begin);
+    /* (before the threads begin: this one may be kept from its processor until they have ended) */
     double start = seconds();
+    pthread_barrier_wait(&begin);
     for (int i = 0; i < all; i++)
         pthread_join(threads[i], NULL);
     printf("%.0f\n", (double)(all * pairs) / (seconds() - start));
