@@ -121,9 +121,16 @@ impl Core {
     pub fn step(&mut self, step: Step) -> Answer
         ensures { Outcome self.old step self.new result }
     {
+        self.make_step(&step)
+    }
+
+    /// As [`Core::step`], for a step that stays where it is: it is not copied.
+    pub fn make_step(&mut self, step: &Step) -> Answer
+        ensures { Outcome self.old step.now self.new result }
+    {
         self.between_steps();
         self.machine
-            .step(&mut self.touched, &mut self.scratch, &step)
+            .step(&mut self.touched, &mut self.scratch, step)
     }
 
     /// Declares a process (this project's own). Refusals, in this order: BADPARAM if the node is not 1 to 8; DEPARTED;

@@ -80,19 +80,18 @@ impl JournaledCore {
 
     /// Makes a step that a node has posted, and writes an entry with its answer. The entry takes no memory. The step
     /// may need some, and is answered INSFMEM if that is refused. It costs as much as the step.
-    pub fn serve(&mut self, sender: u8, step: Step) -> Answer
+    pub fn serve(&mut self, sender: u8, step: &Step) -> Answer
         requires room { 0 < self.old.room }
         requires sender { (0 < sender) × (sender ≤ 8) }
-        requires post { IsPostOf sender step }
-        ensures outcome { Outcome self.old.state step self.new.state result }
-        ensures written { IsWritten (record { sender = sender; step = step; answer = result })
+        requires post { IsPostOf sender step.now }
+        ensures outcome { Outcome self.old.state step.now self.new.state result }
+        ensures written { IsWritten (record { sender = sender; step = step.now; answer = result })
             self.old self.new }
     {
         law_entry();
         law_departed();
-        let asked = step;
-        let answer = self.core.step(step);
-        self.entries.push_reserved(entry(sender, asked, answer));
+        let answer = self.core.make_step(step);
+        self.entries.push_reserved(entry(sender, *step, answer));
         answer
     }
 

@@ -27,6 +27,13 @@ taken_one ro ko rn kn x r k = ap (λ (l : List _). ro ++ l) k ∙ sym (append_as
 pub mapped_one : {X Y : Type 0} (f : X → Y) (ro ko rn kn : List X) (x : X) → rn ≡ ro ++ x ∷ [] → ko ≡ x ∷ kn → map f ro ++ map f ko ≡ map f rn ++ map f kn
 mapped_one f ro ko rn kn x r k = sym (map-append f ro ko) ∙ ap (map f) (taken_one ro ko rn kn x r k) ∙ map-append f rn kn
 
+-- the first that is known is taken
+pub taken_first : {X Y : Type 0} (f : X → Y) (ro ko rn kn : List X) (x : X) → rn ≡ ro ++ x ∷ [] → ko ≡ x ∷ kn
+    → (y : Y) → IsPrefix (y ∷ []) (map f ko) → map f rn ≡ map f ro ++ y ∷ []
+taken_first f ro ko rn kn x r k y first =
+    let is : y ≡ f x = ap (λ (l : List _). get_or l 0 y) (first.1 ∙ ap (map f) k) in
+    ap (map f) r ∙ map-append f ro (x ∷ []) ∙ ap (λ (z : _). map f ro ++ z ∷ []) (sym is)
+
 -- ---- one line
 
 pub lasts_still : (l : NodeRings) → Lasts l l

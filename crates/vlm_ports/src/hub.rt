@@ -6,6 +6,7 @@ ghost use Rattle.vlm_ports.specs.Ports.{AreNew as AreNewPorts, identity as port_
 
 use crate::node_rings::{NodeRings, Settled};
 use crate::port::Port;
+use crate::posts::on_behalf;
 use std::alloc::{AllocError, Global};
 use std::sync::Wait;
 use vlm_core::Core;
@@ -13,7 +14,7 @@ use vlm_journal::entries::{Entry, Item, Part};
 use vlm_journal::journaled_core::JournaledCore;
 use vlm_watch::Board;
 use vlm_words::conditions::Cond;
-use vlm_words::steps::Answer;
+use vlm_words::steps::{Answer, Step};
 
 /// The hub makes the steps that the ports post. It owns the core and its journal. It can't be dropped, since a watched
 /// hub may have to wait: end it by [`Hub::finish`], or by [`Hub::close`] if it is not watched.
@@ -278,13 +279,13 @@ impl Hub {
         ensures refused { OnErr result (IsAsWritten self.old self.new) }
     {
         let node_rings = &mut self.all_node_rings[at];
-        if !node_rings.has_place() {
-            return Ok(0);
-        }
         let node = node_rings.node;
         let Some(pid) = self.journaled.pending_of(node) else {
             return Ok(0);
         };
+        if !node_rings.has_place() {
+            return Ok(0);
+        }
         self.journaled.reserve()?;
         let ast = self.journaled.deliver_ast(node, pid);
         node_rings.tell(Item::Ast(pid, ast));
@@ -306,15 +307,18 @@ impl Hub {
         ensures refused { OnErr result (IsAsWritten self.old self.new) }
     {
         let node_rings = &mut self.all_node_rings[at];
-        if !node_rings.has_known_place() {
-            return Ok(0);
-        }
         if !node_rings.has_request() {
             return Ok(0);
         }
+        if !node_rings.has_place() {
+            return Ok(0);
+        }
         self.journaled.reserve()?;
-        let step = node_rings.request();
-        let answer = self.journaled.serve(node_rings.node, step);
+        let node = node_rings.node;
+        let departure = Step::Leave(node);
+        let step = on_behalf(node, node_rings.next_request(), &departure);
+        let answer = self.journaled.serve(node, step);
+        node_rings.take_request();
         node_rings.tell(Item::Answer(answer));
         Ok(1)
     }

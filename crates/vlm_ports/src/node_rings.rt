@@ -2,10 +2,10 @@
 
 ghost use Rattle.std.specs.Prelude.{◌≡◌, ◌+◌, ◌<◌, ◌≤◌, ◌∷◌, ◌++◌, [], length, IsTrue, IsFalse, IfOk};
 ghost use Rattle.rtrb.specs.Ring.{producer_capacity};
-ghost use Rattle.vlm_journal.specs.Journals.{IsPostOf};
+ghost use mathlib.Core.List.{IsPrefix};
+ghost use Rattle.vlm_ports.specs.Posts.{on_behalf};
 
 use crate::port::Port;
-use crate::posts::on_behalf;
 use rtrb::{Consumer, Producer, RingBuffer};
 use std::alloc::{AllocError, Global};
 use vlm_journal::entries::Item;
@@ -77,14 +77,6 @@ impl NodeRings {
         !self.items.is_full()
     }
 
-    /// Whether a place for an item is known to be free. It does not look at the ring.
-    pub(crate) fn has_known_place(&self) -> bool
-        ensures place { IsTrue result → 0 < places self.now }
-        ensures none { IsFalse result → places self.now ≡ 0 }
-    {
-        self.items.cached_slots() > 0
-    }
-
     /// Whether a post is known to be on the ring. If it knows of no post, it looks at the ring.
     pub(crate) fn has_request(&mut self) -> bool
         ensures rings { node_rings_identity self.new ≡ node_rings_identity self.old }
@@ -109,17 +101,25 @@ impl NodeRings {
         self.requests.slots()
     }
 
-    /// The next known post.
-    pub(crate) fn request(&mut self) -> Step
+    /// The next known post, as the node posted it. It stays on the ring.
+    pub(crate) fn next_request(&self) -> &Step
+        requires { 0 < length (knows self.now) }
+        ensures { IsPrefix (on_behalf self.now.node result.now ∷ []) (knows self.now) }
+    {
+        self.requests.peek_known()
+    }
+
+    /// Takes the next known post off the ring.
+    pub(crate) fn take_request(&mut self)
         requires { 0 < length (knows self.old) }
         ensures rings { node_rings_identity self.new ≡ node_rings_identity self.old }
-        ensures taken { has_taken self.new ≡ has_taken self.old ++ result ∷ [] }
+        ensures taken { (step : Step) → IsPrefix (step ∷ []) (knows self.old)
+            → has_taken self.new ≡ has_taken self.old ++ step ∷ [] }
         ensures told { has_told self.new ≡ has_told self.old }
         ensures places { places self.new ≡ places self.old }
         ensures lasts { Lasts self.old self.new }
-        ensures post { IsPostOf self.old.node result }
     {
-        on_behalf(self.node, self.requests.pop_known())
+        let _taken = self.requests.pop_known();
     }
 
     /// Sends an item.

@@ -8,12 +8,12 @@ use Rattle.vlm_journal.proofs.journaled_core.JournaledCore.serve.Goals as goal
 pub invariant_of-self : goal.invariant_of-self
 invariant_of-self c =
     rw (c.push_reserved.ensures.items, c.entry.ensures)
-    (goes_on (record { sender = c.args.sender; step = c.args.step; answer = c.step-answer.result }) c.self.invariant (inr (c.requires.sender.0, c.requires.sender.1, c.requires.post)) c.step-answer.ensures)
+    (goes_on (record { sender = c.args.sender; step = c.args.step.now; answer = c.make_step-answer.result }) c.self.invariant (inr (c.requires.sender.0, c.requires.sender.1, c.requires.post)) c.make_step-answer.ensures)
 
 -- a node that had departed stays departed
 pub returns-clause-written : goal.returns-clause-written
 returns-clause-written c =
-    let leads = one_leads (record { sender = c.args.sender; step = c.args.step; answer = c.step-answer.result }) (inr (c.requires.sender.0, c.requires.sender.1, c.requires.post)) (subst (λ (b : Account). Outcome b.state c.args.step c.step-answer.new.self c.step-answer.result) c.self.view_is c.step-answer.ensures) in record {
+    let leads = one_leads (record { sender = c.args.sender; step = c.args.step.now; answer = c.make_step-answer.result }) (inr (c.requires.sender.0, c.requires.sender.1, c.requires.post)) (subst (λ (b : Account). Outcome b.state c.args.step.now c.make_step-answer.new.self c.make_step-answer.result) c.self.view_is c.make_step-answer.ensures) in record {
       entries = search rules;
       leads = leads;
       departed = λ gone.

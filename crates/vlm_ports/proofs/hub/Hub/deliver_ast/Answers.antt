@@ -19,16 +19,6 @@ returns-then-not-has_place-clause-base c =
     c.has_place.ensures.rings c.has_place.ensures.taken c.has_place.ensures.told in
     (refl, follows.bases)
 
-pub returns-in_default-clause-rings : goal.returns-in_default-clause-rings
-returns-in_default-clause-rings c =
-    rings_set c.args.self.now.all_node_rings.items c.args.at c.has_place.new.self c.index_mut-node_rings.result.now c.index_mut-node_rings.ensures.value c.has_place.ensures.rings
-
-pub returns-in_default-clause-base : goal.returns-in_default-clause-base
-returns-in_default-clause-base c =
-    let follows = set_same c.args.self.now.all_node_rings.items c.args.self.now.journaled.entries c.args.at c.has_place.new.self c.index_mut-node_rings.result.now c.args.self.now.linked c.requires c.index_mut-node_rings.ensures.value
-    c.has_place.ensures.rings c.has_place.ensures.taken c.has_place.ensures.told in
-    (refl, follows.bases)
-
 pub returns-in_err-reserve-clause-rings : goal.returns-in_err-reserve-clause-rings
 returns-in_err-reserve-clause-rings c =
     rings_set c.args.self.now.all_node_rings.items c.args.at c.has_place.new.self c.index_mut-node_rings.result.now c.index_mut-node_rings.ensures.value c.has_place.ensures.rings
@@ -44,9 +34,9 @@ returns-in_err-reserve-clause-base c =
 pub invariant_of-self-2-clause-linked : goal.invariant_of-self-2-clause-linked
 invariant_of-self-2-clause-linked c =
     let ls = c.args.self.now.all_node_rings.items in let js = c.args.self.now.journaled.entries in let l = c.tell.new.self in let at = c.args.at in
-    let was = c.index_mut-node_rings.result.now in let seen = c.has_place.new.self in
+    let was = c.index_mut-node_rings.result.now in
     let pid = c.in-Some.pid in let ast = c.deliver_ast-ast.result in
-    let to = c.deliver_ast-ast.ensures.node ∙ node_at ls js at seen was c.args.self.now.linked c.requires c.index_mut-node_rings.ensures.value c.has_place.ensures.rings in
+    let to = c.deliver_ast-ast.ensures.node ∙ node_at ls js at was was c.args.self.now.linked c.requires c.index_mut-node_rings.ensures.value refl in
     (delivered_follows ls js c.reserve.new.self.entries c.deliver_ast-ast.new.self.entries at l was pid ast c.args.self.now.linked c.requires c.index_mut-node_rings.ensures.value
     c.reserve.ensures.entries c.deliver_ast-ast.ensures.written.told c.deliver_ast-ast.ensures.written.entries to (c.tell.ensures.rings ∙ c.has_place.ensures.rings) (c.tell.ensures.taken ∙ c.has_place.ensures.taken)
     (c.tell.ensures.told ∙ ap (λ (xs : List Item). xs ++ ast_item pid ast ∷ []) c.has_place.ensures.told)).linked
@@ -59,9 +49,9 @@ returns-clause-rings c =
 pub returns-clause-base : goal.returns-clause-base
 returns-clause-base c =
     let ls = c.args.self.now.all_node_rings.items in let js = c.args.self.now.journaled.entries in let l = c.tell.new.self in let at = c.args.at in
-    let was = c.index_mut-node_rings.result.now in let seen = c.has_place.new.self in
+    let was = c.index_mut-node_rings.result.now in
     let pid = c.in-Some.pid in let ast = c.deliver_ast-ast.result in
-    let to = c.deliver_ast-ast.ensures.node ∙ node_at ls js at seen was c.args.self.now.linked c.requires c.index_mut-node_rings.ensures.value c.has_place.ensures.rings in (
+    let to = c.deliver_ast-ast.ensures.node ∙ node_at ls js at was was c.args.self.now.linked c.requires c.index_mut-node_rings.ensures.value refl in (
       c.deliver_ast-ast.ensures.written.base ∙ c.reserve.ensures.base,
       (delivered_follows ls js c.reserve.new.self.entries c.deliver_ast-ast.new.self.entries at l was pid ast c.args.self.now.linked c.requires c.index_mut-node_rings.ensures.value
           c.reserve.ensures.entries c.deliver_ast-ast.ensures.written.told c.deliver_ast-ast.ensures.written.entries to (c.tell.ensures.rings ∙ c.has_place.ensures.rings) (c.tell.ensures.taken ∙ c.has_place.ensures.taken)
@@ -88,11 +78,6 @@ returns-in_default-clause-grew c = (omega arith, grew_none c.args.self.now.journ
 
 pub returns-then-not-has_place-clause-known : goal.returns-then-not-has_place-clause-known
 returns-then-not-has_place-clause-known c =
-    lasts_at c.args.self.now.all_node_rings.items c.args.at c.has_place.new.self c.index_mut-node_rings.result.now c.requires c.index_mut-node_rings.ensures.value
-    c.has_place.ensures.lasts
-
-pub returns-in_default-clause-known : goal.returns-in_default-clause-known
-returns-in_default-clause-known c =
     lasts_at c.args.self.now.all_node_rings.items c.args.at c.has_place.new.self c.index_mut-node_rings.result.now c.requires c.index_mut-node_rings.ensures.value
     c.has_place.ensures.lasts
 
