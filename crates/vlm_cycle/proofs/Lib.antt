@@ -12,3 +12,4 @@ pub mod Led
 pub mod Dated
 pub mod Blocking
 pub mod BlockerWalks
+pub mod Passed

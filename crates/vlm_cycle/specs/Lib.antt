@@ -6,3 +6,4 @@ pub mod Ranking
 pub mod Notes
 pub mod Ranks
 pub mod Blocking
+pub mod Passing

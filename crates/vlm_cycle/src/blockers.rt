@@ -49,17 +49,17 @@ fn find_blocker(scratch: &mut Scratch, row: &StoredRow)
 fn find_holders(
     store: &Store,
     scratch: &mut Scratch,
-    res: ResAt,
+    waiting: &LocatedLock,
     queue: Queue,
-    lkid: u32,
     mode: Mode,
 )
-    requires there { HasResource res store.now }
+    requires there { HasResource waiting.now.res store.now }
     requires roomy { IsRoomy store.now scratch.old }
-    ensures { Marks (OwnsHolder lkid mode (rows_queued res queue store.now)) scratch.old
-        scratch.new }
+    ensures { Marks (OwnsHolder waiting.now.row.lkid mode
+        (rows_queued waiting.now.res queue store.now)) scratch.old scratch.new }
 {
-    let mut at = head(store, res, queue);
+    let lkid = waiting.row.lkid();
+    let mut at = head(store, waiting.res, queue);
     while let Some(lock) = at {
         find_holder(scratch, &store.lock_record(lock).row, lkid, mode);
         at = next(store, lock);
@@ -101,24 +101,24 @@ fn find_those_before(store: &Store, scratch: &mut Scratch, res: ResAt, queue: Qu
     }
 }
 
-// Finds the owners of all locks that keep a request waiting.
-fn find_keepers(
-    store: &Store,
-    scratch: &mut Scratch,
-    res: ResAt,
-    queue: Queue,
-    lkid: u32,
-    mode: Mode,
-)
-    requires there { HasResource res store.now }
+// Finds the owners of all locks that keep a request of this mode waiting.
+fn find_keepers(store: &Store, scratch: &mut Scratch, waiting: &LocatedLock, mode: Mode)
+    requires there { HasResource waiting.now.res store.now }
     requires roomy { IsRoomy store.now scratch.old }
-    ensures { Marks (OwnsKeeper lkid mode queue (rows_queued res Queue.Granted store.now)
-        (rows_queued res Queue.Conversion store.now) (rows_queued res Queue.Waiting store.now))
-        scratch.old scratch.new }
+    ensures { Marks (OwnsKeeper waiting.now.row.lkid mode waiting.now.queue
+        (rows_queued waiting.now.res Queue.Granted store.now)
+        (rows_queued waiting.now.res Queue.Conversion store.now)
+        (rows_queued waiting.now.res Queue.Waiting store.now)) scratch.old scratch.new }
 {
-    find_holders(store, scratch, res, Queue::Granted, lkid, mode);
-    find_holders(store, scratch, res, Queue::Conversion, lkid, mode);
-    find_those_before(store, scratch, res, queue, lkid);
+    find_holders(store, scratch, waiting, Queue::Granted, mode);
+    find_holders(store, scratch, waiting, Queue::Conversion, mode);
+    find_those_before(
+        store,
+        scratch,
+        waiting.res,
+        waiting.queue,
+        waiting.row.lkid(),
+    );
 }
 
 /// Finds the owners of the locks for which the queued request of a lock waits, if it has one.
@@ -136,12 +136,5 @@ pub(crate) fn find_waited_for(store: &Store, scratch: &mut Scratch, waiting: &Lo
     if request.flags.has(EnqFlags::NODLCKWT) {
         return;
     }
-    find_keepers(
-        store,
-        scratch,
-        waiting.res,
-        waiting.queue,
-        waiting.row.lkid(),
-        request.mode,
-    );
+    find_keepers(store, scratch, waiting, request.mode);
 }

@@ -17,6 +17,7 @@ mod conflicts;
 mod deadlocks;
 mod first_requests;
 mod next_blockers;
+mod passes;
 mod rank_checks;
 mod ranked_requests;
 mod ranks;

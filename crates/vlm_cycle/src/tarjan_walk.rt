@@ -230,33 +230,6 @@ fn go_back(ranks: &mut Ranks, walk: TarjanWalk, process: ProcAt) -> TarjanWalk
     }
 }
 
-// The walk looks at a lock for which its process may wait, and goes to the lock's owner if it does.
-fn look_at(
-    store: &Store,
-    ranks: &mut Ranks,
-    walk: TarjanWalk,
-    process: ProcAt,
-    note: &TarjanNode,
-    wanting: &AwaitedModes,
-    lock: LockAt,
-) -> TarjanWalk
-    requires lock { IsStored lock store.now }
-    requires wanting { IsWanting store.now wanting.now }
-    requires note { IsTarjanNode store.now note.now }
-    requires walk { IsWalk store.now walk }
-    requires notes { AreNotes store.now ranks.old }
-    ensures walk { IsWalk store.now result }
-    ensures notes { AreNotes store.now ranks.new }
-{
-    let passed = with_next(store, ranks, note, wanting, lock);
-    ranks.put(process, passed);
-    let record = store.lock_record(lock);
-    if wanting.waits_for(note.part, lock, &record.row) {
-        return go_along(store, ranks, walk, process, record.owner);
-    }
-    walk
-}
-
 // One step of the walk at a process: to the next lock for which it waits, to its next own lock, or back.
 fn step(store: &Store, ranks: &mut Ranks, walk: TarjanWalk, process: ProcAt) -> TarjanWalk
     requires walk { IsWalk store.now walk }
@@ -276,7 +249,12 @@ fn step(store: &Store, ranks: &mut Ranks, walk: TarjanWalk, process: ProcAt) -> 
         ranks.put(process, with_next_part(store, &note, &wanting));
         return walk;
     };
-    look_at(store, ranks, walk, process, &note, &wanting, lock)
+    ranks.put(process, with_next(store, ranks, &note, &wanting, lock));
+    let record = store.lock_record(lock);
+    if wanting.waits_for(note.part, lock, &record.row) {
+        return go_along(store, ranks, walk, process, record.owner);
+    }
+    walk
 }
 
 // The walk goes to all processes to which a process leads, if that process was not found.

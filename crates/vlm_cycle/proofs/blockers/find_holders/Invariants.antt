@@ -7,10 +7,10 @@ use Rattle.vlm_cycle.proofs.blockers.find_holders.Given as goal
 -- what is marked behind this lock is marked of the whole queue
 abbrev pub invariant-loop-at : goal.invariant-loop-at
 invariant-loop-at l = record {
-  there : IsInQueue l.fn.res l.fn.queue l.at l.store;
+  there : IsInQueue l.waiting.res l.fn.queue l.at l.store;
   roomy : IsRoomy l.store l.scratch;
-  goes_on : GoesOn (λ rows. OwnsHolder l.lkid l.mode rows) (rows_to_walk l.fn.res l.fn.queue l.at l.store) (rows_queued l.fn.res l.fn.queue l.store) l.initial.scratch l.scratch;
+  goes_on : GoesOn (λ rows. OwnsHolder l.waiting.row.lkid l.mode rows) (rows_to_walk l.waiting.res l.fn.queue l.at l.store) (rows_queued l.waiting.res l.fn.queue l.store) l.initial.scratch l.scratch;
 }
 
 abbrev pub decreases-loop-at : goal.decreases-loop-at
-decreases-loop-at l = length (rows_to_walk l.fn.res l.fn.queue l.at l.store)
+decreases-loop-at l = length (rows_to_walk l.waiting.res l.fn.queue l.at l.store)

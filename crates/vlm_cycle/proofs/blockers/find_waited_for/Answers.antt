@@ -37,4 +37,4 @@ returns c =
     (sym c.has.ensures ∙ c.if-has.false) pid (subst (λ o. keeps o pid) found keeper))
     (λ pid waited. subst (λ o. keeps o pid) (sym found)
     (waited_keeps s c.requires.located.sound own there lock f.queue c.requires.located.among request (sym c.want.ensures ∙ c.in-Some.is) pid waited))
-    (rw c.lkid.ensures at c.find_keepers.ensures)
+    c.find_keepers.ensures

@@ -1,6 +1,9 @@
 use Rattle.std.proofs.Common.{◌≡◌, true}
 use Rattle.vlm_store.specs.Queued.{AreQueued}
+use Rattle.vlm_cycle.specs.declared.passes.Purpose.TheVariants.{Check}
 use Rattle.vlm_cycle.specs.Finding.{IsLocatedIfAny}
+use Rattle.vlm_cycle.specs.Marking.{KeepsRoom}
+use Rattle.vlm_cycle.specs.Waiting.{IsRoomy}
 use Rattle.vlm_cycle.proofs.Led.{FallsLed}
 use Rattle.vlm_cycle.proofs.rank_checks.check_ranks.Given as goal
 
@@ -8,6 +11,10 @@ use Rattle.vlm_cycle.proofs.rank_checks.check_ranks.Given as goal
 abbrev pub invariant-loop-lock : goal.invariant-loop-lock
 invariant-loop-lock l = record {
   queued : AreQueued l.lock-iterator l.store;
-  falls : l.rank_check.falls ≡ true → FallsLed l.store l.ranks l.lock-iterator;
-  stands : IsLocatedIfAny l.store l.rank_check.guess;
+  roomy : IsRoomy l.store l.scratch;
+  room : KeepsRoom l.initial.scratch l.scratch;
+  ranks : l.scratch.ranks ≡ l.initial.scratch.ranks;
+  purpose : l.pass.purpose ≡ Check;
+  falls : l.pass.falls ≡ true → FallsLed l.store l.initial.scratch.ranks l.lock-iterator;
+  located : IsLocatedIfAny l.store l.pass.found;
 }

@@ -1,7 +1,9 @@
-use Rattle.std.proofs.Common.{◌≡◌}
+use Rattle.std.proofs.Common.{◌≡◌, true}
 use Rattle.vlm_store.specs.Queued.{AreQueued}
+use Rattle.vlm_cycle.specs.declared.passes.Purpose.TheVariants.{Search}
 use Rattle.vlm_cycle.specs.Finding.{IsFit}
 use Rattle.vlm_cycle.specs.Marking.{KeepsRoom}
+use Rattle.vlm_cycle.specs.Ranking.{Falls}
 use Rattle.vlm_cycle.specs.Waiting.{IsRoomy}
 use Rattle.vlm_cycle.proofs.Led.{CoversLed}
 use Rattle.vlm_cycle.proofs.victims.victim.Given as goal
@@ -13,6 +15,8 @@ invariant-loop-lock l = record {
   roomy : IsRoomy l.store l.scratch;
   room : KeepsRoom l.initial.scratch l.scratch;
   ranks : l.scratch.ranks ≡ l.initial.scratch.ranks;
-  fit : IsFit l.store l.best;
-  covers : CoversLed l.store l.lock-iterator l.best;
+  purpose : l.pass.purpose ≡ Search;
+  falls : l.pass.falls ≡ true → Falls l.store l.initial.scratch.ranks;
+  fit : IsFit l.store l.pass.found;
+  covers : CoversLed l.store l.lock-iterator l.pass.found;
 }
