@@ -3,10 +3,10 @@
 ghost use Rattle.std.specs.Prelude.{◌≡◌, ◌<◌, ◌≤◌, IfOk, MatchResult, map, vec_len};
 ghost use Rattle.vlm_script.specs.Plays.{ConsumesAtMost};
 ghost use Rattle.vlm_script.specs.Shares.{AreListed};
-ghost use Rattle.vlm.specs.Ends.{RunsCluster, StartsCluster, output_of};
+ghost use Rattle.vlm.specs.Ends.{StartsCluster, output_of};
 ghost use Rattle.vlm.specs.Clusters.{IsClusterText, IsServedText, PrintsCluster, StopsCluster};
 
-use crate::run::{DONE, failed, random_keys, without_random_bytes};
+use crate::run::{ended, random_keys, without_random_bytes};
 use crate::told::report_text;
 use std::alloc::{AllocError, Global};
 use std::io::{Read, Write};
@@ -36,28 +36,8 @@ pub(crate) fn start_cluster<R: Read, W: Write, F: Write>(
         (output_of (W.contents writer.new) (F.contents faults.new)) result }
 {
     match random_keys(rt) {
-        Some(keys) => run_cluster(rt, keys, nodes, reader, writer, faults),
+        Some(keys) => ended(&serve_script(rt, keys, nodes, reader, writer), faults),
         None => without_random_bytes(faults),
-    }
-}
-
-// Serves the script by this many nodes, and prints the fault that ended it.
-fn run_cluster<R: Read, W: Write, F: Write>(
-    rt: &(impl AllocGlobal + Threads + Wait + Clock + Copy + Send + 'static),
-    keys: HashKeys,
-    nodes: u8,
-    reader: &mut R,
-    writer: &mut W,
-    faults: &mut F,
-) -> u8
-    requires { (1 ≤ nodes) × (nodes ≤ 8) }
-    ensures { RunsCluster nodes (R.remaining reader.old) (R.remaining reader.new)
-        (output_of (W.contents writer.old) (F.contents faults.old))
-        (output_of (W.contents writer.new) (F.contents faults.new)) result }
-{
-    match serve_script(rt, keys, nodes, reader, writer) {
-        Ok(()) => DONE,
-        Err(fault) => failed(&fault, faults),
     }
 }
 

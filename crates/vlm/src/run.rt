@@ -2,7 +2,7 @@
 
 ghost use Rattle.std.specs.Prelude.{◌≡◌, ◌⊎◌, Err, map};
 ghost use Rattle.clap.specs.Words.{kind_of};
-ghost use Rattle.vlm.specs.Ends.{EndsAsAsked, EndsByError, FailsHelp, GivesHelp, PrintsFault, PrintsLine, PrintsNoRandomBytes, RunsScript, StartsRun, output_of, status_of};
+ghost use Rattle.vlm.specs.Ends.{EndsAsAsked, EndsByError, FailsHelp, GivesHelp, PrintsEnd, PrintsFault, PrintsLine, PrintsNoRandomBytes, RunsScript, StartsRun, output_of, status_of};
 
 use crate::arguments::{Task, chosen};
 use crate::cluster::start_cluster;
@@ -63,7 +63,7 @@ fn start_run<R: Read, W: Write, F: Write>(
         (output_of (W.contents writer.new) (F.contents faults.new)) result }
 {
     match random_keys(rt) {
-        Some(keys) => run_script(rt.alloc(), keys, reader, writer, faults),
+        Some(keys) => ended(&play(rt.alloc(), keys, reader, writer), faults),
         None => without_random_bytes(faults),
     }
 }
@@ -94,21 +94,14 @@ pub(crate) fn refused_by<F: Write>(line: &[u8], status: u8, faults: &mut F) -> u
     status
 }
 
-// Runs the script, and prints the fault that ended it.
-fn run_script<R: Read, W: Write, F: Write>(
-    alloc: Global,
-    keys: HashKeys,
-    reader: &mut R,
-    writer: &mut W,
-    faults: &mut F,
-) -> u8
-    ensures { RunsScript (R.remaining reader.old) (R.remaining reader.new)
-        (output_of (W.contents writer.old) (F.contents faults.old))
-        (output_of (W.contents writer.new) (F.contents faults.new)) result }
+/// The exit status of a run that ended so. It prints the fault, if there is one.
+pub(crate) fn ended<F: Write>(end: &Result<(), PlayFault>, faults: &mut F) -> u8
+    ensures status { result ≡ status_of end.now }
+    ensures faults { PrintsEnd end.now (F.contents faults.old) (F.contents faults.new) }
 {
-    match play(alloc, keys, reader, writer) {
+    match end {
         Ok(()) => DONE,
-        Err(fault) => failed(&fault, faults),
+        Err(fault) => failed(fault, faults),
     }
 }
 

@@ -1,7 +1,7 @@
 //! Watches a resource while a script runs.
 
-ghost use Rattle.std.specs.Prelude.{◌≡◌, Err};
-ghost use Rattle.vlm.specs.Ends.{PrintsLine, RunsWatch, StartsNamedWatch, StartsWatch, output_of, watch_fault_line, watch_status_of};
+ghost use Rattle.std.specs.Prelude.{◌≡◌};
+ghost use Rattle.vlm.specs.Ends.{PrintsWatchEnd, StartsNamedWatch, StartsWatch, output_of, watch_status_of};
 
 use crate::arguments::Subject;
 use crate::run::{DONE, FAILED, REFUSED, failed, random_keys, refused_by, without_random_bytes};
@@ -44,39 +44,20 @@ fn start_named<R: Read, W: Write, F: Write>(
         (output_of (W.contents writer.new) (F.contents faults.new)) result }
 {
     match random_keys(rt) {
-        Some(keys) => run_watch(rt, keys, key, reader, writer, faults),
+        Some(keys) => ended(&watch_script(rt, keys, key, reader, writer), faults),
         None => without_random_bytes(faults),
     }
 }
 
-// Watches the resource under this key while a script runs, and prints the fault that ended it.
-fn run_watch<R: Read, W: Write, F: Write>(
-    rt: &(impl AllocGlobal + Wait),
-    keys: HashKeys,
-    key: RootKey,
-    reader: &mut R,
-    writer: &mut W,
-    faults: &mut F,
-) -> u8
-    ensures { RunsWatch key (R.remaining reader.old) (R.remaining reader.new)
-        (output_of (W.contents writer.old) (F.contents faults.old))
-        (output_of (W.contents writer.new) (F.contents faults.new)) result }
+// The exit status of a watch that ended so. It prints why, if it failed. A line that can't be printed changes no status.
+fn ended<F: Write>(end: &Result<(), WatchFault>, faults: &mut F) -> u8
+    ensures status { result ≡ watch_status_of end.now }
+    ensures faults { PrintsWatchEnd end.now (F.contents faults.old) (F.contents faults.new) }
 {
-    match watch_script(rt, keys, key, reader, writer) {
+    match end {
         Ok(()) => DONE,
-        Err(fault) => tell(&fault, faults),
-    }
-}
-
-// Prints why a watch ended, and answers the exit status. A line that can't be printed changes no status.
-fn tell<F: Write>(fault: &WatchFault, faults: &mut F) -> u8
-    ensures status { result ≡ watch_status_of (Err fault.now) }
-    ensures faults { PrintsLine (watch_fault_line fault.now)
-        (F.contents faults.old) (F.contents faults.new) }
-{
-    match fault {
-        WatchFault::Play(fault) => failed(fault, faults),
-        WatchFault::NoSeat => refused_by(b"no seat\n", FAILED, faults),
-        WatchFault::NoAnswer => refused_by(b"no answer\n", FAILED, faults),
+        Err(WatchFault::Play(fault)) => failed(fault, faults),
+        Err(WatchFault::NoSeat) => refused_by(b"no seat\n", FAILED, faults),
+        Err(WatchFault::NoAnswer) => refused_by(b"no answer\n", FAILED, faults),
     }
 }

@@ -24,22 +24,36 @@ pub enum Scope {
     Below(u32),
 }
 
+/// Locks of a process that are given up together.
+#[derive(Clone, Copy)]
+pub struct JointWithdrawal {
+    /// The process.
+    pub owner: ProcAt,
+    /// Its identification.
+    pub pid: u32,
+    /// Which of its locks go.
+    pub scope: Scope,
+    /// Whether the value block of each resource is marked invalid on which one of them held PW or EX, granted or
+    /// converting.
+    pub invalidates: bool,
+}
+
 // Notes the chosen locks, by rising identification.
-fn note_scope(store: &Store, touched: &mut Touched, owner: ProcAt, pid: u32, scope: Scope)
+fn note_scope(store: &Store, touched: &mut Touched, joint: &JointWithdrawal)
     requires rest { IsAtRest store.now }
-    requires owner { IsProcess owner pid store.now }
-    requires own { IsOwnScope scope pid store.now }
+    requires owner { IsProcess joint.now.owner joint.now.pid store.now }
+    requires own { IsOwnScope joint.now.scope joint.now.pid store.now }
     requires together { SublocksAreOwn store.now }
-    requires closed { SublocksGoToo scope store.now }
+    requires closed { SublocksGoToo joint.now.scope store.now }
     requires none { touched.old.noted ≡ [] }
     requires room { lock_total store.now ≤ touched.old.room }
-    ensures chosen { AreChosen scope pid store.now (noted_lkids touched.new.noted) }
+    ensures chosen { AreChosen joint.now.scope joint.now.pid store.now (noted_lkids touched.new.noted) }
     ensures locks { AreOfLocks touched.new.noted store.now }
     ensures room { touched.new.room ≡ touched.old.room }
 {
-    match scope {
-        Scope::All => note_own(store, touched, owner, pid),
-        Scope::Below(top) => note_below(store, touched, pid, top),
+    match joint.scope {
+        Scope::All => note_own(store, touched, joint.owner, joint.pid),
+        Scope::Below(top) => note_below(store, touched, joint.pid, top),
     }
 }
 
@@ -61,16 +75,10 @@ fn end_noted(store: &mut Store, notes: &[Note], invalidates: bool)
 
 // Removes the noted locks, from the last to the first, so that sublocks go before their parents. The note of each lock
 // becomes a note of its resource.
-fn remove_noted(
-    store: &mut Store,
-    touched: &mut Touched,
-    owner: ProcAt,
-    pid: u32,
-    invalidates: bool,
-)
-    requires owner { IsProcess owner pid store.old }
-    requires can_go { CanGo pid touched.old store.old }
-    ensures gone { AreGone (noted_lkids touched.old.noted) invalidates store.old store.new
+fn remove_noted(store: &mut Store, touched: &mut Touched, joint: &JointWithdrawal)
+    requires owner { IsProcess joint.now.owner joint.now.pid store.old }
+    requires can_go { CanGo joint.now.pid touched.old store.old }
+    ensures gone { AreGone (noted_lkids touched.old.noted) joint.now.invalidates store.old store.new
         (record { noted = []; room = touched.old.room }) touched.new }
     ensures can_end { CanEndProcesses touched.new store.new }
 {
@@ -78,34 +86,27 @@ fn remove_noted(
     while left > 0 {
         left -= 1;
         let located = located_lock(store, touched.notes()[left].lock());
-        let withdrawal = Withdrawal::together(located.row.lkid(), invalidates);
+        let withdrawal = Withdrawal::together(located.row.lkid(), joint.invalidates);
         give_up(store, &located, &withdrawal);
         touched.replace(left, Note::of_resource(store, located.res));
     }
 }
 
-/// Gives up the chosen locks of a process together. First their requests end with ABORT, and their completion ASTs are
-/// queued, by rising identification. Then all of them go. A resource on which one of them held PW or EX, granted or
-/// converting, may have its value block marked invalid. Their resources are noted, and nothing is granted. The cost
-/// grows with the locks that go, and their number times its logarithm for putting them in order.
-pub fn give_up_together(
-    store: &mut Store,
-    touched: &mut Touched,
-    owner: ProcAt,
-    pid: u32,
-    scope: Scope,
-    invalidates: bool,
-)
-    requires owner { IsProcess owner pid store.old }
-    requires own { IsOwnScope scope pid store.old }
+/// Gives up locks of a process together. First their requests end with ABORT, and their completion ASTs are queued, by
+/// rising identification. Then all of them go. Their resources are noted, and nothing is granted. The cost grows with
+/// the locks that go, and their number times its logarithm for putting them in order.
+pub fn give_up_together(store: &mut Store, touched: &mut Touched, joint: &JointWithdrawal)
+    requires owner { IsProcess joint.now.owner joint.now.pid store.old }
+    requires own { IsOwnScope joint.now.scope joint.now.pid store.old }
     requires can_end { CanEndProcesses touched.old store.old }
-    requires closed { SublocksGoToo scope store.old }
+    requires closed { SublocksGoToo joint.now.scope store.old }
     requires none { touched.old.noted ≡ [] }
-    ensures given_up { AreGivenUp scope invalidates pid store.old store.new
+    ensures given_up { AreGivenUp joint.now.scope joint.now.invalidates joint.now.pid store.old store.new
         touched.old touched.new }
     ensures can_end { CanEndProcesses touched.new store.new }
 {
-    note_scope(store, touched, owner, pid, scope);
+    let invalidates = joint.invalidates;
+    note_scope(store, touched, joint);
     end_noted(store, touched.notes(), invalidates);
-    remove_noted(store, touched, owner, pid, invalidates);
+    remove_noted(store, touched, joint);
 }

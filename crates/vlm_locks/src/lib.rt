@@ -20,7 +20,7 @@ mod warnings;
 mod withdrawals;
 
 pub use conversions::{convert, converts_at_once};
-pub use joint_withdrawals::{Scope, give_up_together};
+pub use joint_withdrawals::{JointWithdrawal, Scope, give_up_together};
 pub use located_locks::{LocatedLock, find_lock, located_lock};
 pub use new_locks::{NewLock, enter, enters_at_once};
 pub use process_ends::{end_process, end_processes_of};

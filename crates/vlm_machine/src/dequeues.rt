@@ -21,7 +21,9 @@ ghost use Rattle.vlm_machine.specs.Notes.{HasRoomToNote, IsToSweep};
 use crate::flags::deq_flags;
 use crate::processes::Caller;
 use crate::records::Machine;
-use vlm_locks::{EndReason, LocatedLock, Scope, Touched, Withdrawal, give_up_together, withdraw};
+use vlm_locks::{
+    EndReason, JointWithdrawal, LocatedLock, Scope, Touched, Withdrawal, give_up_together, withdraw,
+};
 use vlm_words::conditions::Cond;
 use vlm_words::flags::DeqFlags;
 use vlm_words::steps::{Answer, Dequeue, Step};
@@ -116,8 +118,8 @@ impl Machine {
         ensures room { touched.new.room ≡ touched.old.room }
     {
         match self.checked_scope(&checked.caller, checked.lkid) {
-            Ok(choice) => {
-                self.deq_all_change(touched, dequeue, checked, choice);
+            Ok(scope) => {
+                self.deq_all_change(touched, dequeue, checked, scope);
                 self.sweep_touched(touched);
                 Answer::Plain(Cond::Normal)
             }
@@ -129,8 +131,8 @@ impl Machine {
     fn checked_scope(&self, caller: &Caller, lkid: u32) -> Result<Scope, Cond>
         ensures refusal { result_err result ≡ (if lkid == 0 then None
             else lock_refusal (plain_state self.now) caller.now.pid lkid) }
-        ensures choice { IfOk result (λ choice. choice ≡ scope_of lkid) }
-        ensures own { IfOk result (λ choice. IsOwnScope choice caller.now.pid self.now.records) }
+        ensures scope { IfOk result (λ scope. scope ≡ scope_of lkid) }
+        ensures own { IfOk result (λ scope. IsOwnScope scope caller.now.pid self.now.records) }
     {
         if lkid == 0 {
             return Ok(Scope::All);
@@ -214,11 +216,11 @@ impl Machine {
         touched: &mut Touched,
         dequeue: &Dequeue,
         checked: &CheckedDequeue,
-        choice: Scope,
+        scope: Scope,
     )
         requires checked { IsCheckedDequeue self.old dequeue.now checked.now }
-        requires choice { choice ≡ scope_of checked.now.lkid }
-        requires own { IsOwnScope choice checked.now.caller.pid self.old.records }
+        requires scope { scope ≡ scope_of checked.now.lkid }
+        requires own { IsOwnScope scope checked.now.caller.pid self.old.records }
         requires between { IsBetweenSteps (plain_state self.old) }
         requires notes { HasRoomToNote touched.old self.old }
         requires all { has_flag dequeue.now.flags deqall ≡ true }
@@ -227,8 +229,13 @@ impl Machine {
         ensures room { touched.new.room ≡ touched.old.room }
     {
         let invalidates = checked.flags.has(DeqFlags::INVVALBLK);
-        let Caller { at, pid } = checked.caller;
-        give_up_together(&mut self.store, touched, at, pid, choice, invalidates);
+        let joint = JointWithdrawal {
+            owner: checked.caller.at,
+            pid: checked.caller.pid,
+            scope,
+            invalidates,
+        };
+        give_up_together(&mut self.store, touched, &joint);
     }
 }
 

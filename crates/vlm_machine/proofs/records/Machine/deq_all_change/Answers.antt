@@ -18,13 +18,13 @@ give_up_together-requires-clause-can_end c =
 -- with a chosen lock its sublocks are chosen
 pub give_up_together-requires-clause-closed : goal.give_up_together-requires-clause-closed
 give_up_together-requires-clause-closed c =
-    subst (λ (m : MachineState). SublocksGoToo c.args.choice m.records) (sym c.self.view_is)
+    subst (λ (m : MachineState). SublocksGoToo c.args.scope m.records) (sym c.self.view_is)
     (sublocks_go_too c.args.self.now (rw (← c.self.view_is) c.self.invariant.rest.sound) (rw (← c.self.view_is) c.self.invariant.rest) c.requires.between
-    c.args.choice c.args.checked.now.caller.pid c.requires.own)
+    c.args.scope c.args.checked.now.caller.pid c.requires.own)
 
 pub returns-clause-change : goal.returns-clause-change
 returns-clause-change c =
-    let choice = c.args.choice in
+    let scope = c.args.scope in
     let d = c.args.dequeue.now in
     let checked = c.requires.checked in
     let new = c.give_up_together.new in
@@ -32,15 +32,15 @@ returns-clause-change c =
     let invalidates = c.has-invalidates.ensures ∙ ap (λ bits. has_flag bits invvalblk) checked.flags in
     ap (λ (m : MachineState). plain_state (record m { records = new.store })) c.self.view_is
     ∙ state_given_up c.args.self.now (rw (← c.self.view_is) c.self.invariant.rest.sound) (rw (← c.self.view_is) c.self.invariant.rest) c.requires.between d c.requires.all
-    (cancels_nothing d c.requires.all checked.fitting) nothing.0 nothing.1 choice (c.requires.choice ∙ ap scope_of checked.lkid) new.store c.args.touched.now new.touched
-    (subst (λ (m : MachineState). AreGivenUp choice (has_flag d.flags invvalblk) d.pid m.records new.store c.args.touched.now new.touched) c.self.view_is
-    (subst (λ pid. AreGivenUp choice (has_flag d.flags invvalblk) pid c.self.inside.store new.store c.args.touched.now new.touched) checked.pid
-    (subst (λ invalid. AreGivenUp choice invalid c.args.checked.now.caller.pid c.self.inside.store new.store c.args.touched.now new.touched) invalidates
+    (cancels_nothing d c.requires.all checked.fitting) nothing.0 nothing.1 scope (c.requires.scope ∙ ap scope_of checked.lkid) new.store c.args.touched.now new.touched
+    (subst (λ (m : MachineState). AreGivenUp scope (has_flag d.flags invvalblk) d.pid m.records new.store c.args.touched.now new.touched) c.self.view_is
+    (subst (λ pid. AreGivenUp scope (has_flag d.flags invvalblk) pid c.self.inside.store new.store c.args.touched.now new.touched) checked.pid
+    (subst (λ invalid. AreGivenUp scope invalid c.args.checked.now.caller.pid c.self.inside.store new.store c.args.touched.now new.touched) invalidates
     c.give_up_together.ensures.given_up)))
 
 pub returns-clause-to_sweep : goal.returns-clause-to_sweep
 returns-clause-to_sweep c =
     let m = kept c.self.inside in
     let between = rw (← c.self.view_is) at c.requires.between in
-    to_sweep_given_up m (record m { records = c.give_up_together.new.store }) c.args.choice c.has-invalidates.result c.args.checked.now.caller.pid c.args.touched.now
+    to_sweep_given_up m (record m { records = c.give_up_together.new.store }) c.args.scope c.has-invalidates.result c.args.checked.now.caller.pid c.args.touched.now
     c.give_up_together.new.touched between c.give_up_together.ensures.given_up c.give_up_together.ensures.can_end
