@@ -110,7 +110,12 @@ impl WatchedHub {
             keys: _,
             onlookers,
         } = self;
-        look_beside(rt, hub, port, onlookers, step, times, looks);
+        let rounds = Rounds {
+            step: *step,
+            times,
+            looks,
+        };
+        look_beside(rt, hub, port, onlookers, &rounds);
     }
 
     /// Ends it, and says what its first watcher sees then.
@@ -186,15 +191,21 @@ fn look_all<R: Threads + Sync>(rt: &R, onlookers: &mut Vec<Onlooker>, times: usi
     for_each_mut(rt, onlookers.as_mut_slice(), 8, &|_, o| o.look_often(times));
 }
 
+// How often the hub makes a step, and how often each watcher looks.
+#[derive(Clone, Copy)]
+struct Rounds {
+    step: Step,
+    times: usize,
+    looks: usize,
+}
+
 // Has each watcher look, while the hub serves and publishes.
 fn look_beside<R: Threads + Wait + Sync>(
     rt: &R,
     hub: &mut Hub,
     port: &mut Port,
     onlookers: &mut Vec<Onlooker>,
-    step: &Step,
-    times: usize,
-    looks: usize,
+    rounds: &Rounds,
 )
     requires ours { IsPortOf hub.old port.old }
     requires watched { IsWatched hub.old }
@@ -208,11 +219,11 @@ fn look_beside<R: Threads + Wait + Sync>(
         &mut ||
             requires { All (λ o. 0 < o.watcher.keys) onlookers.now.items }
             ensures { LookedOn (λ o. o.watcher) onlookers.entry.now.items onlookers.exit.now.items }
-        { look_all(rt, onlookers, looks) },
+        { look_all(rt, onlookers, rounds.looks) },
         &mut ||
             requires { IsPortOf hub.now port.now × IsWatched hub.now }
             ensures ours { IsPortOf hub.exit.now port.exit.now }
             ensures watched { IsWatchedAsBefore hub.entry.now hub.exit.now }
-        { serve(rt, hub, port, step, times) },
+        { serve(rt, hub, port, &rounds.step, rounds.times) },
     );
 }

@@ -36,8 +36,9 @@ const DEQUEUE: Dequeue = Dequeue {
     flags: 0,
 };
 
-// Lets P hold EX on A as lock 1, and Q wait for it as lock 2.
-fn begin<R: Abort>(rt: &R, core: &mut Core) {
+// A machine in which P holds EX on A as lock 1, and Q waits for it as lock 2.
+fn machine<R: Abort + AllocGlobal>(rt: &R) -> Core {
+    let mut core = Core::new(rt.alloc());
     let steps = [
         (Step::Declare(DECLARATION), Answer::Process(P)),
         (
@@ -59,12 +60,6 @@ fn begin<R: Abort>(rt: &R, core: &mut Core) {
     for (step, want) in steps {
         assert!(rt; core.step(step) == want);
     }
-}
-
-// A machine in which P holds EX on A as lock 1, and Q waits for it as lock 2.
-fn machine<R: Abort + AllocGlobal>(rt: &R) -> Core {
-    let mut core = Core::new(rt.alloc());
-    begin(rt, &mut core);
     core
 }
 
@@ -78,13 +73,6 @@ fn refuses<R: Abort>(rt: &R, core: &mut Core, cases: &[(Step, Cond)]) {
     for (number, (step, want)) in cases.iter().copied().enumerate() {
         assert!(rt; core.step(step) == Answer::Plain(want), "case {number}");
     }
-}
-
-fn makes_each(rt: &impl Abort, core: &mut Core) {
-    assert!(rt; core.declare(DECLARATION) == Answer::Process(STRANGER));
-    assert!(rt; core.enq(request(b"B")) == Answer::Lock(Cond::Normal, 3));
-    assert!(rt; core.deq(DEQUEUE) == Answer::Plain(Cond::Normal));
-    assert!(rt; core.resource_count() == 2);
 }
 
 // Q waits for P, which is no deadlock. A second request of Q waits for the first, and ends.
@@ -106,7 +94,10 @@ fn searches(rt: HostRuntime) {
 #[test]
 fn accepted(rt: HostRuntime) {
     let mut core = machine(&rt);
-    makes_each(&rt, &mut core);
+    assert!(rt; core.declare(DECLARATION) == Answer::Process(STRANGER));
+    assert!(rt; core.enq(request(b"B")) == Answer::Lock(Cond::Normal, 3));
+    assert!(rt; core.deq(DEQUEUE) == Answer::Plain(Cond::Normal));
+    assert!(rt; core.resource_count() == 2);
 }
 
 // A request without a name, for a status block of this number. That it names routines is no fault.

@@ -150,36 +150,19 @@ fn a_mode_fits_once_the_holder_has_left(rt: HostRuntime) -> Result<(), Fail> {
     Ok(())
 }
 
-// The queues of the filled resource have their locks in order.
-fn check_order(rt: &impl Abort, store: &Store, key: &Key) {
-    let res = resource(rt, store, key);
-    let third = lock(rt, store, 3);
-    assert!(rt; !is_idle(store, res));
-    assert_eq!(rt; head(store, res, Queue::Granted), store.lock(1));
-    assert_eq!(rt; head(store, res, Queue::Conversion), store.lock(2));
-    assert_eq!(rt; head(store, res, Queue::Waiting), Some(third));
-    assert_eq!(rt; next(store, third), store.lock(4));
-}
-
 #[test]
 fn queues_keep_their_order(rt: HostRuntime) -> Result<(), Fail> {
     let key = key(b"A")?;
     let mut store = Store::new(rt.alloc());
     fill(&rt, &mut store, &key)?;
-    check_order(&rt, &store, &key);
+    let res = resource(&rt, &store, &key);
+    let third = lock(&rt, &store, 3);
+    assert!(&rt; !is_idle(&store, res));
+    assert_eq!(&rt; head(&store, res, Queue::Granted), store.lock(1));
+    assert_eq!(&rt; head(&store, res, Queue::Conversion), store.lock(2));
+    assert_eq!(&rt; head(&store, res, Queue::Waiting), Some(third));
+    assert_eq!(&rt; next(&store, third), store.lock(4));
     Ok(())
-}
-
-// Removes the resource, which is idle; the other one is the first from then on.
-fn remove(rt: &impl Abort, store: &mut Store, key: &Key, other: &Key) {
-    let res = resource(rt, store, key);
-    assert!(rt; is_idle(store, res));
-    store.remove_resource(res);
-    assert!(rt; store.resource(key, store.hash_of(key)).is_none());
-    assert_eq!(rt;
-        store.first_resource(),
-        store.resource(other, store.hash_of(other))
-    );
 }
 
 #[test]
@@ -194,7 +177,14 @@ fn an_emptied_resource_leaves_the_order_of_the_others(rt: HostRuntime) -> Result
     leave(&rt, &mut store, 3);
     assert!(&rt; !is_idle(&store, resource(&rt, &store, &a)));
     leave(&rt, &mut store, 4);
-    remove(&rt, &mut store, &a, &b);
+    let idle = resource(&rt, &store, &a);
+    assert!(&rt; is_idle(&store, idle));
+    store.remove_resource(idle);
+    assert!(&rt; store.resource(&a, store.hash_of(&a)).is_none());
+    assert_eq!(&rt;
+        store.first_resource(),
+        store.resource(&b, store.hash_of(&b))
+    );
     Ok(())
 }
 
@@ -227,11 +217,6 @@ fn arm(rt: &impl Abort, store: &mut Store, key: &Key, lkid: u32) {
     store.move_lock(granted, &StoredRow::of(&row), to);
 }
 
-fn disarm(rt: &impl Abort, store: &mut Store, lkid: u32) {
-    let armed = lock(rt, store, lkid);
-    store.disarm(armed);
-}
-
 // The first lock of a list of armed locks of the resource.
 fn first_armed(rt: &impl Abort, store: &Store, key: &Key, which: Armed) -> Option<LockAt> {
     store.first_armed(resource(rt, store, key), which)
@@ -253,7 +238,8 @@ fn an_armed_lock_is_in_both_lists_until_it_is_disarmed(rt: HostRuntime) -> Resul
         first_armed(&rt, &store, &key, Armed::AboveCr),
         store.lock(1)
     );
-    disarm(&rt, &mut store, 1);
+    let armed = lock(&rt, &store, 1);
+    store.disarm(armed);
     assert!(rt; first_armed(&rt, &store, &key, Armed::AboveNl).is_none());
     assert!(rt; first_armed(&rt, &store, &key, Armed::AboveCr).is_none());
     Ok(())

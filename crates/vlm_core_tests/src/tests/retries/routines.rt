@@ -105,15 +105,10 @@ fn taken(kind: AstKind, param: u32, lkid: u32) -> Answer {
     }))
 }
 
-// Each is made, in its order.
-fn check(rt: &impl Abort, core: &mut Core, steps: &[(Step, Answer)]) {
-    for (step, want) in steps.iter().copied() {
-        make(rt, core, step, want);
-    }
-}
-
-// P and Q are declared, P holds PR as lock 1 and Q waits for EX as lock 2.
-fn begin(rt: &impl Abort, core: &mut Core) {
+// P holds PR as lock 1 and Q waits for EX as lock 2. Then come conversions at once, a grant from the queue, an abort, a
+// cancel, and a grant under SYNCSTS.
+#[test]
+fn steps_with_routines_are_made_again(rt: HostRuntime) {
     let other = Declaration {
         node: 2,
         ..DECLARATION
@@ -126,16 +121,6 @@ fn begin(rt: &impl Abort, core: &mut Core) {
         (Step::Take(P), taken(AstKind::Completion, 1, 1)),
         (Step::Take(P), taken(AstKind::Blocking, 1, 1)),
         (Step::Take(P), Answer::Taken(None)),
-    ];
-    check(rt, core, &steps);
-}
-
-// Conversions at once, a grant from the queue, an abort, a cancel, and a grant under SYNCSTS.
-#[test]
-fn steps_with_routines_are_made_again(rt: HostRuntime) {
-    let mut core = Core::new(rt.alloc());
-    begin(&rt, &mut core);
-    let steps = [
         (converted(Mode::Cr, 0), Answer::Lock(Cond::Normal, 1)),
         (Step::Take(P), taken(AstKind::Completion, 2, 1)),
         (Step::Take(P), taken(AstKind::Blocking, 2, 1)),
@@ -153,5 +138,8 @@ fn steps_with_routines_are_made_again(rt: HostRuntime) {
         (Step::Take(Q), Answer::Taken(None)),
         (Step::Take(P), Answer::Taken(None)),
     ];
-    check(&rt, &mut core, &steps);
+    let mut core = Core::new(rt.alloc());
+    for (step, want) in steps {
+        make(&rt, &mut core, step, want);
+    }
 }
