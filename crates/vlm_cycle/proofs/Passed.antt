@@ -1,5 +1,5 @@
 -- A pass goes on from rows to rows.
-use Rattle.std.proofs.Common.{◌≡◌, List, [], ◌∷◌, ◌++◌, refl, sym, ◌∙◌, subst, true}
+use Rattle.std.proofs.Common.{◌≡◌, List, [], ◌∷◌, ◌++◌, refl, sym, ◌∙◌, subst}
 use Rattle.vlm_words.specs.declared.locks.LockRow.{LockRow}
 use Rattle.vlm_store.specs.Records.{Records}
 use Rattle.vlm_cycle.specs.declared.passes.Pass.{Pass}
