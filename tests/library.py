@@ -363,6 +363,7 @@ def python(_program):
     shutil.copytree(TOP / "bindings" / "python", copy / "bindings" / "python",
                     ignore=shutil.ignore_patterns("__pycache__", "build", "*.egg-info"))
     shutil.copytree(TOP / "tests" / "scripts", copy / "tests" / "scripts")
+    shutil.copy(TOP / "tests" / "faulty_scripts.py", copy / "tests")
     package, env = copy / "bindings" / "python", {**os.environ, "VLM_PREFIX": str(prefix())}
     yield from ran(sys.executable, "-m", "unittest", "discover", "-s", "tests", cwd=package, seconds=600, env=env)
     for page in (TOP / "docs" / "LIBRARY.md", package / "README.md"):

@@ -1,184 +1,178 @@
-"""Plays the worked scripts of the program through the package, and compares what they print: docs/SCRIPT.md says what a
-line does. A script that names the status block 0, which no call of the library can, is left out."""
+"""Plays scripts by vlm.script: the worked ones print what the program prints, and faulty ones end with their faults.
+docs/SCRIPT.md says what a line does."""
 
+import json
+import sys
 import unittest
 from pathlib import Path
 
-from vlm import (Accepted, AstKind, BadParam, DequeueFlags, Flags, InBlock, LockManager, Mode, Queue, VlmError)
+from vlm import Condition, DequeueFlags, Flags, InBlock, LockManager, Mode
+from vlm.script import (LONGEST_SCRIPT, Convert, Declare, Deq, Enq, Fault, Leave, Line, LineFault, Names, Outcome,
+                        Rundown, ScriptFault, Search, Session, SetValue, Show, ShowBlock, ShowTail, ShowTails, Take,
+                        lines_of, make, makes_step, name_text, plain, play, printed, read_line, step_of)
 
-SCRIPTS = Path(__file__).resolve().parents[3] / "tests" / "scripts" / "play"
-QUEUES = ((Queue.GRANTED, "granted"), (Queue.CONVERSION, "converting"), (Queue.WAITING, "waiting"))
-ENQ_FLAGS = {it.name.lower(): it for it in Flags if it}
-DEQ_FLAGS = {it.name.lower(): it for it in DequeueFlags if it}
+TESTS = Path(__file__).resolve().parents[3] / "tests"
+SCRIPTS = TESTS / "scripts" / "play"
+sys.path.insert(0, str(TESTS))
+from faulty_scripts import FAULTY, WHOLE  # noqa: E402
 
-
-class Words:
-    """The words of a line behind its command, those with a `key=` by their key."""
-
-    def __init__(self, line):
-        words = line.split()[1:]
-        self.keyed = dict(word.split("=", 1) for word in words if "=" in word)
-        self.plain = [word for word in words if "=" not in word]
-
-    def number(self, key):
-        return int(self.keyed[key]) if key in self.keyed else None
-
-    def small(self, key):
-        return self.number(key) or 0
-
-    def bytes(self, key):
-        return bytes.fromhex(self.keyed[key]) if key in self.keyed else None
-
-    def name(self):
-        text = self.keyed["name"]
-        return bytes.fromhex(text[2:]) if text.startswith("x:") else text.encode()
-
-    def flags(self, known):
-        bits = self.small("bits")
-        for word in self.plain:
-            bits |= int(known.get(word, 0))
-        return bits
-
-    def routines(self):
-        return {"completion": self.number("ast"), "blocking": self.number("bast"), "param": self.small("param")}
+VALUE, TAIL = bytes(range(16)), bytes(range(48))
+# A line of each command with all its words, and what it does.
+EACH_LINE = [
+    (b"declare P node=1 group=2 quota=3 blocks=4 syslck", Line("P", Declare(1, 2, 3, 4, True))),
+    (b"enq P EX name=A block=5 parent=@6 ast=7 bast=8 param=9 valblk bits=2",
+     Line("P", Enq(Mode.EX, b"A", 5, InBlock(6), 7, 8, 9, Flags.VALBLK | Flags.NOQUEUE))),
+    (b"enq P NL block=0 name=x:00ff", Line("P", Enq(Mode.NL, b"\0\xff", 0))),
+    (b"cvt P @0 PW block=1 bits=65535", Line("P", Convert(InBlock(0), Mode.PW, 1, flags=Flags(65_535)))),
+    (b"deq P 4294967295 value=" + VALUE.hex().encode() + b" tail=" + TAIL.hex().upper().encode() + b" cancel bits=3",
+     Line("P", Deq(4_294_967_295, VALUE, TAIL, DequeueFlags.CANCEL | DequeueFlags.DEQALL))),
+    (b"set P block=255 value=" + VALUE.hex().encode(), Line("P", SetValue(255, VALUE))),
+    (b"end P", Line("P", Rundown())),
+    (b"leave node=8", Line(None, Leave(8))),
+    (b"search node=08", Line(None, Search(8))),
+    (b"ast P", Line("P", Take())),
+    (b"block P 1", Line("P", ShowBlock(1))),
+    (b"tail P 2", Line("P", ShowTail(2))),
+    (b"show", Line(None, Show())),
+    (b"tails", Line(None, ShowTails())),
+]
+DECLARED = b"declare P node=1 group=1 quota=9 blocks=%d\n"
 
 
-def which(word):
-    """The lock that a word names."""
-    return InBlock(int(word[1:])) if word.startswith("@") else int(word)
-
-
-def valid(is_valid):
-    return "valid" if is_valid else "invalid"
-
-
-def shown_name(name):
-    """A name as it is, if it is one word that a script can have, else in hexadecimal digits."""
-    is_plain = all(33 <= byte <= 126 for byte in name) and not name.startswith(b"x:")
-    return name.decode() if is_plain else "x:" + name.hex()
-
-
-class Play:
-    """A run of a script, and what it printed."""
-
-    def __init__(self, manager):
-        self.manager, self.names, self.out = manager, {}, []
-
-    def line(self, line):
-        command, words = line.split(" ", 1)[0].strip(), Words(line)
-        if command in ("show", "tails", "declare", "leave", "search"):
-            getattr(self, command)(words)
-        elif command and not command.startswith("#"):
-            name = words.plain[0]
-            self.say(name, answer(lambda: getattr(self, command)(self.names[name], words)))
-
-    def say(self, who, text):
-        self.out.append(f"{who}: {text}")
-
-    def declare(self, words):
-        def made():
-            process = self.manager.declare(words.small("node"), group=words.small("group"), quota=words.small("quota"),
-                                           blocks=words.small("blocks"), syslck="syslck" in words.plain)
-            self.names[words.plain[0]] = process
-            return f"process {process.pid}"
-
-        self.say(words.plain[0], answer(made))
-
-    def leave(self, words):
-        self.say(f"node {words.small('node')}", answer(lambda: self.manager.leave(words.small("node"))))
-
-    def search(self, words):
-        self.say("search", answer(lambda: f"victim {self.manager.search(words.small('node')) or 'none'}"))
-
-    def enq(self, process, words):
-        parent = words.keyed.get("parent")
-        return accepted(process.enq(words.name(), Mode[words.plain[1]], words.small("block"), words.flags(ENQ_FLAGS),
-                                    parent=parent and which(parent), **words.routines()))
-
-    def cvt(self, process, words):
-        return accepted(process.convert(which(words.plain[1]), Mode[words.plain[2]], words.small("block"),
-                                        words.flags(ENQ_FLAGS), **words.routines()))
-
-    def deq(self, process, words):
-        process.deq(which(words.plain[1]), words.flags(DEQ_FLAGS), value=words.bytes("value"), tail=words.bytes("tail"))
-
-    def set(self, process, words):
-        process.set_value(words.small("block"), words.bytes("value"), words.bytes("tail"))
-
-    def end(self, process, _words):
-        process.rundown()
-
-    def ast(self, process, _words):
-        ast = process.take()
-        if ast is None:
-            return "none"
-        kind = "completion" if ast.kind is AstKind.COMPLETION else "blocking"
-        return f"{kind} {ast.routine} param {ast.param} lock {ast.lock}"
-
-    def block(self, process, words):
-        number = int(words.plain[1])
+def played(script):
+    """What a script prints, and the text of the fault that ends it, if one does."""
+    texts = []
+    with LockManager() as manager:
         try:
-            block = process.status_block(number)
-        except BadParam:
-            return f"block {number} none"
-        return f"block {number} status {int(block.status or 0)} lock {block.lock or 0} value {block.value.hex()}"
-
-    def tail(self, process, words):
-        number = int(words.plain[1])
-        try:
-            return f"tail {number} {process.status_block(number).tail.hex()}"
-        except BadParam:
-            return f"tail {number} none"
-
-    def resources(self):
-        found = list(self.manager.resources())
-        if not found:
-            self.out.append("no resources")
-        return found
-
-    def show(self, _words):
-        for it in self.resources():
-            domain = "system" if it.group is None else f"group {it.group}"
-            self.out.append(f"resource {it.serial} in {it.parent or 0} {domain} name {shown_name(it.name)} value "
-                            f"{it.value.hex()} {valid(it.value_valid)}")
-            for queue, word in QUEUES:
-                for row in self.manager.rows(it, queue):
-                    modes = " to ".join(mode.name for mode in (row.held, row.want) if mode is not None)
-                    self.out.append(f"  {word} {row.lock} process {row.pid} {modes}")
-
-    def tails(self, _words):
-        for it in self.resources():
-            self.out.append(f"tail {it.serial} value {it.tail.hex()} {valid(it.tail_valid)}")
-
-
-def accepted(request: Accepted):
-    return f"{'SYNCH' if request.at_once else 'NORMAL'} lock {request.lock}"
-
-
-def answer(step):
-    """What a step answers, or the condition that refuses it."""
-    try:
-        told = step()
-    except VlmError as refusal:
-        return refusal.condition.name
-    return "NORMAL" if told is None else told
+            texts.extend(play(manager, script))
+        except ScriptFault as fault:
+            return "".join(texts).encode(), f"{fault}\n".encode()
+    return "".join(texts).encode(), b""
 
 
 class Scripts(unittest.TestCase):
     def test_the_worked_scripts_print_what_the_program_prints(self):
-        played = 0
-        for script in sorted(SCRIPTS.iterdir()):
-            expected = script.with_name(script.name + ".stdout")
-            text = script.read_bytes() if expected.exists() and not script.suffix else b"@0"
-            if b"@0" in text:
-                continue
-            with self.subTest(script.name), LockManager() as manager:
-                play = Play(manager)
-                for line in text.decode("latin-1").splitlines():
-                    play.line(line)
-                self.assertEqual("".join(line + "\n" for line in play.out), expected.read_text("latin-1"))
-            played += 1
-        self.assertGreaterEqual(played, 60)
+        count = 0
+        for expected in sorted(SCRIPTS.glob("*.stdout")):
+            with self.subTest(expected.stem):
+                self.assertEqual(played(expected.with_suffix("").read_bytes()), (expected.read_bytes(), b""))
+            count += 1
+        self.assertGreaterEqual(count, 60)
+
+    def test_faulty_scripts_end_with_their_faults(self):
+        for script, text, fault in FAULTY:
+            with self.subTest(script):
+                self.assertEqual(played(script), (text, fault))
+
+    def test_whole_scripts(self):
+        for script, text in WHOLE:
+            with self.subTest(script):
+                self.assertEqual(played(script), (text, b""))
+
+
+class Reading(unittest.TestCase):
+    def test_each_command_is_read(self):
+        for text, line in EACH_LINE:
+            with self.subTest(text):
+                self.assertEqual(read_line(text), line)
+
+    def test_views_make_no_step(self):
+        views = {type(line.does) for _, line in EACH_LINE if not makes_step(line)}
+        self.assertEqual(views, {ShowBlock, ShowTail, Show, ShowTails})
+
+    def test_a_fault_says_what_it_is(self):
+        with self.assertRaises(LineFault) as caught:
+            read_line(b"leave node=256")
+        self.assertEqual((caught.exception.fault, str(caught.exception)),
+                         (Fault.NUMBER_OUT_OF_RANGE, "number out of range"))
+
+    def test_only_three_bytes_are_blanks(self):
+        self.assertEqual(read_line(b"\tsearch\rnode=1  "), Line(None, Search(1)))
+        for byte in b"\0\n\v\f\x1c\x85\xa0":
+            with self.assertRaises(LineFault, msg=byte):
+                read_line(b"search" + bytes([byte]) + b"node=1")
+
+    def test_a_line_has_at_most_255_bytes(self):
+        self.assertIsNone(read_line(b"#" + 254 * b"\xff"))
+        with self.assertRaises(LineFault):
+            read_line(b"#" + 255 * b" ")
+
+    def test_names_may_be_any_bytes(self):
+        name = bytes(set(range(256)) - set(b" \t\r\n"))[:200]
+        self.assertEqual(read_line(b"enq P EX block=1 name=" + name), Line("P", Enq(Mode.EX, name, 1)))
+
+    def test_lines_end_at_line_feeds(self):
+        self.assertEqual(lines_of(b""), [])
+        self.assertEqual(lines_of(b"\n"), [b""])
+        self.assertEqual(lines_of(b"a\r\n\nb"), [b"a\r", b"", b"b"])
+        self.assertEqual(len(lines_of(LONGEST_SCRIPT * b"\n")), LONGEST_SCRIPT)
+        with self.assertRaises(ValueError):
+            lines_of((LONGEST_SCRIPT + 1) * b"\n")
+
+    def test_a_printed_name_is_one_word(self):
+        names = {b"A": "A", b"<i>": "<i>", b"x:": "x:783a", b"a b": "x:612062", b"\xe9": "x:e9", b"": ""}
+        self.assertEqual({name: name_text(name) for name in names}, names)
+
+
+class StatusBlockZero(unittest.TestCase):
+    """`@0` is refused by ACCVIO in its place of the order of refusals, whatever the number of status blocks."""
+
+    def refusals(self, words):
+        """The answers to a line, of a process with 4 status blocks and of one with 255. A lock 1 exists."""
+        return {played(DECLARED % blocks + b"enq P EX name=A block=1\n" + words)[0].splitlines()[-1]
+                for blocks in (4, 255)}
+
+    def test_a_parent_lock(self):
+        self.assertEqual(self.refusals(b"enq P EX name=B block=1 parent=@0"), {b"P: ACCVIO"})
+        self.assertEqual(self.refusals(b"enq P EX name= block=1 parent=@0 expedite"), {b"P: ACCVIO"})
+        self.assertEqual(self.refusals(b"enq P EX name=B block=1 parent=@0 bits=512"), {b"P: BADPARAM"})
+
+    def test_a_converted_lock(self):
+        self.assertEqual(self.refusals(b"cvt P @0 NL block=1"), {b"P: ACCVIO"})
+        self.assertEqual(self.refusals(b"cvt P @0 NL block=1 bits=512"), {b"P: BADPARAM"})
+
+    def test_a_dequeued_lock(self):
+        self.assertEqual(self.refusals(b"deq P @0"), {b"P: ACCVIO"})
+        self.assertEqual(self.refusals(b"deq P @0 deqall"), {b"P: ACCVIO"})
+        self.assertEqual(self.refusals(b"deq P @0 deqall cancel"), {b"P: BADPARAM"})
+        self.assertEqual(self.refusals(b"end P\ndeq P @0 deqall cancel"), {b"P: NONEXPR"})
+        self.assertEqual(self.refusals(b"leave node=1\ndeq P @0"), {b"P: DEPARTED"})
+
+
+class Parts(unittest.TestCase):
+    """What a program uses that makes the steps of others."""
+
+    def test_a_step_goes_through_json(self):
+        for text, line in EACH_LINE:
+            if makes_step(line):
+                with self.subTest(text):
+                    self.assertEqual(step_of(json.loads(json.dumps(plain(line.does)))), line.does)
+
+    def test_a_name_is_bound_by_an_accepted_declaration(self):
+        names, declare, end = Names(), read_line(b"declare P node=1 group=1 quota=1 blocks=1"), read_line(b"end P")
+        names.learn(declare, Outcome(Condition.BADPARAM))
+        self.assertRaises(LineFault, names.pid_of, end)
+        names.learn(declare, Outcome(Condition.NORMAL, 65_537))
+        self.assertEqual(names.pid_of(end), 65_537)
+        self.assertRaises(LineFault, names.pid_of, declare)
+
+    def test_a_step_is_made_for_a_process_that_is_known_by_its_number(self):
+        with LockManager() as manager:
+            pid = manager.declare(node=1, blocks=1).pid
+            line = read_line(b"enq AnyName EX name=A block=1 syncsts ast=3")
+            outcome = make(manager, pid, line.does)
+            self.assertEqual(outcome, Outcome(Condition.SYNCH, 1))
+            self.assertEqual(printed(line, outcome), "AnyName: SYNCH lock 1\n")
+            self.assertEqual(make(manager, pid + 1, line.does), Outcome(Condition.NONEXPR))
+
+    def test_a_line_with_a_fault_does_nothing(self):
+        with LockManager() as manager:
+            session = Session(manager)
+            self.assertRaises(LineFault, session.run, b"enq P EX name=A block=1")
+            self.assertEqual(session.run(b" # a comment"), "")
+            self.assertEqual(session.run(DECLARED[:-1] % 1), "P: process 65537\n")
+            self.assertRaises(LineFault, session.run, DECLARED[:-1] % 1)
+            self.assertEqual(len(list(manager.processes())), 1)
 
 
 if __name__ == "__main__":
