@@ -1,8 +1,8 @@
 """What `./vlm install` leaves, and programs in C, Rust and Python over it. The programs of examples/c and tests/c are
 compiled by each C compiler that is there, plain and with each sanitizer that it links, and run, under valgrind too. One
 finds the libraries by pkg-config and by CMake, and one plays the worked scripts. The headers are compiled as C++. The
-tests of bindings/rust run where cargo is, those of bindings/python by the Python that runs this. Each missing tool is
-named."""
+tests of bindings/rust run where cargo is, those of bindings/python by the Python that runs this, with a browser where
+Chromium and its driver are. Each missing tool is named."""
 
 import functools
 import os
@@ -24,7 +24,7 @@ SOURCES = sorted((TOP / "examples" / "c").glob("*.c")) + sorted((TOP / "tests" /
 PLAYER = TOP / "tests" / "c" / "scripts" / "play.c"
 COMPILERS = ("gcc", "clang")
 SANITIZERS = ("none", "address,undefined", "thread")
-TOOLS = (*COMPILERS, "g++", "clang++", "valgrind", "pkg-config", "cmake", "man", "cargo")
+TOOLS = (*COMPILERS, "g++", "clang++", "valgrind", "pkg-config", "cmake", "man", "cargo", "dot", "chromium", "chromedriver")
 STRICT = ["-Wall", "-Wextra", "-Wpedantic", "-Werror"]
 # What an installation leaves, beside the shared library.
 FILES = ("bin/vlm", *(f"include/{it.name}" for it in (TOP / "include").glob("*.h")),
@@ -372,8 +372,9 @@ def python(_program):
     if not subprocess.run([sys.executable, "-m", "pip", "--version"], capture_output=True).returncode:
         there = room() / "installed by pip"
         yield from ran(sys.executable, "-m", "pip", "install", "--no-index", "--quiet", "--target", there, package)
-        yield from ran(sys.executable, "-c", "import vlm; vlm.LockManager().close()", cwd=room(),
-                       env={**env, "PYTHONPATH": str(there)})
+        env["PYTHONPATH"] = str(there)
+        yield from ran(sys.executable, "-c", "import vlm; vlm.LockManager().close()", cwd=room(), env=env)
+        yield from ran(there / "bin" / "vlm-draw", PLAY / "a-circle-of-three", cwd=room(), env=env)
 
 
 def first():

@@ -13,16 +13,25 @@ METADATA = ("Metadata-Version: 2.1\nName: {name}\nVersion: {version}\nSummary: {
             "Requires-Python: {python}\n")
 
 
-def _project() -> Dict[str, str]:
-    """The lines of pyproject.toml that name one text."""
-    return dict(re.findall(r'^([\w-]+) = "(.*)"$', (HERE / "pyproject.toml").read_text(), re.M))
+def _table(name: str) -> Dict[str, str]:
+    """The lines of a table of pyproject.toml that name one text."""
+    text = (HERE / "pyproject.toml").read_text()
+    table = re.search(rf"^\[{re.escape(name)}\]\n(.*?)(?=^\[|\Z)", text, re.M | re.S)
+    return dict(re.findall(r'^([\w-]+) = "(.*)"$', table[1], re.M)) if table else {}
 
 
 def _files(project: Dict[str, str], info: str) -> Dict[str, bytes]:
     """The files of the wheel, except the list of them."""
     metadata = METADATA.format(python=project["requires-python"], **project)
-    modules = {f"vlm/{it.name}": it.read_bytes() for it in sorted((HERE / "vlm").iterdir()) if it.is_file()}
-    return {**modules, f"{info}/METADATA": metadata.encode(), f"{info}/WHEEL": WHEEL.encode()}
+    commands = "[console_scripts]\n" + "".join(f"{name} = {call}\n" for name, call in _table("project.scripts").items())
+    return {**_package(), f"{info}/METADATA": metadata.encode(), f"{info}/WHEEL": WHEEL.encode(),
+            f"{info}/entry_points.txt": commands.encode()}
+
+
+def _package() -> Dict[str, bytes]:
+    """The files of the package and of the packages in it, without what Python leaves there."""
+    files = [it for it in sorted((HERE / "vlm").rglob("*")) if it.is_file() and "__pycache__" not in it.parts]
+    return {it.relative_to(HERE).as_posix(): it.read_bytes() for it in files}
 
 
 def _row(name: str, text: bytes) -> str:
@@ -34,7 +43,7 @@ def _row(name: str, text: bytes) -> str:
 def build_wheel(wheel_directory: str, config_settings: Optional[Dict[str, Any]] = None,
                 metadata_directory: Optional[str] = None) -> str:
     """What pip calls (PEP 517): makes the wheel in a folder, and returns its name."""
-    project = _project()
+    project = _table("project")
     info = f"{project['name']}-{project['version']}.dist-info"
     files = _files(project, info)
     files[f"{info}/RECORD"] = "".join([*(_row(*it) for it in files.items()), f"{info}/RECORD,,\n"]).encode()

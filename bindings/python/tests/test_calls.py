@@ -97,7 +97,10 @@ class Calls(unittest.TestCase):
         self.assertEqual(manager.resource_of(second).name, b"T")
         self.assertEqual([it.locks for it in manager.processes()], [3, 1])
         self.assertEqual((manager.find_lock(99), manager.resource_of(99)), (None, None))
-        self.assertEqual([*manager.sublocks(99), *manager.blockers(99)], [])
+        self.assertEqual([*manager.sublocks(99), *manager.blockers(99), *manager.rows_after(99)], [])
+        last = self.q.enq("A", Mode.CR, 3).lock
+        self.assertEqual([it.lock for it in manager.rows_after(waiting)], [last])
+        self.assertEqual([*manager.rows_after(last), *manager.rows_after(parent)], [])
         self.p.rundown()
         self.assertEqual(list(manager.locks_of(self.p)), [])
 

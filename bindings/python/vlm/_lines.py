@@ -31,7 +31,7 @@ class LineFault(ValueError):
         self.fault = fault
 
 
-# The steps, by their names in docs/MACHINE.md. Each field is the word of the line with the same key, or the word in that
+# The steps, by their names in docs/MACHINE.md. A field is the word of the line with the same key, or the word in its
 # place. A field with a default is a word that may be missing. InBlock(0) is the lock `@0`.
 
 @dataclass(frozen=True)

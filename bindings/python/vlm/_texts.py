@@ -1,8 +1,7 @@
 """The texts that a script prints: docs/SCRIPT.md of the repository, "Printed texts". None has its line feed."""
 
-from typing import List, Optional
+from typing import Iterable, Iterator, Optional, Tuple
 
-from .manager import LockManager
 from .values import Ast, AstKind, LockView, Queue, Resource, StatusBlock
 
 _QUEUES = {Queue.GRANTED: "granted", Queue.CONVERSION: "converting", Queue.WAITING: "waiting"}
@@ -51,19 +50,25 @@ def lock_text(lock: LockView) -> str:
     return f"  {_QUEUES[lock.queue]} {lock.lock} process {lock.pid} {mode_text(lock)}"
 
 
-def show_lines(manager: LockManager) -> List[str]:
-    """Every resource with its queues."""
-    lines = []
-    for resource in manager.resources():
-        lines.append(resource_text(resource))
-        lines += [lock_text(lock) for queue in _QUEUES for lock in manager.rows(resource, queue)]
-    return lines or ["no resources"]
+def show_lines(resources: Iterable[Tuple[Resource, Iterable[LockView]]]) -> Iterator[str]:
+    """Every resource, with the locks in its queues."""
+    is_there = False
+    for resource, locks in resources:
+        is_there = True
+        yield resource_text(resource)
+        yield from map(lock_text, locks)
+    if not is_there:
+        yield "no resources"
 
 
-def tails_lines(manager: LockManager) -> List[str]:
+def tails_lines(resources: Iterable[Resource]) -> Iterator[str]:
     """The tail of every resource's value block."""
-    return [f"tail {it.serial} value {it.tail.hex()} {_validity(it.tail_valid)}"
-            for it in manager.resources()] or ["no resources"]
+    is_there = False
+    for resource in resources:
+        is_there = True
+        yield f"tail {resource.serial} value {resource.tail.hex()} {_validity(resource.tail_valid)}"
+    if not is_there:
+        yield "no resources"
 
 
 def _validity(is_valid: bool) -> str:

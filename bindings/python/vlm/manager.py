@@ -146,6 +146,10 @@ class LockManager:
         words = _key(resource.name, resource.group, resource.parent or 0)
         return self._walk_locks("vlm_first_row", "vlm_next_row", words, int(Queue(queue)))
 
+    def rows_after(self, lock: int) -> Iterator[LockView]:
+        """The locks behind this one in its queue, as they are at the call."""
+        return self._walk_locks("vlm_next_row", "vlm_next_row", word(lock, "the lock"))
+
     def locks_of(self, process: Process) -> Iterator[LockView]:
         """The locks of a process, in the order in which they were made, as they are at the call."""
         return self._walk_locks("vlm_first_own", "vlm_next_own", process.pid)

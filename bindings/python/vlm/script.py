@@ -2,32 +2,33 @@
 language. Nothing of it is proved.
 
     with LockManager() as manager:
-        for text in play(manager, b"declare P node=1 group=1 quota=9 blocks=4\n"):
+        for text in play(manager, script):
             print(text, end="")
 
-A `Session` runs line by line. Its parts can be used alone: `read_line` reads a line, `Names` binds its NAME to a process,
-and `make` makes its step for the process of an identification. `plain` turns a step into a dictionary that JSON can hold,
-and `step_of` turns it back. Managers that make the same steps in the same order give the same answers.
+A `Session` runs line by line. Its parts can be used alone: `read_line` reads a line, `Names` binds its NAME to a
+process, and `make` makes its step for the process of an identification. `plain` turns a step into a dictionary that
+JSON can hold, and `step_of` turns it back. Managers that make the same steps in the same order give the same answers.
 """
 
 from dataclasses import dataclass, fields, replace
-from typing import Any, Callable, Dict, Iterator, List, Optional, Union
+from typing import Any, Callable, Dict, Iterator, List, Optional, Tuple, Union
 
-from . import _texts
 from ._lines import (LONGEST_LINE, LONGEST_SCRIPT, STEPS, Convert, Declare, Deq, Enq, Fault, Leave, Line, LineFault,
                      Rundown, Search, SetValue, Show, ShowBlock, ShowTail, ShowTails, Step, Take, View, lines_of,
                      read_line)
-from ._texts import ast_text, block_text, lock_text, mode_text, name_text, resource_text, tail_text
+from ._texts import (ast_text, block_text, lock_text, mode_text, name_text, resource_text, show_lines, tail_text,
+                     tails_lines)
 from .errors import AccVio, BadParam, IvLockId, VlmError
 from .manager import LockManager
 from .process import Process
-from .values import Accepted, Ast, Condition, DequeueFlags, Flags, InBlock, Mode, StatusBlock
+from .values import (Accepted, Ast, Condition, DequeueFlags, Flags, InBlock, LockView, Mode, Queue, Resource,
+                     StatusBlock)
 
 __all__ = ["LONGEST_LINE", "LONGEST_SCRIPT", "Convert", "Declare", "Deq", "Enq", "Fault", "Leave", "Line", "LineFault",
            "Names", "Outcome", "Ran", "Rundown", "ScriptFault", "Search", "Session", "SetValue", "Show", "ShowBlock",
-           "ShowTail", "ShowTails", "Step", "Take", "View", "ast_text", "block_text", "lines_of", "lock_text", "make",
-           "makes_step", "mode_text", "name_text", "plain", "play", "printed", "read_line", "resource_text", "shown",
-           "step_of", "tail_text"]
+           "ShowTail", "ShowTails", "Step", "Take", "View", "answer_text", "ast_text", "block_text", "lines_of",
+           "lock_text", "make", "makes_step", "mode_text", "name_text", "plain", "play", "printed", "read_line",
+           "resource_text", "show_lines", "shown", "step_of", "tail_text", "tails_lines"]
 
 # The lock `@0`. No call of the library can name the status block 0.
 _IN_NO_BLOCK = InBlock(0)
@@ -211,10 +212,10 @@ def printed(line: Line, outcome: Outcome) -> str:
     step = line.does
     if isinstance(step, Leave):
         return f"node {step.node}: {outcome.condition.name}\n"
-    return f"{'search' if isinstance(step, Search) else line.name}: {_answer_text(step, outcome)}\n"
+    return f"{'search' if isinstance(step, Search) else line.name}: {answer_text(step, outcome)}\n"
 
 
-def _answer_text(step: Union[Step, View], outcome: Outcome) -> str:
+def answer_text(step: Union[Step, View], outcome: Outcome) -> str:
     """An answer, without the name before it."""
     if outcome.is_refusal:
         return outcome.condition.name
@@ -234,9 +235,17 @@ def shown(manager: LockManager, pid: int, line: Line) -> str:
         lines = [f"{line.name}: {block_text(view.number, _status_block(manager, pid, view.number))}"]
     elif isinstance(view, ShowTail):
         lines = [f"{line.name}: {tail_text(view.number, _status_block(manager, pid, view.number))}"]
+    elif isinstance(view, Show):
+        lines = list(show_lines(_with_locks(manager)))
     else:
-        lines = _texts.show_lines(manager) if isinstance(view, Show) else _texts.tails_lines(manager)
+        lines = list(tails_lines(manager.resources()))
     return "".join(line + "\n" for line in lines)
+
+
+def _with_locks(manager: LockManager) -> Iterator[Tuple[Resource, List[LockView]]]:
+    """Each resource with the locks in its queues."""
+    for resource in manager.resources():
+        yield resource, [lock for queue in Queue for lock in manager.rows(resource, queue)]
 
 
 def _status_block(manager: LockManager, pid: int, number: int) -> Optional[StatusBlock]:

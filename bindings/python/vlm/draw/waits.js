@@ -1,0 +1,184 @@
+// Who waits for whom, as a table and as a graph.
+
+const MOST_ROWS = 100;
+const ARROWS = "An arrow leads from a process that waits to the one that it waits for.";
+const SEARCHED = "The waits before the search. The circle is drawn thick; the victim's process has a dashed border.";
+
+// What is needed to show the waits of the present state: plain words, so it stays right in another state.
+function waitModel(found) {
+  const queued = [...state.locks.values()].filter((it) => it.want).sort((a, b) => a.lock - b.lock).map((it) => ({
+    lock: it.lock, pid: it.pid, name: nameOf(it.pid), resource: resourceName(it.resource), modes: modesOf(it),
+    isVictim: Boolean(found) && found.victim === it.lock,
+    others: state.hasManyWaits ? [] : [...(state.waits.get(it.lock) || [])].sort((a, b) => a - b).map((other) => ({
+      lock: other, pid: state.locks.get(other).pid, name: nameOf(state.locks.get(other).pid),
+      isFound: Boolean(found) && found.waits.some(([from, to]) => from === it.lock && to === other)})),
+  }));
+  return {queued, isWhole: !state.hasManyWaits, victim: found ? found.victim : 0};
+}
+
+// The arrows between processes: all waits of one process for another are one arrow.
+function arrowsOf(model) {
+  const arrows = new Map();
+  for (const request of model.queued) {
+    for (const other of request.others) {
+      const key = `${request.pid} ${other.pid}`;
+      if (!arrows.has(key)) arrows.set(key, {from: request.pid, to: other.pid, resources: new Set(), isCircle: false});
+      arrows.get(key).resources.add(request.resource);
+      if (other.isFound) arrows.get(key).isCircle = true;
+    }
+  }
+  if (!model.victim) markCircles([...arrows.values()]);
+  return [...arrows.values()];
+}
+
+// Marks each arrow that is part of a circle: its end leads back to its beginning.
+function markCircles(arrows) {
+  const next = new Map();
+  for (const {from, to} of arrows) next.set(from, [...(next.get(from) || []), to]);
+  for (const arrow of arrows) arrow.isCircle = leadsTo(next, arrow.to, arrow.from);
+}
+
+function leadsTo(next, from, wanted) {
+  const seen = new Set([from]), rest = [from];
+  while (rest.length) {
+    const pid = rest.pop();
+    if (pid === wanted) return true;
+    for (const it of next.get(pid) || []) {
+      if (!seen.has(it)) rest.push(it);
+      seen.add(it);
+    }
+  }
+  return false;
+}
+
+function waitNodes(model) {
+  if (!model.queued.length) return [element("p", {class: "none"}, "no request waits")];
+  if (model.isWhole) return [arrowsOf(model).length ? graphFigure(model, ARROWS) : "", waitTable(model)];
+  const reason = `With more than ${data.mostRequests} requests or ${data.mostWaits} waits a graph can't be read.`;
+  return [element("p", {class: "more"}, `${reason} The table lists the requests.`), waitTable(model)];
+}
+
+function waitTable(model) {
+  const rows = model.queued.slice(0, MOST_ROWS).map((it) => element("tr", {},
+    element("th", {scope: "row"}, `${it.name}, lock ${it.lock}`), element("td", {}, it.resource),
+    element("td", {}, it.modes), element("td", {}, model.isWhole ? othersText(it.others) : "not followed")));
+  return element("div", {},
+    element("table", {}, tableHead(["request", "resource", "mode", "waits for"]), element("tbody", {}, ...rows)),
+    moreNode(model.queued.length - rows.length));
+}
+
+function othersText(others) {
+  return others.map((it) => `${it.name} (lock ${it.lock})`).join(", ") || "nobody";
+}
+
+// A search that found a victim: the waits before it, with the circle.
+function renderSearch(line) {
+  const section = byId("search");
+  section.hidden = !line.circle;
+  section.replaceChildren(element("h2", {}, "What the search found"));
+  if (!line.circle) return;
+  const number = state.at;
+  goTo(number - 1);
+  const model = waitModel(line.circle), texts = circleTexts(line.circle);
+  goTo(number);
+  section.append(element("p", {}, ...texts));
+  if (model.isWhole) section.append(graphFigure(model, SEARCHED));
+}
+
+function circleTexts({victim, waits}) {
+  const owner = nameOf(state.locks.get(victim).pid);
+  const last = [element("span", {class: "victim"}, `The victim is lock ${victim} of ${owner}.`)];
+  if (!waits.length) return ["The circle is too long to be shown. ", ...last];
+  const steps = waits.map(([lock, other]) => {
+    const request = state.locks.get(lock), holder = state.locks.get(other);
+    const names = `${nameOf(request.pid)} waits for ${nameOf(holder.pid)}`;
+    return `${names} on ${resourceName(request.resource)} (lock ${lock} for lock ${other})`;
+  });
+  return [`A circle: ${steps.join(", ")}. `, ...last];
+}
+
+// ---- The graph ----
+
+// Processes stand on a circle, from the top on and clockwise. (graph.py draws it so too: a page draws each of
+// its thousands of graphs only when it is looked at.)
+function graphFigure(model, caption) {
+  const arrows = arrowsOf(model);
+  const names = new Map();
+  for (const request of model.queued) {
+    for (const other of request.others) names.set(request.pid, request.name).set(other.pid, other.name);
+  }
+  const pids = [...names.keys()].sort((a, b) => a - b);
+  const victim = model.queued.filter((it) => it.isVictim).map((it) => it.pid)[0];
+  const places = placesOf(pids, names);
+  const label = arrows.map((it) =>
+    `${names.get(it.from)} waits for ${names.get(it.to)}${it.isCircle ? ", in a circle" : ""}`).join("; ");
+  const svg = drawn("svg", {class: "graph", role: "img", "aria-label": label, ...frameOf([...places.values()], arrows)},
+    ...arrows.map((it) => arrowLine(it, places)),
+    ...pids.map((pid) => processNode(names.get(pid), places.get(pid), pid === victim)),
+    ...arrows.map((it) => arrowLabel(it, places)));
+  return element("figure", {}, svg, element("figcaption", {}, caption));
+}
+
+// The size of a picture with these boxes, with room for arrows that bend out or lead back to their own box.
+function frameOf(boxes, arrows) {
+  const above = arrows.some(({from, to}) => from === to) ? 75 : 40;
+  const x = Math.min(...boxes.map((it) => it.x - it.half)) - 60, y = Math.min(...boxes.map((it) => it.y)) - above;
+  const width = Math.max(...boxes.map((it) => it.x + it.half)) + 60 - x;
+  const height = Math.max(...boxes.map((it) => it.y)) + 60 - y;
+  return {width, height, viewBox: `${x} ${y} ${width} ${height}`};
+}
+
+// The middle of each process's box, and half of its width.
+function placesOf(pids, names) {
+  const radius = pids.length < 2 ? 0 : Math.max(90, 26 * pids.length);
+  const top = pids.length === 2 ? Math.PI : Math.PI * 3 / 2;
+  return new Map(pids.map((pid, place) => {
+    const angle = top + 2 * Math.PI * place / pids.length, half = Math.max(30, 4.5 * names.get(pid).length + 10);
+    return [pid, {x: radius * 1.5 * Math.cos(angle), y: radius * Math.sin(angle), half}];
+  }));
+}
+
+function processNode(name, {x, y, half}, isVictim) {
+  const label = drawn("text", {x, y: isVictim ? y - 6 : y}, name);
+  const box = drawn("rect", {
+    class: classes("process", isVictim && "victim"), x: x - half, y: y - 18, width: 2 * half, height: 36, rx: 9});
+  return drawn("g", {}, box, label, isVictim ? drawn("text", {class: "told", x, y: y + 9}, "victim") : "");
+}
+
+// The curve of an arrow: its bend, and where it leaves and reaches the boxes.
+function curveOf({from, to}, places) {
+  const a = places.get(from), b = places.get(to);
+  if (from === to) {
+    return {start: {x: a.x - 14, y: a.y - 18}, bend: {x: a.x, y: a.y - 84}, end: {x: a.x + 14, y: a.y - 20}};
+  }
+  const x = b.x - a.x, y = b.y - a.y, length = Math.hypot(x, y);
+  const bend = {x: (a.x + b.x) / 2 - y / length * 34, y: (a.y + b.y) / 2 + x / length * 34};
+  return {start: a, bend, end: edgeOf(b, bend)};
+}
+
+// Where a line from a point outside meets the box of a process, a little before it.
+function edgeOf(box, from) {
+  const x = from.x - box.x, y = from.y - box.y;
+  const part = Math.min(x ? (box.half + 4) / Math.abs(x) : Infinity, y ? 22 / Math.abs(y) : Infinity);
+  return {x: box.x + x * part, y: box.y + y * part};
+}
+
+function arrowLine(arrow, places) {
+  const {start, bend, end} = curveOf(arrow, places);
+  const length = Math.hypot(end.x - bend.x, end.y - bend.y) || 1;
+  const size = arrow.isCircle ? 15 : 11, dx = (end.x - bend.x) / length, dy = (end.y - bend.y) / length;
+  const tail = {x: end.x - dx * size, y: end.y - dy * size}, half = size / 2.4;
+  const line = `M${start.x} ${start.y}Q${bend.x} ${bend.y} ${tail.x} ${tail.y}`;
+  const head = [end.x, end.y, tail.x - dy * half, tail.y + dx * half, tail.x + dy * half, tail.y - dx * half];
+  return drawn("g", {"data-wait": `${arrow.from} ${arrow.to}`},
+    drawn("path", {class: classes("wait", arrow.isCircle && "circle"), d: line}),
+    drawn("polygon", {class: classes("head", arrow.isCircle && "circle"), points: head.join(" ")}));
+}
+
+function arrowLabel(arrow, places) {
+  const {start, bend, end} = curveOf(arrow, places);
+  const names = [...arrow.resources];
+  const text = names.length > 2 ? `${names[0]} and ${names.length - 1} more` : names.join(", ");
+  const place = {x: (start.x + 2 * bend.x + end.x) / 4, y: (start.y + 2 * bend.y + end.y) / 4};
+  return drawn("text", {class: "label", ...place}, text.length > 24 ? `${text.slice(0, 23)}…` : text);
+}

@@ -1,0 +1,114 @@
+"""Who waits for whom. All of it comes from the library's walk over the blockers of a request, which a search for a
+deadlock follows too."""
+
+from collections import deque
+from dataclasses import dataclass
+from itertools import islice
+from typing import Deque, Dict, Iterator, List, Set, Tuple
+
+from .. import _library as raw
+from ..manager import LockManager
+from .state import State
+
+# With more queued requests or more waits than this, a graph can't be read. Then the waits are not followed.
+MOST_REQUESTS, MOST_WAITS = 60, 120
+# The most blockers that are read to find a circle.
+MOST_READ = 1_000
+
+# A request that waits for a lock: the lock of the request, and the other one.
+Wait = Tuple[int, int]
+
+
+@dataclass(frozen=True)
+class Circle:
+    """What a search found: the lock of its victim, and the waits of a circle, from the victim on. There are none if
+    the circle is too long to be found."""
+
+    victim: int
+    waits: Tuple[Wait, ...]
+
+
+def blockers_of(manager: LockManager, lock: int) -> Iterator[int]:
+    """The locks for which the request of a lock waits."""
+    words = raw.Lock()
+    goes_on = manager._goes_on("vlm_first_blocker", lock, words)
+    while goes_on and words.lkid:
+        yield words.lkid
+        goes_on = manager._goes_on("vlm_next_blocker", lock, words.lkid, words)
+
+
+def follow_waits(manager: LockManager, state: State, locks: Set[int]) -> None:
+    """Reads again for whom the requests of these locks wait. All are read if they were not followed."""
+    if len(state.queued) > MOST_REQUESTS:
+        state.set_many_waits(True)
+        return
+    if state.has_many_waits:
+        locks = state.queued | state.waits.keys()
+    count = sum(len(waits) for lock, waits in state.waits.items() if lock not in locks)
+    found = {}
+    for lock in sorted(locks):
+        is_queued = lock in state.queued
+        found[lock] = frozenset(islice(blockers_of(manager, lock), MOST_WAITS + 1 - count) if is_queued else ())
+        count += len(found[lock])
+        if count > MOST_WAITS:
+            state.set_many_waits(True)
+            return
+    for lock, waits in found.items():
+        state.set_waits(lock, waits)
+    state.set_many_waits(False)
+
+
+def circle_of(manager: LockManager, state: State, victim: int) -> Circle:
+    """A shortest circle of processes that each wait for the next, by the victim's request first."""
+    home = state.locks[victim].pid
+    # The wait by which each process was reached, and the requests whose waits are still to be read.
+    reached: Dict[int, Wait] = {}
+    requests: Deque[int] = deque([victim])
+    left = MOST_READ
+    while requests and left > 0 and home not in reached:
+        lock = requests.popleft()
+        for blocker in islice(blockers_of(manager, lock), left):
+            left -= 1
+            pid = state.locks[blocker].pid
+            if pid not in reached:
+                reached[pid] = lock, blocker
+                requests += _requests_of(state, pid)
+    return Circle(victim, tuple(_way_home(state, reached, victim)) if home in reached else ())
+
+
+def _requests_of(state: State, pid: int) -> List[int]:
+    return [lock for lock in state.own.get(pid, {}) if lock in state.queued]
+
+
+def _way_home(state: State, reached: Dict[int, Wait], victim: int) -> List[Wait]:
+    """The waits that lead from the victim's request to its own process."""
+    way = [reached[state.locks[victim].pid]]
+    while way[-1][0] != victim:
+        way.append(reached[state.locks[way[-1][0]].pid])
+    return way[::-1]
+
+
+def all_waits(manager: LockManager, state: State) -> List[Wait]:
+    """Every wait, by the locks of the requests and then in the order of the library's walk."""
+    return [(lock, blocker) for lock in sorted(state.queued) for blocker in blockers_of(manager, lock)]
+
+
+def waits_in_circles(state: State, waits: List[Wait]) -> Set[Wait]:
+    """The waits that are part of a circle of processes: from the other lock's process waits lead back to the waiter."""
+    following: Dict[int, Set[int]] = {}
+    for lock, blocker in waits:
+        following.setdefault(state.locks[lock].pid, set()).add(state.locks[blocker].pid)
+    ahead = {pid: _all_ahead(following, pid) for pid in following}
+    return {(lock, blocker) for lock, blocker in waits
+            if state.locks[lock].pid in ahead.get(state.locks[blocker].pid, set()) | {state.locks[blocker].pid}}
+
+
+def _all_ahead(following: Dict[int, Set[int]], pid: int) -> Set[int]:
+    """The processes for which a process waits, by others too."""
+    found: Set[int] = set()
+    rest = [pid]
+    while rest:
+        new = following.get(rest.pop(), set()) - found
+        found |= new
+        rest += new
+    return found
