@@ -488,10 +488,10 @@ class Costs(unittest.TestCase):
         self.assertEqual(data["lines"][-1]["printed"], "no resources\n")
 
     def test_waits_that_change_all_the_time(self):
-        lines = [b"declare P%d node=1 group=1 quota=9 blocks=1" % it for it in range(15)]
-        lines += [b"enq P%d EX name=A block=1" % it for it in range(15)]
-        turn = [line % it for it in range(15) for line in (b"deq P%d @1", b"enq P%d EX name=A block=1")]
-        self.page([*lines, *333 * turn][:10_000])
+        lines = [b"declare P%d node=1 group=1 quota=9 blocks=1" % it for it in range(13)]
+        lines += [b"enq P%d EX name=A block=1" % it for it in range(13)]
+        turn = [line % it for it in range(13) for line in (b"deq P%d @1", b"enq P%d EX name=A block=1")]
+        self.page([*lines, *400 * turn][:10_000])
 
 
 if __name__ == "__main__":

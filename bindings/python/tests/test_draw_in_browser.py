@@ -40,8 +40,16 @@ class Browser:
     def __init__(self):
         self._folder = tempfile.TemporaryDirectory()
         self._driver = subprocess.Popen(["chromedriver", "--port=0"], stdout=subprocess.PIPE, text=True)
-        port = next(filter(None, (re.search(r"on port (\d+)", line) for line in self._driver.stdout)))[1]
-        self._at, self._opener = f"http://127.0.0.1:{port}/session", build_opener(ProxyHandler({}))
+        self._opener = build_opener(ProxyHandler({}))
+        try:
+            self._begin()
+        except BaseException:
+            self._end()
+            raise
+
+    def _begin(self):
+        port = next(filter(None, (re.search(r"successfully on port (\d+)", line) for line in self._driver.stdout)))[1]
+        self._at = f"http://127.0.0.1:{port}/session"
         words = ["--headless=new", "--no-sandbox", "--disable-gpu", "--disable-dev-shm-usage", "--window-size=1280,900",
                  f"--user-data-dir={self._folder.name}"]
         wanted = {"goog:chromeOptions": {"args": words}, "goog:loggingPrefs": {"browser": "ALL"}}
@@ -56,10 +64,13 @@ class Browser:
         try:
             self._opener.open(Request(self._at, method="DELETE"), timeout=60).close()
         finally:
-            self._driver.terminate()
-            self._driver.wait()
-            self._driver.stdout.close()
-            self._folder.cleanup()
+            self._end()
+
+    def _end(self):
+        self._driver.terminate()
+        self._driver.wait()
+        self._driver.stdout.close()
+        self._folder.cleanup()
 
     def open(self, address):
         self.tell("/url", url=address)
@@ -132,7 +143,7 @@ class InBrowser(unittest.TestCase):
         last, expected = len(lines_of(script)), dict(expected_texts(script))
         self.open(script, "#line=7")
         self.assertEqual((self.at(), self.texts()), (7, expected[7]))
-        for key, line in ((END, last), (HOME, 0), (ARROW_RIGHT, 1)):
+        for key, line in ((END, last), (HOME, 0), (ARROW_RIGHT, 2)):
             self.browser.press(key)
             self.assertEqual((self.at(), self.texts()), (line, expected[line]))
         self.browser.click("#script li:nth-child(6) a")

@@ -97,4 +97,6 @@ class Recorder:
 def shown_line(line: bytes) -> str:
     """A line as text. Bytes and characters that can't be seen are escaped."""
     text = line.decode("utf-8", "backslashreplace").replace("\t", " ").rstrip("\r")
+    if text.isprintable():
+        return text
     return "".join(it if it.isprintable() else it.encode("unicode_escape").decode() for it in text)

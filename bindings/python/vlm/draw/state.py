@@ -16,6 +16,7 @@ A group is None in the domain of the system. Bytes are hexadecimal digits, and z
 """
 
 from dataclasses import dataclass
+from sys import maxsize
 from typing import Any, Dict, FrozenSet, Iterable, Iterator, List, Optional, Set, Tuple
 
 from ..script import name_text
@@ -54,8 +55,9 @@ class State:
         # The locks whose requests are queued, and for which locks each of them waits.
         self.queued: Set[int] = set()
         self.waits: Dict[int, FrozenSet[int]] = {}
-        # Whether there are so many waits that `waits` is out of date.
+        # Whether there are so many waits that `waits` is out of date, and from how many queued requests on that is so.
         self.has_many_waits = False
+        self.too_many_requests = maxsize
         self._changes: List[Change] = []
 
     def taken(self) -> List[Change]:
@@ -154,10 +156,19 @@ class State:
         if new != old:
             self._changes.append(["w", lock, sorted(old - new), sorted(new - old)])
 
-    def set_many_waits(self, are_many: bool) -> None:
-        if are_many != self.has_many_waits:
-            self._changes.append(["m", self.has_many_waits, are_many])
-            self.has_many_waits = are_many
+    def set_many_waits(self) -> None:
+        """Notes that with as many queued requests as there are, there are too many waits."""
+        self.too_many_requests = min(self.too_many_requests, len(self.queued))
+        self._set_has_many_waits(True)
+
+    def set_few_waits(self) -> None:
+        self.too_many_requests = maxsize
+        self._set_has_many_waits(False)
+
+    def _set_has_many_waits(self, new: bool) -> None:
+        if new != self.has_many_waits:
+            self._changes.append(["m", self.has_many_waits, new])
+            self.has_many_waits = new
 
     def all_below(self, lock: int) -> List[int]:
         """The locks below a lock, at any depth."""

@@ -179,6 +179,7 @@ function arrowLabel(arrow, places) {
   const {start, bend, end} = curveOf(arrow, places);
   const names = [...arrow.resources];
   const text = names.length > 2 ? `${names[0]} and ${names.length - 1} more` : names.join(", ");
-  const place = {x: (start.x + 2 * bend.x + end.x) / 4, y: (start.y + 2 * bend.y + end.y) / 4};
+  // Nearer to the beginning, so that the labels of two arrows between the same processes are apart.
+  const place = {x: .36 * start.x + .48 * bend.x + .16 * end.x, y: .36 * start.y + .48 * bend.y + .16 * end.y};
   return drawn("text", {class: "label", ...place}, text.length > 24 ? `${text.slice(0, 23)}…` : text);
 }

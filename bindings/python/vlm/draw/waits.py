@@ -2,16 +2,18 @@
 deadlock follows too."""
 
 from collections import deque
+from ctypes import byref
 from dataclasses import dataclass
-from itertools import islice
-from typing import Deque, Dict, Iterator, List, Set, Tuple
+from sys import maxsize
+from typing import Deque, Dict, List, Set, Tuple
 
 from .. import _library as raw
 from ..manager import LockManager
+from ..values import Condition
 from .state import State
 
 # With more queued requests or more waits than this, a graph can't be read. Then the waits are not followed.
-MOST_REQUESTS, MOST_WAITS = 60, 120
+MOST_REQUESTS, MOST_WAITS = 60, 80
 # The most blockers that are read to find a circle.
 MOST_READ = 1_000
 
@@ -28,34 +30,37 @@ class Circle:
     waits: Tuple[Wait, ...]
 
 
-def blockers_of(manager: LockManager, lock: int) -> Iterator[int]:
-    """The locks for which the request of a lock waits."""
-    words = raw.Lock()
-    goes_on = manager._goes_on("vlm_first_blocker", lock, words)
-    while goes_on and words.lkid:
-        yield words.lkid
-        goes_on = manager._goes_on("vlm_next_blocker", lock, words.lkid, words)
+def blockers_of(manager: LockManager, lock: int, most: int = maxsize) -> List[int]:
+    """The locks for which the request of a lock waits, at most so many. A page reads them so often that this calls the
+    library itself: `LockManager.blockers` takes four times as long."""
+    words, found = raw.Lock(), []
+    handle, place, following = byref(manager._handle), byref(words), raw.LIBRARY.vlm_next_blocker
+    with manager._changed:
+        status = raw.LIBRARY.vlm_first_blocker(handle, lock, place)
+        while status == Condition.NORMAL and words.lkid and len(found) < most:
+            found.append(words.lkid)
+            status = following(handle, lock, words.lkid, place)
+    return found
 
 
 def follow_waits(manager: LockManager, state: State, locks: Set[int]) -> None:
-    """Reads again for whom the requests of these locks wait. All are read if they were not followed."""
-    if len(state.queued) > MOST_REQUESTS:
-        state.set_many_waits(True)
-        return
+    """Reads again for whom the requests of these locks wait. Where there were too many waits, all are read once fewer
+    requests are queued."""
+    if len(state.queued) > MOST_REQUESTS or len(state.queued) >= state.too_many_requests:
+        return state.set_many_waits()
     if state.has_many_waits:
         locks = state.queued | state.waits.keys()
     count = sum(len(waits) for lock, waits in state.waits.items() if lock not in locks)
     found = {}
     for lock in sorted(locks):
         is_queued = lock in state.queued
-        found[lock] = frozenset(islice(blockers_of(manager, lock), MOST_WAITS + 1 - count) if is_queued else ())
+        found[lock] = frozenset(blockers_of(manager, lock, MOST_WAITS + 1 - count) if is_queued else ())
         count += len(found[lock])
         if count > MOST_WAITS:
-            state.set_many_waits(True)
-            return
+            return state.set_many_waits()
     for lock, waits in found.items():
         state.set_waits(lock, waits)
-    state.set_many_waits(False)
+    state.set_few_waits()
 
 
 def circle_of(manager: LockManager, state: State, victim: int) -> Circle:
@@ -67,7 +72,7 @@ def circle_of(manager: LockManager, state: State, victim: int) -> Circle:
     left = MOST_READ
     while requests and left > 0 and home not in reached:
         lock = requests.popleft()
-        for blocker in islice(blockers_of(manager, lock), left):
+        for blocker in blockers_of(manager, lock, left):
             left -= 1
             pid = state.locks[blocker].pid
             if pid not in reached:
