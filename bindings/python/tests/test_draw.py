@@ -423,6 +423,13 @@ class Graphs(unittest.TestCase):
         self.assertEqual(line["printed"], "search: victim 4\n")
         self.assertEqual(line["circle"], {"victim": 4, "waits": [[4, 1], [3, 2]]})
 
+    def test_a_circle_that_is_too_long_to_be_found(self):
+        """Q's request, the last one, waits for 1,000 locks of X before it waits for P's, and P waits for Q."""
+        many = b"declare X node=3 group=1 quota=1000 blocks=1\n" + 1_000 * b"enq X CR name=A block=1\n"
+        held = b"enq P CR name=A block=1\nenq Q EX name=B block=1\n"
+        script = TWO + many + held + b"enq P EX name=B block=2\nenq Q EX name=A block=2\nsearch node=1"
+        self.assertEqual(data_of(script)["lines"][-1]["circle"], {"victim": 1_004, "waits": []})
+
     def test_a_process_in_its_own_way(self):
         line = data_of(TWO + b"enq P EX name=A block=1\nenq P EX name=A block=2\nsearch node=1")["lines"][-1]
         self.assertEqual(line["circle"], {"victim": 2, "waits": [[2, 1]]})

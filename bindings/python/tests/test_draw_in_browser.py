@@ -162,6 +162,16 @@ class InBrowser(unittest.TestCase):
         self.assertEqual(self.browser.run("return document.querySelectorAll('#search .wait.circle').length"), 2)
         self.assertEqual(self.text("#search .victim.process + text"), "Q")
 
+    def test_many_waits_are_a_table(self):
+        """Of 15 requests in a queue the last one waits for 14 locks: more than 80 waits in all."""
+        declared = b"".join(b"declare P%d node=1 group=1 quota=9 blocks=1\n" % it for it in range(15))
+        self.open(declared + b"".join(b"enq P%d EX name=A block=1\n" % it for it in range(15)), "#line=30")
+        self.assertIn("With more than 60 requests or 80 waits a graph can't be read.", self.text("#waits"))
+        self.assertEqual(self.browser.run("return document.querySelectorAll('#waits tbody tr').length"), 14)
+        self.assertIsNone(self.browser.run("return document.querySelector('#waits svg')"))
+        self.browser.press(HOME)
+        self.assertEqual(self.text("#waits"), "no request waits")
+
     def test_names_are_text(self):
         name = "<script>alert(1)</script>"
         self.open(TWO + f"enq P EX block=1 name={name}\nenq Q EX block=1 name={name}\n".encode(), "#line=4")

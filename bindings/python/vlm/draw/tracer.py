@@ -43,17 +43,24 @@ class Tracer:
             self.state.splice_asts(pid, 0, [outcome.ast] if outcome.ast else [], [])
             return
         named = self._named(pid, step, outcome.number)
-        if isinstance(step, (Enq, Convert)):
-            (self._has_completion.discard if step.ast is None else self._has_completion.add)(outcome.number)
-            step = replace(step, ast=step.ast or 0)
-        if not isinstance(step, Search):
-            make(self._witness, pid, step)
+        self._follow(pid, step, outcome.number)
         if isinstance(step, Declare):
             self.state.set_process(outcome.number, Declared(str(line.name), step.node, step.group, step.syslck,
                                                             step.quota, step.blocks))
         self._note_locks(named | self._note_asts(), {(pid, step.block)} if isinstance(step, SetValue) else set())
         for ended in self._ended(pid, step):
             self.state.set_process(ended, None)
+
+    def _follow(self, pid: int, step: Step, number: int) -> None:
+        """Has the witness make a step too, a request with a completion routine. It has made a search already."""
+        if isinstance(step, (Enq, Convert)) and step.ast is None:
+            self._has_completion.discard(number)
+            make(self._witness, pid, replace(step, ast=0))
+        elif isinstance(step, (Enq, Convert)):
+            self._has_completion.add(number)
+            make(self._witness, pid, step)
+        elif not isinstance(step, Search):
+            make(self._witness, pid, step)
 
     def _named(self, pid: int, step: Step, number: int) -> Set[int]:
         """The locks that a step names."""
