@@ -211,6 +211,13 @@ class Follows(unittest.TestCase):
             with self.subTest(seed):
                 self.follow(random_script(seed, 150), is_long=True)
 
+    def test_several_grants_of_a_step(self):
+        """R's lock 3 converts before Q's lock 2, so it is granted first. Lock 4 stays before both, if it is there."""
+        for between in (b"", b"enq P NL name=A block=2\n"):
+            self.follow(TWO + b"declare R node=3 group=1 quota=9 blocks=4\nenq P PR name=A block=1\n"
+                        b"enq Q NL name=A block=1\nenq R NL name=A block=1\n" + between +
+                        b"cvt R 3 CW block=1\ncvt Q 2 CW block=1\ndeq P 1\n")
+
     def test_a_long_queue(self):
         lines = [b"declare P%d node=1 group=1 quota=99 blocks=1" % it for it in range(80)]
         lines += [b"enq P%d EX name=A block=1" % it for it in range(80)]
