@@ -188,6 +188,7 @@ class InBrowser(unittest.TestCase):
         lines += [b"enq P%d PW name=R%d block=1" % (it % 2_000, it % 1_000) for it in range(6_000)]
         lines += [b"end P%d" % it for it in range(2_000)]
         self.open(b"\n".join(lines))
+        self.assertLess(self.browser.run("return performance.getEntriesByType('navigation')[0].domComplete"), 10_000)
         passed = "const began = performance.now(); show(arguments[0]); return performance.now() - began"
         for line in (10_000, 9_999, 5_000, 8_000, 0):
             self.assertLess(self.browser.run(passed, line), 3_000)

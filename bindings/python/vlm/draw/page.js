@@ -280,9 +280,11 @@ function markInScript() {
 }
 
 function fillScript() {
-  const links = data.lines.map((line, place) => (line.idle ? element("span", {class: "note"}, line.text || " ")
-    : element("a", {href: `#line=${place + 1}`}, line.text)));
-  byId("script").append(...links.map((it) => element("li", {}, it)));
+  byId("script").append(...data.lines.map((line, place) => {
+    const words = [element("span", {class: "at"}, String(place + 1)), element("span", {}, line.text || " ")];
+    return element("li", {}, line.idle ? element("span", {class: "note"}, ...words)
+      : element("a", {href: `#line=${place + 1}`}, ...words));
+  }));
 }
 
 function lineOfAddress() {
