@@ -78,6 +78,10 @@ def _is_code(failed: Exception, code: grpc.StatusCode) -> bool:
     return isinstance(failed, grpc.RpcError) and failed.code() == code
 
 
+def _reason(failed: Exception) -> str:
+    return failed.code().name if isinstance(failed, grpc.RpcError) else repr(failed)
+
+
 def _after(prefix: bytes) -> bytes:
     """The end of the range of keys with a prefix."""
     return prefix[:-1] + bytes([prefix[-1] + 1])
@@ -104,7 +108,7 @@ class EtcdList:
                 except Exception as failed:
                     if not _is_passing(failed):
                         raise
-                    logging.info("etcd member %d: %r", self._at, failed)
+                    logging.info("etcd's member %d: %s", self._at, _reason(failed))
                 self.turn()
             time.sleep(_PAUSE)
 
@@ -255,7 +259,7 @@ class Watch:
             try:
                 response = next(self._opened())
             except (grpc.RpcError, StopIteration) as ended:
-                logging.info("a watch ended: %r", ended)
+                logging.info("a watch ended: %s", _reason(ended))
                 self._responses = None
                 self._store.turn()
                 time.sleep(_PAUSE)

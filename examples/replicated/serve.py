@@ -45,7 +45,7 @@ async def serve(words: argparse.Namespace) -> None:
 
 
 if __name__ == "__main__":
-    logging.basicConfig(format="%(asctime)s %(message)s")
+    logging.basicConfig(format="%(asctime)s %(message)s", level=logging.INFO)
     # A replica keeps nothing of its own, so it may end at any moment.
     signal.signal(signal.SIGINT, signal.SIG_DFL)
     asyncio.run(serve(arguments()))

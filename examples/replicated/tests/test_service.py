@@ -1,5 +1,6 @@
 """Two replicas over one member of etcd, as processes, and clients of their lines. README.md has the language."""
 
+import signal
 import socket
 import sys
 import time
@@ -163,19 +164,38 @@ class Service(unittest.TestCase):
         self.assertRegex(p.ask("open"), "^session [0-9a-f]{16} seconds 5 number 0 asts 0$")
         p.ask("close")
 
-    def test_a_late_replica_starts_from_the_chunks(self):
-        p = self.begun(0)
-        for number in range(3 * CHUNK):
-            self.assertEqual(p.ask(f"set P block=1 value={number:032x}"), "P: NORMAL")
-        self.assertEqual(p.ask("deq P 4294967295"), "P: IVLOCKID")
+    def make_steps(self, connection, count):
+        """Makes steps, the last one refused, and waits until chunks have taken most of them up."""
+        for number in range(count):
+            self.assertEqual(connection.ask(f"set P block=1 value={number:032x}"), "P: NORMAL")
+        self.assertEqual(connection.ask("deq P 4294967295"), "P: IVLOCKID")
         store = EtcdList(self.local.members)
         self.eventually(lambda: store.read(0, 0).chunks >= 3 and len(store.read(0, 0).live) < 2 * CHUNK)
+
+    def assert_equal_replicas(self, connection, count):
+        """Replica 1 becomes equal to the other one, and shows the last value that was set."""
+        self.eventually(lambda: self.lines(1).ask("digest") == connection.ask("digest"))
+        again = self.lines(1, f"resume {self.session_of(connection)}")
+        self.assertEqual(again.ask("block P 1"), f"P: block 1 status 0 lock 0 value {count - 1:032x}")
+
+    def test_a_new_replica_starts_from_the_chunks(self):
+        p = self.begun(0)
+        self.make_steps(p, 3 * CHUNK)
         self.local.kill("replica 1")
         self.local.start_replica(1)
         self.local.wait()
-        self.eventually(lambda: self.lines(1).ask("digest") == p.ask("digest"))
-        again = self.lines(1, f"resume {self.session_of(p)}")
-        self.assertEqual(again.ask("block P 1"), f"P: block 1 status 0 lock 0 value {3 * CHUNK - 1:032x}")
+        self.assert_equal_replicas(p, 3 * CHUNK)
+
+    def test_a_replica_that_was_away_reads_on(self):
+        p, count = self.begun(0), 20 * CHUNK
+        self.local.signal("replica 1", signal.SIGSTOP)
+        self.addCleanup(self.local.signal, "replica 1", signal.SIGCONT)
+        self.make_steps(p, count)
+        # Etcd has forgotten where the replica was. Its watch breaks, so it can't go on with what was on its way.
+        self.local.kill("etcd 0")
+        self.local.start_member(0)
+        self.local.signal("replica 1", signal.SIGCONT)
+        self.assert_equal_replicas(p, count)
 
 
 if __name__ == "__main__":
