@@ -51,7 +51,7 @@ class Connection:
         """Answers lines until the client or the session goes."""
         self.replica.connections[self.owner] = self
         try:
-            with suppress(ConnectionError):
+            with suppress(OSError):
                 while (line := await self._line()) is not None:
                     self._is_answering = True
                     self._write(await self._reply(line))

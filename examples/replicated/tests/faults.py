@@ -58,8 +58,9 @@ class Run:
         self.rng = random.Random(seed)
         self.witness = Witness()
         self.observer = Observer(local.members)
+        # A holder is a writer that holds its own counter.
         self.counts = dict.fromkeys(("member killed", "replica killed", "replica stopped", "client killed",
-                                     "client stopped"), 0)
+                                     "holder killed", "client stopped"), 0)
         # What has a fault, and when and how it is mended.
         self._down = {}
         self._mending = []
@@ -95,14 +96,13 @@ class Run:
     def _make(self, kind):
         """Makes a fault, unless too much is down already: a majority of the members and one replica stay up."""
         what, how = kind.split()
-        role = {"client": self.rng.choice(("writer", "writer", "writer", "reader")), "member": "etcd"}.get(what, what)
+        role = {"member": "etcd", "holder": "writer", "client": self.rng.choice(("writer", "reader"))}.get(what, what)
         up = [name for name in self.local.processes if name.split()[0] == role and name not in self._down]
-        if len(up) <= {"etcd": MEMBERS - 1}.get(role, 1):
+        if what == "holder":
+            up = [name for name in up if name in self.witness.holders()]
+        if len(up) <= {"etcd": MEMBERS - 1, "replica": 1}.get(role, 0):
             return False
-        # Half of the clients that are killed hold a counter.
-        holders = [name for name in up if name in self.witness.holders()] if kind == "client killed" else []
-        name = self.rng.choice(holders if holders and self.rng.random() < 0.5 else up)
-        seconds = self.rng.uniform(0.5, 2 * LEASE if how == "stopped" else 3)
+        name, seconds = self.rng.choice(up), self.rng.uniform(0.5, 2 * LEASE if how == "stopped" else 3)
         self._down[name] = how
         if how == "stopped":
             self.local.signal(name, signal.SIGSTOP)

@@ -54,10 +54,9 @@ class Witness:
         return sum(any(line.startswith(start) for line in lines) for lines in list(self._told))
 
     def holders(self):
-        """The writers that hold a counter and have not begun to write it."""
-        ends = [(lines[0], lines[-1]) for lines in list(self._told) if lines]
-        return [f"writer {json.loads(first)[3]}" for first, last in ends
-                if last.startswith(b'["read"') and b'"EX"' in last]
+        """The writers that hold their own counter and have not begun to write it."""
+        last = {json.loads(lines[0])[3]: lines[-1] for lines in list(self._told) if lines and b'"writer"' in lines[0]}
+        return [f"writer {number}" for number, line in last.items() if line.startswith(b'["read"') and b'"own' in line]
 
     def told(self):
         """Each process's words, as lists. Of a killed process the last line may be cut off."""
