@@ -92,7 +92,7 @@ class Client:
         try:
             self._connect()
             self._hear_line(self._line(max(seconds, 0.001)))
-        except TimeoutError:
+        except socket.timeout:
             return
         except OSError:
             self.disconnect()
@@ -140,7 +140,7 @@ class Client:
         self._socket.sendall(text.encode() + b"\n")
 
     def _line(self, seconds: float) -> str:
-        """The next line. Raises TimeoutError if it takes too long, and what was read stays for the next call."""
+        """The next line. Raises socket.timeout if it takes too long, and what was read stays for the next call."""
         assert self._socket is not None
         end = time.monotonic() + seconds
         while b"\n" not in self._rest:

@@ -20,7 +20,7 @@ if TYPE_CHECKING:
 
 # How many entries are appended together at most.
 MOST = 100
-# How long a request waits until a search for a deadlock is made, and how often the waiting requests are looked at.
+# How long requests wait between searches for a deadlock, and how often the waiting ones are looked at.
 DEADLOCK_WAIT, LOOK = 1.0, 0.25
 # A watch that does not show an append for so many seconds is opened again, at another member.
 SILENCE = 3.0
@@ -172,9 +172,10 @@ class Replica:
 
     def _search(self, now: float) -> None:
         """Searches for a deadlock if a request has waited long enough, and something has changed since the last search
-        that found none."""
+        that found none. Then the requests begin to wait again."""
         queued = dict(it for session in self._sessions() for it in self.state.queued(session))
         self._waiting = {lock: self._waiting.get(lock, now) for lock in queued}
         late = [lock for lock, since in self._waiting.items() if now - since >= DEADLOCK_WAIT]
         if late and self.state.may_be_deadlocked:
             self.submit(Searched(queued[late[0]]))
+            self._waiting = dict.fromkeys(queued, now)

@@ -176,16 +176,19 @@ class State:
 
     def text(self) -> str:
         """All that replicas have in common, as text: resources and queues, status blocks, and sessions."""
-        shown = [script.shown(self.manager, 0, script.Line(None, does)) for does in (script.Show(), script.ShowTails())]
+        shown = [self._shown(script.Show()), self._shown(script.ShowTails())]
         for process in self.manager.processes():
             shown.append(f"process {process.pid} pending {process.pending} locks {process.locks}\n")
             for number in range(1, process.blocks + 1):
-                for does in (script.ShowBlock(number), script.ShowTail(number)):
-                    shown.append(script.shown(self.manager, process.pid, script.Line(f"process {process.pid}", does)))
+                shown.append(self._shown(script.ShowBlock(number), process.pid))
+                shown.append(self._shown(script.ShowTail(number), process.pid))
         for name, it in sorted(self.sessions.items()):
             shown.append(f"session {name} owner {it.owner} names {it.names.pids} last {it.number} {it.answer!r} "
                          f"taken {it.taken} in {it.takes} {list(it.asts)}\n")
         return "".join(shown)
+
+    def _shown(self, view: script.View, pid: int = 0) -> str:
+        return script.shown(self.manager, pid, script.Line("P", view))
 
     def digest(self) -> str:
         """A short form of the text. Equal states have equal ones."""
