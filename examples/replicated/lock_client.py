@@ -121,6 +121,9 @@ class Client:
                 answer = self._line(self._patience).split()
                 if answer == ["session", "ended"]:
                     raise SessionEnded
+                if answer[0::2] != ["session", "seconds", "number", "asts"]:
+                    # An earlier try to go on has moved the session to a connection that is gone.
+                    raise ConnectionError(" ".join(answer))
                 self.session = answer[1]
                 self._last_from(asked)
             except OSError:
