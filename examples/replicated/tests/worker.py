@@ -68,7 +68,7 @@ class Worker:
         if found is None:
             return
         lock, value = found
-        self.rest()
+        self.rest(0.3 if name in OWN else 0.05)
         self.tell("try", name, value + 1)
         self.tell("drop", time.monotonic())
         if self.step(f"deq P {lock} value={value + 1:032x}") == "P: NORMAL":
@@ -77,13 +77,13 @@ class Worker:
     def read(self, name):
         found = self.granted(name, "PR")
         if found is not None:
-            self.rest()
+            self.rest(0.05)
             self.tell("drop", time.monotonic())
             self.step(f"deq P {found[0]}")
 
-    def rest(self):
-        """Holds a lock for a while, now and then for long."""
-        time.sleep(self.rng.random() * (3 * PAUSE if self.rng.random() < 0.1 else PAUSE / 10))
+    def rest(self, share):
+        """Holds a lock for a while, and in this share of the cases for long."""
+        time.sleep(self.rng.random() * (3 * PAUSE if self.rng.random() < share else PAUSE / 10))
 
     def run(self, role):
         self.declare(quota=200)
@@ -91,6 +91,9 @@ class Worker:
             for name in ALL:
                 self.step(f"enq P NL name={name} block=1")
             self.tell("ready")
+        if role == "writer":
+            # The witness looks how the counter of a writer was left.
+            self.write(OWN[self.number])
         while not STOP:
             if role == "keeper":
                 self.client.next_ast(1.0)
