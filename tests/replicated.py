@@ -47,9 +47,12 @@ def first():
     return [Test("the library", installed)]
 
 
+def over_etcd():
+    """The tests that need etcd."""
+    return [Test("replicas by their lines", runs(DEBIAN_PYTHON, "test_service.py")),
+            Test("two minutes of faults", runs(DEBIAN_PYTHON, "faults.py", "--seconds", FAULT_SECONDS))]
+
+
 def once():
     found = [Test("states and chunks", runs(sys.executable, "test_state.py"))]
-    if not missing():
-        found += [Test("two replicas", runs(DEBIAN_PYTHON, "test_service.py")),
-                  Test("faults", runs(DEBIAN_PYTHON, "faults.py", "--seconds", FAULT_SECONDS))]
-    return found
+    return found if missing() else found + over_etcd()

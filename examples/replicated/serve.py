@@ -22,14 +22,22 @@ def place(text: str) -> Tuple[str, int]:
     return host, int(port)
 
 
+def size(text: str) -> int:
+    """The number of entries in a chunk. More might not fit into a value of etcd."""
+    if not text.isdigit() or not 1 <= int(text) <= 4_000:
+        raise argparse.ArgumentTypeError(f"{text} is not 1 to 4000")
+    return int(text)
+
+
 def arguments() -> argparse.Namespace:
     parser = argparse.ArgumentParser(description=__doc__)
     parser.add_argument("--etcd", required=True, metavar="HOST:PORT[,..]", help="members of etcd, separated by commas",
                         type=lambda text: [f"{host}:{port}" for host, port in map(place, text.split(","))])
     parser.add_argument("--listen", type=place, default=("127.0.0.1", 0), metavar="HOST:PORT",
                         help="where clients connect; a free port of 127.0.0.1 without it")
-    parser.add_argument("--prefix", default="vlm/", help="what the keys in etcd begin with (%(default)s)")
-    parser.add_argument("--chunk", type=int, default=2_000, metavar="N",
+    parser.add_argument("--prefix", default="vlm/", metavar="TEXT",
+                        help="what the keys in etcd begin with (%(default)s)")
+    parser.add_argument("--chunk", type=size, default=2_000, metavar="N",
                         help="pack the list whenever it has this many entries (%(default)s)")
     return parser.parse_args()
 
