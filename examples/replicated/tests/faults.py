@@ -18,7 +18,7 @@ from lock_client import Client  # noqa: E402
 from vlm import script  # noqa: E402
 from witness import (NAMED, Replay, Witness, conflicts, left_behind, lost_updates, of_kind,  # noqa: E402
                      statuses_after_kills, still_valid, unlisted_answers)
-from worker import LEASE, WRITERS  # noqa: E402
+from worker import LEASE, LONG_LEASE, WRITERS  # noqa: E402
 
 MEMBERS, REPLICAS, KEEPERS, READERS, CHUNK = 3, 3, 3, 8, 1_500
 # How long the service may take to come to rest at the end.
@@ -137,7 +137,7 @@ class Run:
             self.local.signal(name, signal.SIGTERM)
         wait_until(lambda: self.witness.count("idle") >= len(workers), lambda: f"not idle: {self.ended()}")
         time.sleep(2 * LEASE)
-        clients = [Client([place]) for place in self.local.places]
+        clients = [Client([place], LONG_LEASE) for place in self.local.places]
         digests = []
 
         def are_equal():
