@@ -3,6 +3,7 @@ clients ask for."""
 
 import asyncio
 import logging
+import math
 import os
 import random
 import secrets
@@ -44,9 +45,9 @@ class Replica:
         self._threads = {role: ThreadPoolExecutor(count, role)
                          for role, count in (("watch", 1), ("append", 1), ("pack", 1), ("lease", LEASE_CALLS))}
         self._watch: Optional[Watch] = None
-        # The numbers of this replica's last append and of the last one that the watch has shown, and since when the
-        # watch owes one.
-        self._appended, self._shown, self._owed_since = 0, 0, 0.0
+        # How many appends there were, and when each ended that the watch has not shown yet.
+        self._appends = 0
+        self._owed: Dict[str, float] = {}
         # The last chunk that this replica tried to write.
         self._tried = 0
         # Since when each queued request of its sessions waits, by the lock.
@@ -80,9 +81,12 @@ class Replica:
             batch = [await self._queue.get()]
             while not self._queue.empty() and len(batch) < MOST:
                 batch.append(self._queue.get_nowait())
-            number = self._appended + 1
-            await self.call("append", self.store.append, f"{self.name}-{number:08}", batch)
-            self._appended, self._owed_since = number, time.monotonic()
+            self._appends += 1
+            name = f"{self.name}-{self._appends:08}"
+            self._owed[name] = math.inf
+            await self.call("append", self.store.append, name, batch)
+            if name in self._owed:
+                self._owed[name] = time.monotonic()
 
     async def follow(self, is_ready: "asyncio.Event") -> None:
         """Applies the list as it grows. What etcd has forgotten is read from the chunks."""
@@ -121,9 +125,7 @@ class Replica:
             self.revision = batch.revision
             for entry in batch.entries:
                 self._came_by(entry)
-            writer, _, number = batch.name.rpartition("-")
-            if writer == self.name:
-                self._shown = int(number)
+            self._owed.pop(batch.name, None)
 
     def _came_by(self, entry: Entry) -> None:
         """Does what an entry means to this replica beside its effect on the state."""
@@ -166,8 +168,10 @@ class Replica:
             await asyncio.sleep(LOOK)
             now = time.monotonic()
             self._search(now)
-            if self._shown < self._appended and now - self._owed_since > SILENCE and self._watch is not None:
-                self._owed_since = now
+            overdue = [name for name, since in self._owed.items() if now - since > SILENCE]
+            for name in overdue:
+                del self._owed[name]
+            if overdue and self._watch is not None:
                 self._watch.cancel()
 
     def _search(self, now: float) -> None:
