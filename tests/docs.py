@@ -17,7 +17,8 @@ from harness import Case, Ended, STORED, TOP, Test, difference, results_of, run,
 
 DOCS = TOP / "docs"
 README_LINES = 120
-PAGES = [TOP / "README.md", TOP / "CONTRIBUTING.md", TOP / "CHANGELOG.md", *sorted(DOCS.glob("*.md"))]
+PAGES = [TOP / "README.md", TOP / "CONTRIBUTING.md", TOP / "CHANGELOG.md", *sorted(DOCS.glob("*.md")),
+         *sorted((TOP / "examples").rglob("README.md"))]
 MANUAL = TOP / "man" / "vlm.1"
 # More conditions than this in one line outside docs/MACHINE.md are a list of a step's refusals.
 MOST_CONDITIONS = 4

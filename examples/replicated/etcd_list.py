@@ -1,0 +1,297 @@
+"""The list in etcd, and the leases of sessions. Nothing else talks to etcd.
+
+Each append is a key of its own, and etcd's revision orders them: no two appends have the same revision. Keys below the
+prefix:
+
+    live/entries/WRITER-N   a batch of entries
+    live/sessions/SESSION   exists while the lease of a session lasts
+    packed/N                chunk N of the packed entries
+
+The client library knows one member of etcd. So each call here asks one member after another, each with a time-out. A
+call may have taken effect although its answer is lost: every call below may be repeated.
+"""
+
+import logging
+import time
+from dataclasses import dataclass
+from typing import Any, Callable, FrozenSet, Iterator, List, Optional, Sequence, Tuple, TypeVar
+
+import etcd3
+import grpc
+from etcd3 import etcdrpc
+from etcd3.exceptions import (ConnectionFailedError, ConnectionTimeoutError, InternalServerError,
+                              PreconditionFailedError)
+
+from entries import Batch, Entry, Opened, Packed, decode, encode, unpack
+
+_T = TypeVar("_T")
+# How long a member may take to answer, and the pause after no member did.
+_SECONDS, _PAUSE = 2.0, 0.2
+# A chunk may have 1.5 MB, and a page of entries several: the library's limit for answers is 4 MB.
+_OPTIONS = [("grpc.max_receive_message_length", 1 << 26), ("grpc.keepalive_time_ms", 10_000),
+            ("grpc.keepalive_timeout_ms", 3_000), ("grpc.initial_reconnect_backoff_ms", 200),
+            ("grpc.max_reconnect_backoff_ms", 1_000)]
+# How many entries a page has that is read, and how many keys a transaction deletes: etcd's limit is 128.
+_PAGE, _DELETED = 500, 100
+_PASSING = {grpc.StatusCode.UNAVAILABLE, grpc.StatusCode.DEADLINE_EXCEEDED, grpc.StatusCode.INTERNAL,
+            grpc.StatusCode.RESOURCE_EXHAUSTED, grpc.StatusCode.CANCELLED, grpc.StatusCode.UNKNOWN}
+
+
+class Compacted(Exception):
+    """etcd has forgotten the revisions that were asked for: read the chunks."""
+
+
+class LeaseEnded(Exception):
+    """The lease of a session has ended."""
+
+
+@dataclass(frozen=True)
+class Reading:
+    """What is in etcd at one revision."""
+
+    revision: int
+    # The chunks after those that are known: how many there are, up to which revision, and their batches.
+    chunks: int
+    covered: int
+    packed: List[Batch]
+    # The batches after the last chunk.
+    live: List[Batch]
+    sessions: FrozenSet[str]
+
+
+@dataclass(frozen=True)
+class Events:
+    """What a watch tells of: batches, and sessions whose lease has ended."""
+
+    batches: List[Batch]
+    ended: List[str]
+
+
+def _is_passing(failed: Exception) -> bool:
+    """Whether another member, or a later try, may do better."""
+    if isinstance(failed, grpc.RpcError):
+        return failed.code() in _PASSING
+    return isinstance(failed, (ConnectionFailedError, ConnectionTimeoutError, InternalServerError))
+
+
+def _is_code(failed: Exception, code: grpc.StatusCode) -> bool:
+    return isinstance(failed, grpc.RpcError) and failed.code() == code
+
+
+def _reason(failed: Exception) -> str:
+    return failed.code().name if isinstance(failed, grpc.RpcError) else repr(failed)
+
+
+def _after(prefix: bytes) -> bytes:
+    """The end of the range of keys with a prefix."""
+    return prefix[:-1] + bytes([prefix[-1] + 1])
+
+
+class EtcdList:
+    """The list of one lock service. Threads may share it."""
+
+    def __init__(self, members: Sequence[str], prefix: str = "vlm/") -> None:
+        """Members are written HOST:PORT."""
+        pairs = [member.rsplit(":", 1) for member in members]
+        self._clients = [etcd3.client(host, int(port), timeout=_SECONDS, grpc_options=_OPTIONS) for host, port in pairs]
+        self._at = 0
+        self._live = prefix + "live/"
+        self._entries, self._sessions = self._live + "entries/", self._live + "sessions/"
+        self._chunks = prefix + "packed/"
+
+    def call(self, ask: Callable[[Any], _T]) -> _T:
+        """Asks one member after another, until one answers."""
+        while True:
+            for _ in self._clients:
+                try:
+                    return ask(self._clients[self._at])
+                except Exception as failed:
+                    if not _is_passing(failed):
+                        raise
+                    logging.info("etcd's member %d: %s", self._at, _reason(failed))
+                self.turn()
+            time.sleep(_PAUSE)
+
+    def turn(self) -> None:
+        """Goes to the next member."""
+        self._at = (self._at + 1) % len(self._clients)
+
+    def append(self, name: str, entries: Sequence[Entry]) -> None:
+        """Appends a batch of entries, unless there is one of this name."""
+        self._put_new(self._entries + name, entries)
+
+    def _put_new(self, key: str, entries: Sequence[Entry], *others: Tuple[str, bytes, int]) -> bool:
+        """Appends a batch of entries with a key, and puts other keys with their values and leases. Does nothing if the
+        last of these keys exists. Returns whether it did."""
+        puts = [(key, encode(entries), 0), *others]
+
+        def ask(client: Any) -> bool:
+            make = client.transactions
+            return client.transaction([make.create(puts[-1][0]) == 0],
+                                      [make.put(*words) for words in puts], [])[0]
+
+        return self.call(ask)
+
+    def open_session(self, entry: Opened) -> None:
+        """Begins a session: a lease, whose identification is the session's, and a key that lasts as long."""
+        session, lease = entry.session, int(entry.session, 16)
+
+        def grant(client: Any) -> None:
+            try:
+                client.lease(entry.seconds, lease_id=lease)
+            except PreconditionFailedError:
+                logging.info("lease %s was granted by an earlier try", session)
+
+        self.call(grant)
+        try:
+            self._put_new(f"{self._entries}open-{session}", [entry], (self._sessions + session, b"", lease))
+        except grpc.RpcError as failed:
+            if not _is_code(failed, grpc.StatusCode.NOT_FOUND):
+                raise
+            raise LeaseEnded(session) from None
+
+    def refresh(self, session: str) -> None:
+        """The lease of a session lasts its whole time again."""
+        def ask(client: Any) -> int:
+            return max((it.TTL for it in client.refresh_lease(int(session, 16))), default=0)
+
+        if self.call(ask) <= 0:
+            raise LeaseEnded(session)
+
+    def end_session(self, session: str) -> None:
+        """Ends the lease of a session."""
+        try:
+            self.call(lambda client: client.revoke_lease(int(session, 16)))
+        except grpc.RpcError as failed:
+            if not _is_code(failed, grpc.StatusCode.NOT_FOUND):
+                raise
+
+    def read(self, chunks: int, covered: int) -> Reading:
+        """Reads what is there, except the first chunks, which are known and go up to a revision. All of it is of one
+        revision; if etcd forgets that revision meanwhile, it is read again."""
+        while True:
+            try:
+                return self._read(chunks, covered)
+            except Compacted:
+                time.sleep(_PAUSE)
+
+    def _read(self, chunks: int, covered: int) -> Reading:
+        first = self._range(self._sessions, keys_only=True)
+        revision, packed = first.header.revision, []
+        while True:
+            key = self._chunk_key(chunks + 1)
+            found = self._range(key, range_end=key + "\0", revision=revision).kvs
+            if not found:
+                break
+            batches = unpack(found[0].value)
+            packed += batches
+            chunks, covered = chunks + 1, batches[-1].revision
+        sessions = frozenset(it.key.decode().rpartition("/")[2] for it in first.kvs)
+        return Reading(revision, chunks, covered, packed, list(self._entries_after(covered, revision)), sessions)
+
+    def _entries_after(self, after: int, revision: int) -> Iterator[Batch]:
+        """The batches after a revision, in order, as they are at another revision."""
+        while True:
+            page = self._range(self._entries, revision=revision, limit=_PAGE, min_create_revision=after + 1,
+                               sort_order=etcdrpc.RangeRequest.ASCEND, sort_target=etcdrpc.RangeRequest.CREATE).kvs
+            for it in page:
+                yield _batch(it)
+            if len(page) < _PAGE:
+                return
+            after = page[-1].create_revision
+
+    def _range(self, prefix: str, range_end: Optional[str] = None, **words: Any) -> Any:
+        """The keys with a prefix, or up to an end."""
+        end = _after(prefix.encode()) if range_end is None else range_end.encode()
+        request = etcdrpc.RangeRequest(key=prefix.encode(), range_end=end, **words)
+        try:
+            return self.call(lambda client: client.kvstub.Range(request, _SECONDS))
+        except grpc.RpcError as failed:
+            if not _is_code(failed, grpc.StatusCode.OUT_OF_RANGE):
+                raise
+            raise Compacted from None
+
+    def watch(self, revision: int) -> "Watch":
+        """What comes from a revision on."""
+        return Watch(self, self._live.encode(), revision)
+
+    def open_watch(self, request: Any) -> Any:
+        """A stream of watch responses of one member. It ends if that member has no leader."""
+        stub = etcdrpc.WatchStub(self._clients[self._at].channel)
+        return stub.Watch(iter([request]), metadata=(("hasleader", "true"),))
+
+    def pack(self, chunk: bytes, entry: Packed) -> bool:
+        """Writes a chunk. Returns whether it was written: of several writers of one chunk, one writes it."""
+        key = self._chunk_key(entry.number)
+        return self._put_new(f"{self._entries}packed-{entry.number}", [entry], (key, chunk, 0))
+
+    def _chunk_key(self, number: int) -> str:
+        return f"{self._chunks}{number:08}"
+
+    def drop(self, revision: int, forgotten: int) -> None:
+        """Deletes the entries up to a revision, and has etcd forget what was before another revision."""
+        keys = [it.key for it in self._range(self._entries, keys_only=True, max_create_revision=revision).kvs]
+        for at in range(0, len(keys), _DELETED):
+            part = keys[at:at + _DELETED]
+            self.call(lambda client: client.transaction([], [client.transactions.delete(key) for key in part], []))
+        try:
+            if forgotten:
+                self.call(lambda client: client.compact(forgotten))
+        except grpc.RpcError as failed:
+            if not _is_code(failed, grpc.StatusCode.OUT_OF_RANGE):
+                raise
+
+
+def _batch(pair: Any) -> Batch:
+    return Batch(pair.create_revision, pair.key.decode().rpartition("/")[2], decode(pair.value))
+
+
+class Watch:
+    """The events from a revision on. It goes on at the next member if one ends it. One thread calls `next`."""
+
+    def __init__(self, store: EtcdList, prefix: bytes, revision: int) -> None:
+        self._store, self._prefix, self._revision = store, prefix, revision
+        self._responses: Any = None
+
+    def next(self) -> Events:
+        """Waits for the next events. Raises Compacted if etcd has forgotten them."""
+        while True:
+            try:
+                response = next(self._opened())
+            except (grpc.RpcError, StopIteration) as ended:
+                logging.info("a watch ended: %s", _reason(ended))
+                self._responses = None
+                self._store.turn()
+                time.sleep(_PAUSE)
+                continue
+            if response.compact_revision:
+                self.cancel()
+                raise Compacted
+            if response.canceled:
+                self.cancel()
+            elif response.events:
+                self._revision = response.events[-1].kv.mod_revision + 1
+                return self._events(response.events)
+
+    def _opened(self) -> Any:
+        if self._responses is None:
+            create = etcdrpc.WatchCreateRequest(key=self._prefix, range_end=_after(self._prefix),
+                                                start_revision=self._revision)
+            self._responses = self._store.open_watch(etcdrpc.WatchRequest(create_request=create))
+        return self._responses
+
+    def cancel(self) -> None:
+        """Ends the stream of responses. `next` opens another one. Any thread may call it."""
+        responses, self._responses = self._responses, None
+        if responses is not None:
+            responses.cancel()
+
+    def _events(self, events: Any) -> Events:
+        kept: Events = Events([], [])
+        for event in events:
+            folder, _, name = event.kv.key[len(self._prefix):].decode().partition("/")
+            if folder == "entries" and event.type == event.PUT:
+                kept.batches.append(_batch(event.kv))
+            elif folder == "sessions" and event.type == event.DELETE:
+                kept.ended.append(name)
+        return kept

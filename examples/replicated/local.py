@@ -1,0 +1,119 @@
+"""Members of etcd and replicas as processes of this machine, for tests and measurements."""
+
+import shutil
+import signal
+import socket
+import subprocess
+import sys
+import tempfile
+import time
+from pathlib import Path
+from types import TracebackType
+from typing import Dict, List, Optional, Tuple, Type
+
+HERE = Path(__file__).resolve().parent
+HOST = "127.0.0.1"
+# How long a process may take until it serves.
+START = 60.0
+# The processes end with this one, even if it is killed.
+_WITH_US = ["setpriv", "--pdeathsig", "KILL"] if shutil.which("setpriv") else []
+
+
+def free_ports(count: int) -> List[int]:
+    """Ports that nobody uses."""
+    sockets = [socket.create_server((HOST, 0)) for _ in range(count)]
+    ports = [it.getsockname()[1] for it in sockets]
+    for it in sockets:
+        it.close()
+    return ports
+
+
+def start(words: List[str], log: Path) -> "subprocess.Popen[bytes]":
+    """Starts a process that writes what it says into a file."""
+    with log.open("ab") as said:
+        return subprocess.Popen([*_WITH_US, *words], stdin=subprocess.DEVNULL, stdout=said, stderr=said,
+                                start_new_session=True)
+
+
+class Local:
+    """A number of etcd's members and of replicas, in a temporary folder. Each can be killed and started again."""
+
+    def __init__(self, members: int, replicas: int, chunk: int = 2_000) -> None:
+        self.folder = Path(tempfile.mkdtemp(prefix="vlm-replicated-"))
+        ports = free_ports(2 * members + replicas)
+        self._clients, self._peers, self.ports = ports[:members], ports[members:2 * members], ports[2 * members:]
+        self._chunk = chunk
+        self.processes: Dict[str, "subprocess.Popen[bytes]"] = {}
+        for number in range(members):
+            self.start_member(number)
+        for number in range(replicas):
+            self.start_replica(number)
+
+    @property
+    def members(self) -> List[str]:
+        """Where etcd is."""
+        return [f"{HOST}:{port}" for port in self._clients]
+
+    @property
+    def places(self) -> List[Tuple[str, int]]:
+        """Where the replicas are."""
+        return [(HOST, port) for port in self.ports]
+
+    def start_member(self, number: int) -> None:
+        peers = [f"http://{HOST}:{port}" for port in self._peers]
+        client = f"http://{self.members[number]}"
+        self._start(f"etcd {number}", [
+            "etcd", "--name", f"m{number}", "--data-dir", str(self.folder / f"m{number}"), "--log-level", "error",
+            "--listen-client-urls", client, "--advertise-client-urls", client,
+            "--listen-peer-urls", peers[number], "--initial-advertise-peer-urls", peers[number],
+            "--initial-cluster", ",".join(f"m{at}={url}" for at, url in enumerate(peers))])
+
+    def start_replica(self, number: int) -> None:
+        self._start(f"replica {number}", [
+            sys.executable, str(HERE / "serve.py"), "--etcd", ",".join(self.members), "--chunk", str(self._chunk),
+            "--listen", f"{HOST}:{self.ports[number]}"])
+
+    def _start(self, name: str, words: List[str]) -> None:
+        self.processes[name] = start(words, self.folder / f"{name}.log")
+
+    def wait(self) -> None:
+        """Waits until all replicas serve."""
+        for port in self.ports:
+            self.wait_for(port)
+
+    def wait_for(self, port: int) -> None:
+        end = time.monotonic() + START
+        while True:
+            try:
+                socket.create_connection((HOST, port), 1.0).close()
+                return
+            except OSError:
+                if time.monotonic() > end:
+                    raise TimeoutError(f"port {port} is not served:\n{self.logs()}") from None
+                time.sleep(0.1)
+
+    def logs(self) -> str:
+        """The ends of what the processes said."""
+        said = {log.name: log.read_text(errors="replace")[-1500:] for log in sorted(self.folder.glob("*.log"))}
+        return "".join(f"{name}: {text}\n" for name, text in said.items() if text)
+
+    def kill(self, name: str) -> None:
+        """Kills a process at once."""
+        self.processes[name].kill()
+        self.processes[name].wait()
+
+    def signal(self, name: str, number: signal.Signals) -> None:
+        self.processes[name].send_signal(number)
+
+    def close(self) -> None:
+        for process in self.processes.values():
+            process.kill()
+            process.wait()
+        shutil.rmtree(self.folder, ignore_errors=True)
+
+    def __enter__(self) -> "Local":
+        return self
+
+    def __exit__(self, kind: Optional[Type[BaseException]], error: Optional[BaseException],
+                 trace: Optional[TracebackType]) -> None:
+        self.close()

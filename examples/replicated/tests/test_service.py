@@ -1,0 +1,202 @@
+"""Two replicas over one member of etcd, as processes, and clients of their lines. README.md has the language."""
+
+import signal
+import socket
+import sys
+import time
+import unittest
+from pathlib import Path
+
+sys.path.insert(0, str(Path(__file__).resolve().parents[1]))
+from entries import Ended  # noqa: E402
+from etcd_list import EtcdList  # noqa: E402
+from local import Local  # noqa: E402
+
+# How long an answer, an AST or a change may take.
+PATIENCE = 20.0
+CHUNK = 30
+VALUE = "00112233445566778899aabbccddeeff"
+
+
+class Lines:
+    """A connection, line by line."""
+
+    def __init__(self, place, *lines):
+        self._socket = socket.create_connection(place, PATIENCE)
+        self._file = self._socket.makefile("rb")
+        self.answers = [self.ask(line) for line in lines]
+
+    def ask(self, line):
+        self.send(line)
+        return self.next()
+
+    def send(self, line):
+        self._socket.sendall(line.encode("latin-1") + b"\n")
+
+    def next(self):
+        """The next line, or None at the end."""
+        line = self._file.readline()
+        return line.decode().rstrip("\n") if line else None
+
+    def texts(self, line):
+        """The lines up to a blank one."""
+        self.send(line)
+        return list(iter(self.next, ""))
+
+    def close(self):
+        self._file.close()
+        self._socket.close()
+
+
+class Service(unittest.TestCase):
+    @classmethod
+    def setUpClass(cls):
+        cls.local = Local(1, 2, CHUNK)
+        cls.addClassCleanup(cls.local.close)
+        cls.local.wait()
+
+    def lines(self, replica, *lines):
+        connection = Lines(self.local.places[replica], *lines)
+        self.addCleanup(connection.close)
+        return connection
+
+    def begun(self, replica, name="P", seconds=60):
+        """A connection with a session and a process."""
+        made = self.lines(replica, f"open seconds={seconds}", f"declare {name} node=1 group=1 quota=9 blocks=4")
+        self.session = made.answers[0].split()[1]
+        self.assertRegex(made.answers[0], f"^session [0-9a-f]{{16}} seconds {seconds} number 0 asts 0$")
+        self.assertRegex(made.answers[1], f"^{name}: process [0-9]+$")
+        return made
+
+    def lock_of(self, answer, name="P"):
+        self.assertRegex(answer, f"^{name}: NORMAL lock [0-9]+$")
+        return answer.split()[-1]
+
+    def eventually(self, is_so):
+        end = time.monotonic() + PATIENCE
+        while not is_so():
+            self.assertLess(time.monotonic(), end, "it takes too long")
+            time.sleep(0.1)
+
+    def test_clients_of_two_replicas_hand_a_value_over(self):
+        p, q = self.begun(0), self.begun(1, "Q")
+        held = self.lock_of(p.ask("enq P EX name=handed block=1 bast=9 param=4"))
+        asked = self.lock_of(q.ask("enq Q PR name=handed block=1 valblk ast=8"), "Q")
+        self.assertEqual(p.next(), f"P: blocking 9 param 4 lock {held}")
+        self.assertEqual(p.ask(f"deq P {held} value={VALUE}"), "P: NORMAL")
+        self.assertEqual(q.next(), f"Q: completion 8 param 0 lock {asked}")
+        self.assertEqual(q.ask("block Q 1"), f"Q: block 1 status 1 lock {asked} value {VALUE}")
+
+    def test_a_wrong_line_gets_its_fault_and_ends_nothing(self):
+        self.assertEqual(self.lines(0, "declare P node=1 group=1 quota=9 blocks=4").answers, ["no session"])
+        self.assertEqual(self.lines(0, "open seconds=1").answers, ["number out of range"])
+        p = self.begun(0)
+        for line, text in (("frobnicate", "unknown command"), ("ast P", "unknown command"), ("open", "session open"),
+                           ("leave node=1", "unknown command"), ("search node=1", "unknown command"),
+                           ("enq P XX name=A block=1", "wrong word"), ("alive now", "wrong word"),
+                           ("x" * 256, "too long"),
+                           ("y" * 100_000, "too long"), ("block P 256", "number out of range"),
+                           ("enq Q EX name=A block=1", "unknown name"), ("end Q", "unknown name"),
+                           ("declare P node=1 group=1 quota=9 blocks=4", "name used"), ("7 cvt P", "7 wrong word"),
+                           ("deq P 4294967295", "P: IVLOCKID"), ("enq P EX name=A block=5", "P: ACCVIO")):
+            self.assertEqual(p.ask(line), text, line[:40])
+        p.send("")
+        p.send(" # a comment")
+        self.lock_of(p.ask("enq P EX name=after-faults block=1"))
+        self.assertEqual(p.ask("alive"), "alive")
+
+    def test_a_number_names_one_step(self):
+        p = self.begun(0)
+        first = p.ask("5 enq P CR name=numbered block=1")
+        self.assertRegex(first, "^5 P: NORMAL lock [0-9]+$")
+        self.assertEqual(p.ask("5 enq P CR name=numbered block=1"), first)
+        self.assertEqual(p.ask("4 enq P CR name=numbered block=1"), "4 old number")
+        shown = "\n".join(p.texts("show")).partition(" name numbered ")[2].split("resource")[0]
+        self.assertEqual(shown.count(" CR"), 1)
+
+    def test_a_session_goes_on_at_another_replica(self):
+        p = self.begun(0)
+        session, first = self.session, p.ask("7 enq P EX name=moved block=1 ast=3")
+        ast = p.next()
+        again = self.lines(1, f"resume {session} asts=0")
+        self.assertEqual(again.answers, [f"session {session} seconds 60 number 7 asts 1"])
+        self.assertEqual(again.next(), ast)
+        self.assertEqual((p.next(), p.next()), ("session moved", None))
+        self.assertEqual(again.ask("7 enq P EX name=moved block=1 ast=3"), first)
+        self.assertEqual(again.ask("deq P @1"), "P: NORMAL")
+
+    def test_a_deadlock_is_found_by_the_service(self):
+        p, q = self.begun(0), self.begun(1, "Q")
+        locks = [self.lock_of(it.ask(f"enq {name} PR name=circle block=1"), name) for it, name in ((p, "P"), (q, "Q"))]
+        self.lock_of(p.ask(f"cvt P {locks[0]} EX block=1 ast=1"))
+        self.lock_of(q.ask(f"cvt Q {locks[1]} EX block=1 ast=1"), "Q")
+        self.assertEqual(q.next(), f"Q: completion 1 param 0 lock {locks[1]}")
+        # Condition 6 is DEADLOCK: the most recent request is the victim.
+        self.assertEqual(q.ask("block Q 1").split()[:5], ["Q:", "block", "1", "status", "6"])
+
+    def test_a_silent_session_ends_with_its_locks(self):
+        lost, other = self.begun(0, seconds=2), self.begun(1, "Q")
+        session = self.session_of(lost)
+        self.lock_of(lost.ask("enq P EX name=silent block=1"))
+        asked = self.lock_of(other.ask("enq Q PR name=silent block=1 valblk ast=1"), "Q")
+        self.assertEqual(other.next(), f"Q: completion 1 param 0 lock {asked}")
+        # Condition 7 is VALNOTVALID.
+        self.assertEqual(other.ask("block Q 1").split()[:5], ["Q:", "block", "1", "status", "7"])
+        self.assertEqual((lost.next(), lost.next()), ("session ended", None))
+        again = self.lines(1, f"resume {session}")
+        self.assertEqual((again.answers, again.next()), (["session ended"], None))
+        self.assertEqual(self.entries().count(Ended(session)), 1)
+
+    def session_of(self, connection):
+        return connection.answers[0].split()[1]
+
+    def entries(self):
+        """The list, as it is in etcd."""
+        reading = EtcdList(self.local.members).read(0, 0)
+        return [entry for batch in (*reading.packed, *reading.live) for entry in batch.entries]
+
+    def test_a_closed_session_leaves_nothing(self):
+        p = self.begun(0)
+        self.lock_of(p.ask("enq P EX name=closed block=1"))
+        self.assertEqual(p.ask("close"), "closed")
+        self.assertNotIn(" name closed ", "\n".join(p.texts("show")))
+        self.assertEqual(p.ask("enq P EX name=closed block=1"), "no session")
+        self.assertRegex(p.ask("open"), "^session [0-9a-f]{16} seconds 5 number 0 asts 0$")
+        p.ask("close")
+
+    def make_steps(self, connection, count):
+        """Makes steps, the last one refused, and waits until chunks have taken most of them up."""
+        for number in range(count):
+            self.assertEqual(connection.ask(f"set P block=1 value={number:032x}"), "P: NORMAL")
+        self.assertEqual(connection.ask("deq P 4294967295"), "P: IVLOCKID")
+        store = EtcdList(self.local.members)
+        self.eventually(lambda: store.read(0, 0).chunks >= 3 and len(store.read(0, 0).live) < 2 * CHUNK)
+
+    def assert_equal_replicas(self, connection, count):
+        """Replica 1 becomes equal to the other one, and shows the last value that was set."""
+        self.eventually(lambda: self.lines(1).ask("digest") == connection.ask("digest"))
+        again = self.lines(1, f"resume {self.session_of(connection)}")
+        self.assertEqual(again.ask("block P 1"), f"P: block 1 status 0 lock 0 value {count - 1:032x}")
+
+    def test_a_new_replica_starts_from_the_chunks(self):
+        p = self.begun(0)
+        self.make_steps(p, 3 * CHUNK)
+        self.local.kill("replica 1")
+        self.local.start_replica(1)
+        self.local.wait()
+        self.assert_equal_replicas(p, 3 * CHUNK)
+
+    def test_a_replica_that_was_away_reads_on(self):
+        p, count = self.begun(0), 20 * CHUNK
+        self.local.signal("replica 1", signal.SIGSTOP)
+        self.addCleanup(self.local.signal, "replica 1", signal.SIGCONT)
+        self.make_steps(p, count)
+        # Etcd has forgotten where the replica was. Its watch breaks, so it can't go on with what was on its way.
+        self.local.kill("etcd 0")
+        self.local.start_member(0)
+        self.local.signal("replica 1", signal.SIGCONT)
+        self.assert_equal_replicas(p, count)
+
+
+if __name__ == "__main__":
+    unittest.main()

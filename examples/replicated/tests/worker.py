@@ -1,0 +1,131 @@
+"""A client of the fault test, as a process: worker.py ROLE NUMBER SEED WITNESS REPLICA.. (ports of 127.0.0.1).
+
+A writer adds 1 to counters under EX: to one of its own, and to shared ones. A reader reads counters under PR. A keeper
+holds NL on all of them, so that no value block goes. Each tells the witness what it does, as lines of JSON. At SIGTERM
+it finishes what it is at, and from then on only keeps its session alive."""
+
+import json
+import random
+import signal
+import socket
+import sys
+import time
+from pathlib import Path
+
+sys.path.insert(0, str(Path(__file__).resolve().parents[1]))
+from lock_client import Client, SessionEnded  # noqa: E402
+
+WRITERS, SHARED = 50, 4
+LEASE, LONG_LEASE = 4, 60
+# How long a worker waits for a grant before it gives its request up, and how long it pauses.
+LONGEST_WAIT, PAUSE = 15.0, 0.3
+OWN = [f"own{number:02}" for number in range(WRITERS)]
+ALL = OWN + [f"shared{number}" for number in range(SHARED)]
+
+
+class Worker:
+    """A session of a worker. The next one begins when it has ended."""
+
+    def __init__(self, number, places, witness, rng):
+        self.client = Client(places, LEASE)
+        self.number, self.witness, self.rng = number, witness, rng
+        self.client.on_lease = lambda: self.tell("until", self.client.lease_until)
+
+    def tell(self, kind, *words):
+        self.witness.sendall(json.dumps([kind, self.client.session, *words]).encode() + b"\n")
+
+    def step(self, line):
+        """Has a step made, and tells what it answered."""
+        self.client.keep_alive()
+        answer = self.client.ask(line)
+        self.tell("answer", self.client.number, line, answer)
+        return answer
+
+    def declare(self, quota=9):
+        answer = self.step(f"declare P node={self.number % 8 + 1} group=1 quota={quota} blocks=2")
+        self.tell("process", int(answer.split()[-1]))
+
+    def granted(self, name, mode):
+        """Asks for a lock and waits for its grant. Returns the lock, and the status and the value that came with it, or
+        None if it took too long."""
+        lock = self.step(f"enq P {mode} name={name} block=1 valblk ast=1").removeprefix("P: NORMAL lock ")
+        ast = self.client.next_ast(LONGEST_WAIT)
+        if ast is None:
+            # The end of the request is told in any case: of its grant, or of its abort.
+            self.step(f"deq P {lock}")
+            self.client.next_ast(LONGEST_WAIT)
+            return None
+        if ast != f"P: completion 1 param 0 lock {lock}":
+            raise AssertionError(f"{ast} is told of lock {lock}")
+        self.tell("hold", name, mode, time.monotonic(), self.client.lease_until)
+        words = self.client.ask("block P 1").split()
+        self.tell("read", name, mode, int(words[4]), int(words[8], 16))
+        return lock, int(words[8], 16)
+
+    def write(self, name):
+        """Adds 1 to a counter."""
+        found = self.granted(name, "EX")
+        if found is None:
+            return
+        lock, value = found
+        self.rest(0.3 if name in OWN else 0.05)
+        self.tell("try", name, value + 1)
+        self.tell("drop", time.monotonic())
+        if self.step(f"deq P {lock} value={value + 1:032x}") == "P: NORMAL":
+            self.tell("done", name, value + 1)
+
+    def read(self, name):
+        found = self.granted(name, "PR")
+        if found is not None:
+            self.rest(0.05)
+            self.tell("drop", time.monotonic())
+            self.step(f"deq P {found[0]}")
+
+    def rest(self, share):
+        """Holds a lock for a while, and in this share of the cases for long."""
+        time.sleep(self.rng.random() * (3 * PAUSE if self.rng.random() < share else PAUSE / 10))
+
+    def run(self, role):
+        self.declare(quota=200)
+        if role == "keeper":
+            for name in ALL:
+                self.step(f"enq P NL name={name} block=1")
+            self.tell("ready")
+        if role == "writer":
+            # The witness looks how the counter of a writer was left.
+            self.write(OWN[self.number])
+        while not STOP:
+            if role == "keeper":
+                self.client.next_ast(1.0)
+            elif role == "writer":
+                self.write(self.rng.choice([OWN[self.number], OWN[self.number], *ALL[WRITERS:]]))
+            else:
+                self.read(self.rng.choice(ALL))
+            time.sleep(self.rng.random() * PAUSE if role != "keeper" else 0)
+        self.tell("idle")
+        while True:
+            self.client.next_ast(1.0)
+
+
+STOP = []
+
+
+def main(role, number, seed, witness, *ports):
+    signal.signal(signal.SIGTERM, lambda *_: STOP.append(True))
+    rng = random.Random(f"{seed} {role} {number}")
+    places = [("127.0.0.1", int(port)) for port in ports]
+    rng.shuffle(places)
+    said = socket.create_connection(("127.0.0.1", int(witness)))
+    said.sendall(json.dumps(["worker", None, role, int(number)]).encode() + b"\n")
+    while True:
+        worker = Worker(int(number), places, said, rng)
+        if role == "keeper":
+            worker.client.seconds = LONG_LEASE
+        try:
+            worker.run(role)
+        except SessionEnded:
+            worker.tell("ended")
+
+
+if __name__ == "__main__":
+    main(*sys.argv[1:])
