@@ -165,7 +165,7 @@ class Connection:
         return await self._begin(entry.session, lambda: self._of_lease(self.replica.store.open_session, entry))
 
     async def _resume(self, words: List[str]) -> str:
-        """`resume SESSION [asts=N]`: goes on with a session, whose client has got so many ASTs."""
+        """`resume SESSION [asts=N]`: goes on with a session, whose client has this many ASTs."""
         if not words or not re.fullmatch("[0-9a-f]{16}", words[0]):
             raise script.LineFault(script.Fault.WRONG_WORD)
         name, got = words[0], _only_number(words[1:], "asts", None)

@@ -50,7 +50,7 @@ class Client:
         return self._answer(line)
 
     def next_ast(self, seconds: float) -> Optional[str]:
-        """Waits for the next AST, at most for so many seconds, and keeps the lease alive meanwhile."""
+        """Waits for the next AST, at most for this many seconds, and keeps the lease alive meanwhile."""
         end = time.monotonic() + seconds
         while not self._asts and time.monotonic() < end:
             self.keep_alive()

@@ -15,7 +15,7 @@ CLIENTS = (1, 8, 50)
 
 
 def rate(count: int, seconds: float, make_client: Callable[[int], Callable[[], None]]) -> float:
-    """How often in a second so many clients, each in a thread, do what each does again and again."""
+    """How often in a second this many clients, each in a thread, do what each does again and again."""
     calls = [make_client(number) for number in range(count)]
     done: List[int] = []
     end = time.monotonic() + seconds

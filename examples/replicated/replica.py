@@ -23,7 +23,7 @@ if TYPE_CHECKING:
 MOST = 100
 # How long requests wait between searches for a deadlock, and how often the waiting ones are looked at.
 DEADLOCK_WAIT, LOOK = 1.0, 0.25
-# A watch that does not show an append for so many seconds is opened again, at another member.
+# After this many seconds a watch that does not show an append is opened again, at another member.
 SILENCE = 3.0
 # How many calls to etcd about leases may be under way.
 LEASE_CALLS = 16

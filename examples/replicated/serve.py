@@ -11,7 +11,7 @@ from connection import Connection
 from etcd_list import EtcdList
 from replica import Replica
 
-# asyncio reads a line of so many bytes at once.
+# The longest line, in bytes, that asyncio reads at once.
 LINE = 4_096
 
 

@@ -222,7 +222,7 @@ def _resource(word: str) -> bytes:
 
 
 def _bytes(size: int) -> _Reader:
-    """Reads exactly so many bytes."""
+    """Reads exactly this many bytes."""
     return lambda word: _hex(word) if len(word) == 2 * size else _fail(Fault.WRONG_WORD)
 
 

@@ -41,7 +41,7 @@ def resource_text(resource: Resource) -> str:
 
 
 def mode_text(lock: LockView) -> str:
-    """The mode that a lock holds, the one that it wants, or both."""
+    """The granted mode of a lock, its requested mode, or both."""
     return " to ".join(mode.name for mode in (lock.held, lock.want) if mode is not None)
 
 

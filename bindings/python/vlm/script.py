@@ -111,7 +111,7 @@ class Session:
 
 
 class ScriptFault(ValueError):
-    """A line of a script has a fault. Its text is the one that `vlm play` writes to standard error."""
+    """A line of a script has a fault. Its text is what `vlm play` writes to standard error."""
 
     def __init__(self, number: int, fault: Fault) -> None:
         super().__init__(f"line {number}: {fault.value}")

@@ -81,7 +81,7 @@ class Run:
         wait_until(lambda: self.witness.count("hold") >= WRITERS)
 
     def make_faults(self, seconds):
-        """Makes faults for so many seconds: all kinds in turn, each round in another order."""
+        """Makes faults for this many seconds: all kinds in turn, each round in another order."""
         end, kinds = time.monotonic() + seconds, []
         while time.monotonic() < end:
             kinds = kinds or self.rng.sample(sorted(self.counts), len(self.counts))

@@ -169,7 +169,7 @@ function isTouched(thing, marks) {
   return thing.kinds.some((kind) => marks.has(`${kind} ${thing.key}`));
 }
 
-// At most so many of a list in their order: the wanted ones first, then from the head.
+// Some of a list, in their order and up to a limit: the wanted ones first, then from the head.
 function chosenOf(list, most, isWanted) {
   if (list.length <= most) return list;
   const wanted = new Set(list.filter(isWanted).slice(0, most));

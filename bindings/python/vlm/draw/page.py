@@ -16,7 +16,7 @@ SCRIPTS = ("lines.js", "waits.js", "page.js")
 
 
 def page(title: str, records: List[Record], fault: Optional[str]) -> str:
-    """The page of these lines. A fault is the one that ended the script."""
+    """The page of these lines. The fault ended the script, if there is one."""
     parts = {"TITLE": escape(title), "STYLE": _file("page.css"), "DATA": _json(page_data(records, fault)),
              "SCRIPT": "\n".join(map(_file, SCRIPTS))}
     return re.sub(f"@({'|'.join(parts)})@", lambda mark: parts[mark[1]], _file("template.html"))

@@ -11,7 +11,7 @@ from .state import Change, State
 from .tracer import Tracer
 from .waits import Circle, circle_of
 
-# A record has at most so many lines of what `show` and `tails` print.
+# The most lines of what `show` and `tails` print that a record has.
 MOST_PRINTED = 40
 
 

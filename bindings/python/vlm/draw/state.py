@@ -1,7 +1,7 @@
 """What is there after a line of a script, and the changes that led from line to line, as the page reads them.
 
 A change is a list that JSON can hold. Its first item is its kind. Each has what was there and what is there, so that a
-page can go back too; None is nothing.
+page can go back too. None says that nothing is there.
 
     ["p", pid, old, new]                    a process: [NAME, node, group, syslck, quota, blocks]
     ["b", pid, number, old, new]            a status block: [status, lock, value, tail]; None is one that is not used

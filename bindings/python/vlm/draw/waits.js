@@ -1,7 +1,7 @@
 // Who waits for whom, as a table and as a graph.
 
 const MOST_ROWS = 100;
-const ARROWS = "An arrow leads from a process that waits to the one that it waits for.";
+const ARROWS = "An arrow leads from a process that waits to the process for which it waits.";
 const SEARCHED = "The waits before the search. The circle is drawn thick; the victim's process has a dashed border.";
 
 // What is needed to show the waits of the present state: plain words, so it stays right in another state.

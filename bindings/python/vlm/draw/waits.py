@@ -31,7 +31,7 @@ class Circle:
 
 
 def blockers_of(manager: LockManager, lock: int, most: int = maxsize) -> List[int]:
-    """The locks for which the request of a lock waits, at most so many. A page reads them so often that this calls the
+    """The locks for which the request of a lock waits, up to a limit. A page reads them so often that this calls the
     library itself: `LockManager.blockers` takes four times as long."""
     words, found = raw.Lock(), []
     handle, place, following = byref(manager._handle), byref(words), raw.LIBRARY.vlm_next_blocker
