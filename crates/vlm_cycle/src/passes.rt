@@ -37,7 +37,7 @@ pub(crate) enum Purpose {
 #[derive(Clone, Copy)]
 pub(crate) struct Pass {
     pub(crate) purpose: Purpose,
-    /// Whether no request waits for a process of a higher rank. A check finds it out, a search is told.
+    /// Whether no request waits for a process of a higher rank. A check finds out; a search gets the check's result.
     pub(crate) falls: bool,
     /// The most recent request: of a check, of those that wait for a process of their own rank or a higher one; of a
     /// search, of the deadlocked ones.
