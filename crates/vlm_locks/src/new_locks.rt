@@ -80,29 +80,6 @@ fn new_row(new_lock: &NewLock) -> StoredRow
     })
 }
 
-// The row of a new lock as it enters. If it is granted at once, it holds the mode that it wants.
-fn granted_if_at_once(new_lock: &NewLock, row: &StoredRow) -> StoredRow
-    requires { row.now ≡ new_row new_lock.now }
-    ensures { result ≡ granted_if_at_once new_lock.now.at_once (new_row new_lock.now) }
-{
-    if new_lock.at_once {
-        row.granted()
-    } else {
-        *row
-    }
-}
-
-// The queue that a new lock enters.
-fn entered_queue(new_lock: &NewLock) -> Queue
-    ensures { result ≡ entered_queue new_lock.now.at_once }
-{
-    if new_lock.at_once {
-        Queue::Granted
-    } else {
-        Queue::Waiting
-    }
-}
-
 // Adds a new lock to a resource: to the end of the granted queue if it is granted at once, else to the end of the
 // waiting queue.
 fn enter_at(store: &mut Store, new_lock: &NewLock, row: &StoredRow, res: ResAt)
@@ -114,13 +91,13 @@ fn enter_at(store: &mut Store, new_lock: &NewLock, row: &StoredRow, res: ResAt)
     ensures due { IsDueMore (granted_if_at_once new_lock.now.at_once (new_row new_lock.now))
         store.old store.new }
 {
-    let queue = Place::Queued(res, entered_queue(new_lock));
-    store.add_lock_reserved(
-        &granted_if_at_once(new_lock, row),
-        new_lock.owner,
-        new_lock.parent,
-        queue,
-    );
+    if new_lock.at_once {
+        let queue = Place::Queued(res, Queue::Granted);
+        store.add_lock_reserved(&row.granted(), new_lock.owner, new_lock.parent, queue);
+    } else {
+        let queue = Place::Queued(res, Queue::Waiting);
+        store.add_lock_reserved(row, new_lock.owner, new_lock.parent, queue);
+    }
 }
 
 // The resource of a new lock. It is made if it does not exist.
@@ -142,31 +119,8 @@ fn resource_or_new(store: &mut Store, new_lock: &NewLock) -> ResAt
     }
 }
 
-// Accepts the request of a new lock and grants it at once. With VALBLK the grant returns the value block; a new request
-// never writes it.
-fn grant_entered(store: &mut Store, new_lock: &NewLock, row: &StoredRow, res: ResAt)
-    requires row { row.now ≡ new_row new_lock.now }
-    requires owner { IsProcess new_lock.now.owner new_lock.now.pid store.old }
-    requires there { HasResource res store.old }
-    requires owed { row_due (new_row new_lock.now) ≤ due_of new_lock.now.pid store.old }
-    ensures statuses { let accepted = processes_accepted new_lock.now (plain_processes store.old)
-        in IfSome (resource_at res store.old.resources) (λ r. plain_processes store.new
-        ≡ (blocks_after (grant_endings true (new_row new_lock.now))
-        (blocks_with r.value_block accepted)).processes) }
-    ensures owed { OwedMoves (new_row new_lock.now) (granted_row (new_row new_lock.now))
-        store.old store.new }
-    ensures only_notices { SameButNotices store.old store.new }
-{
-    if new_lock.asked.flags.has(EnqFlags::VALBLK) {
-        accept(store, new_lock.owner, new_lock.asked.block, new_lock.lkid);
-        let mut value_block = store.resource_record(res).value_block;
-        end_by_grant(&mut value_block, store, new_lock.owner, row, true);
-    } else {
-        grant_without_value_block(store, new_lock.owner, row, &new_lock.asked);
-    }
-}
-
-// Accepts the request of a lock that has entered, and ends it if it is granted at once.
+// Accepts the request of a lock that has entered, and ends it if it is granted at once. With VALBLK such a grant returns
+// the value block; a new request never writes it.
 fn accept_entered(store: &mut Store, new_lock: &NewLock, row: &StoredRow, res: ResAt)
     requires row { row.now ≡ new_row new_lock.now }
     requires owner { IsProcess new_lock.now.owner new_lock.now.pid store.old }
@@ -178,10 +132,14 @@ fn accept_entered(store: &mut Store, new_lock: &NewLock, row: &StoredRow, res: R
         (granted_if_at_once new_lock.now.at_once (new_row new_lock.now)) store.old store.new }
     ensures only_notices { SameButNotices store.old store.new }
 {
-    if new_lock.at_once {
-        grant_entered(store, new_lock, row, res);
-    } else {
+    if !new_lock.at_once {
         accept(store, new_lock.owner, new_lock.asked.block, new_lock.lkid);
+    } else if new_lock.asked.flags.has(EnqFlags::VALBLK) {
+        accept(store, new_lock.owner, new_lock.asked.block, new_lock.lkid);
+        let mut value_block = store.resource_record(res).value_block;
+        end_by_grant(&mut value_block, store, new_lock.owner, row, true);
+    } else {
+        grant_without_value_block(store, new_lock.owner, row, &new_lock.asked);
     }
 }
 
