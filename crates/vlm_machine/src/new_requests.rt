@@ -138,7 +138,7 @@ impl Machine {
     }
 
     // The checks in their order.
-    #[tactic(auto, unfolding(vlm_model::specs::Enqueue::enq_refusal))]
+    #[tactic(auto, unfolding(vlm_model::specs::Enqueue::enq_refusal, vlm_model::specs::Trees::site_refusal))]
     fn checked_request(&self, request: &NewRequest) -> Result<CheckedRequest, Cond>
         requires { IsBetweenSteps (plain_state self.now) }
         ensures refusal { result_err result ≡ enq_refusal (plain_state self.now) request.now }
@@ -146,7 +146,8 @@ impl Machine {
     {
         let caller = self.checked_caller(request.pid)?;
         let form = self.checked_form(&caller, request)?;
-        let parent = self.checked_site(&caller, form.flags, form.parent)?;
+        let parent = self.checked_parent(&caller, form.parent)?;
+        self.check_privilege(&caller, form.flags, form.parent)?;
         self.checked_limits(&caller, &form, &parent, request)
     }
 
