@@ -138,52 +138,28 @@ impl Machine {
     }
 
     // The checks in their order.
-    #[tactic(auto, unfolding(vlm_model::specs::Enqueue::enq_refusal))]
+    #[tactic(auto, unfolding(vlm_model::specs::Enqueue::enq_refusal, vlm_model::specs::Enqueue::enq_form_refusal, vlm_model::specs::Enqueue::enq_limit_refusal, vlm_model::specs::Trees::site_refusal))]
     fn checked_request(&self, request: &NewRequest) -> Result<CheckedRequest, Cond>
         requires { IsBetweenSteps (plain_state self.now) }
         ensures refusal { result_err result ≡ enq_refusal (plain_state self.now) request.now }
         ensures checked { IfOk result (λ checked. IsChecked self.now request.now checked) }
     {
         let caller = self.checked_caller(request.pid)?;
-        let form = self.checked_form(&caller, request)?;
-        let parent = self.checked_site(&caller, form.flags, form.parent)?;
-        self.checked_limits(&caller, &form, &parent, request)
-    }
-
-    // The checks of the request itself.
-    #[tactic(auto, unfolding(vlm_model::specs::Enqueue::enq_form_refusal))]
-    fn checked_form(&self, caller: &Caller, request: &NewRequest) -> Result<RequestForm, Cond>
-        requires caller { IsCaller caller.now self.now.records }
-        requires pid { caller.now.pid ≡ request.now.pid }
-        ensures refusal { result_err result ≡ enq_form_refusal (plain_state self.now) request.now }
-        ensures form { IfOk result (λ form. IsRequestForm (plain_state self.now) request.now form) }
-    {
         let flags = checked_request_flags(request.flags)?;
-        self.check_status_block(caller, request.block)?;
-        let parent = self.checked_lkid(caller, request.parent)?;
+        self.check_status_block(&caller, request.block)?;
+        let parent_lkid = self.checked_lkid(&caller, request.parent)?;
         check_name(&request.name)?;
         check_expedite(request.mode, flags)?;
-        Ok(RequestForm { flags, parent })
-    }
-
-    // The checks of quotas, of numbers, and of blocking locks.
-    #[tactic(auto, unfolding(vlm_model::specs::Enqueue::enq_limit_refusal))]
-    fn checked_limits(
-        &self,
-        caller: &Caller,
-        form: &RequestForm,
-        parent: &Option<Parent>,
-        request: &NewRequest,
-    ) -> Result<CheckedRequest, Cond>
-        requires asked { IsAskedBy self.now request.now caller.now form.now parent.now }
-        requires between { IsBetweenSteps (plain_state self.now) }
-        ensures refusal { result_err result ≡ enq_limit_refusal (plain_state self.now) request.now }
-        ensures checked { IfOk result (λ checked. IsChecked self.now request.now checked) }
-    {
-        self.check_quota(caller)?;
+        let parent = self.checked_parent(&caller, parent_lkid)?;
+        self.check_privilege(&caller, flags, parent_lkid)?;
+        self.check_quota(&caller)?;
         self.check_numbers()?;
-        let checked = self.looked_up(caller, form, parent, request);
-        check_queue(form.flags, checked.found.at_once)?;
+        let form = RequestForm {
+            flags,
+            parent: parent_lkid,
+        };
+        let checked = self.looked_up(&caller, &form, &parent, request);
+        check_queue(flags, checked.found.at_once)?;
         Ok(checked)
     }
 

@@ -8,7 +8,7 @@ ghost use Rattle.vlm_model.specs.Checks.{or_else};
 ghost use Rattle.vlm_words.specs.Flags.{flag_bits};
 ghost use Rattle.vlm_words.specs.Names.{is_name};
 ghost use Rattle.vlm_words.specs.Resources.{IsKeyed};
-ghost use Rattle.vlm_model.specs.Trees.{depth_refusal, parent_refusal, parent_resource, privilege_refusal, root_domain, site_below, site_refusal, waiting_refusal};
+ghost use Rattle.vlm_model.specs.Trees.{depth_refusal, parent_refusal, parent_resource, privilege_refusal, root_domain, site_below, waiting_refusal};
 ghost use Rattle.vlm_store.specs.Plain.{plain_resource};
 ghost use Rattle.vlm_store.specs.Records.{HasResource, StoredResource, resource_at};
 ghost use Rattle.vlm_locks.specs.Standing.{IsLocated};
@@ -49,29 +49,9 @@ pub(crate) fn lock_of(parent: &Option<Parent>) -> Option<LockAt>
 
 impl Machine {
     /// The parent lock of a request, with its handle and its resource's; none for 0. IVLOCKID if the lock is not one of
-    /// the caller, PARNOTGRANT if it waits, EXDEPTH if its resource is on the lowest level, NOSYSLCK for a root with
-    /// SYSTEM without the privilege.
-    #[tactic(auto, unfolding(vlm_model::specs::Trees::site_refusal))]
-    pub(crate) fn checked_site(
-        &self,
-        caller: &Caller,
-        flags: EnqFlags,
-        lkid: u32,
-    ) -> Result<Option<Parent>, Cond>
-        requires { IsCaller caller.now self.now.records }
-        ensures refusal { result_err result
-            ≡ site_refusal (plain_state self.now) caller.now.pid (flag_bits flags) lkid }
-        ensures parent { IfOk result
-            (λ parent. IsParent caller.now.pid lkid parent self.now.records) }
-    {
-        let parent = self.checked_parent(caller, lkid)?;
-        self.check_privilege(caller, flags, lkid)?;
-        Ok(parent)
-    }
-
-    // The parent lock with these handles; none for 0.
+    /// the caller, PARNOTGRANT if it waits, EXDEPTH if its resource is on the lowest level.
     #[tactic(auto, unfolding(vlm_model::specs::Trees::parent_refusal))]
-    fn checked_parent(&self, caller: &Caller, lkid: u32) -> Result<Option<Parent>, Cond>
+    pub(crate) fn checked_parent(&self, caller: &Caller, lkid: u32) -> Result<Option<Parent>, Cond>
         ensures refusal { result_err result
             ≡ parent_refusal (plain_state self.now) caller.now.pid lkid }
         ensures parent { IfOk result
@@ -117,9 +97,14 @@ impl Machine {
         }
     }
 
-    // NOSYSLCK for a root with SYSTEM without the privilege.
+    /// NOSYSLCK for a root with SYSTEM without the privilege.
     #[tactic(auto, unfolding(vlm_model::specs::Trees::privilege_refusal))]
-    fn check_privilege(&self, caller: &Caller, flags: EnqFlags, parent: u32) -> Result<(), Cond>
+    pub(crate) fn check_privilege(
+        &self,
+        caller: &Caller,
+        flags: EnqFlags,
+        parent: u32,
+    ) -> Result<(), Cond>
         requires { IsCaller caller.now self.now.records }
         ensures { result_err result
             ≡ privilege_refusal (plain_state self.now) caller.now.pid (flag_bits flags) parent }
