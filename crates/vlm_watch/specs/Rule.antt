@@ -42,11 +42,11 @@ See v shown next w =
 abbrev pub Publish : View → Sheet → Sheet → View → Type 0
 Publish v shown next w = w ≡ record v { seen = changes_to next }
 
--- the writer knows the sheet's book
+-- the writer knows the sheet's book afterwards
 abbrev pub Open : View → Sheet → Sheet → View → Type 0
 Open v shown next w = w ≡ knowing shown.before.book v
 
--- a note: the board that it names
+-- a note names a board, and no changes
 abbrev pub note_of : View → View
 note_of v = record v { seen = [] }
 
