@@ -117,7 +117,7 @@ AreGated {G} moves gates lists r = (k n : ℕ) (gate : G) (list : StepList) (ite
     → slice_get r.posted.items k ≡ Some n → slice_get r.items.items k ≡ Some items
     → (last : G) × IsFollowed moves (gate, []) (last, items.items) (length list.items) n true
 
--- the same of workers that may have been cancelled: the items of the report are a prefix of those that the gate was told
+-- the same for workers that may be cancelled: the items of the report are a prefix of those that the gate was told
 abbrev pub AreGatedInPart : {G : Type 0} → Moves G → List G → List StepList → Report → Type 0
 AreGatedInPart {G} moves gates lists r = (k n : ℕ) (gate : G) (list : StepList) (items : Items)
     → slice_get gates k ≡ Some gate → slice_get lists k ≡ Some list
@@ -125,7 +125,7 @@ AreGatedInPart {G} moves gates lists r = (k n : ℕ) (gate : G) (list : StepList
     → (last : G) × (told : List Item) × IsPrefix items.items told
     × IsFollowed moves (gate, []) (last, told) (length list.items) n false
 
--- if memory was refused after a worker was started, that holds
+-- if memory was refused after a worker was started, the lists were posted in that way
 abbrev pub IsGatedFault : {G : Type 0} → Moves G → List G → List StepList → Fault → Type 0
 IsGatedFault moves gates lists (Memory None) = ⊤
 IsGatedFault moves gates lists (Memory (Some r)) = AreGatedInPart moves gates lists r

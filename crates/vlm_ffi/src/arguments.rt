@@ -48,25 +48,21 @@ pub struct VlmOptions {
     pub reserved: [u32; 9],
 }
 
-/// Declares a process.
 #[repr(C)]
 #[derive(Clone, Copy)]
 pub struct VlmDeclaration {
     pub size: u32,
     /// 1 to 8.
     pub node: u32,
-    /// The UIC group.
     pub group: u32,
     /// 1 if it has the privilege SYSLCK, or 0.
     pub syslck: u32,
-    /// How many locks it may have.
     pub quota: u32,
     /// How many status blocks it has, numbered from 1.
     pub blocks: u32,
     pub reserved: [u32; 2],
 }
 
-/// Sets the value part of a status block.
 #[repr(C)]
 #[derive(Clone, Copy)]
 pub struct VlmSetting {

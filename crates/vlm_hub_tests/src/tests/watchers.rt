@@ -34,7 +34,7 @@ pub fn shows(row: Option<Row>, exclusive: u32) -> bool {
     row.held == [0, 0, 0, 0, 0, exclusive] && row.conversions == 0 && row.waiters == 0 && value
 }
 
-// How many entries a row tells of.
+// How many entries had been made, by a row.
 fn entries(row: Option<Row>) -> Option<u64> {
     row.map(|row| row.journal)
 }
