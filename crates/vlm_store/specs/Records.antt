@@ -267,7 +267,7 @@ joined_by Waiting lock r = record r { waiting = r.waiting ++ lock ∷ [] }
 abbrev pub process_at : ℕ → List StoredProcess → Option StoredProcess
 process_at at processes = find (λ p. p.at == at) processes
 
--- the process after the one with this handle
+-- the process after the process with this handle
 abbrev pub process_after : ℕ → List StoredProcess → Option Process
 process_after at [] = None
 process_after at (p ∷ rest) = if p.at == at then option_map (λ x. x.process) (slice_get rest 0) else process_after at rest

@@ -20,7 +20,7 @@ book_of v = record { number = v.number; log_name = v.log_name; cells_name = v.ce
 abbrev pub knowing : Book → View → View
 knowing book v = record v { knows = true; number = book.number; log_name = book.log_name; cells_name = book.cells_name }
 
--- the changes up to the sheet begin with those that the view saw, and the book that the view knows is the sheet's
+-- the changes up to the sheet begin with the changes that the view saw, and the book that the view knows is the sheet's
 pub record Fits (sheet : Sheet) (v : View) : Type 0 where
   pub begins : IsPrefix v.seen (changes_to sheet)
   pub book : v.knows ≡ true → book_of v ≡ sheet.before.book
