@@ -207,8 +207,8 @@ impl Vlm {
         self.with_core(|core| core.resource(key.parent, key.domain, key.name))?
     }
 
-    /// The resource after the named resource, or with serial 0 the first one. `Some(None)` after the last one, `None` if
-    /// there is no such resource.
+    /// The resource after the named resource, or with serial 0 the first one. `Some(None)` after the last one, `None`
+    /// if there is no such resource.
     pub(crate) fn next_resource(&mut self, words: &VlmResource) -> Option<Option<ResourceView>>
         ensures { Tells (next_resource_shown self.old.slot.core (words.now.serial == 0) (key_of words.now)) result
             self.old.slot.core self.new.slot.core }

@@ -31,9 +31,9 @@ StepList = Vec Step Global
 abbrev pub Items : Type 0
 Items = Vec Item Global
 
--- what holds of every report: it has items and a number of posts for each list, and no more posts than steps; the journal
--- is legal and leads to the core's state; the base of each part is the number of entries before it; the hub's own entries
--- are takes, so it lost no node; a node that has departed is answered so
+-- what holds of every report: it has items and a number of posts for each list, and no more posts than steps; the
+-- journal is legal and leads to the core's state; the base of each part is the number of entries before it; the hub's
+-- own entries are takes, so it lost no node; a node that has departed is answered so
 pub record IsReport (lists : List StepList) (r : Report) : Type 0 where
   pub counts : (length r.items.items ≡ length lists) × (length r.posted.items ≡ length lists)
   pub within : (k n : ℕ) (list : StepList) → slice_get lists k ≡ Some list → slice_get r.posted.items k ≡ Some n
@@ -69,8 +69,8 @@ abbrev pub AreAllPosted : List StepList → Report → Type 0
 AreAllPosted lists r = (k n : ℕ) (list : StepList) → slice_get lists k ≡ Some list → slice_get r.posted.items k ≡ Some n
     → n ≡ length list.items
 
--- at a place of a journal: the entries before it are a run of the machine to a state, from which the entries after it go
--- on, and the fact holds of that run and that state
+-- at a place of a journal: the entries before it are a run of the machine to a state, from which the entries after it
+-- go on, and the fact holds of that run and that state
 pub record IsReached (P : History → State → Type 0) (before behind : List Entry) (last : State) : Type 0 where
   pub state : State
   pub legal : Journal before state
@@ -98,9 +98,9 @@ GrantsKeepOrder entries last = HoldsThroughout
     → GrantsFollowQueueOrder state step choice)
     entries last
 
--- the result of serving lists: a report that all lists were served, and posted whole if no gate ever stops; at each place
--- of its journal the held modes are compatible, each request ends once, and grants follow queue order; or, if memory was
--- refused, what was done
+-- the result of serving lists: a report that all lists were served, and posted whole if no gate ever stops; at each
+-- place of its journal the held modes are compatible, each request ends once, and grants follow queue order; or, if
+-- memory was refused, what was done
 pub record IsServing (never_stops : Bool) (lists : List StepList) (result : Result Report Fault) : Type 0 where
   pub served : IfOk result (λ r. AreServed lists r)
   pub whole : never_stops ≡ true → IfOk result (λ r. AreAllPosted lists r)

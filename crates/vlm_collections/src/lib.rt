@@ -8,10 +8,10 @@
 //! # Linked lists
 //!
 //! A record has a pair of links for each kind of list: the handle of the record before it and of the record after it,
-//! each in four bytes. `Linked<Kind>` says which pair is meant, so a record may be in several lists at once, one of each
-//! kind. A list has its first record, its last, and its length. Where a record has no neighbour, the list's end takes
-//! the neighbour's part. A join writes the record's pair, one link of the last record, and the list. A leave writes a
-//! link of each neighbour, or an end of the list, and the length.
+//! each in four bytes. `Linked<Kind>` says which pair is meant, so a record may be in several lists at once, one of
+//! each kind. A list has its first record, its last, and its length. Where a record has no neighbour, the list's end
+//! takes the neighbour's part. A join writes the record's pair, one link of the last record, and the list. A leave
+//! writes a link of each neighbour, or an end of the list, and the length.
 //!
 //! # Marks
 //!

@@ -157,9 +157,9 @@ impl Core {
         self.step(Step::Take(pid))
     }
 
-    /// Asks for a new lock ($ENQ). With a parent lock of the caller, the resource is below the parent's resource. Without
-    /// one it is a root: in the caller's group, or with SYSTEM in the system's domain. The answer is NORMAL, or SYNCH if
-    /// the lock is granted at once with SYNCSTS.
+    /// Asks for a new lock ($ENQ). With a parent lock of the caller, the resource is below the parent's resource.
+    /// Without one it is a root: in the caller's group, or with SYSTEM in the system's domain. The answer is NORMAL, or
+    /// SYNCH if the lock is granted at once with SYNCSTS.
     ///
     /// With VALBLK the grant returns the resource's value block: the 16 bytes, and with WIDE the tail too (this
     /// project's own). The status block then has VALNOTVALID if the 16 bytes are invalid. With WIDE it has WIDENOTVALID
@@ -251,8 +251,8 @@ impl Core {
     /// Searches for a deadlock: processes that wait for each other in a circle ($ENQ, lock conversion deadlocks and
     /// multiple resource deadlocks). A queued request waits for each other lock of its resource that is held in an
     /// incompatible mode, unless that mode was asked for with NODLCKBLK. It waits for each request before it,
-    /// conversions first, unless that request has NODLCKBLK. With NODLCKWT it waits for no lock. A request that leads back
-    /// to its own process is deadlocked.
+    /// conversions first, unless that request has NODLCKBLK. With NODLCKWT it waits for no lock. A request that leads
+    /// back to its own process is deadlocked.
     ///
     /// The most recent deadlocked request is the victim. It ends with DEADLOCK, and its completion AST is queued. A
     /// waiting lock goes, and a converting lock stays as it was granted. Then the requests that it blocked are granted.

@@ -135,8 +135,8 @@ impl Core {
         }
     }
 
-    /// The resource at an index, from 0, by rising serial, with its value block and tail. `None` after the last. The cost
-    /// grows with the index; [`Core::store`] goes from one resource to the next.
+    /// The resource at an index, from 0, by rising serial, with its value block and tail. `None` after the last. The
+    /// cost grows with the index; [`Core::store`] goes from one resource to the next.
     pub fn resource_at(&self, index: usize) -> Option<ResourceView>
         ensures { result ≡ option_map resource_view (slice_get self.now.resources index) }
     {
@@ -155,8 +155,8 @@ impl Core {
         Some(resource_view(store, res))
     }
 
-    /// The next resource by serial after the resource of this name, named as in [`Core::resource`]. `None` if there is no
-    /// such resource; `Some(None)` if it is the last one. It takes constant time.
+    /// The next resource by serial after the resource of this name, named as in [`Core::resource`]. `None` if there is
+    /// no such resource; `Some(None)` if it is the last one. It takes constant time.
     pub fn resource_after(
         &self,
         parent: u32,

@@ -28,8 +28,8 @@ impl Scratch {
         }
     }
 
-    /// Makes room to mark the process, for 64 of its node at a time, and to rank it beside this many living processes. If
-    /// memory is refused, there may be more room than before.
+    /// Makes room to mark the process, for 64 of its node at a time, and to rank it beside this many living processes.
+    /// If memory is refused, there may be more room than before.
     pub fn make_room(&mut self, pid: u32, living: usize) -> Result<(), AllocError>
         ensures room { OnOk result (HasRoomInBoth self.new pid) }
         ensures kept { KeepsRoom self.old self.new }

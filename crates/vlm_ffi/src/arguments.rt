@@ -35,7 +35,6 @@ const _: () = prove!(size_of::<VlmRequest>() == 128);
 
 const _: () = prove!(size_of::<VlmDequeue>() == 128);
 
-/// How a core is opened.
 #[repr(C)]
 #[derive(Clone, Copy)]
 pub struct VlmOptions {
@@ -102,7 +101,6 @@ pub struct VlmRequest {
     pub reserved: [u32; 20],
 }
 
-/// Gives up locks, or cancels a request.
 #[repr(C)]
 #[derive(Clone, Copy)]
 pub struct VlmDequeue {
@@ -110,7 +108,6 @@ pub struct VlmDequeue {
     pub pid: u32,
     pub flags: u32,
     pub lock: u32,
-    /// As in [`VlmRequest`].
     pub lock_block: u32,
     /// 1 to write the value block, or 0.
     pub has_value: u32,

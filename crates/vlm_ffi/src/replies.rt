@@ -53,7 +53,6 @@ pub fn answer_number(answer: &Answer) -> u32
     }
 }
 
-/// The number of a kind of AST: 1 for completion, 2 for blocking.
 pub fn kind_number(kind: AstKind) -> u32
     ensures { result ≡ kind_number kind }
 {
@@ -83,7 +82,6 @@ pub fn ast_of(ast: &Ast) -> VlmAst
     }
 }
 
-/// What C reads if no AST is pending.
 pub fn no_ast() -> VlmAst
     ensures { result ≡ no_ast }
 {

@@ -24,8 +24,8 @@ use vlm_words::names::Name;
 use vlm_words::resources::Domain;
 use vlm_words::steps::{Answer, Step};
 
-/// A core with its journal: the entries since the last cut, and the number of entries before them. All entries, from the
-/// first, are a legal journal that leads to the core's state (this project's own).
+/// A core with its journal: the entries since the last cut, and the number of entries before them. All entries, from
+/// the first, are a legal journal that leads to the core's state (this project's own).
 #[derive(Drop)]
 pub struct JournaledCore {
     core: Core,
@@ -103,8 +103,8 @@ impl JournaledCore {
         self.core.pending_of(node)
     }
 
-    /// Takes the oldest AST of the process that [`JournaledCore::pending_of`] answers for a node, and writes an entry of the
-    /// hub. It takes no memory.
+    /// Takes the oldest AST of the process that [`JournaledCore::pending_of`] answers for a node, and writes an entry
+    /// of the hub. It takes no memory.
     pub fn deliver_ast(&mut self, node: u8, pid: u32) -> Ast
         requires room { 0 < self.old.room }
         requires pending { first_pending node self.old.state.processes ≡ Some pid }

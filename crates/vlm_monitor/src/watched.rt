@@ -148,8 +148,8 @@ impl MonitoredHub {
         }
     }
 
-    // Posts a step at the port of its node, and answers the place of that port. Refused if the hub has not made all steps
-    // that were posted there.
+    // Posts a step at the port of its node, and answers the place of that port. Refused if the hub has not made all
+    // steps that were posted there.
     fn post(&mut self, step: Step) -> Result<usize, WatchFault>
         ensures key { self.new.key ≡ self.old.key }
         ensures written { IsAsWritten self.old.hub self.new.hub }

@@ -384,7 +384,7 @@ impl Store {
         self.queues.remove_resource(&mut self.order, res.slot());
     }
 
-    /// Whether the mode is compatible with the held mode of every lock except the asking one. It reads counts, not locks.
+    /// Whether the mode is compatible with each held mode except the asking lock's. It reads counts, not locks.
     #[inline(always)]
     pub fn can_hold(&self, res: ResAt, mode: Mode, except: Option<LockAt>) -> bool
         requires there { HasResource res self.now }

@@ -119,7 +119,7 @@ impl Watcher {
         (watcher, ())
     }
 
-    /// All that this watcher sees later begins with the told changes. The told value is of the same hub, and is used up.
+    /// All that this watcher sees later begins with the told changes. `told` is of the same hub, and is used up.
     pub fn learn(&mut self, told: Told)
         requires { told_board told ≡ board_of self.old }
         ensures same { IsAsBefore self.old self.new }

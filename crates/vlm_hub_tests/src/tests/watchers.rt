@@ -92,8 +92,8 @@ fn sixteen_resources_are_told_apart(rt: HostRuntime) -> Result<(), Fail> {
     Ok(())
 }
 
-// Watchers look in threads of their own while the hub makes steps and publishes: none sees fewer entries than before, and
-// after it learns of it, each sees the last publish.
+// Watchers look in threads of their own while the hub makes steps and publishes: none sees fewer entries than before,
+// and after it learns of it, each sees the last publish.
 fn look_on<R: Abort + AllocGlobal + Threads + Wait + Sync>(
     rt: &R,
     watchers: usize,
