@@ -19,9 +19,9 @@ impl Hub {
     }
 
     /// Makes 1 to 8 watchers of the root resources under 1 to 16 keys, for a hub that is not watched yet. Until the
-    /// first publish each watcher sees resources that do not exist. Refusals, in this order: `Memory`; `Seat` if there
-    /// is no place for a watcher. If it is refused, the hub is not watched, and the memory is given back. It may wait
-    /// only then. It makes no entry (this project's own).
+    /// first publish each watcher sees resources that do not exist. Refusals, in this order: `Memory` for the board;
+    /// then for each watcher in turn `Memory`, and `Seat` if there is no place for it. If it is refused, the hub is not
+    /// watched, and the memory is given back. It may wait only then. It makes no entry (this project's own).
     pub fn watch<R: Wait>(
         &mut self,
         rt: &R,

@@ -21,9 +21,9 @@ pub struct Board {
 impl Board {
     ghost use Rattle.vlm_watch.specs.Watching.{HasPublished, IsNew, keys_of, name_of, published, told_board, told_changes};
 
-    /// A board of 1 to 16 keys with nothing published, and 1 to 8 watchers of it. Refusals, in this order: `Memory`;
-    /// `Seat` if there is no place for a watcher. If it is refused, there is neither, and the memory is given back. It
-    /// may wait only then.
+    /// A board of 1 to 16 keys with nothing published, and 1 to 8 watchers of it. Refusals, in this order: `Memory` for
+    /// the board; then for each watcher in turn `Memory`, and `Seat` if there is no place for it. If it is refused,
+    /// there is neither board nor watcher, and the memory is given back. It may wait only then.
     pub fn open<R: Wait>(
         rt: &R,
         alloc: Global,
