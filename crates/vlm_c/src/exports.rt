@@ -78,7 +78,6 @@ fn reply(handle: &mut Vlm, step: Option<Step>, number: &mut u32) -> u32
     answer_status(&answer)
 }
 
-// Makes a step whose answer has no identification.
 #[inline(always)]
 fn status_reply(handle: &mut Vlm, step: Option<Step>) -> u32
     ensures { StatusReplied handle.old.slot.core step handle.new.slot.core result }
@@ -141,7 +140,7 @@ pub extern "C" fn vlm_deq(handle: &mut Vlm, dequeue: &VlmDequeue) -> u32
     status_reply(handle, step)
 }
 
-/// Takes the oldest pending AST of a process and writes it; without one it writes that no AST is pending. A refusal writes nothing.
+/// Takes the oldest pending AST of a process and writes it, or that no AST is pending. A refusal writes nothing.
 #[unsafe(no_mangle)]
 pub extern "C" fn vlm_take(handle: &mut Vlm, pid: u32, out: &mut VlmAst) -> u32
     ensures { AstReplied handle.old.slot.core (option_map Take (take_of pid out.old.size))
@@ -201,7 +200,6 @@ pub extern "C" fn vlm_search(handle: &mut Vlm, node: u32, victim: &mut u32) -> u
     reply(handle, node_of(node).map(|node| Step::Search(node)), victim)
 }
 
-/// Copies a status block of a process.
 #[unsafe(no_mangle)]
 pub extern "C" fn vlm_block(handle: &mut Vlm, pid: u32, block: u32, out: &mut VlmLksb) -> u32
     ensures told { Told (sized (out.old.size == 80) (option_map lksb_of (block_shown handle.old.slot.core pid block)))
@@ -212,7 +210,6 @@ pub extern "C" fn vlm_block(handle: &mut Vlm, pid: u32, block: u32, out: &mut Vl
     copy_out(sized(out.size == LKSB_SIZE, shown), out)
 }
 
-/// Counts the pending ASTs of a process.
 #[unsafe(no_mangle)]
 pub extern "C" fn vlm_pending(handle: &mut Vlm, pid: u32, count: &mut usize) -> u32
     ensures told { Told (pending_shown handle.old.slot.core pid) count.old count.new result }

@@ -91,7 +91,6 @@ impl Vlm {
         self.is_held
     }
 
-    // Takes the core out, passes it to `call` and puts it back.
     #[inline(always)]
     pub(crate) fn with_core<R, F: FnOnce(&mut Core) -> R + Drop>(&mut self, call: F) -> Option<R>
         requires { F.IsAlwaysCallable call }
@@ -138,7 +137,6 @@ impl Vlm {
         self.with_core(|core| take_first(core))
     }
 
-    /// How many ASTs are pending for a process.
     pub(crate) fn pending(&mut self, pid: u32) -> Option<usize>
         ensures { Tells (pending_shown self.old.slot.core pid) result
             self.old.slot.core self.new.slot.core }
@@ -194,7 +192,6 @@ impl Vlm {
         self.with_core(|core| core.queued_count()).unwrap_or(0)
     }
 
-    /// The resource at a place, from 0.
     pub(crate) fn resource(&mut self, place: usize) -> Option<ResourceView>
         ensures { Tells (resource_shown self.old.slot.core place) result
             self.old.slot.core self.new.slot.core }
@@ -202,7 +199,6 @@ impl Vlm {
         self.with_core(|core| core.resource_at(place))?
     }
 
-    /// The resource that the words name.
     pub(crate) fn find(&mut self, words: &VlmResource) -> Option<ResourceView>
         ensures { Tells (found_shown self.old.slot.core (key_of words.now)) result
             self.old.slot.core self.new.slot.core }
@@ -211,8 +207,8 @@ impl Vlm {
         self.with_core(|core| core.resource(key.parent, key.domain, key.name))?
     }
 
-    /// The resource after the named resource, or with serial 0 the first one. `Some(None)` after the last one, `None` if
-    /// there is no such resource.
+    /// The resource after the named resource, or with serial 0 the first one. `Some(None)` after the last one, `None`
+    /// if there is no such resource.
     pub(crate) fn next_resource(&mut self, words: &VlmResource) -> Option<Option<ResourceView>>
         ensures { Tells (next_resource_shown self.old.slot.core (words.now.serial == 0) (key_of words.now)) result
             self.old.slot.core self.new.slot.core }
@@ -238,7 +234,6 @@ impl Vlm {
 #[inline(never)]
 fn free(_core: Box<Core>) {}
 
-// The living process at an index, and how many locks it has.
 fn process_at(core: &Core, index: usize) -> Option<(ProcessView, usize)>
     ensures { result ≡ process_shown (Some core.now) index }
 {
@@ -247,7 +242,6 @@ fn process_at(core: &Core, index: usize) -> Option<(ProcessView, usize)>
     Some((process, locks))
 }
 
-// The living process after another one, and how many locks it has.
 fn process_after(core: &Core, pid: u32) -> Option<Option<(ProcessView, usize)>>
     ensures { result ≡ next_process_shown (Some core.now) false pid }
 {
@@ -260,7 +254,6 @@ fn process_after(core: &Core, pid: u32) -> Option<Option<(ProcessView, usize)>>
     }
 }
 
-// Takes the oldest AST of the first process that has one.
 fn take_first(core: &mut Core) -> Option<(u32, Answer)>
     ensures { TakesFirst core.old result core.new }
 {

@@ -27,7 +27,6 @@ pub(crate) struct ResourceKey {
     pub(crate) name: Name,
 }
 
-/// The key that the words of a resource name.
 #[tactic(auto, unfolding(crate::specs::Keys::key_of))]
 pub(crate) fn key_of(words: &VlmResource) -> Option<ResourceKey>
     ensures { result ≡ key_of words.now }

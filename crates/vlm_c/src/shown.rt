@@ -31,7 +31,6 @@ const _: () = prove!(size_of::<VlmRow>() == 32);
 
 const _: () = prove!(size_of::<VlmLock>() == 64);
 
-/// A lock status block.
 #[repr(C)]
 #[derive(Clone, Copy)]
 pub struct VlmLksb {
@@ -41,7 +40,6 @@ pub struct VlmLksb {
     /// The lock of the last accepted request, or 0.
     pub lkid: u32,
     pub reserved: u32,
-    /// The value part.
     pub value: [u8; 16],
     pub tail: [u8; 48],
 }
@@ -95,9 +93,8 @@ pub struct VlmRow {
     pub size: u32,
     pub lkid: u32,
     pub pid: u32,
-    /// A mode, or 255 for no mode.
+    /// The held and the wanted mode, or 255 for no mode.
     pub held: u32,
-    /// A mode, or 255 for no mode.
     pub want: u32,
     pub reserved: [u32; 3],
 }
@@ -110,13 +107,11 @@ pub struct VlmLock {
     /// 0 after the last lock of a walk.
     pub lkid: u32,
     pub pid: u32,
-    /// A mode, or 255 for no mode.
+    /// The held and the wanted mode, or 255 for no mode.
     pub held: u32,
-    /// A mode, or 255 for no mode.
     pub want: u32,
     /// 0 granted, 1 conversion, 2 waiting.
     pub queue: u32,
-    /// The serial of its resource.
     pub resource: u32,
     /// Its parent lock, or 0.
     pub parent: u32,
@@ -138,7 +133,6 @@ pub(crate) fn lksb_of(block: &Block) -> VlmLksb
     }
 }
 
-/// The struct of a process that has this many locks.
 pub(crate) fn process_of(process: &ProcessView, locks: usize) -> VlmProcess
     ensures { result ≡ process_of (process.now, locks) }
 {

@@ -16,7 +16,7 @@ use Rattle.vlm_cluster.specs.Parts.{AreNumbered, HaveEnough}
 use Rattle.vlm_cluster.specs.Reports.{entries_of, parts_of}
 use Rattle.vlm_cluster.specs.Works.{IsBegun, IsWhole, point_of, work_of}
 
--- an empty vector that has room for so many
+-- an empty vector with room for this many
 abbrev pub IsRoomFor : {T : Type 0} → ℕ → Vec T Global → Type 0
 IsRoomFor n space = (vec_len space ≡ 0) × (n ≤ vec_capacity space)
 
@@ -32,7 +32,7 @@ HaveInputs {G} n children ports lists =
     → ((slice_index_or children k h).promise.port.value ≡ slice_index_or ports k port)
     × ((slice_index_or children k h).promise.list.value ≡ slice_index_or lists k list)
 
--- the journal of the report is legal, its parts are numbered and large enough, and the hub took ASTs alone
+-- the journal of the report is legal, its parts are numbered and large enough, and the hub itself only took ASTs
 pub record IsSoundReport (every : ℕ) (r : Report) : Type 0 where
   pub legal : Journal (entries_of r) r.core
   pub numbered : AreNumbered (parts_of r)

@@ -65,14 +65,14 @@ pub record IsGuided {G : Type 0} (moves : Moves G) (old new : Point G) (from to 
   pub told : new.1 ≡ old.1 ++ items_told events
   pub asked : AreInTurn events from to
 
--- a worker posts each step that its gate lets through, until the gate stops the list or the list ends; a cancelled worker
--- may leave out the last of these steps
+-- a worker posts each step that its gate lets through, until the gate stops the list or the list ends; a cancelled
+-- worker may leave out the last of these steps
 abbrev pub IsCounted : Standing → ℕ → ℕ → Bool → Type 0
 IsCounted (shut_at n) size count whole = count ≡ n
 IsCounted (open_at n) size count true = (count ≡ n) × (n ≡ size)
 IsCounted (open_at n) size count false = (count ≤ n) × (n ≤ count + 1)
 
--- between two points a gate has guided a worker through a list of `size` steps, and the worker has posted `count` of them
+-- between two points a gate has guided a worker through a list of `size` steps, and the worker posted `count` of them
 pub record IsFollowed {G : Type 0} (moves : Moves G) (old new : Point G) (size count : ℕ) (whole : Bool) : Type 0 where
   pub standing : Standing
   pub guided : IsGuided moves old new (open_at 0) standing

@@ -31,9 +31,9 @@ StepList = Vec Step Global
 abbrev pub Items : Type 0
 Items = Vec Item Global
 
--- what holds of every report: it has items and a number of posts for each list, and no more posts than steps; the journal
--- is legal and leads to the core's state; the base of each part is the number of entries before it; the hub's own entries
--- are takes, so it lost no node; a node that has departed is answered so
+-- what holds of every report: it has items and a number of posts for each list, and no more posts than steps; the
+-- journal is legal and leads to the core's state; the base of each part is the number of entries before it; the hub's
+-- own entries are takes, so it lost no node; a node that has departed is answered so
 pub record IsReport (lists : List StepList) (r : Report) : Type 0 where
   pub counts : (length r.items.items ≡ length lists) × (length r.posted.items ≡ length lists)
   pub within : (k n : ℕ) (list : StepList) → slice_get lists k ≡ Some list → slice_get r.posted.items k ≡ Some n
@@ -69,8 +69,8 @@ abbrev pub AreAllPosted : List StepList → Report → Type 0
 AreAllPosted lists r = (k n : ℕ) (list : StepList) → slice_get lists k ≡ Some list → slice_get r.posted.items k ≡ Some n
     → n ≡ length list.items
 
--- at a place of a journal: the entries before it are a run of the machine to a state, from which the entries after it go
--- on, and the fact holds of that run and that state
+-- at a place of a journal: the entries before it are a run of the machine to a state, from which the entries after it
+-- go on, and the fact holds of that run and that state
 pub record IsReached (P : History → State → Type 0) (before behind : List Entry) (last : State) : Type 0 where
   pub state : State
   pub legal : Journal before state
@@ -98,9 +98,9 @@ GrantsKeepOrder entries last = HoldsThroughout
     → GrantsFollowQueueOrder state step choice)
     entries last
 
--- the result of serving lists: a report that all lists were served, and posted whole if no gate ever stops; at each place
--- of its journal the held modes are compatible, each request ends once, and grants follow queue order; or, if memory was
--- refused, what was done
+-- the result of serving lists: a report that all lists were served, and posted whole if no gate ever stops; at each
+-- place of its journal the held modes are compatible, each request ends once, and grants follow queue order; or, if
+-- memory was refused, what was done
 pub record IsServing (never_stops : Bool) (lists : List StepList) (result : Result Report Fault) : Type 0 where
   pub served : IfOk result (λ r. AreServed lists r)
   pub whole : never_stops ≡ true → IfOk result (λ r. AreAllPosted lists r)
@@ -117,7 +117,7 @@ AreGated {G} moves gates lists r = (k n : ℕ) (gate : G) (list : StepList) (ite
     → slice_get r.posted.items k ≡ Some n → slice_get r.items.items k ≡ Some items
     → (last : G) × IsFollowed moves (gate, []) (last, items.items) (length list.items) n true
 
--- the same of workers that may have been cancelled: the items of the report are a prefix of those that the gate was told
+-- the same for workers that may be cancelled: the items of the report are a prefix of those that the gate was told
 abbrev pub AreGatedInPart : {G : Type 0} → Moves G → List G → List StepList → Report → Type 0
 AreGatedInPart {G} moves gates lists r = (k n : ℕ) (gate : G) (list : StepList) (items : Items)
     → slice_get gates k ≡ Some gate → slice_get lists k ≡ Some list
@@ -125,7 +125,7 @@ AreGatedInPart {G} moves gates lists r = (k n : ℕ) (gate : G) (list : StepList
     → (last : G) × (told : List Item) × IsPrefix items.items told
     × IsFollowed moves (gate, []) (last, told) (length list.items) n false
 
--- if memory was refused after a worker was started, that holds
+-- if memory was refused after a worker was started, the lists were posted in that way
 abbrev pub IsGatedFault : {G : Type 0} → Moves G → List G → List StepList → Fault → Type 0
 IsGatedFault moves gates lists (Memory None) = ⊤
 IsGatedFault moves gates lists (Memory (Some r)) = AreGatedInPart moves gates lists r

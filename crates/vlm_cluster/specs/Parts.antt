@@ -25,8 +25,8 @@ abbrev pub AreNumbered : List Part → Type 0
 AreNumbered parts = (k : ℕ) (part : Part) → slice_get parts k ≡ Some part
     → part.base ≡ base_behind (entries_in (take k parts))
 
--- the entries of the parts and then of the hub's journal are a legal journal that leads to the hub's state; the hub's own
--- entries are takes; what each node had asked for and was told before the last cut is what the parts say
+-- the entries of the parts and then of the hub's journal are a legal journal that leads to the hub's state; the hub's
+-- own entries are takes; the parts say what each node had asked for and was told before the last cut
 pub record IsAccounted (parts : List Part) (h : Hub) : Type 0 where
   pub legal : Journal (entries_in parts ++ journal h) (state h)
   pub base : base h ≡ base_behind (entries_in parts)

@@ -25,8 +25,8 @@ asked_by h node = asked_before h node ++ asked node (journal h)
 abbrev pub told_by : Hub → ℕ → List Item
 told_by h node = told_before h node ++ told node (journal h)
 
--- the steps that the hub has made are a prefix of the port's posts, and the items that the port has taken are a prefix of
--- what it is told
+-- the steps that the hub has made are a prefix of the port's posts, and the items that the port has taken are a prefix
+-- of what it is told
 pub record HasBegun (h : Hub) (p : Port) : Type 0 where
   pub asked : IsPrefix (asked_by h p.node) (posted p)
   pub told : IsPrefix (taken p) (told_by h p.node)

@@ -59,7 +59,7 @@ pub record IsBegun (entries : List Entry) (w : Work) (items : List Item) : Type 
   pub asked : IsPrefix (asked w.port.0 entries) w.posts
   pub told : IsPrefix items (told w.port.0 entries)
 
--- the departure was posted, the node's steps in the journal are its posts, and these items are what the journal tells it
+-- the departure was posted, the node's steps in the journal are its posts, and these items are its items there
 pub record IsWhole (entries : List Entry) (w : Work) (items : List Item) : Type 0 where
   pub left : w.left ≡ true
   pub asked : asked w.port.0 entries ≡ w.posts

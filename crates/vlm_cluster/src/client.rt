@@ -22,7 +22,6 @@ use vlm_words::steps::Step;
 #[derive(Drop)]
 pub(crate) struct Client {
     pub(crate) port: Port,
-    /// All items taken from the port, in order.
     pub(crate) items: Vec<Item>,
     // the number of answers among the items
     answers: usize,
@@ -35,7 +34,6 @@ pub(crate) struct Client {
 pub(crate) struct Cancelled;
 
 impl Client {
-    /// A client of a port from which nothing was taken.
     pub(crate) fn new(alloc: Global, port: Port) -> Client
         requires { taken port ≡ [] }
         ensures port { result.port ≡ port }
@@ -49,8 +47,8 @@ impl Client {
         }
     }
 
-    /// Takes one item if the port has one, and tells the gate. Returns whether it took one. If
-    /// memory is refused, it takes nothing.
+    /// Takes one item if the port has one, and tells the gate. Returns whether it took one. If memory is refused, it
+    /// takes nothing.
     pub(crate) fn collect<G: Gate>(&mut self, gate: &mut G) -> Result<bool, AllocError>
         ensures same { identity self.new.port ≡ identity self.old.port }
         ensures posted { posted self.new.port ≡ posted self.old.port }
@@ -69,8 +67,7 @@ impl Client {
         Ok(true)
     }
 
-    /// One round of waiting: takes an item, or rests if none has come. If memory is refused, it
-    /// cancels the run.
+    /// One round of waiting: takes an item, or rests if none has come. If memory is refused, it cancels the run.
     pub(crate) fn wait<R: Clock, G: Gate>(
         &mut self,
         rt: &R,
@@ -165,8 +162,8 @@ impl Client {
         unreachable!()
     }
 
-    /// Has the hub settle the port. Returns the number of posts that the hub has not taken, and of
-    /// items that the port has not taken.
+    /// Has the hub settle the port: counts the posts that the hub has not taken and the items that the port has not
+    /// taken.
     pub(crate) fn settle(&mut self, hub: &mut Hub) -> Settled
         requires { IsPortOf hub.old self.old.port }
         ensures standing { standing hub.new ≡ standing hub.old }

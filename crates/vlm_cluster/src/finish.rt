@@ -25,9 +25,8 @@ pub(crate) struct Finished {
     pub(crate) whole: bool,
 }
 
-/// Serves and takes what is left on the rings, and makes the report. It allocates memory only for
-/// items and entries.
-// (inlined, LLVM works for minutes on how the hub moves)
+/// Serves and takes what is left on the rings, and makes the report. It allocates memory only for items and entries.
+// Kept out of line: inlined, LLVM takes minutes over the moves of the hub.
 #[inline(never)]
 pub(crate) fn finish<G: Gate>(
     rt: &impl Wait,
@@ -64,8 +63,7 @@ pub(crate) fn finish<G: Gate>(
     }
 }
 
-/// Makes the report if a worker after the first could not be started. The hub has made no turn, so
-/// no node got an item.
+/// Makes the report if a worker after the first could not be started. The hub has made no turn, so no node got an item.
 #[inline(never)]
 pub(crate) fn give_up<G: Gate>(
     rt: &impl Wait,
@@ -98,7 +96,6 @@ pub(crate) fn give_up<G: Gate>(
     driver.report(rt, items, posted)
 }
 
-// Notes the number of steps that each worker has posted.
 fn note_posted<G: Gate>(results: &[WorkerResult<G>], posted: &mut [usize])
     requires { length results.now ≤ length posted.old }
     ensures each { (k : ℕ) (d : _) → k < length results.now
@@ -111,7 +108,6 @@ fn note_posted<G: Gate>(results: &[WorkerResult<G>], posted: &mut [usize])
     }
 }
 
-// Moves the items out of the results, in order.
 fn take_items<G: Gate>(results: Vec<WorkerResult<G>>, items: &mut Vec<Vec<Item>>)
     requires none { vec_len items.old ≡ 0 }
     requires room { vec_len results ≤ vec_capacity items.old }

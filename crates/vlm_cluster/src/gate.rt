@@ -7,7 +7,6 @@ use vlm_journal::entries::Item;
 /// What a worker does with the next step of its list.
 #[derive(Clone, Copy, Debug, PartialEq, Eq)]
 pub enum Go {
-    /// Posts the step.
     Post,
     /// Takes an item, if one has come, and asks again.
     Later,
@@ -25,16 +24,15 @@ pub trait Gate: Drop {
     /// Whether `before` never answers [`Go::Stop`].
     ghost never_stops: { Bool };
 
-    /// `answers old n go new`: asked for step `n` in state `old`, the gate may answer `go`, which
-    /// leaves it in state `new`. The default says nothing.
+    /// `answers old n go new`: asked for step `n` in state `old`, the gate may answer `go`, which leaves it in state
+    /// `new`. The default says nothing.
     ghost answers: { Self → ℕ → Go → Self → Type 0 } = { λ _ _ _ _. ⊤ };
 
-    /// `hears old item new`: the gate hears `item` in state `old` and may come to state `new`. The default
-    /// says nothing.
+    /// `hears old item new`: the gate hears `item` in state `old` and may come to `new`. The default says nothing.
     ghost hears: { Self → Item → Self → Type 0 } = { λ _ _ _. ⊤ };
 
-    /// The worker asks this before it posts step `n` of its list, counted from 0. After
-    /// [`Go::Later`] it asks for the same step again. It does not ask for the departure.
+    /// The worker asks this before it posts step `n` of its list, counted from 0. After [`Go::Later`] it asks for the
+    /// same step again. It does not ask for the departure.
     fn before(&mut self, n: usize) -> Go
         ensures stops { Self.never_stops ≡ true → result ≢ Stop }
         ensures answers { Self.answers self.old n result self.new };

@@ -26,7 +26,6 @@ impl HubDriver {
     ghost use Rattle.vlm_cluster.specs.Parts.{IsAccounted};
     ghost use Rattle.vlm_cluster.specs.Works.{entries_at};
 
-    /// A driver of a new hub.
     pub(crate) fn new(alloc: Global, hub: Hub, every: usize) -> HubDriver
         requires hub { IsNewHub (nodes hub) hub }
         requires every { 0 < every }
@@ -42,8 +41,8 @@ impl HubDriver {
         }
     }
 
-    /// Makes one turn of the hub, and cuts a part off if the journal is long enough. Returns whether
-    /// the turn made an entry. If memory is refused, the entries already made stay.
+    /// Makes one turn of the hub, and cuts a part off if the journal is long enough. Returns whether the turn made an
+    /// entry. If memory is refused, the entries already made stay.
     pub(crate) fn turn(&mut self) -> Result<bool, AllocError>
         requires { IsAccounted self.old.parts.items self.old.hub }
         ensures every { self.new.every ≡ self.old.every }

@@ -28,14 +28,13 @@ use vlm_journal::laws::law_departed;
 use vlm_ports::{Hub, Port};
 use vlm_words::steps::Step;
 
-/// Serves one to eight lists of steps, list i for node i + 1. A worker thread posts each list, as its
-/// gate says, while the hub makes its turns in the caller's thread over a new core. After a turn that
-/// leaves `every` entries or more in the journal, it cuts a part off. It returns when all threads are
-/// joined.
+/// Serves one to eight lists of steps, list i for node i + 1. A worker thread posts each list, as its gate says, while
+/// the hub makes its turns in the caller's thread over a new core. After a turn that leaves `every` entries or more in
+/// the journal, it cuts a part off. It returns when all threads are joined.
 ///
-/// It answers [`Fault::Memory`] if memory or a thread is refused. Without a report no worker was
-/// started. Otherwise all workers have finished, and the report says what was done, which may be
-/// everything. Memory use grows with the lists and the entries.
+/// It answers [`Fault::Memory`] if memory or a thread is refused. Without a report no worker was started. Otherwise all
+/// workers have finished, and the report says what was done, which may be everything. Memory use grows with the lists
+/// and the entries.
 pub fn serve_lists<R: Threads + Wait + Clock + Copy + Send + 'static, G: Gate + Send + 'static>(
     rt: &R,
     alloc: Global,
@@ -55,8 +54,7 @@ pub fn serve_lists<R: Threads + Wait + Clock + Copy + Send + 'static, G: Gate + 
     serve_lists_over(rt, alloc, Core::new(alloc), gates, lists, every)
 }
 
-/// Does the same over the core that it is given. Use [`Core::with_keys`] if others choose the names
-/// of resources.
+/// Does the same over the given core. Use [`Core::with_keys`] if others choose the names of resources.
 pub fn serve_lists_over<
     R: Threads + Wait + Clock + Copy + Send + 'static,
     G: Gate + Send + 'static,
@@ -93,7 +91,6 @@ pub fn serve_lists_over<
     run(rt, alloc, driver, preallocated, inputs)
 }
 
-// Starts the workers, serves them, and makes the report.
 fn run<R: Threads + Wait + Clock + Copy + Send + 'static, G: Gate + Send + 'static>(
     rt: &R,
     alloc: Global,

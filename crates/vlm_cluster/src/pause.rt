@@ -20,7 +20,6 @@ impl Pause {
         Pause { rounds: 0 }
     }
 
-    /// The thread found something to do.
     pub(crate) fn end(&mut self) {
         self.rounds = 0;
     }

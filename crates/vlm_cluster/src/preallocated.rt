@@ -16,25 +16,20 @@ use vlm_journal::entries::Item;
 #[derive(Drop)]
 pub(crate) struct Preallocated<G: Gate> {
     pub(crate) signals: Arc<Signals>,
-    /// Space for the handles of the workers.
     pub(crate) children: Vec<PromisedHandle<WorkerResult<G>, WorkerPromise<G>>>,
-    /// Space for their results.
     pub(crate) results: Vec<WorkerResult<G>>,
-    /// Space for the report.
     pub(crate) space: ReportSpace,
 }
 
 /// Space for what a report says of each list.
 #[derive(Drop)]
 pub(crate) struct ReportSpace {
-    /// Space for the items of each list.
     pub(crate) items: Vec<Vec<Item>>,
     /// The number of steps posted of each list, 0 until it is noted.
     pub(crate) posted: Vec<usize>,
 }
 
 impl<G: Gate> Preallocated<G> {
-    /// For `count` workers.
     pub(crate) fn new(alloc: Global, count: usize) -> Result<Preallocated<G>, AllocError>
         ensures children { IfOk result (λ r. IsRoomFor count r.children) }
         ensures results { IfOk result (λ r. IsRoomFor count r.results) }

@@ -15,8 +15,8 @@ use vlm_journal::entries::{Item, Part};
 /// What happened in a run.
 #[derive(Drop)]
 pub struct Report {
-    /// The parts cut off the journal, in order. Each has at least `every` entries. The rest has fewer
-    /// if nothing was refused.
+    /// The parts cut off the journal, in order, each with `every` entries or more. If nothing was refused, the rest has
+    /// fewer.
     pub parts: Vec<Part>,
     /// The rest of the journal, after all parts.
     pub rest: Part,
@@ -31,8 +31,7 @@ pub struct Report {
 /// Why a run failed.
 #[derive(Drop)]
 pub enum Fault {
-    /// Memory or a thread was refused. Without a report no worker was started. Otherwise the report
-    /// says what was done.
+    /// Memory or a thread was refused. With no report no worker was started; otherwise the report says what was done.
     Memory(Option<Report>),
 }
 
@@ -65,7 +64,6 @@ impl HubDriver {
         }
     }
 
-    /// Ends the hub without a report.
     pub(crate) fn close(self, rt: &impl Wait) {
         let HubDriver {
             hub,

@@ -14,8 +14,8 @@ use crate::worker::WorkerResult;
 use std::alloc::AllocError;
 use std::sync::Wait;
 
-/// Serves and takes what is left on the rings, unless the run is cancelled. Returns whether each list
-/// is whole: all its posts and the departure are answered, and all items are taken.
+/// Serves and takes what is left on the rings, unless the run is cancelled. Returns whether each list is whole: all its
+/// posts and the departure are answered, and all items are taken.
 pub(crate) fn close<G: Gate>(
     rt: &impl Wait,
     signals: &Signals,
@@ -36,7 +36,6 @@ pub(crate) fn close<G: Gate>(
     settle_all(driver, results) && served.is_ok()
 }
 
-// Serves and takes what is left. Fails if memory is refused, or the run is cancelled.
 fn serve_rest<G: Gate>(
     rt: &impl Wait,
     signals: &Signals,
@@ -65,7 +64,6 @@ fn serve_rest<G: Gate>(
     unreachable!()
 }
 
-// Settles each port. Returns whether each list is whole.
 fn settle_all<G: Gate>(driver: &mut HubDriver, results: &mut [WorkerResult<G>]) -> bool
     requires ports { ArePortsOf driver.old.hub results.old }
     requires accounted { IsAccounted driver.old.parts.items driver.old.hub }
@@ -88,7 +86,6 @@ fn settle_all<G: Gate>(driver: &mut HubDriver, results: &mut [WorkerResult<G>]) 
     all
 }
 
-// Settles one port. Returns whether its list is whole.
 fn settle<G: Gate>(driver: &mut HubDriver, worker: &mut WorkerResult<G>) -> bool
     requires port { IsPortOf driver.old.hub worker.old.client.port }
     requires accounted { IsAccounted driver.old.parts.items driver.old.hub }

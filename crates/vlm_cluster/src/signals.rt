@@ -2,8 +2,7 @@
 
 use std::sync::atomic::{AtomicBool, AtomicU64, Ordering};
 
-/// The signals that the hub's thread and the workers share. No contract says what another thread has
-/// written here.
+/// The signals that the hub's thread and the workers share. No contract says what another thread has written here.
 #[derive(Drop)]
 pub(crate) struct Signals {
     // the number of workers that have finished
@@ -20,12 +19,10 @@ impl Signals {
         }
     }
 
-    /// Counts one more finished worker.
     pub(crate) fn end(&self) {
         self.over.fetch_add(1, Ordering::SeqCst);
     }
 
-    /// The number of workers that have finished.
     pub(crate) fn over(&self) -> u64 {
         self.over.load(Ordering::SeqCst)
     }

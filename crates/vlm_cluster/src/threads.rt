@@ -28,7 +28,6 @@ pub(crate) struct WorkerInputs<G: Gate> {
     pub(crate) lists: Vec<Vec<Step>>,
 }
 
-// What one worker starts with.
 #[derive(Drop)]
 struct WorkerInput<G: Gate> {
     gate: G,
@@ -50,8 +49,8 @@ impl<G: Gate> Promise<WorkerResult<G>> for WorkerPromise<G> {
         × IsGatedWork (moves G.answers G.hears) p.gate.value p.list.value.items r };
 }
 
-/// Starts a worker for each list. If a thread is refused, it starts no more, and cancels the run. It
-/// needs space for the handles in `children`.
+/// Starts a worker for each list. If a thread is refused, it starts no more, and cancels the run. It needs space for
+/// the handles in `children`.
 pub(crate) fn start_all<
     R: Threads + Wait + Clock + Copy + Send + 'static,
     G: Gate + Send + 'static,

@@ -34,7 +34,6 @@ impl<G: Gate> WorkerResult<G> {
     }
 }
 
-// The number of steps that were posted, and whether the worker was cancelled.
 #[derive(Clone, Copy)]
 struct Posted {
     count: usize,
@@ -65,8 +64,7 @@ impl Posted {
     }
 }
 
-/// Posts a list and the departure, and takes items until every post is answered, or the run is
-/// cancelled.
+/// Posts a list and the departure, and takes items until every post is answered, or the run is cancelled.
 pub(crate) fn work<R: Wait + Clock, G: Gate>(
     rt: &R,
     signals: &Signals,
@@ -100,7 +98,6 @@ pub(crate) fn work<R: Wait + Clock, G: Gate>(
     }
 }
 
-// Posts the list, as its gate says.
 fn post_list<R: Wait + Clock, G: Gate>(
     rt: &R,
     signals: &Signals,

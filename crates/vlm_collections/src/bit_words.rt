@@ -10,7 +10,6 @@ pub(crate) fn set_bit(words: &mut [u64], number: usize)
     words[number / 64] |= 1 << (number % 64);
 }
 
-/// Clears the number's bit, and answers whether its word is 0 after that.
 pub(crate) fn clear_bit(words: &mut [u64], number: usize) -> bool
     requires { number < 64 * length words.old }
     ensures sets { Sets 0 number words.old words.new }
@@ -32,7 +31,6 @@ pub(crate) fn has_bit(words: &[u64], number: usize) -> bool
     }
 }
 
-/// The first number whose bit is 1. `word` is the first word that is not 0.
 pub(crate) fn first_bit(words: &[u64], word: usize) -> usize
     requires few { length words.now ≤ 1024 }
     requires first { IsFirstWord words.now word }

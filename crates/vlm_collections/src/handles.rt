@@ -6,11 +6,9 @@ ghost use Rattle.std.specs.Option.{ForSome};
 use crate::link::{LAST_HANDLE, Link};
 use std::marker::{Model, PhantomData};
 
-/// The handle of a record: its place in the slab, in four bytes. It is valid until the record is removed; after that
-/// another record may get it.
+/// A record's place in its slab, in four bytes. Valid until the record is removed; another record may then get it.
 #[derive_where(Clone, Copy, Debug, PartialEq, Eq)]
 pub struct At<Kind> {
-    // the place in the slab, at most `LAST_HANDLE`
     at: u32,
     // names the kind, and takes no memory
     kind: PhantomData<Kind>,
@@ -37,7 +35,6 @@ impl<Kind> At<Kind> {
         }
     }
 
-    /// The place of the record in its slab.
     pub fn slot(self) -> usize
         ensures { result ≡ self }
     {
@@ -58,9 +55,7 @@ impl<Kind> At<Kind> {
 /// The handle of a record, or no handle, in four bytes.
 #[derive_where(Clone, Copy)]
 pub struct MaybeAt<Kind> {
-    // the place in the slab, if there is a handle
     link: Link,
-    // names the kind, and takes no memory
     kind: PhantomData<Kind>,
 }
 
@@ -75,7 +70,6 @@ impl<Kind> Model for MaybeAt<Kind> {
 }
 
 impl<Kind> MaybeAt<Kind> {
-    /// Stores a handle, or that there is no handle.
     pub fn of(at: Option<At<Kind>>) -> Self
         requires { ForSome at (λ slot. slot ≤ LAST_HANDLE) }
         ensures { result ≡ at }
@@ -90,7 +84,6 @@ impl<Kind> MaybeAt<Kind> {
         }
     }
 
-    /// The handle, if there is one.
     pub fn get(self) -> Option<At<Kind>>
         ensures { result ≡ self }
     {

@@ -15,9 +15,8 @@ const SPREAD: u64 = 0x9E37_79B9_7F4A_7C15;
 /// equal hashes. No answer depends on the keys.
 #[derive(Clone, Copy)]
 pub struct HashKeys {
-    // the state of SipHash after the keys, to hash words
+    // the state of SipHash after the keys: `words` hashes words, `bytes` hashes bytes
     words: SipState,
-    // the same, to hash bytes
     bytes: DefaultHasher,
 }
 
@@ -70,9 +69,8 @@ impl BuildHasher for HashKeys {
     }
 }
 
-/// The hash of numbers of 32 bits: one multiplication, of which it keeps the upper half, since that depends on every
-/// bit of the number. Numbers with equal hashes are easy to find, but callers cannot choose the numbers: the machine
-/// gives identifications in order, and the hashes of resource keys are keyed already.
+/// The hash of numbers of 32 bits: the upper half of a product, which depends on every bit of the number. Callers
+/// cannot choose these numbers: the machine gives identifications in order, and resource keys are hashed with keys.
 #[derive(Clone, Copy)]
 pub struct HashSpread {
     // the hash of the number that was written; 0 before, and after input that is not four bytes long
@@ -80,7 +78,6 @@ pub struct HashSpread {
 }
 
 impl HashSpread {
-    /// No number was written.
     pub fn new() -> HashSpread
         ensures { result.spread ≡ 0 }
     {

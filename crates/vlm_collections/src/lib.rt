@@ -8,21 +8,20 @@
 //! # Linked lists
 //!
 //! A record has a pair of links for each kind of list: the handle of the record before it and of the record after it,
-//! each in four bytes. `Linked<Kind>` says which pair is meant, so a record may be in several lists at once, one of each
-//! kind. A list has its first record, its last, and its length. Where a record has no neighbour, the list's own end takes
-//! the neighbour's part. So a join writes the record's pair, one link of the last record, and the list. A leave writes a
-//! link of each neighbour, or an end of the list, and its length. The pair of a record that left stays as it was, and is
-//! written when it joins again.
+//! each in four bytes. `Linked<Kind>` says which pair is meant, so a record may be in several lists at once, one of
+//! each kind. A list has its first record, its last, and its length. Where a record has no neighbour, the list's end
+//! takes the neighbour's part. A join writes the record's pair, one link of the last record, and the list. A leave
+//! writes a link of each neighbour, or an end of the list, and the length.
 //!
 //! # Marks
 //!
-//! A number has a bit in a word of 64. Above these words are two levels: a bit for each word that has a bit set, and a bit
-//! for each word of these. So the least is found from the top by three words.
+//! A number has a bit in a word of 64. Two more levels of words say which words of the level below are not 0. So three
+//! words lead from the top to the least number.
 //!
 //! # Queues with reserved room
 //!
-//! Room is reserved when a request is accepted (`owe`), and that is the one call that may want memory. An AST is queued
-//! into room that is there, and cannot fail. Room that no AST will need is given back (`forgive`).
+//! Room is reserved when a request is accepted (`owe`). Only that call may need memory: an AST is queued into room that
+//! is there, and cannot fail. Room that no AST will need is given back (`forgive`).
 #![tactic(auto)]
 
 mod bit_words;

@@ -7,11 +7,10 @@ use std::marker::Model;
 /// A handle, or no handle, in four bytes.
 #[derive(Clone, Copy)]
 pub(crate) struct Link {
-    // the handle, or `NONE`
+    // the handle, or `NONE` if there is no handle
     raw: u32,
 }
 
-// Stored if there is no handle.
 const NONE: u32 = u32::MAX;
 
 /// The greatest handle that a link can store.
@@ -45,7 +44,6 @@ impl Link {
         Link { raw: handle as u32 }
     }
 
-    /// The handle, if there is one.
     pub(crate) fn handle(self) -> Option<usize>
         ensures { result ≡ self }
     {
@@ -60,14 +58,11 @@ impl Link {
 /// The neighbours of a record in a list. In a record that is in no list they mean nothing.
 #[derive(Clone, Copy)]
 pub struct Links {
-    // the previous record, if there is one
     pub(crate) prev: Link,
-    // the next record, if there is one
     pub(crate) next: Link,
 }
 
 impl Links {
-    /// No neighbours.
     pub fn none() -> Self
         ensures prev { result.prev ≡ None }
         ensures next { result.next ≡ None }

@@ -16,11 +16,9 @@ pub trait Linked<Kind> {
 
     ghost with_links: { Self → Links → Self };
 
-    /// Its links in the list of this kind.
     fn links(&self) -> Links
         ensures { result ≡ links self.now };
 
-    /// Writes its links, and nothing else.
     fn set_links(&mut self, pair: Links)
         ensures { self.new ≡ with_links self.old pair };
 
@@ -35,18 +33,15 @@ pub trait Linked<Kind> {
 /// A list of one kind, in twelve bytes. The records and their links are in a slab, which each call gets.
 #[derive_where(Clone, Copy)]
 pub struct LinkedList<Kind> {
-    // the first record; no handle if the list is empty
+    // the first and the last record; no handles if the list is empty
     first: Link,
-    // the last record; no handle if the list is empty
     last: Link,
     // how many records are in the list, first and last included
     len: u32,
-    // names the kind, and takes no memory
     kind: PhantomData<Kind>,
 }
 
 impl<Kind> LinkedList<Kind> {
-    /// An empty list.
     pub fn new() -> Self
         ensures { IsNoList result }
     {
@@ -66,7 +61,6 @@ impl<Kind> LinkedList<Kind> {
         self.len as usize
     }
 
-    /// The first record, if there is one.
     pub fn first<T: Linked<Kind>>(&self, nodes: &Slab<T>) -> Option<usize>
         requires { IsLinked T.links nodes.now self.now }
         ensures { result ≡ first_handle (handles_of T.links nodes.now self.now) }
@@ -74,7 +68,6 @@ impl<Kind> LinkedList<Kind> {
         self.first.handle()
     }
 
-    /// The last record, if there is one.
     pub fn last<T: Linked<Kind>>(&self, nodes: &Slab<T>) -> Option<usize>
         requires { IsLinked T.links nodes.now self.now }
         ensures { result ≡ last_handle (handles_of T.links nodes.now self.now) }
@@ -82,7 +75,6 @@ impl<Kind> LinkedList<Kind> {
         self.last.handle()
     }
 
-    /// The record after this one, if there is one.
     pub fn next<T: Linked<Kind>>(&self, nodes: &Slab<T>, handle: usize) -> Option<usize>
         requires { Lists T.links nodes.now self.now handle }
         ensures { result ≡ handle_after handle (handles_of T.links nodes.now self.now) }
@@ -90,7 +82,6 @@ impl<Kind> LinkedList<Kind> {
         nodes[handle].links().next.handle()
     }
 
-    /// The record before this one, if there is one.
     pub fn previous<T: Linked<Kind>>(&self, nodes: &Slab<T>, handle: usize) -> Option<usize>
         requires { Lists T.links nodes.now self.now handle }
         ensures { result ≡ handle_before handle (handles_of T.links nodes.now self.now) }
@@ -188,7 +179,6 @@ fn link_forward<Kind, T: Linked<Kind>>(
     }
 }
 
-// Links a spot to the spot before it.
 fn link_back<Kind, T: Linked<Kind>>(
     nodes: &mut Slab<T>,
     list: &mut LinkedList<Kind>,

@@ -58,7 +58,6 @@ impl Marks {
         Ok(())
     }
 
-    /// Marks a number, marked or not.
     pub fn mark(&mut self, number: u16)
         requires { number < length self.old }
         ensures { self.new ≡ slice_set self.old number true }
@@ -69,7 +68,6 @@ impl Marks {
         set_bit(&mut self.top, number / 64 / 64);
     }
 
-    /// Removes a number's mark, if it has one.
     pub fn unmark(&mut self, number: u16)
         requires { number < length self.old }
         ensures { self.new ≡ slice_set self.old number false }
@@ -92,14 +90,12 @@ impl Marks {
         }
     }
 
-    /// Whether a number is marked. A number without room is not.
     pub fn has(&self, number: u16) -> bool
         ensures { result ≡ slice_index_or self.now number false }
     {
         has_bit(&self.numbers, usize::from(number))
     }
 
-    /// The least marked number, if one is marked.
     pub fn first(&self) -> Option<u16>
         ensures { result ≡ position (λ is_marked. is_marked) self.now }
     {

@@ -8,8 +8,7 @@ use std::alloc::{AllocError, Global};
 use std::marker::Model;
 use vlm_words::ids::{NODES, process_id, process_node, process_ordinal};
 
-/// Sets of processes of the nodes 1 to 8. A process of another node is never marked and
-/// needs no room.
+/// Sets of processes of the nodes 1 to 8. A process of another node is never marked and needs no room.
 #[derive(Drop)]
 pub struct NodeMarks {
     // the marked ordinals of node k, at index k - 1
@@ -19,7 +18,6 @@ pub struct NodeMarks {
 impl Model for NodeMarks {
     ghost use Rattle.std.specs.Prelude.{Bool, List};
 
-    // For each node and each ordinal that there is room for: whether it is marked.
     ghost Value = { List (List Bool) };
 
     ghost use Rattle.vlm_collections.specs.Nodes.{AreEight};
@@ -29,7 +27,6 @@ impl Model for NodeMarks {
     ghost invariant = { λ m. AreEight m.nodes };
 }
 
-// The index of the process's node, if the node is 1 to 8.
 #[tactic(auto, unfolding(crate::specs::Nodes::place_of))]
 fn place_of(pid: u32) -> Option<usize>
     ensures place { result ≡ place_of pid }
@@ -76,7 +73,6 @@ impl NodeMarks {
         }
     }
 
-    /// Marks a process, marked or not.
     pub fn mark(&mut self, pid: u32)
         requires { HasRoomFor self.old pid }
         ensures { Writes pid true self.old self.new }
@@ -86,7 +82,6 @@ impl NodeMarks {
         }
     }
 
-    /// Removes a process's mark, if it has one.
     pub fn unmark(&mut self, pid: u32)
         requires { HasRoomFor self.old pid }
         ensures { Writes pid false self.old self.new }
@@ -96,7 +91,6 @@ impl NodeMarks {
         }
     }
 
-    /// Whether a process is marked.
     pub fn has(&self, pid: u32) -> bool
         ensures { result ≡ is_marked self.now pid }
     {
@@ -106,7 +100,6 @@ impl NodeMarks {
         }
     }
 
-    /// Removes all marks. The room stays.
     pub fn clear(&mut self)
         ensures none { (pid : ℕ) → is_marked self.new pid ≡ false }
         ensures room { (pid : ℕ) → HasRoomFor self.old pid → HasRoomFor self.new pid }

@@ -51,7 +51,6 @@ impl<Kind> PartedIndex<Kind> {
         }
     }
 
-    /// The handle of a number, if it has one.
     #[inline(always)]
     pub fn get(&self, number: u32) -> Option<At<Kind>>
         ensures { result ≡ handle_in self.now number }
@@ -70,7 +69,6 @@ impl<Kind> PartedIndex<Kind> {
         self.parts[number as usize % PARTS].reserve(1)
     }
 
-    /// Gives a number this handle, and returns the handle that it had.
     #[inline(always)]
     pub fn insert(&mut self, number: u32, at: At<Kind>) -> Option<At<Kind>>
         requires room { 0 < spare_for (spares_of self.old) number }

@@ -40,7 +40,6 @@ impl AstQueue {
         AstQueue { ring: None, due: 0 }
     }
 
-    /// How many ASTs are pending.
     pub fn len(&self) -> usize
         ensures { result ≡ length self.now.pending }
     {
@@ -50,7 +49,6 @@ impl AstQueue {
         }
     }
 
-    // How many ASTs the buffer takes in all, pending, due and free.
     fn capacity(&self) -> usize
         ensures capacity { result ≡ length self.now.pending + self.now.due + self.now.free }
         ensures within { result < 2 ^ 63 }
@@ -61,7 +59,6 @@ impl AstQueue {
         }
     }
 
-    // How many more ASTs can be owed without a larger buffer.
     fn free(&self) -> usize
         ensures free { result ≡ self.now.free }
         ensures within { self.now.due + result < 2 ^ 63 }
@@ -69,7 +66,6 @@ impl AstQueue {
         self.capacity() - self.len() - self.due
     }
 
-    // Moves the ASTs to a buffer with room for this many more. It is at least twice as large as the old one.
     fn grow(&mut self, alloc: Global, count: usize) -> Result<(), AllocError>
         ensures pending { self.new.pending ≡ self.old.pending }
         ensures due { self.new.due ≡ self.old.due }
@@ -89,8 +85,8 @@ impl AstQueue {
         }
     }
 
-    /// Makes room for this many more ASTs, and counts them as due. A full buffer at least doubles, this many requests
-    /// seldom move the ASTs. If memory is refused, nothing is changed.
+    /// Makes room for this many more ASTs, and counts them as due. If memory is refused, nothing is changed. A full
+    /// buffer at least doubles, so few calls move the ASTs.
     pub fn owe(&mut self, alloc: Global, count: usize) -> Result<(), AllocError>
         ensures due { OnOk result (self.new.due ≡ self.old.due + count) }
         ensures free { OnOk result (self.old.free ≤ self.new.free + count) }
@@ -107,7 +103,6 @@ impl AstQueue {
         Ok(())
     }
 
-    /// Queues a due AST, at the end.
     pub fn queue(&mut self, ast: Ast)
         requires { 0 < self.old.due }
         ensures { self.new ≡ record self.old {
@@ -121,7 +116,6 @@ impl AstQueue {
         self.due -= 1;
     }
 
-    /// Gives back the room of this many due ASTs, which will not come.
     pub fn forgive(&mut self, count: usize)
         requires { count ≤ self.old.due }
         ensures { self.new ≡ record self.old {
@@ -132,7 +126,6 @@ impl AstQueue {
         self.due -= count;
     }
 
-    /// Takes the oldest AST, if there is one.
     pub fn take(&mut self) -> Option<Ast>
         ensures taken { result ≡ slice_get self.old.pending 0 }
         ensures pending { self.new.pending ≡ drop 1 self.old.pending }

@@ -13,7 +13,6 @@ pub(crate) struct SipState {
 }
 
 impl SipState {
-    /// The state after two words of keys.
     pub fn new(k0: u64, k1: u64) -> SipState
         ensures { result ≡ initial k0 k1 }
     {
@@ -41,7 +40,6 @@ impl SipState {
         self.v2 = self.v2.rotate_left(32);
     }
 
-    /// Adds a word.
     #[tactic(auto, unfolding(crate::specs::Sip::compressed))]
     pub fn compress(&mut self, word: u64)
         ensures { self.new ≡ compressed self.old word }
@@ -51,7 +49,6 @@ impl SipState {
         self.v0 ^= word;
     }
 
-    /// The low 32 bits of the hash of the added words.
     #[tactic(auto, unfolding(crate::specs::Sip::finished))]
     pub fn finish(mut self) -> u32
         ensures { result ≡ finished self }

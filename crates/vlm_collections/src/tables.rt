@@ -13,7 +13,6 @@ const RANGE: u32 = 65_536;
 /// lookup is two array accesses.
 #[derive(Drop)]
 pub struct HandleTable {
-    // makes rows and their memory
     alloc: Global,
     // row k has the handles of range k
     rows: Vec<HandleRow>,
@@ -63,7 +62,6 @@ impl HandleTable {
         Ok(())
     }
 
-    /// The handle of a number, if it has one.
     pub fn get(&self, number: u32) -> Option<usize>
         ensures { result ≡ handle_of self.now number }
     {

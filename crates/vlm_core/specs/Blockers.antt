@@ -38,7 +38,7 @@ abbrev pub FirstWaitedFor : Resource → LockRow → List LockRow → Option Loc
 FirstWaitedFor r row locks None = WaitsForNone r row locks
 FirstWaitedFor r row locks (Some view) = ShowsBlocker r row locks view
 
--- the same of the locks of a stored resource: of those after the one with this handle, or of all if none is named
+-- the same for the locks of a stored resource: those after the lock with this handle, or all of them if none is named
 abbrev pub FirstStoredFrom : StoredResource → LockRow → Option ℕ → Option LockView → Type 0
 FirstStoredFrom r row None view = FirstWaitedFor (plain_resource r) row (locks_in_order (plain_resource r)) view
 FirstStoredFrom r row (Some at) view =

@@ -95,7 +95,7 @@ ShowsNextInQueue s lkid (Some next) = IsNextInQueue s lkid next
 abbrev pub IsFirst : State → (LockRow → Type 0) → LockRow → Type 0
 IsFirst s Passes row = Passes row × LacksLock s (λ other. Passes other × (other.lkid < row.lkid))
 
--- of the locks that pass, the view shows the one with the lowest identification, if there is one
+-- the view shows the lock with the lowest identification of those that pass, if there is one
 abbrev pub ShowsFirst : State → (LockRow → Type 0) → Option LockView → Type 0
 ShowsFirst s Passes None = LacksLock s Passes
 ShowsFirst s Passes (Some view) = ShowsLock s (IsFirst s Passes) view
@@ -136,7 +136,7 @@ abbrev pub ShowsFirstSublock : State → ℕ → Option (Option LockView) → Ty
 ShowsFirstSublock s lkid None = LacksLock s (IsNamed lkid)
 ShowsFirstSublock s lkid (Some first) = ShowsFirst s (IsSublockOf lkid) first
 
--- the view is that of the lock with this handle
+-- the view shows the lock with this handle
 pub record IsViewOf (s : Records) (at : ℕ) (view : LockView) : Type 0 where
   pub resource : StoredResource
   pub queue : Queue

@@ -1,4 +1,4 @@
--- Steps that want no memory.
+-- Steps that take no memory.
 use Rattle.std.specs.Prelude.{◌≡◌, None}
 use Rattle.vlm_words.specs.declared.steps.Answer.{Answer}
 use Rattle.vlm_words.specs.declared.steps.Step.{Step}

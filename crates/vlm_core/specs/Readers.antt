@@ -31,7 +31,7 @@ after_first passes (x ∷ rest) = if passes x then Some rest else after_first pa
 abbrev pub has_pid : ℕ → Process → Bool
 has_pid pid p = p.pid == pid
 
--- the key of a resource by its parent resource, or with parent 0 of a root
+-- the key of a resource below its parent resource, or with parent 0 the key of a root
 abbrev pub key_of : ℕ → Domain → List ℕ → Key
 key_of parent domain name = if parent == 0 then Root domain name else Below parent name
 

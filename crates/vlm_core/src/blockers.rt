@@ -15,7 +15,7 @@ use vlm_locks::{LocatedLock, located_lock};
 use vlm_model::laws::law_queues_are_in_the_order_of_requests;
 use vlm_store::{LockAt, Store};
 
-// The view of the first lock for which the request of a lock waits; after the lock `from`, if it is given.
+// The view of the first lock for which the request of a lock waits; with `from`, of the first one after that lock.
 fn blocker_view(store: &Store, waiting: &LocatedLock, from: Option<LockAt>) -> Option<LockView>
     requires rest { IsAtRest store.now }
     requires located { IsLocated waiting.now store.now }
@@ -50,9 +50,9 @@ impl Core {
         Some(blocker_view(store, &waiting, None))
     }
 
-    /// The next such lock, after the lock `after` in the order of the queues. `None` if no lock has the identification
-    /// `lkid`, or `after` is not a lock of its resource. The cost grows with the locks that it passes, so a walk over all
-    /// of them costs one pass over the resource.
+    /// The next such lock, in the order of the queues, after the lock `after`. `None` if no lock has the identification
+    /// `lkid`, or `after` is not a lock of its resource. The cost grows with the locks that it passes, so a walk over
+    /// all of them costs one pass over the resource.
     pub fn next_blocker(&self, lkid: u32, after: u32) -> Option<Option<LockView>>
         ensures { ShowsNextBlocker self.now lkid after result }
     {

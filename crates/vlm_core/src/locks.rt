@@ -20,7 +20,7 @@ use vlm_words::modes::Mode;
 use vlm_words::names::Name;
 use vlm_words::resources::{Domain, Queue};
 
-/// A lock with its place, as the system service $GETLKI tells of it.
+/// A lock with its place, as the system service $GETLKI shows it.
 #[derive(Clone, Copy)]
 pub struct LockView {
     /// Its identification.
@@ -31,7 +31,6 @@ pub struct LockView {
     pub held: Option<Mode>,
     /// The mode that its queued request wants; no mode while it is granted.
     pub want: Option<Mode>,
-    /// The queue in which it is.
     pub queue: Queue,
     /// The serial of its resource.
     pub resource: u32,
@@ -54,7 +53,6 @@ fn block_of(row: &StoredRow) -> u8
     }
 }
 
-// The view of a lock on the resource with this serial.
 fn view_at(located: &LocatedLock, serial: u32) -> LockView
     ensures { result ≡ view_at serial located.now.queue located.now.row }
 {
@@ -70,7 +68,6 @@ fn view_at(located: &LocatedLock, serial: u32) -> LockView
     }
 }
 
-/// The view of a lock in the store.
 pub(crate) fn lock_view(store: &Store, lock: LockAt) -> LockView
     requires rest { IsAtRest store.now }
     requires stored { IsStored lock store.now }
@@ -90,8 +87,7 @@ impl Core {
         Some(lock_view(store, lock))
     }
 
-    /// The resource of the lock with this identification, with its value block and tail; `None` if there is no such
-    /// lock.
+    /// The resource of the lock with this identification, with its value block and tail, if there is such a lock.
     pub fn resource_of_lock(&self, lkid: u32) -> Option<ResourceView>
         ensures { ShowsResourceOf self.now lkid result }
     {

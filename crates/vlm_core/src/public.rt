@@ -38,7 +38,7 @@ pub struct Core {
     scratch: Scratch,
 }
 
-// Written out, a drop is one call to each owner of a core.
+// Written out: a drop is then one call in each owner of a core.
 impl Drop for Core {
     fn drop(self) {
         let Core {
@@ -82,7 +82,7 @@ impl Core {
         }
     }
 
-    // The laws of the state between two steps that a step needs.
+    // Calls the laws of the state between two steps that a step needs.
     fn between_steps(&self)
         ensures { IsBetweenSteps self.now }
     {
@@ -114,17 +114,17 @@ impl Core {
     }
 
     /// Makes one step of any kind. Each request that ends in the step queues an AST for its completion routine, if it
-    /// names one. A grant at once with SYNCSTS queues none, since the answer tells of it. Then each granted lock that
-    /// is in the way of a queued request is warned, once for each grant of it: an AST for its blocking routine is
-    /// queued, if its request names one. The cost grows with the locks that the step takes away, grants and warns, and
-    /// with nothing else that is held.
+    /// names one. A grant at once with SYNCSTS queues none, since the answer reports it. Then each granted lock that is
+    /// in the way of a queued request is warned, once for each grant of it: an AST for its blocking routine is queued,
+    /// if its request names one. The cost grows with the locks that the step takes away, grants and warns, and with
+    /// nothing else that is held.
     pub fn step(&mut self, step: Step) -> Answer
         ensures { Outcome self.old step self.new result }
     {
         self.make_step(&step)
     }
 
-    /// As [`Core::step`], for a step that stays where it is: it is not copied.
+    /// As [`Core::step`], for a borrowed step: it is not copied.
     pub fn make_step(&mut self, step: &Step) -> Answer
         ensures { Outcome self.old step.now self.new result }
     {
@@ -157,9 +157,9 @@ impl Core {
         self.step(Step::Take(pid))
     }
 
-    /// Asks for a new lock ($ENQ). With a parent lock of the caller, the resource is below the parent's resource. Without
-    /// one it is a root: in the caller's group, or with SYSTEM in the system's domain. The answer is NORMAL, or SYNCH if
-    /// the lock is granted at once with SYNCSTS.
+    /// Asks for a new lock ($ENQ). With a parent lock of the caller, the resource is below the parent's resource.
+    /// Without one it is a root: in the caller's group, or with SYSTEM in the system's domain. The answer is NORMAL, or
+    /// SYNCH if the lock is granted at once with SYNCSTS.
     ///
     /// With VALBLK the grant returns the resource's value block: the 16 bytes, and with WIDE the tail too (this
     /// project's own). The status block then has VALNOTVALID if the 16 bytes are invalid. With WIDE it has WIDENOTVALID
@@ -183,12 +183,12 @@ impl Core {
     /// conversion is granted at once with SYNCSTS.
     ///
     /// With VALBLK the grant returns the resource's value block, writes it, or does neither, by the held and the wanted
-    /// mode. A return is reported as for a new request. A write takes the value part of the status block, and
-    /// with WIDE its tail (this project's own). The written bytes are valid; without WIDE the tail keeps its bytes and
-    /// becomes invalid. If the request names a completion routine, its end queues an AST for that routine to the
-    /// caller, except a grant at once with SYNCSTS. Its blocking routine, or none, replaces the lock's own with the
-    /// grant: an AST for it is queued to the caller once, as soon as the granted lock is in the way of a queued
-    /// request. The locks in the way of this request are warned in the same way.
+    /// mode. A return is reported as for a new request. A write takes the value part of the status block, and with WIDE
+    /// its tail (this project's own). The written bytes are valid; without WIDE the tail keeps its bytes and becomes
+    /// invalid. If the request names a completion routine, its end queues an AST for that routine to the caller, except
+    /// a grant at once with SYNCSTS. With the grant its blocking routine replaces the lock's own; if it names none, the
+    /// lock has none. An AST for the routine is queued to the caller once, as soon as the granted lock is in the way of
+    /// a queued request. The locks in the way of this request are warned in the same way.
     ///
     /// Refusals, in this order: DEPARTED; NONEXPR; BADPARAM for an unknown flag; ACCVIO, also if the status block that
     /// names the lock does not exist; IVLOCKID; CVTUNGRANT if the lock waits or converts; BADPARAM if QUECVT does not
@@ -212,8 +212,8 @@ impl Core {
     ///
     /// With DEQALL several locks are given up together: all locks of the caller if 0 is named, else all locks below the
     /// named one, which stays. A request that ends with its lock, by abort or cancel, queues an AST for its completion
-    /// routine, if it names one; those of one step are queued by rising identification. Nothing comes of its blocking
-    /// routine, and a lock that goes is no longer warned.
+    /// routine, if it names one; the ASTs of one step are queued by rising identification. It queues none for its
+    /// blocking routine, and a lock that goes is no longer warned.
     ///
     /// It takes no memory. Refusals, in this order: DEPARTED; NONEXPR; BADPARAM for an unknown flag, for DEQALL with
     /// CANCEL or with a value, and for a tail without a value; ACCVIO if the status block that names the lock does not
@@ -251,13 +251,13 @@ impl Core {
     /// Searches for a deadlock: processes that wait for each other in a circle ($ENQ, lock conversion deadlocks and
     /// multiple resource deadlocks). A queued request waits for each other lock of its resource that is held in an
     /// incompatible mode, unless that mode was asked for with NODLCKBLK. It waits for each request before it,
-    /// conversions first, unless that request has NODLCKBLK. With NODLCKWT it waits for no lock. A request that leads back
-    /// to its own process is deadlocked.
+    /// conversions first, unless that request has NODLCKBLK. With NODLCKWT it waits for no lock. A request that leads
+    /// back to its own process is deadlocked.
     ///
     /// The most recent deadlocked request is the victim. It ends with DEADLOCK, and its completion AST is queued. A
-    /// lock that waited goes, and one that converts stays as it was granted. Then the requests that it blocked are
-    /// granted. The answer is the identification of the victim's lock; without a victim it says so, and nothing is
-    /// changed. It takes no memory. Refusals, in this order: BADPARAM if the node is not 1 to 8; DEPARTED.
+    /// waiting lock goes, and a converting lock stays as it was granted. Then the requests that it blocked are granted.
+    /// The answer is the identification of the victim's lock; without a victim it says so, and nothing is changed. It
+    /// takes no memory. Refusals, in this order: BADPARAM if the node is not 1 to 8; DEPARTED.
     pub fn search(&mut self, node: u8) -> Answer
         ensures { IsMade self.old (Step.Search node) self.new result }
     {

@@ -21,7 +21,7 @@ use vlm_words::blocks::Block;
 use vlm_words::names::Name;
 use vlm_words::resources::{Domain, Key, Queue};
 
-// The key of a resource: with parent 0 of a root.
+// The key of a resource; with parent 0 it is a root.
 pub(crate) fn key_of(parent: u32, domain: Domain, name: Name) -> Key
     ensures { result ≡ key_of parent domain name }
 {
@@ -33,8 +33,8 @@ pub(crate) fn key_of(parent: u32, domain: Domain, name: Name) -> Key
 }
 
 impl Core {
-    /// The status block of this number, from 1, of a process: its status, its lock, its value part and its tail. `None`
-    /// if no living process has the identification, or the process has no such block.
+    /// A process's status block with this number, from 1. `None` if no living process has the identification, or the
+    /// process has no such block.
     #[tactic(auto, unfolding(vlm_model::specs::StatusBlocks::status_block_at))]
     pub fn block(&self, pid: u32, number: u8) -> Option<Block>
         ensures { result ≡ status_block_at self.now.processes pid number }
@@ -43,8 +43,7 @@ impl Core {
         status_block(&self.machine.store, caller.at, number)
     }
 
-    /// How many ASTs are pending of a process: queued and not yet taken. `None` if no living process has the
-    /// identification.
+    /// How many queued ASTs a process has not taken; `None` if no living process has the identification.
     pub fn pending(&self, pid: u32) -> Option<usize>
         ensures { result ≡ option_map (λ p. length p.asts) (process_of self.now.processes pid) }
     {
@@ -52,8 +51,8 @@ impl Core {
         Some(pending(&self.machine.store, caller.at))
     }
 
-    /// The first living process of a node, in order of making, that has an AST pending; `None` if no process of the
-    /// node has one. It takes constant time, however many processes there are.
+    /// The first living process of a node, in order of making, with a pending AST, if there is one. It takes constant
+    /// time.
     pub fn pending_of(&self, node: u8) -> Option<u32>
         ensures { result ≡ first_pending node self.now.processes }
     {
@@ -61,8 +60,8 @@ impl Core {
         self.machine.store.pending_of(node)
     }
 
-    /// The first process that has an AST pending: of the first node with such a process, the first in order of making.
-    /// `None` if no AST is pending. It takes constant time, however many processes there are.
+    /// The first process with a pending AST: of the first node with such a process, the first in order of making.
+    /// `None` if no AST is pending. It takes constant time.
     pub fn first_pending(&self) -> Option<u32>
         ensures some { IfSome result (λ pid. IsFirstPending pid self.now.processes) }
         ensures none { IsNone result → NonePendingBelow 9 self.now.processes }
@@ -82,16 +81,16 @@ impl Core {
         self.machine.store.total_processes()
     }
 
-    /// The living process at an index, from 0, in order of making: its declaration, and how many ASTs of it are pending.
-    /// `None` after the last. The cost grows with the index.
+    /// The living process at an index, from 0, in order of making: its declaration, and how many ASTs of it are
+    /// pending. `None` after the last. The cost grows with the index.
     pub fn process_at(&self, index: usize) -> Option<ProcessView>
         ensures { result ≡ option_map process_view (slice_get self.now.processes index) }
     {
         process_at(&self.machine.store, index)
     }
 
-    /// The next living process, in order of making, after the one with this identification. `None` if no living process
-    /// has it; `Some(None)` if it is the last one. It takes constant time.
+    /// The next living process, in order of making, after the process with this identification. `None` if no living
+    /// process has it; `Some(None)` after the last. It takes constant time.
     pub fn process_after(&self, pid: u32) -> Option<Option<ProcessView>>
         ensures { result ≡ option_map (λ rest. option_map process_view (slice_get rest 0))
             (after_first (has_pid pid) self.now.processes) }
@@ -136,16 +135,16 @@ impl Core {
         }
     }
 
-    /// The resource at an index, from 0, by rising serial, with its value block and tail. `None` after the last. The cost
-    /// grows with the index; [`Core::store`] goes from one resource to the next.
+    /// The resource at an index, from 0, by rising serial, with its value block and tail. `None` after the last. The
+    /// cost grows with the index; [`Core::store`] goes from one resource to the next.
     pub fn resource_at(&self, index: usize) -> Option<ResourceView>
         ensures { result ≡ option_map resource_view (slice_get self.now.resources index) }
     {
         resource_at(&self.machine.store, index)
     }
 
-    /// The resource of this name, with its value block and tail: below the resource with the serial `parent`, or with
-    /// `parent` 0 the root in the domain. `None` if it has no locks. It takes constant time.
+    /// The resource of this name, with its value block and tail: below the resource with serial `parent`, or the root
+    /// in the domain if `parent` is 0. `None` if it has no locks. It takes constant time.
     pub fn resource(&self, parent: u32, domain: Domain, name: Name) -> Option<ResourceView>
         ensures { result ≡ option_map resource_view
             (find (is_at (key_of parent domain name)) self.now.resources) }
@@ -156,8 +155,8 @@ impl Core {
         Some(resource_view(store, res))
     }
 
-    /// The next resource by serial after the resource of this name, named as in [`Core::resource`]. `None` if there is no
-    /// such resource; `Some(None)` if it is the last one. It takes constant time.
+    /// The next resource by serial after the resource of this name, named as in [`Core::resource`]. `None` if there is
+    /// no such resource; `Some(None)` if it is the last one. It takes constant time.
     pub fn resource_after(
         &self,
         parent: u32,

@@ -26,23 +26,23 @@ all_locks_at res s = option_map_or all_locks (resource_at res s.resources) []
 abbrev pub IsOn : ℕ → ℕ → Records → Type 0
 IsOn lock res s = (row : LockRow) × IsIn (record { at = lock; row = row }) (all_locks_at res s)
 
--- the handle of the first of these locks; of the one after this lock, if one is named
+-- the handle of the first of these locks, or of the next one after this lock if one is named
 abbrev pub first_from : Option ℕ → List StoredLock → Option ℕ
 first_from None locks = first_at locks
 first_from (Some at) locks = at_after at locks
 
--- the handle is that of the first of these locks that passes; or none passes, and there is none
+-- it is the handle of the first of these locks that passes, or no lock passes and there is no handle
 abbrev pub IsFirstOf : (LockRow → Type 0) → List StoredLock → Option ℕ → Type 0
 IsFirstOf P [] found = found ≡ None
 IsFirstOf P (k ∷ rest) found = (P k.row × (found ≡ Some k.at)) ⊎ ((P k.row → ⊥) × IsFirstOf P rest found)
 
--- the same of the locks after the one with this handle, or of all locks if none is named
+-- the same for the locks after the lock with this handle, or for all locks if none is named
 abbrev pub IsFirstFrom : (LockRow → Type 0) → Option ℕ → List StoredLock → Option ℕ → Type 0
 IsFirstFrom P None locks found = IsFirstOf P locks found
 IsFirstFrom P (Some at) locks found =
     (before rest : List StoredLock) (row : LockRow) → locks ≡ before ++ record { at = at; row = row } ∷ rest → IsFirstOf P rest found
 
--- the handle is that of the first such lock on its resource for which the request of the located lock waits
+-- it is the handle of the first such lock on its resource for which the request of the located lock waits
 abbrev pub IsNextBlocker : Records → LocatedLock → Option ℕ → Option ℕ → Type 0
 IsNextBlocker s f from found =
     (r : StoredResource) → resource_at f.res s.resources ≡ Some r → IsFirstFrom (WaitsOn (plain_resource r) f.row) from (all_locks r) found
@@ -64,7 +64,7 @@ pub record Awaits (f : LocatedLock) (request : Request) : Type 0 where
   pub wanted : f.row.want ≡ Some request
   pub counted : has_flag (flag_bits request.flags) nodlckwt ≡ false
 
--- the request of the first queue and number stands before the other one
+-- the request of the first queue and number is before the other one
 abbrev pub is_before : Queue → ℕ → Queue → ℕ → Bool
 is_before Granted number other other_number = false
 is_before Conversion number Granted other_number = false

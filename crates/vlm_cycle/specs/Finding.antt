@@ -1,4 +1,4 @@
--- The deadlocked request that was made last, among those that are looked at.
+-- The most recent deadlocked request among the rows that were looked at.
 use Rattle.std.specs.Prelude.{◌≡◌, ◌<◌, ◌≤◌, ⊤, List, Option, None, Some}
 use Rattle.std.specs.Option.{ForSome, option_map}
 use Rattle.vlm_words.specs.declared.locks.LockRow.{LockRow}
@@ -21,7 +21,7 @@ abbrev pub IsLater : LockRow → Option LocatedLock → Type 0
 IsLater row None = ⊤
 IsLater row (Some best) = wanted_number best.row < wanted_number row
 
--- there is a best, and the request of the row was not made after that
+-- there is a best one, and the request of the row is not more recent
 abbrev pub IsNotLater : LockRow → Option LocatedLock → Type 0
 IsNotLater row None = ⊥
 IsNotLater row (Some best) = wanted_number row ≤ wanted_number best.row
@@ -34,7 +34,7 @@ IsFit s best = ForSome best (λ f. IsLocated f s × IsDeadlocked (searched s) f.
 abbrev pub IsLocatedIfAny : Records → Option LocatedLock → Type 0
 IsLocatedIfAny s found = ForSome found (λ f. IsLocated f s)
 
--- the best of before becomes one that covers these rows too
+-- the new best lock covers all rows that the old one did, and these rows too
 pub record Improves (s : Records) (rows : List LockRow) (old new : Option LocatedLock) : Type 0 where
   pub fit : IsFit s old → IsFit s new
   pub kept : (row : LockRow) → IsCovered s old row → IsCovered s new row

@@ -25,8 +25,8 @@ IsFound marks pid = (is_marked marks.seen pid ≡ true) × (is_marked marks.todo
 abbrev pub IsNotFound : Scratch → Scratch → ℕ → Type 0
 IsNotFound old new pid = (is_marked new.seen pid ≡ false) × (is_marked new.todo pid ≡ is_marked old.todo pid)
 
--- of the processes that were not found, exactly these are, and the search has to go to them; of the others all stays,
--- and so do the ranks
+-- exactly these of the processes that were not found become found, and the search has to go to them; the other marks
+-- and the ranks stay
 pub record Marks (these : ℕ → Type 0) (old new : Scratch) : Type 0 where
   pub before : (pid : ℕ) → is_marked old.seen pid ≡ true
       → (is_marked new.seen pid ≡ true) × (is_marked new.todo pid ≡ is_marked old.todo pid)
@@ -35,7 +35,7 @@ pub record Marks (these : ℕ → Type 0) (old new : Scratch) : Type 0 where
   pub room : KeepsRoom old new
   pub ranks : new.ranks ≡ old.ranks
 
--- the search has to go to no process of a node; or this is one to which it had to go, and it need not go there again
+-- the search has to go to no process, or this is one to which it had to go and no longer has to
 abbrev pub TakesNext : Option ℕ → Scratch → Scratch → Type 0
 TakesNext None old new = (new ≡ old) × ((pid : ℕ) → is_marked old.todo pid ≡ false)
 TakesNext (Some taken) old new =

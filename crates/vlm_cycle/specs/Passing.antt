@@ -25,6 +25,6 @@ pub record Passes (s : Records) (ranks : Ranks) (rows : List LockRow) (old new :
   pub checks : old.purpose ≡ Check → Checks s ranks rows old new
   pub searches : old.purpose ≡ Search → Searches s rows old new
 
--- a search is told that ranks fall only if they do
+-- a search assumes that ranks fall only if they do
 abbrev pub MayPass : Records → Ranks → Pass → Type 0
 MayPass s ranks pass = pass.purpose ≡ Search → pass.falls ≡ true → Falls s ranks

@@ -39,8 +39,8 @@ Falls s ranks = (row lock : LockRow) → WaitsFor (searched s) row lock → rank
 
 -- ---- counts
 
--- a lock of this identification and rank is counted: the peak is above it, and above it too without the lock that has
--- the peak, if that is another one
+-- a lock of this identification and rank is counted: `most` is above its rank, and so is `rest` if another lock has
+-- the highest rank
 pub record IsCounted (highest : HighestRank) (lkid rank : ℕ) : Type 0 where
   pub most : rank < highest.most
   pub rest : lkid ≢ highest.lkid → rank < highest.rest
@@ -49,11 +49,11 @@ pub record IsCounted (highest : HighestRank) (lkid rank : ℕ) : Type 0 where
 abbrev pub no_peak : HighestRank
 no_peak = record { lkid = 0; most = 0; rest = 0 }
 
--- the peak of those that hold a mode
+-- the bounds for a mode
 abbrev pub highest_of : List HighestRank → Mode → HighestRank
 highest_of peaks mode = slice_index_or peaks (mode_rank mode) no_peak
 
--- what a lock of this identification and rank holds is counted, if it is held without NODLCKBLK
+-- the held request is counted for a lock of this identification and rank, unless it has NODLCKBLK
 abbrev pub CountsHeld : List HighestRank → Option Request → ℕ → ℕ → Type 0
 CountsHeld peaks None lkid rank = Unit {0}
 CountsHeld peaks (Some held) lkid rank =
@@ -80,7 +80,7 @@ abbrev pub HasPassedAll : Records → Ranks → ℕ → List LockRow → Type 0
 HasPassedAll s ranks before rows =
     (lkid pid : ℕ) → OwnsBlocker (rows_before lkid rows) pid → rank_of s ranks pid < before
 
--- the same of the queue before this one, if there is one
+-- the same for the queue before this one, if there is one
 abbrev pub HasPassed : Records → Ranks → ℕ → ℕ → Queue → Type 0
 HasPassed s ranks before res Granted = Unit {0}
 HasPassed s ranks before res Conversion = Unit {0}

@@ -18,7 +18,7 @@ blank_node = record { rank = 0; index = 0; low = 0; tree_parent = None; stack_ne
 abbrev pub blank_dated : DatedNode
 blank_dated = record { search = 0; note = blank_node }
 
--- the note as the search of this number reads it: it reads its own alone
+-- the note as the search of this number reads it: the note of another search is blank
 abbrev pub note_read : ℕ → DatedNode → TarjanNode
 note_read search dated = if dated.search == search then dated.note else blank_node
 

@@ -1,4 +1,4 @@
--- Whom a queued request waits for, as the records have it.
+-- The processes and locks for which a queued request waits, in the records.
 use Rattle.std.specs.Prelude.{◌≡◌, ◌≢◌, ◌⊎◌, ◌==◌, ◌/◌, ℕ, List, [], ◌∷◌, true, if◌then◌else◌}
 use Rattle.vlm_words.specs.declared.locks.LockRow.{LockRow}
 use Rattle.vlm_words.specs.declared.modes.Mode.{Mode}
@@ -33,7 +33,7 @@ IsBehind s pid other = ProcessWaitsFor (searched s) pid other
 abbrev pub IsHolder : ℕ → Mode → LockRow → Type 0
 IsHolder lkid mode row = (row.lkid ≢ lkid) × HoldsAgainst mode row.held
 
--- the process owns one of the locks, and that is a holder
+-- the process owns a holder among these locks
 abbrev pub OwnsHolder : ℕ → Mode → List LockRow → ℕ → Type 0
 OwnsHolder lkid mode rows pid = (row : LockRow) × (IsIn row rows × IsHolder lkid mode row × (row.pid ≡ pid))
 

@@ -12,20 +12,17 @@ use vlm_store::StoredRow;
 use vlm_words::flags::EnqFlags;
 use vlm_words::modes::{Mode, compatible};
 
-/// Bounds above the ranks of some locks: above all of them, and above all except the lock of the highest rank. So the
-/// bound without any one lock is known.
+/// Bounds on the ranks of some locks: `most` is above all of them, and `rest` above all except the lock of the highest
+/// rank. So the bound without any one lock is known.
 #[derive(Clone, Copy)]
 pub(crate) struct HighestRank {
     // the lock of the highest rank
     lkid: u32,
-    // above its rank
     most: u64,
-    // above all other ranks
     rest: u64,
 }
 
 impl HighestRank {
-    /// Counts a lock.
     pub(crate) fn add(&mut self, lkid: u32, rank: u32)
         ensures counted { IsCounted self.new lkid rank }
         ensures kept { (other below : ℕ) → IsCounted self.old other below
@@ -61,12 +58,11 @@ impl HighestRank {
 pub(crate) struct BlockerRanks {
     // for each mode: the locks that hold it without NODLCKBLK
     pub(crate) held: [HighestRank; 6],
-    // the requests before, for which later ones wait
+    // above the ranks of the owners of earlier requests for which later ones wait
     pub(crate) before: u64,
 }
 
 impl BlockerRanks {
-    /// The bounds of no locks and no requests.
     pub(crate) fn new() -> BlockerRanks {
         let none = HighestRank {
             lkid: 0,
@@ -79,7 +75,6 @@ impl BlockerRanks {
         }
     }
 
-    /// Counts the held mode of a lock whose owner has this rank.
     pub(crate) fn hold(&mut self, row: &StoredRow, rank: u32)
         ensures counted { CountsHeld self.new.held row.now.held row.now.lkid rank }
         ensures kept { (mode : Mode) (lkid other : ℕ)
@@ -97,7 +92,6 @@ impl BlockerRanks {
         self.held[held.mode.rank()] = highest;
     }
 
-    // A bound above the ranks of the others that hold this mode, if it is incompatible with the wanted one.
     fn of_mode(&self, mode: Mode, held: Mode, lkid: u32) -> u64
         ensures { is_compatible mode held ≡ false → IsAbove self.now.held held lkid result }
     {
@@ -138,7 +132,6 @@ impl BlockerRanks {
         self.against(want.mode, row.lkid()).max(self.before)
     }
 
-    /// Passes a request, whose owner has this rank.
     pub(crate) fn pass(&mut self, row: &StoredRow, rank: u32)
         ensures { PassesOne row.now rank self.old self.new }
     {

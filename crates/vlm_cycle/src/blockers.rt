@@ -19,7 +19,7 @@ use vlm_words::flags::EnqFlags;
 use vlm_words::modes::Mode;
 use vlm_words::resources::Queue;
 
-// Finds the owner of a lock, if it is another lock that is held against the mode.
+// Finds the owner of a lock, if it is another lock whose held mode is incompatible with the mode.
 fn find_holder(scratch: &mut Scratch, row: &StoredRow, lkid: u32, mode: Mode)
     requires room { HasRoomInBoth scratch.old row.now.pid }
     requires node { is_node (row.now.pid / 65536) ≡ true }
@@ -33,7 +33,6 @@ fn find_holder(scratch: &mut Scratch, row: &StoredRow, lkid: u32, mode: Mode)
     }
 }
 
-// Finds the owner of a lock, if later requests wait for its request.
 fn find_blocker(scratch: &mut Scratch, row: &StoredRow)
     requires room { HasRoomInBoth scratch.old row.now.pid }
     requires node { is_node (row.now.pid / 65536) ≡ true }
@@ -45,7 +44,6 @@ fn find_blocker(scratch: &mut Scratch, row: &StoredRow)
     }
 }
 
-// Finds the owners of the other locks of a queue that are held against the mode.
 fn find_holders(
     store: &Store,
     scratch: &mut Scratch,
@@ -66,7 +64,7 @@ fn find_holders(
     }
 }
 
-// Finds the owners of the requests of a queue for which later ones wait, up to the lock of this identification.
+// Finds the owners of the requests in a queue, up to the lock with this identification, for which later requests wait.
 fn find_blockers(store: &Store, scratch: &mut Scratch, res: ResAt, queue: Queue, lkid: u32)
     requires there { HasResource res store.now }
     requires roomy { IsRoomy store.now scratch.old }
@@ -84,7 +82,6 @@ fn find_blockers(store: &Store, scratch: &mut Scratch, res: ResAt, queue: Queue,
     }
 }
 
-// Finds the owners of the requests before a request of this queue.
 fn find_those_before(store: &Store, scratch: &mut Scratch, res: ResAt, queue: Queue, lkid: u32)
     requires there { HasResource res store.now }
     requires roomy { IsRoomy store.now scratch.old }
@@ -101,7 +98,6 @@ fn find_those_before(store: &Store, scratch: &mut Scratch, res: ResAt, queue: Qu
     }
 }
 
-// Finds the owners of all locks that keep a request of this mode waiting.
 fn find_keepers(store: &Store, scratch: &mut Scratch, waiting: &LocatedLock, mode: Mode)
     requires there { HasResource waiting.now.res store.now }
     requires roomy { IsRoomy store.now scratch.old }

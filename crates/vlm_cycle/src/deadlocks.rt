@@ -30,7 +30,6 @@ fn find_behind_own(store: &Store, scratch: &mut Scratch, owner: ProcAt, pid: u32
     }
 }
 
-// The same for the process of this identification.
 fn find_behind(store: &Store, scratch: &mut Scratch, pid: u32)
     requires rest { IsAtRest store.now }
     requires roomy { IsRoomy store.now scratch.old }

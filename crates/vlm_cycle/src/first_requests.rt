@@ -11,7 +11,6 @@ use vlm_queue::head;
 use vlm_store::{LockAt, ResAt, Store};
 use vlm_words::resources::Queue;
 
-/// The lock with the first queued request on a resource, if there is one.
 pub(crate) fn first_queued(store: &Store, res: ResAt) -> Option<LockAt>
     requires { HasResource res store.now }
     ensures { result ≡ first_at (locks_at (Place.Queued res Queue.Conversion) store.now
@@ -23,8 +22,8 @@ pub(crate) fn first_queued(store: &Store, res: ResAt) -> Option<LockAt>
     }
 }
 
-/// The resource on which a lock has the first queued request, if there is one. Each resource with queued requests has one such
-/// lock. So a walk along all queued locks comes to each of these resources once.
+/// The resource on which a lock has the first queued request, if there is one. Each resource with queued requests has
+/// one such lock, so a walk along all queued locks comes to each of these resources once.
 pub(crate) fn resource_of_first(store: &Store, lock: LockAt) -> Option<ResAt>
     requires { IsStored lock store.now }
     ensures there { ForSome result (λ res. HasResource res store.now) }

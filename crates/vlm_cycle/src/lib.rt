@@ -1,8 +1,8 @@
 //! The search for a deadlock: processes that wait for each other in a circle, and the victim among their requests.
 //!
-//! A search begins with the locks for which a request waits. It goes on to the processes that own them, and to the locks
-//! for which the queued requests of these processes wait. It marks the processes that it has found, and those to which
-//! it still has to go, in two sets. Their room is made beforehand, so a search takes no memory.
+//! A search begins with the locks for which a request waits. It goes on to the processes that own them, and to the
+//! locks for which the queued requests of these processes wait. Two sets mark the processes that it has found, and
+//! those to which it still has to go. Their room is made beforehand, so a search takes no memory.
 //!
 //! Most requests need no search. Processes are ranked, and one pass over the queues checks that none waits for one of a
 //! higher rank. Then a request that waits only for lower ranks is not deadlocked. No promise depends on a rank: a wrong

@@ -19,7 +19,6 @@ use vlm_words::flags::EnqFlags;
 use vlm_words::locks::Request;
 use vlm_words::resources::Queue;
 
-// The first lock of a resource.
 fn first_lock(store: &Store, res: ResAt) -> Option<LockAt>
     requires { HasResource res store.now }
     ensures { result ≡ first_at (all_locks_at res store.now) }
@@ -30,7 +29,6 @@ fn first_lock(store: &Store, res: ResAt) -> Option<LockAt>
     }
 }
 
-// The lock after this one on its resource.
 fn following(store: &Store, lock: LockAt) -> Option<LockAt>
     requires { IsStored lock store.now }
     ensures { (res : ℕ) → IsOn lock res store.now
@@ -47,7 +45,6 @@ fn following(store: &Store, lock: LockAt) -> Option<LockAt>
     }
 }
 
-// The first lock of a resource; if a lock is given, the one after it.
 fn first_from(store: &Store, res: ResAt, from: Option<LockAt>) -> Option<LockAt>
     requires there { HasResource res store.now }
     requires from { ForSome from (λ lock. IsOn lock res store.now) }
@@ -60,7 +57,7 @@ fn first_from(store: &Store, res: ResAt, from: Option<LockAt>) -> Option<LockAt>
     }
 }
 
-// Whether a request stands before another one on the same resource. In each queue the numbers of the requests rise.
+// Whether a request is before another one on the same resource. In each queue the numbers of the requests rise.
 fn is_before(queue: Queue, number: u64, other: Queue, other_number: u64) -> bool
     ensures { result ≡ is_before queue number other other_number }
 {
@@ -73,7 +70,6 @@ fn is_before(queue: Queue, number: u64, other: Queue, other_number: u64) -> bool
     }
 }
 
-// Whether a lock in this queue keeps the request waiting: by the mode that it holds, or by its own request.
 fn keeps_waiting(waiting: &LocatedLock, request: &Request, queue: Queue, row: &StoredRow) -> bool
     ensures yes { OnTrue result (Keeps waiting.now.queue request.now queue row.now) }
     ensures no { OnFalse result (¬ Keeps waiting.now.queue request.now queue row.now) }
@@ -106,7 +102,7 @@ fn waits_on(store: &Store, waiting: &LocatedLock, request: &Request, lock: LockA
     keeps_waiting(waiting, request, queue, &other.row)
 }
 
-// The request of a queued lock, if it waits for other locks: if it does not have NODLCKWT.
+// The request of a queued lock, if it waits for other locks: not with NODLCKWT.
 fn awaited_request(waiting: &LocatedLock) -> Option<Request>
     ensures some { IfSome result (λ request. Awaits waiting.now request) }
     ensures none { IsNone result → (request : Request) → ¬ Awaits waiting.now request }
@@ -121,8 +117,8 @@ fn awaited_request(waiting: &LocatedLock) -> Option<Request>
     Some(request)
 }
 
-/// The first lock of its resource for which the request of a lock waits; after the lock `from`, if it is given. The cost
-/// grows with the locks that it passes.
+/// The first lock on its resource for which the request of a lock waits; with `from`, the first one after that lock.
+/// The cost grows with the locks that it passes.
 pub fn next_blocker(store: &Store, waiting: &LocatedLock, from: Option<LockAt>) -> Option<LockAt>
     requires located { IsLocated waiting.now store.now }
     requires ordered { AreInOrder store.now }

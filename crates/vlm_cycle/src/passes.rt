@@ -27,9 +27,8 @@ use vlm_words::resources::Queue;
 /// What a pass does with a request.
 #[derive(Clone, Copy)]
 pub(crate) enum Purpose {
-    /// It checks the rank.
     Check,
-    /// It searches, if the rank leaves it in doubt whether the request is deadlocked.
+    /// Searches, if the rank leaves open whether the request is deadlocked.
     Search,
 }
 
@@ -39,13 +38,12 @@ pub(crate) struct Pass {
     pub(crate) purpose: Purpose,
     /// Whether no request waits for a process of a higher rank. A check finds out; a search gets the check's result.
     pub(crate) falls: bool,
-    /// The most recent request: of a check, of those that wait for a process of their own rank or a higher one; of a
-    /// search, of the deadlocked ones.
+    /// A search: the most recent deadlocked request. A check: the most recent request that waits for a process of its
+    /// own rank or a higher one.
     pub(crate) found: Option<LocatedLock>,
 }
 
 impl Pass {
-    // Checks the rank of a request.
     fn check(&mut self, ranked: &RankedRequest, waiting: &LocatedLock)
         ensures purpose { self.new.purpose ≡ self.old.purpose }
         ensures before { self.new.falls ≡ true → self.old.falls ≡ true }
@@ -59,7 +57,7 @@ impl Pass {
         }
     }
 
-    // Finds a request, if it is deadlocked and more recent than the one found. If no process waits for one of a higher
+    // Keeps a request that is deadlocked and more recent than the one found. If no process waits for one of a higher
     // rank, a request that waits only for lower ranks is not deadlocked, and needs no search.
     fn search(
         &mut self,
@@ -92,7 +90,6 @@ impl Pass {
         }
     }
 
-    // Passes over a request.
     fn over_request(
         &mut self,
         store: &Store,
@@ -117,7 +114,6 @@ impl Pass {
         }
     }
 
-    // Passes over a queue.
     fn over_queue(
         &mut self,
         store: &Store,
@@ -148,7 +144,6 @@ impl Pass {
         }
     }
 
-    // Passes over a resource.
     fn over_resource(&mut self, store: &Store, scratch: &mut Scratch, res: ResAt)
         requires rest { IsAtRest store.now }
         requires there { HasResource res store.now }

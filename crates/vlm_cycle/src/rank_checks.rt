@@ -11,8 +11,8 @@ use crate::passes::{Pass, Purpose};
 use crate::scratch::Scratch;
 use vlm_store::Store;
 
-/// Checks whether no process waits for one of a higher rank, and guesses the victim. The cost grows with the locks of the
-/// resources that have queued requests.
+/// Checks whether no process waits for one of a higher rank, and guesses the victim. The cost grows with the locks of
+/// the resources that have queued requests.
 pub(crate) fn check_ranks(store: &Store, scratch: &mut Scratch) -> Pass
     requires rest { IsAtRest store.now }
     requires roomy { IsRoomy store.now scratch.old }

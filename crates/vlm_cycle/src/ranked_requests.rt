@@ -17,12 +17,10 @@ use vlm_queue::{head, next};
 use vlm_store::{LockAt, ResAt, Store};
 use vlm_words::resources::Queue;
 
-/// The rank of a request's owner, and a bound above the ranks for which the request waits.
+/// The rank of a request's owner, and a bound above the ranks of all processes for which the request waits.
 #[derive(Clone, Copy)]
 pub(crate) struct RankedRequest {
-    // the rank of its owner
     pub(crate) rank: u32,
-    // above the ranks of all processes for which it waits
     pub(crate) top: u64,
 }
 
@@ -42,7 +40,6 @@ impl RankedRequest {
     }
 }
 
-// The rank of the owner of a lock.
 fn owner_rank(store: &Store, ranks: &Ranks, lock: LockAt) -> u32
     requires { IsStored lock store.now }
     ensures { (row : LockRow) → Stores store.now lock row
@@ -51,7 +48,6 @@ fn owner_rank(store: &Store, ranks: &Ranks, lock: LockAt) -> u32
     ranks.of(store.lock_record(lock).owner)
 }
 
-/// The lock of a queue to which a walk has come.
 pub(crate) fn located_in(store: &Store, res: ResAt, queue: Queue, lock: LockAt) -> LocatedLock
     requires there { HasResource res store.now }
     requires come { IsInQueue res queue (Some lock) store.now }
@@ -72,7 +68,6 @@ pub(crate) fn located_in(store: &Store, res: ResAt, queue: Queue, lock: LockAt) 
     }
 }
 
-// Counts the held modes of the locks of a queue.
 fn hold_queue(
     store: &Store,
     ranks: &Ranks,
@@ -106,7 +101,7 @@ pub(crate) fn blocker_ranks_of(store: &Store, ranks: &Ranks, res: ResAt) -> Bloc
     blocker_ranks
 }
 
-/// Judges the request of a lock, and passes it.
+/// Compares the rank of a lock's request, and adds the request to the bounds for later ones.
 pub(crate) fn rank_request(
     store: &Store,
     ranks: &Ranks,

@@ -1,4 +1,4 @@
-//! The ranks of processes. They are advice: nothing is promised of them, and each use checks them first.
+//! The ranks of processes. They are hints: each use checks them first.
 
 ghost use Rattle.std.specs.Prelude.{◌≡◌, ◌≤◌, [], length, slice_index_or, slice_set};
 ghost use Rattle.std.specs.List.{All};
@@ -19,17 +19,15 @@ pub(crate) struct TarjanNode {
     pub(crate) rank: u32,
     /// Its number in the order in which processes were found, from 1; 0 while it is not found.
     pub(crate) index: u32,
-    /// The least number to which it is known to lead back, of processes that are not closed.
+    /// The least number, of processes that are not closed, to which it is known to lead back.
     pub(crate) low: u32,
     /// The process from which the walk came to it.
     pub(crate) tree_parent: Option<ProcAt>,
     /// The process found last before it, of those that are not closed.
     pub(crate) stack_next: Option<ProcAt>,
-    /// Its own lock at which its walk is.
+    /// Where its walk is: at its own lock `own`, in the part `part` of the locks for which `own` waits, there at `at`.
     pub(crate) own: Option<LockAt>,
-    /// The part of the locks for which that lock waits at which its walk is.
     pub(crate) part: BlockerKind,
-    /// The lock of that part at which its walk is.
     pub(crate) at: Option<LockAt>,
 }
 
@@ -41,7 +39,6 @@ struct DatedNode {
 }
 
 impl DatedNode {
-    // A blank note, by no search.
     fn blank() -> DatedNode
         ensures { result ≡ blank_dated }
     {
@@ -52,13 +49,12 @@ impl DatedNode {
     }
 }
 
-/// The notes of the processes, each by its slot. A search reads only its own notes. It reads those of earlier searches as
-/// blank. So a search that begins takes the next number and clears nothing.
+/// The notes of the processes, each by its slot. A search reads the notes of earlier searches as blank. So it begins
+/// with the next number and clears nothing.
 #[derive(Drop)]
 pub(crate) struct Ranks {
     // the last note of each process
     notes: Vec<DatedNode>,
-    // the number of the search
     search: u64,
 }
 
@@ -66,7 +62,6 @@ impl Model for Ranks {
     ghost use Rattle.std.specs.Prelude.{List};
     ghost use Rattle.vlm_cycle.specs.declared.ranks.TarjanNode.{TarjanNode};
 
-    // The notes as the search reads them.
     ghost Value = { List TarjanNode };
 
     ghost use Rattle.vlm_cycle.specs.Ranks.{IsDated, notes_read};
@@ -94,7 +89,7 @@ impl Ranks {
         self.notes.len()
     }
 
-    /// The note of a process, a blank one if there is no room for it.
+    /// The note of a process; a blank one if there is no room for it.
     pub(crate) fn note(&self, process: ProcAt) -> TarjanNode
         ensures note { result ≡ slice_index_or self.now process blank_node }
         ensures there { (s : Records) → AreNotes s self.now → IsTarjanNode s result }
@@ -105,7 +100,7 @@ impl Ranks {
         }
     }
 
-    /// The rank of a process, 0 if it has none.
+    /// The rank of a process; 0 if it has none.
     pub(crate) fn of(&self, process: ProcAt) -> u32
         ensures { result ≡ rank_at self.now process }
     {
@@ -115,7 +110,7 @@ impl Ranks {
         }
     }
 
-    /// Notes this of a process, if there is room for it.
+    /// Writes the note of a process, if there is room for it.
     pub(crate) fn put(&mut self, process: ProcAt, note: TarjanNode)
         ensures noted { self.new ≡ slice_set self.old process note }
         ensures there { (s : Records) → AreNotes s self.old → IsTarjanNode s note → AreNotes s self.new }
@@ -128,8 +123,8 @@ impl Ranks {
         }
     }
 
-    /// Begins a search, to which all notes are blank. It takes constant time. After 2^64 searches the numbers begin anew,
-    /// and the room for notes is lost: the search then has no ranks.
+    /// Begins a search: all notes become blank. It takes constant time. After 2^64 searches the numbers begin anew and
+    /// the room for notes is lost, so that search has no ranks.
     pub(crate) fn begin(&mut self)
         ensures blank { All (λ note. note ≡ blank_node) self.new }
         ensures no_more { length self.new ≤ length self.old }
@@ -143,7 +138,7 @@ impl Ranks {
         }
     }
 
-    /// Makes room for the notes of this many processes and one more. The memory grows to twice its size, so most calls move
+    /// Makes room for the notes of this many processes and one more. The memory doubles as it grows, so most calls move
     /// nothing.
     pub(crate) fn make_room(&mut self, living: usize) -> Result<(), AllocError> {
         if self.notes.len() <= living {

@@ -11,11 +11,10 @@ use vlm_collections::NodeMarks;
 /// The marks of a search, with the room that was made for them.
 #[derive(Drop)]
 pub struct Scratch {
-    // the processes that were found
     pub(crate) seen: NodeMarks,
     // the found processes to which the search still has to go
     pub(crate) todo: NodeMarks,
-    // advice that spares most searches
+    // hints that save most searches
     pub(crate) ranks: Ranks,
 }
 
@@ -29,8 +28,8 @@ impl Scratch {
         }
     }
 
-    /// Makes room to mark the process, for 64 of its node at a time, and to rank it beside this many living processes. If
-    /// memory is refused, there may be more room than before.
+    /// Makes room to mark the process, for 64 of its node at a time, and to rank it beside this many living processes.
+    /// If memory is refused, there may be more room than before.
     pub fn make_room(&mut self, pid: u32, living: usize) -> Result<(), AllocError>
         ensures room { OnOk result (HasRoomInBoth self.new pid) }
         ensures kept { KeepsRoom self.old self.new }
@@ -40,7 +39,6 @@ impl Scratch {
         self.ranks.make_room(living)
     }
 
-    /// Takes all marks away.
     pub(crate) fn clear(&mut self)
         ensures clear { IsClear self.new }
         ensures room { KeepsRoom self.old self.new }
@@ -50,7 +48,7 @@ impl Scratch {
         self.todo.clear();
     }
 
-    /// Marks a process as found. If it was not found before, the search has to go to it.
+    /// Marks a process as found. If it is new, the search has to go to it.
     pub(crate) fn find(&mut self, pid: u32)
         requires room { HasRoomInBoth self.old pid }
         requires node { is_node (pid / 65536) ≡ true }
@@ -62,7 +60,6 @@ impl Scratch {
         }
     }
 
-    /// Takes a process to which the search has to go; `None` if there is none.
     pub(crate) fn take(&mut self) -> Option<u32>
         requires { (pid : ℕ) → is_marked self.old.todo pid ≡ true → HasRoomInBoth self.old pid }
         ensures { TakesNext result self.old self.new }

@@ -12,16 +12,13 @@ use vlm_store::{LockAt, ProcAt};
 /// A part of the locks for which a queued request waits.
 #[derive(Clone, Copy)]
 pub(crate) enum BlockerKind {
-    /// The requests before it in its queue.
     Before,
-    /// The granted locks.
     Granted,
-    /// The converting locks: their held modes, and for a waiting request their requests too.
+    /// The converting locks: their held modes, and for a waiting request also their requests.
     Converting,
 }
 
 impl TarjanNode {
-    /// The note of a process that the walk has not found.
     pub(crate) fn blank() -> TarjanNode
         ensures { result ≡ blank_node }
     {
@@ -37,7 +34,6 @@ impl TarjanNode {
         }
     }
 
-    /// The note with this position of the walk at the process.
     pub(crate) fn located(
         &self,
         own: Option<LockAt>,
@@ -59,7 +55,7 @@ impl TarjanNode {
         }
     }
 
-    /// The note with this rank, and with the number of the process to which it leads back.
+    /// The note with this rank, and with the least number to which the process leads back.
     pub(crate) fn ranked(&self, rank: u32, low: u32) -> TarjanNode
         ensures { (s : Records) → IsTarjanNode s self.now → IsTarjanNode s result }
     {
@@ -77,7 +73,7 @@ impl TarjanNode {
 }
 
 impl Ranks {
-    /// Notes that a process, if there is one, leads back to the process of this number.
+    /// Notes that a process, if there is one, leads back to the process with this number.
     pub(crate) fn lower(&mut self, process: Option<ProcAt>, low: u32)
         ensures { (s : Records) → AreNotes s self.old → AreNotes s self.new }
     {

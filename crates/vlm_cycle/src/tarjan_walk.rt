@@ -3,11 +3,10 @@
 //! # Implementation
 //!
 //! Tarjan's algorithm finds the strongly connected components. The walk finds each process once. It closes a component
-//! when it comes back from the first process of it that it found. `index` and `low` of a note are Tarjan's; `caller`
-//! links the stack of the walk, and `opened` the stack of the processes whose components are not closed. If the request
-//! before a request waits for all before it, the walk follows only that one: so a long queue costs its length.
-//!
-//! Nothing is promised of the ranks. The code that uses them checks them.
+//! when it comes back from the first process that it found of it. `index` and `low` of a note are Tarjan's;
+//! `tree_parent` links the stack of the walk, and `stack_next` the stack of the processes whose components are not
+//! closed. If the request before a request waits for all before it, the walk follows only that one, so a long queue
+//! costs its length. The ranks are hints: the code that uses them checks them.
 
 ghost use Rattle.std.specs.Option.{ForSome};
 ghost use Rattle.vlm_store.specs.Records.{IsStored, Records};
@@ -23,7 +22,6 @@ use vlm_words::resources::Queue;
 /// The state of the walk.
 #[derive(Clone, Copy)]
 pub(crate) struct TarjanWalk {
-    // the process at which it is
     process: Option<ProcAt>,
     // the last process found, of those that are not closed
     stack_next: Option<ProcAt>,
@@ -34,7 +32,7 @@ pub(crate) struct TarjanWalk {
 }
 
 impl TarjanWalk {
-    // The walk after this many components are closed; this process is the last one that is not.
+    // The walk after this many components are closed; `stack_next` is the last process that is not.
     fn with_closed(&self, stack_next: Option<ProcAt>, closed: u32) -> TarjanWalk
         ensures { (s : Records) → IsWalk s self.now → ForSome stack_next (LivesAt s) → IsWalk s result }
     {
@@ -47,7 +45,7 @@ impl TarjanWalk {
     }
 }
 
-// The note of a process whose walk begins at this lock of its own, or is at its end.
+// The note of a process whose walk begins at this lock of its own; without a lock it is at its end.
 fn with_own(store: &Store, note: &TarjanNode, own: Option<LockAt>) -> TarjanNode
     requires own { ForSome own (λ lock. IsStored lock store.now) }
     requires note { IsTarjanNode store.now note.now }
@@ -59,7 +57,6 @@ fn with_own(store: &Store, note: &TarjanNode, own: Option<LockAt>) -> TarjanNode
     note.located(Some(lock), BlockerKind::Before, store.previous(lock))
 }
 
-// The note of a process whose walk goes on to its next lock.
 fn with_next_own(store: &Store, note: &TarjanNode, own: LockAt) -> TarjanNode
     requires own { IsStored own store.now }
     requires note { IsTarjanNode store.now note.now }
@@ -68,7 +65,6 @@ fn with_next_own(store: &Store, note: &TarjanNode, own: LockAt) -> TarjanNode
     with_own(store, note, store.next_own(own))
 }
 
-// The note of a process whose walk goes on to the next part.
 fn with_next_part(store: &Store, note: &TarjanNode, wanting: &AwaitedModes) -> TarjanNode
     requires wanting { IsWanting store.now wanting.now }
     requires note { IsTarjanNode store.now note.now }
@@ -83,7 +79,6 @@ fn with_next_part(store: &Store, note: &TarjanNode, wanting: &AwaitedModes) -> T
     note.located(Some(own), part, head(store, wanting.res, queue))
 }
 
-// The note of a process whose walk goes on after a lock that is before its own.
 fn with_next_before(
     store: &Store,
     ranks: &Ranks,
@@ -107,7 +102,6 @@ fn with_next_before(
     note.located(Some(own), BlockerKind::Before, None)
 }
 
-// The note of a process whose walk goes on after a lock.
 fn with_next(
     store: &Store,
     ranks: &Ranks,
@@ -157,7 +151,6 @@ fn go_down(store: &Store, ranks: &mut Ranks, walk: TarjanWalk, process: ProcAt) 
     }
 }
 
-// The walk goes along a wait of its present process.
 fn go_along(
     store: &Store,
     ranks: &mut Ranks,
@@ -202,7 +195,7 @@ fn close(ranks: &mut Ranks, walk: TarjanWalk, first: ProcAt) -> TarjanWalk
     walk.with_closed(stack_next, rank)
 }
 
-// Closes the component of a process, if the process is the first of it that was found.
+// Closes the component of a process, if the process is the first one found of it.
 fn close_if_whole(ranks: &mut Ranks, walk: TarjanWalk, process: ProcAt) -> TarjanWalk
     ensures { (s : Records) → AreNotes s ranks.old → IsWalk s walk
         → AreNotes s ranks.new × IsWalk s result }
@@ -279,10 +272,10 @@ fn walk_from(store: &Store, ranks: &mut Ranks, walk: TarjanWalk, root: ProcAt) -
     walk
 }
 
-/// Ranks the processes that own queued requests, and those to which they lead. None waits for one of a higher rank, and
-/// two that lead to each other have one rank. Other processes have rank 0. It takes no memory. The cost grows with the
-/// queued requests, and for each process that owns one or is waited for, with its locks and the locks that it looks at
-/// for each of its queued requests.
+/// Ranks the processes that own queued requests, and those to which they lead. No process waits for one of a higher
+/// rank, and two that lead to each other have one rank. Other processes have rank 0. It takes no memory. The cost grows
+/// with the queued requests. For each process that owns one or is waited for, it grows with its locks, and with the
+/// locks looked at for each of its queued requests.
 // Kept out of line: its walk needs each register.
 #[inline(never)]
 pub(crate) fn rank_processes(store: &Store, ranks: &mut Ranks) {

@@ -26,7 +26,6 @@ pub(crate) fn wanted_number(row: &StoredRow) -> u64
     }
 }
 
-/// Whether the request of a row was made after that of the best, if there is one.
 pub(crate) fn is_later(row: &StoredRow, best: &Option<LocatedLock>) -> bool
     ensures later { OnTrue result (IsLater row.now best.now) }
     ensures earlier { OnFalse result (IsNotLater row.now best.now) }
@@ -37,7 +36,6 @@ pub(crate) fn is_later(row: &StoredRow, best: &Option<LocatedLock>) -> bool
     }
 }
 
-// The guess, if its request is deadlocked.
 fn best_guess(
     store: &Store,
     scratch: &mut Scratch,

@@ -14,13 +14,10 @@ use vlm_words::resources::Queue;
 /// A queued request that waits for others.
 #[derive(Clone, Copy)]
 pub(crate) struct AwaitedModes {
-    /// Its lock.
     pub(crate) lock: LockAt,
-    /// Its resource.
     pub(crate) res: ResAt,
-    /// Whether it is after the conversions: it is in the waiting queue.
+    /// Whether it is in the waiting queue, after the conversions.
     pub(crate) is_behind_conversions: bool,
-    /// The mode that it wants.
     pub(crate) mode: Mode,
 }
 
@@ -33,7 +30,6 @@ fn awaited_mode(row: &StoredRow) -> Option<Mode> {
     Some(request.mode)
 }
 
-/// The request of a lock, if it is queued and waits for others.
 pub(crate) fn awaited_modes(store: &Store, lock: LockAt) -> Option<AwaitedModes>
     requires stored { IsStored lock store.now }
     ensures there { ForSome result (λ w. IsWanting store.now w) }
@@ -55,7 +51,6 @@ pub(crate) fn awaited_modes(store: &Store, lock: LockAt) -> Option<AwaitedModes>
 }
 
 impl AwaitedModes {
-    /// Whether it waits for a lock of this part.
     pub(crate) fn waits_for(&self, part: BlockerKind, lock: LockAt, row: &StoredRow) -> bool {
         if lock.slot() == self.lock.slot() {
             return false;
@@ -78,8 +73,8 @@ impl AwaitedModes {
     }
 }
 
-/// Whether later requests need not look at the locks before this queued lock. Its owner waits for these locks too, and
-/// later requests wait for its owner, or the owner's component is closed.
+/// Whether later requests need not look at the locks before this queued lock. Its owner waits for these locks too.
+/// Later requests wait for its owner, or the owner's component is closed.
 pub(crate) fn covers_those_before(record: &Lock, is_closed: bool) -> bool {
     match awaited_mode(&record.row) {
         Some(_) => is_closed || blocks_those_behind(&record.row.want()),

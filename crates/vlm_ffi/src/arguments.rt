@@ -35,7 +35,6 @@ const _: () = prove!(size_of::<VlmRequest>() == 128);
 
 const _: () = prove!(size_of::<VlmDequeue>() == 128);
 
-/// How a core is opened.
 #[repr(C)]
 #[derive(Clone, Copy)]
 pub struct VlmOptions {
@@ -48,25 +47,21 @@ pub struct VlmOptions {
     pub reserved: [u32; 9],
 }
 
-/// Declares a process.
 #[repr(C)]
 #[derive(Clone, Copy)]
 pub struct VlmDeclaration {
     pub size: u32,
     /// 1 to 8.
     pub node: u32,
-    /// The UIC group.
     pub group: u32,
     /// 1 if it has the privilege SYSLCK, or 0.
     pub syslck: u32,
-    /// How many locks it may have.
     pub quota: u32,
     /// How many status blocks it has, numbered from 1.
     pub blocks: u32,
     pub reserved: [u32; 2],
 }
 
-/// Sets the value part of a status block.
 #[repr(C)]
 #[derive(Clone, Copy)]
 pub struct VlmSetting {
@@ -106,7 +101,6 @@ pub struct VlmRequest {
     pub reserved: [u32; 20],
 }
 
-/// Gives up locks, or cancels a request.
 #[repr(C)]
 #[derive(Clone, Copy)]
 pub struct VlmDequeue {
@@ -114,7 +108,6 @@ pub struct VlmDequeue {
     pub pid: u32,
     pub flags: u32,
     pub lock: u32,
-    /// As in [`VlmRequest`].
     pub lock_block: u32,
     /// 1 to write the value block, or 0.
     pub has_value: u32,

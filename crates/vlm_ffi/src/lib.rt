@@ -1,5 +1,5 @@
-//! What all exports for C share: the structs that C passes as steps, the answers that it gets, and boxes that C holds by
-//! their pointers.
+//! What all exports for C share: the structs that C passes as steps, the answers that it gets, and boxes that C holds
+//! by their pointers.
 //!
 //! | Module | Role |
 //! |---|---|

@@ -5,7 +5,6 @@ ghost use Rattle.vlm_words.specs.Padding.{padded};
 
 use vlm_words::names::Name;
 
-// The bytes, and zeros after them.
 fn padded<const N: usize>(bytes: &[u8]) -> [u8; N]
     requires { length bytes.now ≤ N }
     ensures { result ≡ padded N bytes.now }

@@ -28,14 +28,12 @@ pub struct VlmAst {
     pub reserved: [u32; 3],
 }
 
-/// The number of a condition.
 pub fn status(cond: Cond) -> u32
     ensures { result ≡ condition_number cond }
 {
     u32::from(cond.number())
 }
 
-/// The number of the condition in an answer.
 pub fn answer_status(answer: &Answer) -> u32
     ensures { result ≡ answer_status answer.now }
 {
@@ -55,7 +53,6 @@ pub fn answer_number(answer: &Answer) -> u32
     }
 }
 
-/// The number of a kind of AST: 1 for completion, 2 for blocking.
 pub fn kind_number(kind: AstKind) -> u32
     ensures { result ≡ kind_number kind }
 {
@@ -72,7 +69,6 @@ pub fn take_of(pid: u32, size: u32) -> Option<u32>
     if size == AST_SIZE { Some(pid) } else { None }
 }
 
-/// The struct of an AST.
 pub fn ast_of(ast: &Ast) -> VlmAst
     ensures { result ≡ ast_of ast.now }
 {
@@ -86,7 +82,6 @@ pub fn ast_of(ast: &Ast) -> VlmAst
     }
 }
 
-/// What C reads if no AST is pending.
 pub fn no_ast() -> VlmAst
     ensures { result ≡ no_ast }
 {
@@ -100,7 +95,7 @@ pub fn no_ast() -> VlmAst
     }
 }
 
-/// Writes the taken AST; without one it writes that no AST is pending. A refusal writes nothing.
+/// Writes the taken AST; without one it writes that none is pending. A refusal writes nothing.
 pub fn write_ast(answer: &Answer, out: &mut VlmAst)
     ensures { out.new ≡ ast_written answer.now out.old }
 {

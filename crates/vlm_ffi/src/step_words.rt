@@ -39,7 +39,6 @@ fn named_lock(lock: Which) -> (u32, u32)
     }
 }
 
-/// The struct of a declaration.
 pub fn declaration_words(declaration: Declaration) -> VlmDeclaration
     ensures { result ≡ declaration_words declaration }
 {
@@ -54,7 +53,6 @@ pub fn declaration_words(declaration: Declaration) -> VlmDeclaration
     }
 }
 
-/// The struct of a step that sets the value part of a status block.
 pub fn setting_words(setting: ValueSetting) -> VlmSetting
     ensures { result ≡ setting_words setting }
 {
@@ -93,7 +91,6 @@ pub fn request_words(request: NewRequest) -> VlmRequest
     }
 }
 
-/// The struct of a conversion.
 pub fn conversion_words(conversion: Conversion) -> VlmRequest
     ensures { result ≡ conversion_words conversion }
 {
@@ -115,7 +112,6 @@ pub fn conversion_words(conversion: Conversion) -> VlmRequest
     }
 }
 
-/// The struct of a dequeue.
 pub fn dequeue_words(dequeue: Dequeue) -> VlmDequeue
     ensures { result ≡ dequeue_words dequeue }
 {
@@ -136,7 +132,6 @@ pub fn dequeue_words(dequeue: Dequeue) -> VlmDequeue
     }
 }
 
-/// The struct of no declaration: all 0.
 pub fn no_declaration() -> VlmDeclaration
     ensures { result ≡ no_declaration }
 {
@@ -151,7 +146,6 @@ pub fn no_declaration() -> VlmDeclaration
     }
 }
 
-/// The struct of no setting: all 0.
 pub fn no_setting() -> VlmSetting
     ensures { result ≡ no_setting }
 {
@@ -166,7 +160,6 @@ pub fn no_setting() -> VlmSetting
     }
 }
 
-/// The struct of no request: all 0.
 pub fn no_request() -> VlmRequest
     ensures { result ≡ no_request }
 {
@@ -187,7 +180,6 @@ pub fn no_request() -> VlmRequest
     }
 }
 
-/// The struct of no dequeue: all 0.
 pub fn no_dequeue() -> VlmDequeue
     ensures { result ≡ no_dequeue }
 {

@@ -47,8 +47,8 @@ abbrev pub Posts : Option Step → Option Held → Option Held → ℕ → Type 
 Posts None before after status = (after ≡ before) × (status ≡ condition_number Badparam)
 Posts (Some step) before after status = PostsAs (λ p. step) before after status
 
--- the item is the last that was taken, and the first of those that the port knew to have come; without one the port
--- knows of none, and knew of none before
+-- the item is the last one taken, and was the first that the port knew to have come; without an item the port knows of
+-- none, and knew of none before
 pub record HasTaken (old : Port) (item : Option Item) (new : Port) : Type 0 where
   pub same : identity new ≡ identity old
   pub posted : posted new ≡ posted old

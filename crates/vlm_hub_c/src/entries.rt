@@ -37,7 +37,6 @@ pub struct VlmEntry {
     pub pid: u32,
     /// The node that a Leave or a Search names.
     pub node: u32,
-    /// The condition of the answer.
     pub status: u32,
     /// The identification in the answer, or 0.
     pub number: u32,
@@ -57,7 +56,6 @@ pub struct VlmEntry {
 #[derive(Clone, Copy)]
 pub struct VlmCut {
     pub size: u32,
-    /// The size of an entry.
     pub entry_size: u32,
     /// How many entries were handed out before.
     pub base: u64,
@@ -109,7 +107,6 @@ fn ast_in(answer: &Answer) -> VlmAst
     }
 }
 
-// The padded name of a new request, and its length.
 fn name_in(step: &Step) -> ([u8; 32], u32)
     ensures cells { result.0 ≡ padded 32 (name_in step.now) }
     ensures len { result.1 ≡ length (name_in step.now) }
@@ -157,7 +154,6 @@ fn dequeue_in(step: &Step) -> VlmDequeue
     }
 }
 
-/// The struct of an entry.
 pub(crate) fn entry_of(entry: &Entry) -> VlmEntry
     ensures { result ≡ entry_of entry.now }
 {

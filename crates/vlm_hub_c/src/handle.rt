@@ -79,7 +79,6 @@ impl Handle {
         self.is_held = true;
     }
 
-    /// Whether it holds a hub or a port.
     pub(crate) fn is_open(&mut self) -> bool
         ensures told { result ≡ is_some self.old.slot.held }
         ensures same { self.new.slot.held ≡ self.old.slot.held }
@@ -98,7 +97,6 @@ impl Handle {
         result
     }
 
-    // Lends the port to a call. A handle without a port stays as it is, and the call does not run.
     #[inline(always)]
     pub(crate) fn with_port<R, F: FnOnce(&mut Port) -> R + Drop>(&mut self, call: F) -> Option<R>
         requires { F.IsAlwaysCallable call }

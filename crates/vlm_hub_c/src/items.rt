@@ -20,7 +20,6 @@ pub struct VlmItem {
     pub size: u32,
     /// 0 for no item, 1 for an answer, 2 for an AST.
     pub kind: u32,
-    /// The condition of an answer.
     pub status: u32,
     /// The identification in an answer, or 0.
     pub number: u32,
@@ -30,7 +29,6 @@ pub struct VlmItem {
     pub ast: VlmAst,
 }
 
-/// The struct of an answer.
 pub(crate) fn answer_item(answer: &Answer) -> VlmItem
     ensures { result ≡ answer_item answer.now }
 {
@@ -45,7 +43,6 @@ pub(crate) fn answer_item(answer: &Answer) -> VlmItem
     }
 }
 
-/// The struct of an AST for a process.
 pub(crate) fn ast_item(pid: u32, ast: &Ast) -> VlmItem
     ensures { result ≡ ast_item pid ast.now }
 {

@@ -48,8 +48,8 @@ fn box_port(alloc: Global, place: &mut Option<Port>) -> Result<Box<Held>, Cond>
 }
 
 impl OwnedHub {
-    /// Gives the port of a node. BADPARAM if it has no such port, or not any more. INSFMEM if there is no memory for the
-    /// handle: then it keeps the port.
+    /// Gives the port of a node. BADPARAM if it has no such port, or has given it already. INSFMEM if there is no
+    /// memory for the handle: then it keeps the port.
     #[tactic(auto, unfolding(crate::specs::Hubs::GivesPort))]
     pub(crate) fn give_port(&mut self, alloc: Global, node: u32) -> Result<Box<Held>, Cond>
         ensures { GivesPort node self.old result self.new }
@@ -69,7 +69,7 @@ impl OwnedHub {
         self.hub.turn()
     }
 
-    /// A node is lost. `None` if it is not 1 to 8.
+    /// Makes the departure of a lost node. `None` if it is not 1 to 8.
     pub(crate) fn lose(&mut self, node: u32) -> Option<Result<Cond, AllocError>>
         ensures { HasLost node self.old result self.new }
     {
@@ -103,7 +103,6 @@ impl OwnedHub {
         self.hub.journal().len()
     }
 
-    /// The entry at a place since the last cut.
     pub(crate) fn entry(&mut self, place: usize) -> Option<VlmEntry>
         ensures told { result ≡ option_map entry_of (slice_get (journal self.old.hub) place) }
         ensures same { self.new ≡ self.old }

@@ -15,7 +15,6 @@ const FULL: u32 = 256;
 /// What came of a post.
 #[derive(Clone, Copy)]
 pub enum PostEnd {
-    /// The step is posted.
     Posted,
     /// The port knows no free place.
     Full,
@@ -36,28 +35,24 @@ pub(crate) fn post_step(port: &mut Port, step: Step) -> PostEnd
     }
 }
 
-/// Posts a search for a deadlock.
 pub(crate) fn post_search(port: &mut Port) -> PostEnd
     ensures { HasPosted port.old (Search port.old.node) result port.new }
 {
     post_step(port, Step::Search(port.node()))
 }
 
-/// Posts the departure of the port's node.
 pub(crate) fn post_bye(port: &mut Port) -> PostEnd
     ensures { HasPosted port.old (Leave port.old.node) result port.new }
 {
     post_step(port, Step::Leave(port.node()))
 }
 
-/// Takes the next item that the port knows to have come.
 pub(crate) fn take_item(port: &mut Port) -> Option<Item>
     ensures { HasTaken port.old result port.new }
 {
     port.take()
 }
 
-/// Counts the items that have come and are not taken.
 pub(crate) fn count_items(port: &mut Port) -> usize
     ensures { HasItemsCounted port.old result port.new }
 {

@@ -27,7 +27,6 @@ impl Onlooker {
         }
     }
 
-    /// Learns a told value.
     pub(crate) fn learn(&mut self, told: Told)
         requires { told_board told ≡ board_of self.old.watcher }
         ensures { IsAsBefore self.old.watcher self.new.watcher }
@@ -57,7 +56,6 @@ impl Onlooker {
         self.last = Some(row);
     }
 
-    /// Looks this many times.
     pub(crate) fn look_often(&mut self, times: usize)
         requires { 0 < self.old.watcher.keys }
         ensures { IsAsBefore self.old.watcher self.new.watcher }

@@ -15,9 +15,7 @@ use vlm_words::steps::Step;
 /// One of two nodes.
 #[derive(Clone, Copy)]
 pub enum Node {
-    /// Node 1.
     First,
-    /// Node 2.
     Second,
 }
 
@@ -31,7 +29,7 @@ pub struct Pair {
 }
 
 impl Pair {
-    /// A hub and its ports, with nothing posted. Refused, there is neither.
+    /// A hub and its ports, with nothing posted. If memory is refused, there is neither.
     pub fn new(alloc: Global) -> Result<Pair, AllocError>
         ensures { IfOk result (λ p. journal p.hub ≡ []) }
     {
@@ -44,7 +42,6 @@ impl Pair {
         Ok(Pair { hub, first, second })
     }
 
-    /// Posts a step, if it is of the node and there is a place.
     pub fn post(&mut self, node: Node, step: Step) -> Result<(), Full> {
         match node {
             Node::First => post(&mut self.first, step),
@@ -52,7 +49,6 @@ impl Pair {
         }
     }
 
-    /// Posts a node's departure.
     pub fn bye(&mut self, node: Node) -> Result<(), Full> {
         match node {
             Node::First => self.first.bye(),
@@ -60,7 +56,6 @@ impl Pair {
         }
     }
 
-    /// Takes an item that has come for a node.
     pub fn take(&mut self, node: Node) -> Option<Item> {
         match node {
             Node::First => self.first.take(),
@@ -68,12 +63,10 @@ impl Pair {
         }
     }
 
-    /// Has the hub make a turn.
     pub fn turn(&mut self) -> Turn {
         self.hub.turn()
     }
 
-    /// Settles a node's port.
     pub fn settle(&mut self, node: Node) -> Settled {
         match node {
             Node::First => self.hub.settle(&mut self.first),
@@ -94,7 +87,7 @@ impl Pair {
         (self.hub.posts_waiting(number), items)
     }
 
-    /// A node is lost.
+    /// Reports that a node is lost.
     pub fn lost(&mut self, node: Node) -> Result<Cond, AllocError> {
         self.hub.lost(number_of(node))
     }

@@ -19,7 +19,7 @@ pub struct Single {
 }
 
 impl Single {
-    /// A hub and its port, with nothing posted. Refused, there is neither.
+    /// A hub and its port, with nothing posted. If memory is refused, there is neither.
     pub fn new(alloc: Global) -> Result<Single, AllocError>
         ensures { IfOk result (λ s. journal s.hub ≡ []) }
     {
@@ -31,22 +31,18 @@ impl Single {
         Ok(Single { hub, port })
     }
 
-    /// Posts a step, if it is of the node and there is a place.
     pub fn post(&mut self, step: Step) -> Result<(), Full> {
         post(&mut self.port, step)
     }
 
-    /// Takes an item that has come.
     pub fn take(&mut self) -> Option<Item> {
         self.port.take()
     }
 
-    /// Has the hub make a turn.
     pub fn turn(&mut self) -> Turn {
         self.hub.turn()
     }
 
-    /// Settles the port.
     pub fn settle(&mut self) -> Settled {
         self.hub.settle(&mut self.port)
     }

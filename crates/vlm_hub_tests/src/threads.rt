@@ -26,9 +26,9 @@ impl Promise<Port> for Given {
 }
 
 impl Pair {
-    /// Has each port post this many searches, and take as many items, in a thread of its own, while the hub makes turns in
-    /// this one; then the threads give the ports back. If it is refused, a thread could not be started, no thread runs any
-    /// more, and the pair is gone.
+    /// Has each port post this many searches, and take as many items, in a thread of its own, while the hub makes turns
+    /// in this one. Then the threads give the ports back. If a thread could not be started, it is refused: no thread
+    /// runs any more, and the pair is gone.
     pub fn search_in_threads<R: Threads + Wait + Copy + Send + 'static>(
         self,
         rt: &R,

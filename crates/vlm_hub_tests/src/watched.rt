@@ -77,7 +77,7 @@ impl WatchedHub {
         self.port.take()
     }
 
-    /// Publishes, and tells each watcher so.
+    /// Publishes, and tells each watcher of it.
     pub fn publish<R: Wait>(&mut self, rt: &R) -> Result<(), AllocError> {
         let _told = self.hub.publish(rt)?;
         for at in 0..self.onlookers.len() {
@@ -157,7 +157,6 @@ fn seat(all: Vec<Watcher>, onlookers: &mut Vec<Onlooker>)
     }
 }
 
-// Posts a step, has the hub make a turn, and takes what has come.
 fn make(hub: &mut Hub, port: &mut Port, step: &Step) -> Option<Item>
     requires { IsPortOf hub.old port.old }
     ensures ours { IsPortOf hub.new port.new }

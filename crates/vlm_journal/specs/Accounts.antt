@@ -12,12 +12,12 @@ pub record Account : Type 0 where
   pub base : ℕ
   pub room : ℕ
 
--- how many entries were made, with those that were handed out; 2 ^ 64 - 1 if that is less than their number
+-- how many entries were made, handed out or not; 2 ^ 64 - 1 if there were more
 abbrev pub made : Account → ℕ
 made a = min (a.base + length a.entries) (2 ^ 64 - 1)
 
 -- some legal journal, of as many entries as the base says, leads to a state from which these entries are legal and lead
--- to the last one; a base of 2 ^ 64 - 1 says that many or more
+-- to the last one; a base of 2 ^ 64 - 1 means that many or more
 pub record GoesOn (base : ℕ) (entries : List Entry) (last : State) : Type 0 where
   pub before : List Entry
   pub counted : base ≡ min (length before) (2 ^ 64 - 1)

@@ -7,7 +7,7 @@ use Rattle.vlm_model.specs.Reasons.{HasDeparted}
 use Rattle.vlm_words.specs.State.{State}
 use Rattle.vlm_journal.specs.declared.entries.Entry.{Entry}
 
--- each entry of the node after its accepted departure, whoever asked for that, is answered DEPARTED
+-- each entry of the node after its accepted departure, from the node or the hub, is answered DEPARTED
 abbrev pub IsAnsweredDeparted : ℕ → List Entry → Type 0
 IsAnsweredDeparted node entries = (earlier later : ℕ) (leaving entry : Entry) → earlier < later
     → slice_get entries earlier ≡ Some leaving → slice_get entries later ≡ Some entry

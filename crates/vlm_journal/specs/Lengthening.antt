@@ -12,7 +12,7 @@ use Rattle.vlm_journal.specs.Told.{asked, told}
 abbrev pub IsSilent : List Entry → Type 0
 IsSilent entries = (node : ℕ) → (asked node entries ≡ []) × (told node entries ≡ [])
 
--- one more entry adds its step to the steps of its sender and of nobody else; it sends at most one item: the answer to its
+-- one more entry adds its step to the steps of its sender only; it sends at most one item: the answer to its
 -- sender, or a taken AST to the node of its process; a departure that the hub makes by itself sends nothing
 pub record LengthensLittle (entries : List Entry) (entry : Entry) : Type 0 where
   pub asks : asked entry.sender (entries ++ entry ∷ []) ≡ asked entry.sender entries ++ entry.step ∷ []

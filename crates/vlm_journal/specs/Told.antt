@@ -21,7 +21,7 @@ abbrev pub given_ast : Answer → Option Ast
 given_ast (Taken ast) = ast
 given_ast answer = None
 
--- the taken AST, if its process is one of the node
+-- the taken AST, if its process is of the node
 abbrev pub ast_told : ℕ → Option ℕ → Option Ast → List Item
 ast_told node (Some pid) (Some ast) = if node_of_pid pid == node then ast_item pid ast ∷ [] else []
 ast_told node pid ast = []

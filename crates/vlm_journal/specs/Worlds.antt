@@ -13,7 +13,7 @@ use Rattle.vlm_journal.specs.declared.entries.Item.{Item}
 use Rattle.vlm_journal.specs.Journals.{IsPostOf, Journal}
 use Rattle.vlm_journal.specs.Told.{asked, told}
 
--- the posts of a node, those that were served, the items sent to the node, and those that it has received
+-- the posts of a node, the served posts, the items sent to the node, and the items that it has received
 pub record Lists : Type 0 where
   pub posted : List Step
   pub served : List Step
@@ -55,7 +55,7 @@ pub data Event : Type 0 where
   send : ℕ → Event
   take : ℕ → Event
 
--- the next of the list, after those that came already
+-- the next element of the list, after the elements that came already
 abbrev pub IsNext : {X : Type 0} → X → List X → List X → Type 0
 IsNext {X} x come all = (rest : List X) × (all ≡ come ++ x ∷ rest)
 
@@ -139,9 +139,9 @@ pub data Reached (nodes : ℕ) : List Event → World → Type 0 where
   next : {events : List Event} {old new : World} (event : Event)
       → Reached nodes events old → Happens nodes old event new → Reached nodes (events ++ event ∷ []) new
 
--- the served steps are those that the journal has of the node, and a prefix of its posts; the sent items are a prefix of
--- those that the journal has for it, and the received items a prefix of the sent; at most 64 posts are not served, and at
--- most 64 items are on their way
+-- the served steps are the node's requests in the journal, and a prefix of its posts; the sent items are a prefix of
+-- its items in the journal, and the received items a prefix of the sent; at most 64 posts are not served, and at most
+-- 64 items are on their way
 pub record IsInOrder (node : ℕ) (journal : List Entry) (own : Lists) : Type 0 where
   pub served : own.served ≡ asked node journal
   pub posted : IsPrefix own.served own.posted

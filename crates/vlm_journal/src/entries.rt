@@ -8,9 +8,7 @@ use vlm_words::steps::{Answer, Step};
 pub struct Entry {
     /// Who asked for it: a node, 1 to 8, or 0 for the hub itself.
     pub sender: u8,
-    /// The step.
     pub step: Step,
-    /// Its answer.
     pub answer: Answer,
 }
 
@@ -26,8 +24,7 @@ pub enum Item {
 /// A part of a journal, from one cut to the next.
 #[derive(Drop)]
 pub struct Part {
-    /// How many entries came before it; `u64::MAX` if that is less than their number.
+    /// How many entries came before it; `u64::MAX` if there were more.
     pub base: u64,
-    /// Its entries, in order.
     pub entries: Vec<Entry>,
 }

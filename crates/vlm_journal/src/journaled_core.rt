@@ -24,13 +24,13 @@ use vlm_words::names::Name;
 use vlm_words::resources::Domain;
 use vlm_words::steps::{Answer, Step};
 
-/// A core with its journal: the entries since the last cut, and the number of entries before them. All entries, from the
-/// first, are a legal journal that leads to the core's state (this project's own).
+/// A core with its journal: the entries since the last cut, and the number of entries before them. All entries, from
+/// the first, are a legal journal that leads to the core's state (this project's own).
 #[derive(Drop)]
 pub struct JournaledCore {
     core: Core,
     entries: Vec<Entry>,
-    // how many entries were handed out; `u64::MAX` if that is less than their number
+    // how many entries were handed out; `u64::MAX` if there were more
     base: u64,
     alloc: Global,
 }
@@ -95,16 +95,16 @@ impl JournaledCore {
         answer
     }
 
-    /// The first living process of a node, in order of making, that has an AST pending; `None` if no process of the
-    /// node has one. It takes constant time.
+    /// The first living process of a node, in order of making, with a pending AST; `None` if there is none. It takes
+    /// constant time.
     pub fn pending_of(&self, node: u8) -> Option<u32>
         ensures { result ≡ first_pending node self.now.state.processes }
     {
         self.core.pending_of(node)
     }
 
-    /// Takes the oldest AST of the process that [`JournaledCore::pending_of`] answers for a node, and writes an entry of the
-    /// hub. It takes no memory.
+    /// Takes the oldest AST of the process that [`JournaledCore::pending_of`] answers for a node, and writes an entry
+    /// of the hub. It takes no memory.
     pub fn deliver_ast(&mut self, node: u8, pid: u32) -> Ast
         requires room { 0 < self.old.room }
         requires pending { first_pending node self.old.state.processes ≡ Some pid }
@@ -150,7 +150,7 @@ impl JournaledCore {
         self.core.usage(domain, name)
     }
 
-    /// How many entries were made, with those that were handed out; `u64::MAX` if that is less than their number.
+    /// How many entries were made, handed out or not; `u64::MAX` if there were more.
     pub fn made(&self) -> u64
         ensures { result ≡ made self.now }
     {
@@ -165,8 +165,8 @@ impl JournaledCore {
         self.entries.as_slice()
     }
 
-    /// Hands out the entries since the last cut, and begins a new part. The parts of all cuts in order, and then the
-    /// entries since the last cut, are the journal. It takes no memory.
+    /// Hands out the entries since the last cut, and begins a new part. It takes no memory. The parts of all cuts in
+    /// order, and then the entries since the last cut, are the journal.
     pub fn cut(&mut self) -> Part
         ensures entries { result.entries.items ≡ self.old.entries }
         ensures base { result.base ≡ self.old.base }
@@ -197,7 +197,6 @@ impl JournaledCore {
     }
 }
 
-// Makes an entry of these.
 fn entry(sender: u8, step: Step, answer: Answer) -> Entry
     ensures { result ≡ record { sender = sender; step = step; answer = answer } }
 {
@@ -208,7 +207,6 @@ fn entry(sender: u8, step: Step, answer: Answer) -> Entry
     }
 }
 
-// The AST in the answer to a take.
 fn ast_of(answer: Answer) -> Ast
     requires { (ast : Ast) × (answer ≡ Answer.Taken (Some ast)) }
     ensures { answer ≡ Answer.Taken (Some result) }

@@ -31,27 +31,26 @@ pub fn law_journal()
         ↔ (Legal first (steps_of entries) (answers_of entries) last × All IsAllowed entries) }
 {}
 
-/// A journal in parts: two lists of entries, one after the other, are legal exactly if the first is legal, and the second
-/// is legal from a state to which the first leads. They lead to the state to which the second leads.
+/// A journal in parts: two lists of entries, one after the other, are legal exactly if the first is legal and the
+/// second is legal from a state to which the first leads. They lead to the state to which the second leads.
 pub fn law_join()
     ensures { (first last : State) (before behind : List Entry)
         → JournalFrom first (before ++ behind) last
         ↔ ((between : State) × JournalFrom first before between × JournalFrom between behind last) }
 {}
 
-/// How an entry adds to the requests and the items of the nodes. In an empty journal there are none. An entry that a hub
-/// may make adds its step to the requests of its sender, and to no others. It adds an item to at most one node: the
-/// answer to its sender, or the AST that the hub took to the node of the process.
+/// How an entry adds to the requests and the items of the nodes. In an empty journal there are none. An entry that a
+/// hub may make adds its step to the requests of its sender only. It adds an item to at most one node: the answer to
+/// its sender, or the AST that the hub took to the node of the process.
 pub fn law_entry()
     ensures first { IsSilent [] }
     ensures more { (entries : List Entry) (entry : Entry) → IsAllowed entry
         → LengthensLittle entries entry }
 {}
 
-/// After the departure of a node is accepted, whether the node or the hub asked for it, each entry of the node is
-/// answered DEPARTED. An entry by which a node departs, or is answered that it has departed, leads to a state in which
-/// it has departed. From such a state on, with cuts or without, each entry of the node is answered DEPARTED, and the
-/// node stays departed.
+/// After a departure of a node is accepted, from the node or from the hub, each entry of the node is answered DEPARTED.
+/// An entry by which a node departs, or is answered that it has departed, leads to a state in which it has departed.
+/// From such a state on, across cuts too, the node stays departed, and each entry of it is answered DEPARTED.
 pub fn law_departed()
     ensures answered { (entries : List Entry) (last : State) → Journal entries last
         → (node : ℕ) → 0 < node → IsAnsweredDeparted node entries }
@@ -65,8 +64,8 @@ pub fn law_departed()
     law_a_departed_node_is_answered_departed();
 }
 
-/// A take of the hub finds an AST: after every run, a take of the first process of a node with a pending AST is answered
-/// an AST, and that process is one of the node.
+/// A take of the hub finds an AST: after every run, a take of the first process of a node with a pending AST is
+/// answered an AST, and that process is of the node.
 pub fn law_delivery()
     ensures { (history : History) (last : State) → Run history last
         → (node pid : ℕ) → first_pending node last.processes ≡ Some pid
@@ -78,11 +77,11 @@ pub fn law_delivery()
     law_identifications_of_processes_rise();
 }
 
-/// Whatever happens between a hub and its 1 to 8 nodes, the journal is legal. The posts of a node that were served are
-/// its requests in the journal, and the first of all its posts. The items that were sent to a node are the first of its
-/// items in the journal, and those that it has received are the first of these. At most 64 posts of a node are not yet
-/// served, and at most 64 items of it are sent and not yet received. The hub itself has taken the ASTs that it drew, and
-/// made the departures of lost nodes, in that order, and nothing else.
+/// Whatever happens between a hub and its 1 to 8 nodes, the journal is legal. The served posts of a node are its
+/// requests in the journal, and a prefix of all its posts. The items sent to a node are a prefix of its items in the
+/// journal, and the received items a prefix of these. At most 64 posts of a node are not yet served, and at most 64
+/// items are sent to it and not yet received. The hub itself has taken the ASTs that it delivered, and made the
+/// departures of lost nodes, in that order, and nothing else.
 pub fn law_world()
     ensures right { (nodes : ℕ) → nodes ≤ 8 → (events : List Event) (world : World)
         → Reached nodes events world → IsRight nodes world }

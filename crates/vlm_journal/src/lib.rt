@@ -1,6 +1,6 @@
-//! The journal of a hub: each step, who asked for it, and its answer. [`journaled_core::JournaledCore`] is a core that writes its journal.
-//! [`laws`] has the laws of every journal: of its nodes, of their departures, and of the posts and items between them
-//! and the hub.
+//! The journal of a hub: each step, who asked for it, and its answer.
+//! [`journaled_core::JournaledCore`] is a core that writes its journal. [`laws`] has the laws of every journal: of its
+//! nodes, of their departures, and of the posts and items between them and the hub.
 #![tactic(auto)]
 
 pub mod entries;

@@ -30,7 +30,7 @@ admission_on f asked r = record {
 abbrev pub processes_converting : LocatedLock → Request → Records → List Process
 processes_converting f asked s = processes_after_acceptance f.row.pid asked.block f.row.lkid (plain_processes s)
 
--- the lock is converted on its resource as the plain machine does it, from these processes
+-- the lock is converted on its resource as in the plain machine, which starts from these processes
 pub record IsConverted (f : LocatedLock) (asked : Request) (accepted : List Process) (r : StoredResource) (old new : Records) : Type 0 where
   pub resources : plain_resources new
       ≡ map
@@ -38,7 +38,7 @@ pub record IsConverted (f : LocatedLock) (asked : Request) (accepted : List Proc
       (conversion_blocks (admission_on f asked r) accepted).value_block) (plain_resources old)
   pub statuses : plain_processes new ≡ (conversion_blocks (admission_on f asked r) accepted).processes
 
--- the resource once this lock goes to the end of a queue, with this row
+-- the resource after this lock moves to the end of a queue, with this row
 abbrev pub moved_in : LocatedLock → LockRow → Queue → StoredResource → StoredResource
 moved_in f row queue r = resource_with (moving (Queued f.res queue) (record { at = f.lock; row = row })) r
 
@@ -46,12 +46,12 @@ moved_in f row queue r = resource_with (moving (Queued f.res queue) (record { at
 abbrev pub blocks_granted : LockRow → StoredResource → List Process → Blocks
 blocks_granted row r accepted = blocks_after (grant_endings true row) (blocks_with r.value_block accepted)
 
--- what a lock wants is granted on its resource, at once, once these processes have its request accepted
+-- the request of the lock is granted at once on its resource; these are the processes after it was accepted
 pub record IsConvertedAtOnce (f : LocatedLock) (row : LockRow) (accepted : List Process) (r : StoredResource) (old new : Records) : Type 0 where
   pub replaced : IsReplaced f.res r (record (moved_in f (granted_row row) Granted r) { value_block = (blocks_granted row r accepted).value_block }) old new
   pub statuses : plain_processes new ≡ (blocks_granted row r accepted).processes
 
--- the located lock is converted, the other locks are left alone, and each process is owed the ASTs due to it
+-- the located lock is converted, the other locks are unchanged, and each process is owed the ASTs due to it
 pub record HasConverted (f : LocatedLock) (asked : Request) (old new : Records) : Type 0 where
   pub converted : IfSome (resource_at f.res old.resources)
       (λ r. IsConverted f asked (processes_converting f asked old) r old new)

@@ -38,8 +38,8 @@ resource_for e resources = unwrap_or (find (is_at e.site.key) resources) (new_re
 abbrev pub entered_queue : Bool → Queue
 entered_queue at_once = if at_once then Granted else Waiting
 
--- between two steps the lock of the entry may enter: its identification is above all, its process and its parent lock are
--- there, the handle of its resource fits the domain, and its key is hashed as the index does
+-- between two steps the new lock may enter: its identification is higher than all others, its process and its parent
+-- lock exist, its resource is in the domain of its key, and the hash of the key is the index's
 pub record MayEnter (e : NewLock) (s : Records) : Type 0 where
   pub rest : IsAtRest s
   pub rising : IsAboveEachLock e.lkid s
@@ -48,13 +48,13 @@ pub record MayEnter (e : NewLock) (s : Records) : Type 0 where
   pub keyed : IsKeyed e.site.domain e.site.key
   pub hash : e.hash ≡ hash_key s.keys e.site.key
 
--- there is room for the lock and for its resource if that is new, and the request names no routine
+-- there is room for the lock and for its resource if it is new, and the request names no routine
 pub record HasRoomToEnter (e : NewLock) (s : Records) : Type 0 where
   pub lock : HasRoomForLock e.lkid s
   pub resource : e.res ≡ None → HasRoomForResource e.hash s
   pub asts : routines_of (Some e.asked) ≡ 0
 
--- there is room for the lock and for its resource if that is new, and its process is owed the ASTs of the routines that
+-- there is room for the lock and for its resource if it is new, and its process is owed the ASTs of the routines that
 -- the request names; nothing else is changed
 pub record IsReady (e : NewLock) (old new : Records) : Type 0 where
   pub resources : new.resources ≡ old.resources
@@ -65,23 +65,23 @@ pub record IsReady (e : NewLock) (old new : Records) : Type 0 where
   pub resource : e.res ≡ None → HasRoomForResource e.hash new
   pub owed : DueChanges e.pid (λ due. due + routines_of (Some e.asked)) old new
 
--- the ASTs for a new lock with this row are due too, and the ASTs owed stay the same
+-- the ASTs for a new lock with this row are due in addition, and the ASTs owed stay the same
 pub record IsDueMore (row : LockRow) (old new : Records) : Type 0 where
   pub due : (pid : ℕ) → due_for pid new ≡ due_for pid old + due_to pid row
   pub dues : DuesStay old new
 
--- the processes once the request of a new lock is accepted
+-- the processes after the request of a new lock is accepted
 abbrev pub processes_accepted : NewLock → List Process → List Process
 processes_accepted e processes = processes_after_acceptance e.pid e.asked.block e.lkid processes
 
--- the processes once a new lock has entered: its request is accepted, and has ended if it is granted at once
+-- the processes after a new lock has entered: its request is accepted, and has ended if it is granted at once
 abbrev pub processes_entered : NewLock → ValueBlock → List Process → List Process
 processes_entered e block processes =
     (blocks_after (if e.at_once then grant_endings true (new_row e) else [])
     (blocks_with block (processes_accepted e processes))).processes
 
--- the new lock is added under a handle that no lock had: it is the last lock of its process and the last sublock of its
--- parent; each other lock stays where it was
+-- the new lock is added under an unused handle, as the last lock of its process and the last sublock of its parent;
+-- each other lock stays where it was
 pub record IsAdded (e : NewLock) (old new : Records) : Type 0 where
   pub lock : ℕ
   pub fresh : ¬ IsStored lock old
@@ -91,7 +91,7 @@ pub record IsAdded (e : NewLock) (old new : Records) : Type 0 where
   pub own_locks : map but_notices new.processes ≡ map but_notices (map (process_with_lock e.owner e.parent lock) old.processes)
   pub others : OtherLocksStay lock old new
 
--- the lock is on the resource with this handle, in the queue that it enters; no other lock and no other resource changed
+-- the lock is on the resource with this handle, in the queue that it enters; no other lock or resource changed
 pub record IsTakenIn (e : NewLock) (res : ℕ) (old new : Records) : Type 0 where
   pub entered : plain_resources new ≡ resources_after_entry e.serial e.site (new_row e) e.at_once (plain_resources old)
   pub added : IsAdded e old new
@@ -99,15 +99,15 @@ pub record IsTakenIn (e : NewLock) (res : ℕ) (old new : Records) : Type 0 wher
   pub there : HasResource res new
   pub rest : IsAtRest new
 
--- the lock is taken in on the resource of this handle, and no status block is written
+-- the lock is on the resource with this handle, and no status block is written
 pub record IsEntered (e : NewLock) (res : ℕ) (old new : Records) : Type 0 where
   pub taken : IsTakenIn e res old new
   pub processes : plain_processes new ≡ plain_processes old
   pub owner : IsProcess e.owner e.pid new
   pub value_block : IfSome (resource_at res new.resources) (λ r. r.value_block ≡ (resource_for e (plain_resources old)).value_block)
 
--- the lock is on the resource with this handle, its status block says pending or tells of the grant, and each process is
--- owed the ASTs that are due to it
+-- the lock is on the resource with this handle, its status block says that it is pending or granted, and each process
+-- is owed the ASTs that are due to it
 pub record HasEntered (e : NewLock) (res : ℕ) (old new : Records) : Type 0 where
   pub taken : IsTakenIn e res old new
   pub statuses : plain_processes new ≡ processes_entered e (resource_for e (plain_resources old)).value_block (plain_processes old)

@@ -22,7 +22,7 @@ use Rattle.vlm_locks.specs.Touched.{AreStillNoted, OnlyTouched, Touches}
 
 -- ---- which locks
 
--- the lock is one of those that are chosen
+-- whether the lock is chosen
 abbrev pub is_chosen : Scope → List Resource → ℕ → Bool
 is_chosen All resources lkid = true
 is_chosen (Below top) resources lkid = is_below 15 top resources lkid
@@ -32,20 +32,20 @@ abbrev pub Rise : List ℕ → Type 0
 Rise [] = ⊤
 Rise (lkid ∷ lkids) = AllByRecursion (λ later. lkid < later) lkids × Rise lkids
 
--- these are the identifications of the chosen locks of a process, rising
+-- these are the identifications of the chosen locks of a process, in rising order
 pub record AreChosen (scope : Scope) (pid : ℕ) (s : Records) (lkids : List ℕ) : Type 0 where
   pub rise : Rise lkids
   pub each : (lkid : ℕ) → IsIn lkid lkids
       → (at : ℕ) × (row : LockRow) × (Stores s at row × (row.lkid ≡ lkid) × (row.pid ≡ pid) × (is_chosen scope (plain_resources s) lkid ≡ true))
   pub all : (at : ℕ) (row : LockRow) → Stores s at row → row.pid ≡ pid → is_chosen scope (plain_resources s) row.lkid ≡ true → IsIn row.lkid lkids
 
--- the lock whose sublocks are given up is a stored lock of the process; no lock has identification 0, which the row of a
--- lock without a parent names
+-- the lock whose sublocks are given up is a stored lock of the process; its identification is not 0, which a row
+-- without a parent names
 abbrev pub IsOwnScope : Scope → ℕ → Records → Type 0
 IsOwnScope All pid s = ⊤
 IsOwnScope (Below top) pid s = (top ≢ 0) × (at : ℕ) × (row : LockRow) × (Stores s at row × (row.lkid ≡ top) × (row.pid ≡ pid))
 
--- with a chosen lock its sublocks are chosen
+-- the sublocks of a chosen lock are chosen too
 abbrev pub SublocksGoToo : Scope → Records → Type 0
 SublocksGoToo scope s = (at other : ℕ) (row up : LockRow) → Stores s at row → Stores s other up → row.parent ≡ up.lkid
     → is_chosen scope (plain_resources s) up.lkid ≡ true → is_chosen scope (plain_resources s) row.lkid ≡ true
@@ -56,13 +56,13 @@ SublocksGoToo scope s = (at other : ℕ) (row up : LockRow) → Stores s at row 
 abbrev pub noted_lkids : List Note → List ℕ
 noted_lkids notes = map (λ t. t.number) notes
 
--- each note is of a stored lock: it has its handle and its identification
+-- each note has the handle and the identification of a stored lock
 abbrev pub AreOfLocks : List Note → Records → Type 0
 AreOfLocks notes s = (t : Note) → IsIn t notes → (row : LockRow) × (Stores s t.at row × (row.lkid ≡ t.number))
 
 -- ---- ASTs that are owed on the way
 
--- the ASTs due to a process for a lock that is not one of these
+-- how many ASTs are due to a process for this lock: 0 if it is one of these
 abbrev pub due_but : List ℕ → ℕ → StoredLock → ℕ
 due_but lkids pid k = if is_among lkids k.row then 0 else due_to pid k.row
 
@@ -70,7 +70,7 @@ due_but lkids pid k = if is_among lkids k.row then 0 else due_to pid k.row
 abbrev pub IsPaidBut : List ℕ → Records → Type 0
 IsPaidBut lkids s = (pid : ℕ) → due_of pid s ≡ total_weight (due_but lkids pid) s
 
--- ---- what becomes of them
+-- ---- how they end and go
 
 -- the requests of these locks have ended, one after the other
 abbrev pub RequestsHaveEnded : List ℕ → Bool → Records → Records → Type 0

@@ -1,4 +1,4 @@
--- What is left of a resource where some of its locks are given up together.
+-- What is left of a resource after some of its locks are given up together.
 use Rattle.std.specs.Prelude.{ℕ, Bool, false, not, ◌&&◌, ◌||◌, ◌==◌, List, filter, None, if◌then◌else◌}
 use Rattle.std.specs.List.{list_any}
 use Rattle.vlm_words.specs.declared.locks.LockRow.{LockRow}
@@ -7,8 +7,8 @@ use Rattle.vlm_words.specs.State.{Resource}
 use Rattle.vlm_words.specs.ValueBlocks.{invalid_value_block}
 use Rattle.vlm_model.specs.Withdrawals.{Withdrawal, is_writer}
 
--- the withdrawal of a lock that is given up: how its request ends if it waits and if it converts; it writes no value, and
--- may mark the value block invalid
+-- the withdrawal of a lock that is given up: how its request ends if it waits and if it converts; it writes no value,
+-- and may mark the value block invalid
 abbrev pub giving_up : How → How → Bool → ℕ → Withdrawal
 giving_up waiting converting invalidates lkid = record {
   lkid = lkid;
@@ -20,7 +20,7 @@ giving_up waiting converting invalidates lkid = record {
   invalidates = invalidates;
 }
 
--- the lock of the row is among these
+-- whether the lock of the row is among these
 abbrev pub is_among : List ℕ → LockRow → Bool
 is_among lkids row = list_any (λ lkid. row.lkid == lkid) lkids
 
@@ -28,11 +28,11 @@ is_among lkids row = list_any (λ lkid. row.lkid == lkid) lkids
 abbrev pub rows_left : (LockRow → Bool) → List LockRow → List LockRow
 rows_left goes rows = filter (λ row. not (goes row)) rows
 
--- some row that goes holds PW or EX
+-- whether a row that goes holds PW or EX
 abbrev pub has_writer_among : (LockRow → Bool) → List LockRow → Bool
 has_writer_among goes rows = list_any (λ row. goes row && is_writer row.held) rows
 
--- the resource without the rows that go; where they invalidate and one of them held PW or EX all of its value block is
+-- the resource without the rows that go; if they invalidate and one of them held PW or EX, its whole value block is
 -- invalid
 unfoldable pub resource_left : (LockRow → Bool) → Bool → Resource → Resource
 resource_left goes invalidates r = record r {

@@ -1,4 +1,4 @@
--- The ASTs that a process is owed, and those that are due to it for its locks.
+-- The ASTs that a process is owed, and the ASTs that are due to it for its locks.
 use Rattle.std.specs.Prelude.{◌≡◌, ◌==◌, ◌+◌, ℕ, Bool, false, List, sum_by, None, Some, is_some, if◌then◌else◌}
 use Rattle.vlm_words.specs.declared.locks.Request.{Request}
 use Rattle.vlm_words.specs.declared.locks.LockRow.{LockRow}
@@ -30,7 +30,7 @@ weight_on measure r = sum_by measure r.granted + sum_by measure r.converting + s
 abbrev pub total_weight : (StoredLock → ℕ) → Records → ℕ
 total_weight measure s = sum_by (weight_on measure) s.resources
 
--- this lock is gone: every measure's sum is less by this lock
+-- this lock is gone: the sum of every measure no longer counts it
 abbrev pub LosesOne : StoredLock → Records → Records → Type 0
 LosesOne lock old new = (measure : StoredLock → ℕ) → total_weight measure new + measure lock ≡ total_weight measure old
 
@@ -42,15 +42,15 @@ WeighsTheSame old new = (measure : StoredLock → ℕ) → total_weight measure 
 abbrev pub IsPaid : Records → Type 0
 IsPaid s = (pid : ℕ) → due_of pid s ≡ due_for pid s
 
--- each process is owed the ASTs that are due to it, and this process this many more
+-- each process is owed the ASTs that are due to it, and the owner is owed this many more
 abbrev pub OwesMore : ℕ → ℕ → Records → Type 0
 OwesMore owner more s = (pid : ℕ) → due_of pid s ≡ due_for pid s + (if pid == owner then more else 0)
 
--- the ASTs due change by those of one lock, which had the first row and has the second
+-- the ASTs due change only for one lock, whose row changed from the first to the second
 abbrev pub DueMoves : LockRow → LockRow → Records → Records → Type 0
 DueMoves was now old new = (pid : ℕ) → due_for pid new + due_to pid was ≡ due_for pid old + due_to pid now
 
--- the ASTs owed change by those due for one lock, which had the first row and has the second
+-- the ASTs owed change as the ASTs due for one lock, whose row changed from the first to the second
 abbrev pub OwedMoves : LockRow → LockRow → Records → Records → Type 0
 OwedMoves was now old new = (pid : ℕ) → due_of pid new + due_to pid was ≡ due_of pid old + due_to pid now
 
@@ -84,7 +84,7 @@ blocks_written row request b =
     })
     b
 
--- how many completions do not come of a request that ends at once or later: that which SYNCSTS lets the answer tell
+-- how many completion ASTs of a request never come: 1 if it names a routine and is granted at once with SYNCSTS, else 0
 abbrev pub suppressed_completions : Bool → Request → ℕ
 suppressed_completions at_once request =
     if is_synchronous at_once request then one_where (is_some request.completion) else 0

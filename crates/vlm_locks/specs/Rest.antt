@@ -18,16 +18,16 @@ pub record IsAtRest (s : Records) : Type 0 where
 abbrev pub OthersStay : ℕ → Records → Records → Type 0
 OthersStay res old new = without_resource res new.resources ≡ without_resource res old.resources
 
--- all other locks are as they were: each place has them, under their handles, with their rows and in their order
+-- all other locks are unchanged: they have the same places, order, handles and rows
 abbrev pub OtherLocksStay : ℕ → Records → Records → Type 0
 OtherLocksStay lock old new = (place : Place) → without_lock lock (locks_at place new) ≡ without_lock lock (locks_at place old)
 
--- each process has the own locks that it had, and each of these the locks below it
+-- each process keeps its own locks, and each of these keeps its sublocks
 abbrev pub OwnLocksStay : Records → Records → Type 0
 OwnLocksStay old new = map but_notices new.processes ≡ map but_notices old.processes
 
--- a change of one lock on its resource leaves the others: every other resource and lock is unchanged, the resource still
--- exists, and what holds between two steps holds
+-- a change of one lock on its resource leaves the others alone: every other resource and lock is unchanged, the
+-- resource still exists, and the records are at rest
 pub record LeavesOthers (res lock : ℕ) (old new : Records) : Type 0 where
   pub others : OthersStay res old new
   pub locks : OtherLocksStay lock old new
@@ -43,8 +43,8 @@ but_service r = record r {
   waiting = [];
 }
 
--- the resource with this handle was the first and is the second; only its value block and its queues differ, and beside
--- them only status blocks may change
+-- the resource with this handle changed from the first to the second: in its value block and its queues; elsewhere only
+-- the notices of processes may change
 pub record IsReplaced (res : ℕ) (had left : StoredResource) (old new : Records) : Type 0 where
   pub was : resource_at res old.resources ≡ Some had
   pub same : but_service left ≡ but_service had

@@ -17,11 +17,11 @@ StandByIdentification s (at ∷ rest) = ((later : ℕ) → IsIn later rest → I
 abbrev pub handles_of_own : List OwnLock → List ℕ
 handles_of_own locks = map (λ own. own.at) locks
 
--- the locks of the process are in the order of identifications, and so is each of them with its sublocks
+-- the locks of the process are in the order of identifications; each comes before its sublocks, which are in order too
 pub record HasRisingLocks (s : Records) (p : StoredProcess) : Type 0 where
   pub own : StandByIdentification s (handles_of_own p.own)
   pub sublocks : (own : OwnLock) → IsIn own p.own → StandByIdentification s (own.at ∷ own.sublocks)
 
--- each stored lock has a lower identification
+-- each stored lock has a lower identification than this
 abbrev pub IsAboveEachLock : ℕ → Records → Type 0
 IsAboveEachLock lkid s = (at : ℕ) (row : LockRow) → Stores s at row → row.lkid < lkid

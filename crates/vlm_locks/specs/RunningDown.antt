@@ -1,4 +1,4 @@
--- What becomes of the records where processes end.
+-- The records after processes have ended.
 use Rattle.std.specs.Prelude.{◌≡◌, ◌==◌, ◌≤◌, ◌+◌, ℕ, Bool, true, length, map, None}
 use Rattle.vlm_words.specs.declared.locks.LockRow.{LockRow}
 use Rattle.vlm_words.specs.declared.resources.Queue.TheVariants.{Granted}
@@ -15,11 +15,11 @@ use Rattle.vlm_locks.specs.Owing.{IsPaid}
 use Rattle.vlm_locks.specs.Rest.{IsAtRest}
 use Rattle.vlm_locks.specs.Touched.{AreStillNoted, AreThere, OnlyTouched, Touches}
 
--- the resource without the locks of these processes; where one of them held PW or EX its value block is invalid
+-- the resource without the locks of these processes; if one of them held PW or EX, its value block is invalid
 abbrev pub resource_after_rundown : (ℕ → Bool) → Resource → Resource
 resource_after_rundown is_one = resource_left (λ row. is_one row.pid) true
 
--- a sublock is one of its parent's process
+-- a sublock belongs to its parent's process
 abbrev pub SublocksAreOwn : Records → Type 0
 SublocksAreOwn s = (at other : ℕ) (row up : LockRow) → Stores s at row → Stores s other up → row.parent ≡ up.lkid → row.pid ≡ up.pid
 
@@ -27,12 +27,12 @@ SublocksAreOwn s = (at other : ℕ) (row up : LockRow) → Stores s at row → S
 abbrev pub GrantedWantNothing : Records → Type 0
 GrantedWantNothing s = (res : ℕ) (lock : StoredLock) → IsIn lock (locks_at (Queued res Granted) s) → lock.row.want ≡ None
 
--- each lock was there, in its place and with its row
+-- each lock was there before, in the same place and with the same row
 abbrev pub WereThere : Records → Records → Type 0
 WereThere old new = (place : Place) (lock : StoredLock) → IsIn lock (locks_at place new) → IsIn lock (locks_at place old)
 
--- processes can be ended: sublocks are of their parents' processes, granted locks want nothing, each process is owed the
--- ASTs due to it, every noted resource exists, and there is room to note the resource of each lock
+-- processes can be ended: sublocks belong to their parents' processes, granted locks want nothing, each process is owed
+-- the ASTs due to it, every noted resource exists, and there is room to note the resource of each lock
 pub record CanEndProcesses (touched : Touches) (s : Records) : Type 0 where
   pub rest : IsAtRest s
   pub together : SublocksAreOwn s

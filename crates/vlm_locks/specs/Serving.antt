@@ -1,4 +1,4 @@
--- What the service of one resource leaves of the records.
+-- The records after the service of one resource.
 use Rattle.std.specs.Prelude.{◌≡◌, ◌&&◌, ℕ, Bool, false, List, [], Option, None, Some}
 use Rattle.vlm_words.specs.declared.locks.Request.{Request}
 use Rattle.vlm_words.specs.declared.resources.Queue.{Queue}
@@ -22,8 +22,8 @@ blocks_granted_from processes r = blocks_after (service r).endings (blocks_with 
 abbrev pub but_stored_queues : StoredResource → StoredResource
 but_stored_queues r = record r { granted = []; converting = []; waiting = [] }
 
--- what can be granted on the resource of this handle is granted, and its grants write its value block and their status
--- blocks and queue their completions; all else stays
+-- the requests that can be granted on the resource with this handle are granted; the grants write its value block and
+-- their status blocks, and queue their completion ASTs; all else stays
 pub record HasGranted (res : ℕ) (old new : Records) : Type 0 where
   pub had : StoredResource
   pub left : StoredResource
@@ -34,7 +34,7 @@ pub record HasGranted (res : ℕ) (old new : Records) : Type 0 where
       ≡ with_value_block (blocks_granted_from (plain_processes old) (plain_resource had)).value_block (service (plain_resource had)).resource
   pub statuses : plain_processes new ≡ (blocks_granted_from (plain_processes old) (plain_resource had)).processes
 
--- the resource of this handle is served, and then its granted locks are warned; all else stays
+-- the resource with this handle is served, and then its granted locks are warned; all else stays
 pub record IsServed (res : ℕ) (old new : Records) : Type 0 where
   pub had : StoredResource
   pub left : StoredResource
@@ -50,7 +50,7 @@ pub record IsServed (res : ℕ) (old new : Records) : Type 0 where
 abbrev pub nothing_queued : Resource → Bool
 nothing_queued r = is_empty r.converting && is_empty r.waiting
 
--- what a lock wants fits beside the other locks of the resource
+-- the mode that a lock wants fits beside the other locks of the resource
 abbrev pub wanted_fits_beside : Option Request → ℕ → StoredResource → Bool
 wanted_fits_beside None lock r = false
 wanted_fits_beside (Some request) lock r = fits_beside request.mode (Some lock) r
@@ -61,15 +61,15 @@ service_from Granted r = no_service r
 service_from Conversion r = service_of_conversions r r.converting
 service_from Waiting r = service_of_waiting r r.waiting
 
--- the resource with this handle was the first and is the second; only its queues differ, and beside them only status
--- blocks may change
+-- the resource with this handle changed from the first to the second: only in its queues; elsewhere only the notices of
+-- processes may change
 pub record IsLeft (res : ℕ) (had left : StoredResource) (old new : Records) : Type 0 where
   pub replaced : IsReplaced res had left old new
   pub now : resource_at res new.resources ≡ Some left
   pub rest : but_stored_queues left ≡ but_stored_queues had
 
--- a service of this resource is done: its endings took effect on the records and on the value block, which is kept beside
--- the records meanwhile
+-- a service of this resource is done: its endings took effect on the records and on the value block, which is kept
+-- outside the records meanwhile
 pub record IsServiceOf (done : Resource → Service) (res : ℕ) (old_block : ValueBlock) (old : Records)
     (new_block : ValueBlock) (new : Records) : Type 0 where
   pub had : StoredResource

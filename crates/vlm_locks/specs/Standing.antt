@@ -13,7 +13,7 @@ pub record IsLocated (f : LocatedLock) (s : Records) : Type 0 where
   pub owner : IsProcess f.owner f.row.pid s
   pub sound : IsSound s
 
--- it is the lock of this process with this identification
+-- the located lock is the process's lock with this identification
 pub record IsLocatedLockOf (pid lkid : ℕ) (f : LocatedLock) (s : Records) : Type 0 where
   pub located : IsLocated f s
   pub named : f.row.lkid ≡ lkid

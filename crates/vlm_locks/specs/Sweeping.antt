@@ -10,7 +10,7 @@ use Rattle.vlm_locks.specs.Owing.{IsPaid}
 use Rattle.vlm_locks.specs.Rest.{IsAtRest, OwnLocksStay, but_service}
 use Rattle.vlm_locks.specs.Staying.{LocksStayAmong}
 
--- a resource of this handle, with those made before and after it
+-- the resource with this handle, and the resources made before and after it
 pub record Parted (res : ℕ) (resources : List StoredResource) : Type 0 where
   pub before : List StoredResource
   pub own : StoredResource
@@ -23,7 +23,7 @@ abbrev pub StandInOrder : List ℕ → List StoredResource → Type 0
 StandInOrder [] resources = ⊤
 StandInOrder (res ∷ touched) resources = (here : Parted res resources) × StandInOrder touched here.after
 
--- nothing is to be swept but the touched resources
+-- only the touched resources may need a sweep
 abbrev pub AreSettledBut : List ℕ → List StoredResource → Type 0
 AreSettledBut touched resources = (r : StoredResource) → IsIn r resources → (IsIn r.at touched → ⊥) → IsSettled (plain_resource r)
 
@@ -31,7 +31,7 @@ AreSettledBut touched resources = (r : StoredResource) → IsIn r resources → 
 abbrev pub but_touched : List ℕ → List StoredResource → List StoredResource
 but_touched touched resources = filter (λ r. not (list_any (λ res. r.at == res) touched)) resources
 
--- one resource is swept: it is served, and goes if no lock is left on it; beside it only status blocks may change
+-- one resource is swept: it is served, and goes if no lock is left on it; elsewhere only processes' notices may change
 pub record IsSwept (res : ℕ) (old new : Records) (was : Parted res old.resources) : Type 0 where
   pub left : List StoredResource
   pub resources : new.resources ≡ was.before ++ (left ++ was.after)

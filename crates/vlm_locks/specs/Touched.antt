@@ -1,4 +1,4 @@
--- What a step notes: the resources that it touches, and before that locks that it is to give up.
+-- The notes of a step: the resources that it touches, and before that the locks that it will give up.
 use Rattle.std.specs.Prelude.{◌≡◌, ◌<◌, ⊤, ℕ, List, [], ◌∷◌, map}
 use Rattle.std.specs.List.{AllByRecursion}
 use Rattle.vlm_collections.specs.Lists.{IsIn}
@@ -32,7 +32,7 @@ RiseByNumber (t ∷ touches) = AllByRecursion (λ later. t.number < later.number
 abbrev pub AreStillNoted : List Note → List Note → Type 0
 AreStillNoted old new = (t : Note) → IsIn t old → IsIn t new
 
--- what has this number is noted
+-- there is a note with this number
 abbrev pub IsNoted : ℕ → List Note → Type 0
 IsNoted number touches = (t : Note) × (IsIn t touches × (t.number ≡ number))
 

@@ -10,7 +10,7 @@ use Rattle.vlm_locks.specs.Owing.{OwedMoves}
 use Rattle.vlm_locks.specs.Rest.{IsReplaced}
 use Rattle.vlm_locks.specs.Staying.{LocksStay}
 
--- the row of a lock that is armed no more
+-- the row of a lock that is no longer armed
 abbrev pub disarmed_row : LockRow → LockRow
 disarmed_row row = record row { armed = false }
 
@@ -18,11 +18,11 @@ disarmed_row row = record row { armed = false }
 abbrev pub is_warned_on : StoredResource → LockRow → Bool
 is_warned_on r row = is_to_warn (rows_of_locks r.converting) (rows_of_locks r.waiting) row
 
--- no lock of the resource is to be warned that is not in this list of armed locks
+-- every lock of the resource that is to be warned is in this list of armed locks
 abbrev pub SparesOthers : Armed → ℕ → Records → Type 0
 SparesOthers which res s = (r : StoredResource) (row : LockRow) → resource_at res s.resources ≡ Some r → is_listed which row ≡ false → is_warned_on r row ≡ false
 
--- the records once a lock is warned, if it is to be: it is armed no more
+-- the records after the lock is disarmed, if it is warned
 abbrev pub disarmed_if : Bool → ℕ → Records → Records
 disarmed_if warned lock s = if warned then with_lists (disarming lock) s else s
 
@@ -33,7 +33,7 @@ pub record IsLockWarned (r : StoredResource) (lock : ℕ) (row : LockRow) (old n
   pub only : SameButNotices (disarmed_if (is_warned_on r row) lock old) new
   pub owed : OwedMoves row (row_after_warning (rows_of_locks r.converting) (rows_of_locks r.waiting) row) old new
 
--- the granted locks of the resource of this handle, which was this one, are warned; all else stays
+-- the granted locks of this resource, which has this handle, are warned; all else stays
 pub record IsWarned (res : ℕ) (had : StoredResource) (old new : Records) : Type 0 where
   pub left : StoredResource
   pub replaced : IsReplaced res had left old new

@@ -7,7 +7,7 @@ use Rattle.vlm_locks.specs.declared.withdrawals.EndReason.TheVariants.{Aborted, 
 use Rattle.vlm_locks.specs.declared.withdrawals.EndReason.{EndReason}
 use Rattle.vlm_locks.specs.declared.withdrawals.Withdrawal.{Withdrawal}
 
--- how a request ends that is not granted
+-- how a request ends without a grant
 abbrev pub how_ended : EndReason → How
 how_ended Aborted = by_abort
 how_ended Cancelled = by_cancel
@@ -26,6 +26,6 @@ plain_withdrawal w = record {
   invalidates = w.invalidates;
 }
 
--- a lock that may write the value block leaves something in it: a value, or that it is invalid
+-- the withdrawal writes the value block, or marks it invalid, if its lock may write it
 abbrev pub writes_something : Withdrawal → Bool
 writes_something w = is_some w.value || w.invalidates

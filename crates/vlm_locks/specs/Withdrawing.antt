@@ -1,4 +1,4 @@
--- The steps in which a lock is withdrawn.
+-- The withdrawal of a lock, and its parts.
 use Rattle.std.specs.Prelude.{◌≡◌, ℕ, Bool, true, false, List, [], ◌∷◌, flat_map, map}
 use Rattle.vlm_words.specs.declared.locks.LockRow.{LockRow}
 use Rattle.vlm_words.specs.declared.resources.Queue.{Queue}
@@ -19,14 +19,14 @@ may_write Granted row = is_writer row.held
 may_write Conversion row = is_writer row.held
 may_write Waiting row = false
 
--- whether a withdrawn lock of this queue goes: always, except when a converting request is cancelled
+-- whether a withdrawn lock in this queue goes: always, unless it is to stay and is granted or converting
 abbrev pub goes : Bool → Queue → Bool
 goes false queue = true
 goes true Granted = false
 goes true Conversion = false
 goes true Waiting = true
 
--- a change of this resource: on all resources it does what the plain machine does, and it writes no status block
+-- a change of only this resource: it does to all resources what the plain machine does, and writes no status block
 pub record IsChange (res : ℕ) (change : Resource → Resource) (old new : Records) : Type 0 where
   pub resources : plain_resources new ≡ map change (plain_resources old)
   pub statuses : plain_processes new ≡ plain_processes old
@@ -39,14 +39,14 @@ abbrev pub owned_after : Bool → ℕ → List StoredProcess → List StoredProc
 owned_after false lock processes = processes
 owned_after true lock processes = map (process_without_lock lock) processes
 
--- a part of a withdrawal is done: the lock's resource is changed, each other lock stays, and the lock has left its process
--- or stays too
+-- a part of a withdrawal is done: the lock's resource is changed, each other lock stays, and the lock leaves its
+-- process or stays too
 pub record IsPartDone (f : LocatedLock) (change : Resource → Resource) (gone : Bool) (old new : Records) : Type 0 where
   pub made : IsChange f.res change old new
   pub locks : OtherLocksStay f.lock old new
   pub own_locks : new.processes ≡ owned_after gone f.lock old.processes
 
--- the resources are those that the withdrawal leaves
+-- the resources are as the withdrawal leaves them
 abbrev pub IsLeftBy : Withdrawal → Records → Records → Type 0
 IsLeftBy w old new = plain_resources new ≡ map (resource_after_withdrawals (plain_withdrawal w ∷ [])) (plain_resources old)
 

@@ -25,7 +25,6 @@ use vlm_words::locks::Request;
 use vlm_words::modes::Mode;
 use vlm_words::resources::Queue;
 
-// Whether the mode fits beside all other locks of a granted lock's resource.
 fn fits_others(store: &Store, located: &LocatedLock, mode: Mode) -> bool
     requires located { IsLocated located.now store.now }
     requires granted { located.now.queue ≡ Queue.Granted }
@@ -51,8 +50,6 @@ pub fn converts_at_once(store: &Store, located: &LocatedLock, flags: EnqFlags, m
         && (!flags.has(EnqFlags::QUECVT) || is_empty(store, located.res, Queue::Conversion))
 }
 
-// Grants a conversion at once: the lock goes to the end of the granted queue, its request is accepted, and the grant
-// takes effect on its status block, and with VALBLK on the value block of its resource.
 fn convert_now(store: &mut Store, located: &LocatedLock, row: &StoredRow, asked: &Request)
     requires located { IsLocated located.now store.old }
     requires row { IsSameLock located.now.row row.now }
@@ -78,7 +75,6 @@ fn convert_now(store: &mut Store, located: &LocatedLock, row: &StoredRow, asked:
     }
 }
 
-// Queues a conversion: its request is accepted, and the lock goes to the end of the conversion queue.
 fn convert_later(store: &mut Store, located: &LocatedLock, row: StoredRow, asked: &Request)
     requires located { IsLocated located.now store.old }
     requires row { IsSameLock located.now.row row }
@@ -97,8 +93,6 @@ fn convert_later(store: &mut Store, located: &LocatedLock, row: StoredRow, asked
     accept(store, located.owner, asked.block, located.row.lkid());
 }
 
-// Converts a granted lock whose process is owed the ASTs of the request. The lock is granted at once, or goes to the
-// end of the conversion queue and keeps its mode.
 fn convert_owed(store: &mut Store, located: &LocatedLock, asked: &Request, at_once: bool)
     requires rest { IsAtRest store.old }
     requires located { IsLocated located.now store.old }
@@ -117,9 +111,9 @@ fn convert_owed(store: &mut Store, located: &LocatedLock, asked: &Request, at_on
     }
 }
 
-/// Converts a granted lock. Its process is owed the ASTs of the request's routines. Then the lock is granted at once,
-/// or goes to the end of the conversion queue and keeps its mode. A grant at once takes effect on the status block of
-/// the request, and with VALBLK on the value block of the resource. If memory is refused, nothing is changed.
+/// Converts a granted lock. Owes its process the ASTs of the request's routines. Then the lock is granted at once, or
+/// goes to the end of the conversion queue and keeps its mode. A grant at once takes effect on the status block of the
+/// request, and with VALBLK on the value block of the resource. If memory is refused, nothing is changed.
 pub fn convert(
     store: &mut Store,
     located: &LocatedLock,

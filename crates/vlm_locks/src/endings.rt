@@ -1,5 +1,4 @@
-//! The end of a request: its status is written, with VALBLK a grant returns or writes the value block, and its completion
-//! AST is queued.
+//! The end of a request: its status, its completion AST, and with VALBLK what a grant does to the value block.
 
 ghost use Rattle.std.specs.Prelude.{◌≡◌, ◌≤◌, ◌-◌, Some, true, false, is_some};
 ghost use Rattle.vlm_words.specs.declared.resources.ValueBlock.{ValueBlock};
@@ -25,7 +24,6 @@ use vlm_words::locks::Request;
 use vlm_words::modes::{Act, value_action};
 use vlm_words::resources::ValueBlock;
 
-// The action of a request's grant on the value block, by the mode held before.
 #[tactic(auto, unfolding(vlm_model::specs::Grants::grant_act))]
 fn grant_act(held: Option<Request>, want: &Request) -> Act
     ensures { result ≡ grant_act held (Some want.now) }
@@ -39,7 +37,6 @@ fn grant_act(held: Option<Request>, want: &Request) -> Act
     }
 }
 
-// Writes the value block from a status block: its value part, and for a wide write its tail too.
 fn write_from(value_block: &mut ValueBlock, from: &Block, wide: bool)
     ensures { value_block.new ≡ value_block_written_from wide from.now value_block.old }
 {
@@ -47,8 +44,6 @@ fn write_from(value_block: &mut ValueBlock, from: &Block, wide: bool)
     value_block.write(from.value, tail);
 }
 
-// Writes the status of a grant to the status block of the lock's process. With VALBLK the value block is returned
-// there, or written from there: with WIDE all 64 bytes of it.
 #[tactic(auto, unfolding(vlm_model::specs::Effects::blocks_after_return, vlm_model::specs::Effects::blocks_after_writing))]
 fn write_grant(
     value_block: &mut ValueBlock,
@@ -77,8 +72,8 @@ fn write_grant(
     }
 }
 
-/// Queues the completion AST of a request that has ended, at once or later, if it names a completion routine. A grant
-/// at once with SYNCSTS queues none, since the answer tells of it.
+/// Queues the completion AST of a request that has ended, if it names a completion routine. A grant at once with
+/// SYNCSTS queues none, since the answer reports it.
 #[tactic(auto, unfolding(vlm_model::specs::Asts::completion_asts))]
 pub(crate) fn complete(
     store: &mut Store,
@@ -110,7 +105,6 @@ pub(crate) fn complete(
     }
 }
 
-// How many completion ASTs of a request never come: one after a grant at once with SYNCSTS.
 fn suppressed_completions(request: &Request, at_once: bool) -> usize
     ensures { result ≡ suppressed_completions at_once request.now }
 {
@@ -139,8 +133,7 @@ fn tell_grant(store: &mut Store, at: ProcAt, row: &StoredRow, request: &Request,
     }
 }
 
-/// Accepts a request without VALBLK and grants it at once. It writes the status block once, queues the completion AST,
-/// and frees the room of the ASTs that will not come.
+/// Accepts a request without VALBLK and grants it at once, with one write of the status block.
 #[tactic(auto, unfolding(vlm_model::specs::Grants::grant_act))]
 pub(crate) fn grant_without_value_block(
     store: &mut Store,
@@ -163,9 +156,8 @@ pub(crate) fn grant_without_value_block(
     tell_grant(store, at, row, request, true);
 }
 
-/// Ends a request by its grant, at once or from a queue. Its status is written to the status block of the lock's
-/// process. With VALBLK the value block is returned there, or written from there. Its completion AST is queued, and the
-/// room of the ASTs that will not come is freed.
+/// Ends a request by its grant, at once or from a queue, and writes its status block. With VALBLK the status block also
+/// gets the value block, or the value block is written from it: with WIDE all 64 bytes.
 pub(crate) fn end_by_grant(
     value_block: &mut ValueBlock,
     store: &mut Store,

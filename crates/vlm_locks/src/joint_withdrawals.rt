@@ -18,27 +18,21 @@ use vlm_store::{ProcAt, Store};
 /// Which of the locks of a process are given up together.
 #[derive(Clone, Copy)]
 pub enum Scope {
-    /// All of them.
     All,
-    /// Those below the lock of this identification: its sublocks, and those of sublocks, and not the lock itself.
+    /// The locks at any depth below the lock with this identification, without that lock.
     Below(u32),
 }
 
 /// Locks of a process that are given up together.
 #[derive(Clone, Copy)]
 pub struct JointWithdrawal {
-    /// The process.
     pub owner: ProcAt,
-    /// Its identification.
     pub pid: u32,
-    /// Which of its locks go.
     pub scope: Scope,
-    /// Whether the value block of each resource is marked invalid on which one of them held PW or EX, granted or
-    /// converting.
+    /// Whether to mark a resource's value block invalid if one of them holds PW or EX there, granted or converting.
     pub invalidates: bool,
 }
 
-// Notes the chosen locks, by rising identification.
 fn note_scope(store: &Store, touched: &mut Touched, joint: &JointWithdrawal)
     requires rest { IsAtRest store.now }
     requires owner { IsProcess joint.now.owner joint.now.pid store.now }
@@ -57,7 +51,6 @@ fn note_scope(store: &Store, touched: &mut Touched, joint: &JointWithdrawal)
     }
 }
 
-// Ends the requests of the noted locks, from the first to the last. The locks stay where they are.
 fn end_noted(store: &mut Store, notes: &[Note], invalidates: bool)
     requires rise { Rise (noted_lkids notes.now) }
     requires locks { AreOfLocks notes.now store.old }
@@ -73,8 +66,7 @@ fn end_noted(store: &mut Store, notes: &[Note], invalidates: bool)
     }
 }
 
-// Removes the noted locks, from the last to the first, so that sublocks go before their parents. The note of each lock
-// becomes a note of its resource.
+// The last lock goes first, so that sublocks go before their parents. Its note becomes a note of its resource.
 fn remove_noted(store: &mut Store, touched: &mut Touched, joint: &JointWithdrawal)
     requires owner { IsProcess joint.now.owner joint.now.pid store.old }
     requires can_go { CanGo joint.now.pid touched.old store.old }
@@ -92,9 +84,9 @@ fn remove_noted(store: &mut Store, touched: &mut Touched, joint: &JointWithdrawa
     }
 }
 
-/// Gives up locks of a process together. First their requests end with ABORT, and their completion ASTs are queued, by
-/// rising identification. Then all of them go. Their resources are noted, and nothing is granted. The cost grows with
-/// the locks that go, and their number times its logarithm for putting them in order.
+/// Gives up locks of a process together. First their requests end with ABORT and queue their completion ASTs, by rising
+/// identification. Then all of the locks go. It notes their resources, and grants nothing. The cost grows with the
+/// number of locks that go; for sorting them, with that number times its logarithm.
 pub fn give_up_together(store: &mut Store, touched: &mut Touched, joint: &JointWithdrawal)
     requires owner { IsProcess joint.now.owner joint.now.pid store.old }
     requires own { IsOwnScope joint.now.scope joint.now.pid store.old }

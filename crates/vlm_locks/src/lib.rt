@@ -1,7 +1,7 @@
 //! The transitions of locks: a lock enters a resource, converts, or is withdrawn; a process ends; a resource is swept.
 //!
-//! A transition touches only the lock's own resource. Only an entry, and a conversion that names a routine, take memory,
-//! and they take it before anything is changed.
+//! A transition touches only the lock's own resource. Only an entry, and a conversion that names a routine, take
+//! memory, and they take it before they change anything.
 #![tactic(auto)]
 
 mod conversions;

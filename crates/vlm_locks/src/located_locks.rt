@@ -14,23 +14,17 @@ ghost use Rattle.vlm_locks.specs.Standing.{IsLockOf, IsLocated};
 use vlm_store::{LockAt, ProcAt, ResAt, Store, StoredRow};
 use vlm_words::resources::Queue;
 
-/// A lock, its row, its process, and the queue in which it is.
+/// A lock, with its process, its row, its resource and its queue.
 #[derive(Clone, Copy)]
 pub struct LocatedLock {
-    /// The handle of the lock.
     pub lock: LockAt,
-    /// The handle of the process that owns it.
     pub owner: ProcAt,
-    /// Its row: its identification, and its granted and requested modes.
     pub row: StoredRow,
-    /// The handle of its resource.
     pub res: ResAt,
-    /// The queue in which it is.
     pub queue: Queue,
 }
 
 impl LocatedLock {
-    /// Whether the lock is granted: it is in the granted queue.
     pub fn is_granted(&self) -> bool
         ensures granted { OnTrue result (self.now.queue ≡ Queue.Granted) }
         ensures queued { OnFalse result (self.now.queue ≢ Queue.Granted) }
@@ -39,7 +33,7 @@ impl LocatedLock {
     }
 }
 
-/// Locates the lock with this handle. Each lock is in a queue.
+/// Locates the lock with this handle. Every lock is in a queue.
 pub fn located_lock(store: &Store, lock: LockAt) -> LocatedLock
     requires rest { IsAtRest store.now }
     requires stored { IsStored lock store.now }
@@ -59,8 +53,7 @@ pub fn located_lock(store: &Store, lock: LockAt) -> LocatedLock
     }
 }
 
-/// The lock of this identification, if it is one of the process; `None` if it is not, or if no lock has the
-/// identification.
+/// The lock with this identification, if there is one and the process owns it.
 pub fn find_lock(store: &Store, pid: u32, lkid: u32) -> Option<LockAt>
     requires { IsAtRest store.now }
     ensures held { is_some result ≡ list_any (holds_lock pid lkid) (plain_resources store.now) }

@@ -12,7 +12,6 @@ ghost use Rattle.vlm_locks.specs.Touched.{touched_handles};
 use crate::touched::{Note, Touched};
 use vlm_store::{LockAt, ProcAt, Store};
 
-// Notes all locks of a process, by rising identification. There is room for each.
 pub(crate) fn note_own(store: &Store, touched: &mut Touched, owner: ProcAt, pid: u32)
     requires rest { IsAtRest store.now }
     requires owner { IsProcess owner pid store.now }
@@ -29,7 +28,6 @@ pub(crate) fn note_own(store: &Store, touched: &mut Touched, owner: ProcAt, pid:
     }
 }
 
-// Notes the sublocks of a lock, after the notes that are there. There is room for each.
 fn note_sublocks(store: &Store, touched: &mut Touched, lock: LockAt)
     requires rest { IsAtRest store.now }
     requires stored { IsStored lock store.now }
@@ -48,7 +46,7 @@ fn note_sublocks(store: &Store, touched: &mut Touched, lock: LockAt)
     }
 }
 
-// Notes all locks below the lock of this identification, by rising identification. It goes level by level, and the
+// Notes all locks below the lock with this identification, by rising identification. It goes level by level, and the
 // notes are its queue of locks whose sublocks come next. So it looks at no other lock, and takes no memory.
 pub(crate) fn note_below(store: &Store, touched: &mut Touched, pid: u32, top: u32)
     requires rest { IsAtRest store.now }

@@ -11,9 +11,7 @@ use crate::touched::{Note, Touched};
 use crate::withdrawals::Withdrawal;
 use vlm_store::{ProcAt, Store};
 
-// Withdraws all locks of a process that ends. Their requests end without a status or an AST. The value block of a
-// resource on which one is held at PW or EX is marked invalid. The last lock goes first, so that sublocks go before
-// their parents. The touched resources are noted. The cost grows with the locks that go.
+// The last lock goes first, so that sublocks go before their parents.
 fn run_down(store: &mut Store, touched: &mut Touched, owner: ProcAt, pid: u32)
     requires owner { IsProcess owner pid store.old }
     requires can_end { CanEndProcesses touched.old store.old }
@@ -26,9 +24,9 @@ fn run_down(store: &mut Store, touched: &mut Touched, owner: ProcAt, pid: u32)
     }
 }
 
-/// Ends a process. All its locks are withdrawn: their requests end without a status or an AST, and the value block of a
-/// resource on which one is held at PW or EX is marked invalid. Then the process goes, with its status blocks and its
-/// ASTs. The touched resources are noted. The cost grows with the locks that go.
+/// Ends a process. First it withdraws all its locks: their requests end without a status or an AST, and the value block
+/// of a resource is marked invalid if one of them holds PW or EX there. Then the process goes, with its status blocks
+/// and its ASTs. It notes the touched resources. The cost grows with the locks that go.
 pub fn end_process(store: &mut Store, touched: &mut Touched, owner: ProcAt, pid: u32)
     requires owner { IsProcess owner pid store.old }
     requires can_end { CanEndProcesses touched.old store.old }
@@ -39,8 +37,7 @@ pub fn end_process(store: &mut Store, touched: &mut Touched, owner: ProcAt, pid:
     store.remove_process(owner);
 }
 
-/// Ends all processes of a node, 1 to 8, as [`end_process`] ends one. The cost grows with the processes and the locks
-/// that go.
+/// Ends all processes of a node, as [`end_process`] ends one. The cost grows with the processes and locks that go.
 pub fn end_processes_of(store: &mut Store, touched: &mut Touched, node: u8)
     requires first { 1 ≤ node }
     requires last { node ≤ 8 }

@@ -25,7 +25,7 @@ use vlm_words::locks::Request;
 use vlm_words::modes::Mode;
 use vlm_words::resources::{Queue, ValueBlock};
 
-// Ends the queued request of a lock with this status, and queues its completion AST. Its blocking AST never comes.
+// The completion AST of the request is queued. Its blocking AST never comes.
 fn end_with_status(store: &mut Store, located: &LocatedLock, request: &Request, status: Cond)
     requires located { IsLocated located.now store.old }
     requires wants { located.now.row.want ≡ Some request.now }
@@ -46,7 +46,7 @@ fn end_with_status(store: &mut Store, located: &LocatedLock, request: &Request, 
     );
 }
 
-// Ends the queued request of a lock with its process. None of its ASTs come.
+// The process ends, so none of the request's ASTs come.
 fn end_silently(store: &mut Store, located: &LocatedLock)
     requires located { IsLocated located.now store.old }
     requires owed { row_due located.now.row ≤ due_of located.now.row.pid store.old }
@@ -58,7 +58,6 @@ fn end_silently(store: &mut Store, located: &LocatedLock)
     forgive(store, located.owner, located.row.wanted_routines());
 }
 
-// Ends the queued request of a lock in this way, if it has one.
 fn end_request(store: &mut Store, located: &LocatedLock, ended: EndReason)
     requires located { IsLocated located.now store.old }
     requires owed { row_due located.now.row ≤ due_of located.now.row.pid store.old }
@@ -77,7 +76,6 @@ fn end_request(store: &mut Store, located: &LocatedLock, ended: EndReason)
     }
 }
 
-// Ends the request of a lock as its queue asks for. A granted lock has none.
 fn end_withdrawn(store: &mut Store, located: &LocatedLock, withdrawal: &Withdrawal)
     requires located { IsLocated located.now store.old }
     requires named { withdrawal.now.lkid ≡ located.now.row.lkid }
@@ -98,7 +96,7 @@ fn end_withdrawn(store: &mut Store, located: &LocatedLock, withdrawal: &Withdraw
     }
 }
 
-// A lock that goes is no longer warned: the AST that is owed for it is forgiven.
+// A lock that goes is never warned, so the AST owed for the warning is forgiven.
 fn release_blocking_ast(store: &mut Store, located: &LocatedLock, gone: bool)
     requires located { IsLocated located.now store.old }
     requires owed { one_where located.now.row.armed ≤ due_of located.now.row.pid store.old }
@@ -113,14 +111,13 @@ fn release_blocking_ast(store: &mut Store, located: &LocatedLock, gone: bool)
     forgive(store, located.owner, usize::from(located.row.is_armed()));
 }
 
-// Whether a withdrawn lock of this queue goes. It does not if it is to stay and holds a mode.
 fn goes(stays: bool, queue: Queue) -> bool
     ensures { result ≡ goes stays queue }
 {
     !stays || matches!(queue, Queue::Waiting)
 }
 
-// Ends the request of a lock, and forgives the ASTs that are owed for it and will not come.
+// Ends the request of a lock, and forgives the ASTs owed for the lock that will not come.
 pub(crate) fn end_notices(store: &mut Store, located: &LocatedLock, withdrawal: &Withdrawal)
     requires located { IsLocated located.now store.old }
     requires named { withdrawal.now.lkid ≡ located.now.row.lkid }
@@ -140,7 +137,6 @@ pub(crate) fn end_notices(store: &mut Store, located: &LocatedLock, withdrawal: 
     release_blocking_ast(store, located, gone);
 }
 
-// Whether a lock that holds this may write the value block when it is given up.
 fn is_writer(held: Option<Request>) -> bool
     ensures { result ≡ is_writer held }
 {
@@ -160,8 +156,6 @@ fn may_write(located: &LocatedLock) -> bool
     }
 }
 
-// The value block after a withdrawal that may write it: a given value is written, with a tail or without one, and then
-// the whole block may be marked invalid.
 fn block_after_writer(block: ValueBlock, withdrawal: &Withdrawal) -> ValueBlock
     ensures { result ≡ value_block_after_writer (plain_withdrawal withdrawal.now) block }
 {
@@ -175,7 +169,6 @@ fn block_after_writer(block: ValueBlock, withdrawal: &Withdrawal) -> ValueBlock
     left
 }
 
-// Changes the value block as the withdrawal asks for. Only a lock that is held at PW or EX, granted or converting, does.
 fn leave_value(store: &mut Store, located: &LocatedLock, withdrawal: &Withdrawal)
     requires rest { IsAtRest store.old }
     requires located { IsLocated located.now store.old }
@@ -194,7 +187,6 @@ fn leave_value(store: &mut Store, located: &LocatedLock, withdrawal: &Withdrawal
     }
 }
 
-// Removes a lock without sublocks.
 #[inline(always)]
 fn remove(store: &mut Store, located: &LocatedLock)
     requires rest { IsAtRest store.old }
@@ -208,7 +200,6 @@ fn remove(store: &mut Store, located: &LocatedLock)
     store.remove_lock(located.lock);
 }
 
-// Gives up the conversion of a lock: the lock goes to the end of the granted queue, and wants nothing.
 // Kept out of line: few dequeues cancel a conversion.
 #[inline(never)]
 fn restore_granted(store: &mut Store, located: &LocatedLock)
@@ -223,7 +214,6 @@ fn restore_granted(store: &mut Store, located: &LocatedLock)
     store.move_lock(located.lock, &located.row.without_want(), granted);
 }
 
-// Gives up a queued conversion, whose lock stays granted, or a waiting request with its lock.
 fn cancel(store: &mut Store, located: &LocatedLock)
     requires rest { IsAtRest store.old }
     requires located { IsLocated located.now store.old }
@@ -242,7 +232,6 @@ fn cancel(store: &mut Store, located: &LocatedLock)
     }
 }
 
-// Changes the value block as the withdrawal asks for, and removes a lock without sublocks.
 pub(crate) fn give_up(store: &mut Store, located: &LocatedLock, withdrawal: &Withdrawal)
     requires rest { IsAtRest store.old }
     requires located { IsLocated located.now store.old }
@@ -255,11 +244,10 @@ pub(crate) fn give_up(store: &mut Store, located: &LocatedLock, withdrawal: &Wit
     remove(store, located);
 }
 
-/// Withdraws a lock. Its request ends, and its completion AST is queued. A lock that is held at PW or EX, granted or
-/// converting, writes a given value to the value block, with a given tail or without one, and may then mark the whole
-/// block invalid. Then the lock goes. If a lock that converts is to stay, a converting lock goes to the end of the
-/// granted queue and keeps its mode, a waiting lock goes, and a granted one stays as it is. A lock that goes has no
-/// sublocks.
+/// Withdraws a lock. Its request ends and queues its completion AST. A lock that holds PW or EX, granted or converting,
+/// writes a given value to the value block, with or without a tail, and may then mark the whole block invalid. Then the
+/// lock goes. If the withdrawal lets it stay, only a waiting lock goes: a converting one goes to the end of the granted
+/// queue and keeps its mode, and a granted one stays as it is. A lock that goes has no sublocks.
 // Inlined, as `remove` is: a dequeue has just read the lock.
 #[inline(always)]
 pub fn withdraw(store: &mut Store, located: &LocatedLock, withdrawal: &Withdrawal)

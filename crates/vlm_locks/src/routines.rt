@@ -10,7 +10,6 @@ use vlm_procs::owe;
 use vlm_store::{ProcAt, Store};
 use vlm_words::locks::Request;
 
-// How many routines a request names, if there is one.
 fn routines_of(want: Option<Request>) -> usize
     ensures { result ≡ routines_of want }
 {
@@ -22,9 +21,8 @@ fn routines_of(want: Option<Request>) -> usize
     }
 }
 
-/// Owes a process the ASTs of the routines that its request names, if it names any. If memory is refused, nothing is
-/// changed.
-// Inlined: most requests name no routine, and need no more than the test.
+/// Owes a process the ASTs of the routines that its request names, if it names any.
+// Inlined: most requests name no routine, and need only the test.
 #[inline(always)]
 pub(crate) fn owe_routines(
     store: &mut Store,

@@ -19,7 +19,6 @@ use vlm_store::{LockAt, Place, ResAt, Store, StoredRow};
 use vlm_words::locks::Request;
 use vlm_words::resources::{Queue, ValueBlock};
 
-// Whether the requested mode of a lock fits beside the modes that the other locks of the resource hold.
 fn wanted_fits(store: &Store, res: ResAt, lock: LockAt, want: Option<Request>) -> bool
     requires there { HasResource res store.now }
     requires stored { IsStored lock store.now }
@@ -32,8 +31,6 @@ fn wanted_fits(store: &Store, res: ResAt, lock: LockAt, want: Option<Request>) -
     }
 }
 
-// Grants the request of a lock: the lock goes to the granted queue, and the grant takes effect on the value block and
-// on the status block.
 fn grant(value_block: &mut ValueBlock, store: &mut Store, res: ResAt, lock: LockAt, row: &StoredRow)
     requires there { HasResource res store.old }
     requires stored { Stores store.old lock row.now }
@@ -51,8 +48,7 @@ fn grant(value_block: &mut ValueBlock, store: &mut Store, res: ResAt, lock: Lock
     end_by_grant(value_block, store, owner, row, false);
 }
 
-// Grants from the front of a queue while the first lock fits. Each grant takes effect on the value block and on the
-// status block.
+// Grants from the front of a queue while the first lock fits.
 fn serve_queue(value_block: &mut ValueBlock, store: &mut Store, res: ResAt, queue: Queue)
     requires there { HasResource res store.old }
     requires queued { Queue.Granted ≢ queue }
@@ -71,7 +67,7 @@ fn serve_queue(value_block: &mut ValueBlock, store: &mut Store, res: ResAt, queu
     }
 }
 
-// Grants from the conversion queue, and from the waiting queue if that is empty then.
+// Grants from the conversion queue; if that is empty then, from the waiting queue.
 fn serve_queues(value_block: &mut ValueBlock, store: &mut Store, res: ResAt)
     requires there { HasResource res store.old }
     requires paid { IsPaid store.old }
@@ -86,7 +82,6 @@ fn serve_queues(value_block: &mut ValueBlock, store: &mut Store, res: ResAt)
     }
 }
 
-// Whether no request is queued on the resource.
 fn nothing_queued(store: &Store, res: ResAt) -> bool
     requires { HasResource res store.now }
     ensures nothing { IfSome (resource_at res store.now.resources) (λ r. result
@@ -96,7 +91,6 @@ fn nothing_queued(store: &Store, res: ResAt) -> bool
     is_empty(store, res, Queue::Conversion) && is_empty(store, res, Queue::Waiting)
 }
 
-// Grants what can be granted on a resource, and writes the value block after the grants.
 // Kept out of line, as `warn` is: most sweeps find nothing queued.
 #[inline(never)]
 fn grant_queued(store: &mut Store, res: ResAt)
@@ -112,9 +106,8 @@ fn grant_queued(store: &mut Store, res: ResAt)
 }
 
 /// Grants what can be granted on a resource: conversions first, then new requests, each queue up to the first request
-/// that does not fit. Each grant takes effect on the value block and on the status block, and its completion AST is
-/// queued. Then the granted locks in the way of the remaining requests are warned. The cost grows with the locks that
-/// are granted and warned.
+/// that does not fit. Each grant takes effect on the value block and the status block, and queues its completion AST.
+/// Then it warns the granted locks that block the other requests. The cost grows with the locks granted and warned.
 pub(crate) fn serve(store: &mut Store, res: ResAt)
     requires there { HasResource res store.old }
     requires paid { IsPaid store.old }

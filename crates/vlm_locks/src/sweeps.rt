@@ -15,8 +15,6 @@ use vlm_model::laws::law_a_sweep_touches_only_what_is_not_settled;
 use vlm_queue::is_idle;
 use vlm_store::{ResAt, Store};
 
-// Sweeps one resource: grants what can be granted, warns the locks in the way of the rest, and removes the resource if
-// it has no locks.
 fn sweep_one(store: &mut Store, res: ResAt)
     requires there { HasResource res store.old }
     requires paid { IsPaid store.old }
@@ -49,9 +47,8 @@ pub fn sweep_resource(store: &mut Store, res: ResAt)
     sweep_one(store, res);
 }
 
-/// Ends a step that touched these resources, in the order of their making. On each it grants what can be granted, warns
-/// the locks in the way of the rest, and removes the resource if it has no locks. No other resource needs this. The
-/// cost grows with the resources that are touched and the locks that are granted and warned.
+/// Ends a step that touched these resources: sweeps each as [`sweep_resource`] does, in the order of making. No other
+/// resource needs a sweep. The cost grows with the resources touched and the locks granted and warned.
 pub fn sweep(store: &mut Store, touches: &[Note])
     requires rest { IsAtRest store.old }
     requires in_order { StandInOrder (touched_handles touches.now) store.old.resources }

@@ -1,5 +1,4 @@
-//! The notes of a step: the resources that it touches, for its sweep; and in the same room the locks that it gives up
-//! together, until they are gone.
+//! The notes of a step: the resources that it touches, for its sweep; before that the locks that it gives up together.
 
 ghost use Rattle.std.specs.Prelude.{◌≡◌, ◌<◌, ◌≤◌, List, [], ◌∷◌, ◌++◌, length, vec_capacity, IfSome, OnErr, OnOk};
 ghost use Rattle.vlm_words.specs.declared.locks.LockRow.{LockRow};
@@ -16,8 +15,7 @@ use vlm_store::{LockAt, ResAt, Store};
 /// The kind of a handle in a note: of a resource, or of a lock.
 pub struct NotedKind;
 
-/// A note of a resource that a step has touched, or of a lock that it will give up. The step knows which of the two it
-/// is.
+/// A note of a resource that a step has touched, or of a lock that it will give up. The step knows which.
 #[derive(Clone, Copy)]
 pub struct Note {
     // the serial of a resource, or the identification of a lock: notes in this order are in the order of making
@@ -26,7 +24,6 @@ pub struct Note {
 }
 
 impl Note {
-    /// A note of a resource.
     pub fn of_resource(store: &Store, res: ResAt) -> Note
         requires { HasResource res store.now }
         ensures res { result.at ≡ res }
@@ -40,7 +37,6 @@ impl Note {
         }
     }
 
-    /// A note of a lock.
     pub fn of_lock(store: &Store, lock: LockAt) -> Note
         requires { IsStored lock store.now }
         ensures lock { result.at ≡ lock }
@@ -52,14 +48,12 @@ impl Note {
         }
     }
 
-    /// The handle of the resource.
     pub fn res(&self) -> ResAt
         ensures { result ≡ self.now.at }
     {
         self.at.in_kind()
     }
 
-    /// The handle of the lock.
     pub fn lock(&self) -> LockAt
         ensures { result ≡ self.now.at }
     {
@@ -94,8 +88,7 @@ impl Touched {
         }
     }
 
-    /// Makes room for this many notes and one more. If memory is refused, nothing is changed. The memory grows to twice
-    /// its size, so most calls move nothing.
+    /// Makes room for this many notes and one more. The memory grows to twice its size, so most calls move nothing.
     pub fn make_room_beyond(&mut self, count: usize) -> Result<(), AllocError>
         requires { self.old.noted ≡ [] }
         ensures none { self.new.noted ≡ [] }
@@ -109,7 +102,6 @@ impl Touched {
         }
     }
 
-    /// Notes a resource or a lock. There is room for it.
     pub fn note(&mut self, note: Note)
         requires { length self.old.noted < self.old.room }
         ensures noted { self.new.noted ≡ self.old.noted ++ note ∷ [] }
@@ -118,7 +110,6 @@ impl Touched {
         self.notes.push_reserved(note);
     }
 
-    /// Replaces the note at an index.
     pub fn replace(&mut self, index: usize, note: Note)
         requires { index < length self.old.noted }
         ensures noted { (before after : List Note) (was : Note)
@@ -140,14 +131,12 @@ impl Touched {
         self.notes.dedup_by_key(|note| note.number);
     }
 
-    /// The notes.
     pub fn notes(&self) -> &[Note]
         ensures { result.now ≡ self.now.noted }
     {
         &self.notes
     }
 
-    /// Forgets all notes, and keeps the room.
     pub fn clear(&mut self)
         ensures none { self.new.noted ≡ [] }
         ensures room { self.new.room ≡ self.old.room }

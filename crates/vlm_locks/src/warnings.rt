@@ -1,4 +1,4 @@
-//! Warns the armed locks of a resource that are in the way of a queued request.
+//! Warns the armed locks of a resource that block a queued request.
 
 ghost use Rattle.std.specs.Prelude.{◌≡◌, ◌≤◌, true, IfSome, Some};
 ghost use Rattle.vlm_words.specs.declared.locks.LockRow.{LockRow};
@@ -14,7 +14,6 @@ use vlm_store::{Armed, LockAt, ProcAt, ResAt, Store, StoredRow};
 use vlm_words::asts::{Ast, AstKind};
 use vlm_words::modes::Mode;
 
-// Whether a granted lock with this row is to be warned: it is armed, and its mode is in the way of a queued request.
 #[tactic(auto, unfolding(vlm_model::specs::Asts::is_to_warn))]
 fn is_to_warn(store: &Store, res: ResAt, row: &StoredRow) -> bool
     requires { HasResource res store.now }
@@ -27,7 +26,7 @@ fn is_to_warn(store: &Store, res: ResAt, row: &StoredRow) -> bool
     }
 }
 
-// Queues the blocking AST of a lock's granted request. If the request names no routine, the AST that is owed is forgiven.
+// Queues the blocking AST of a lock, or forgives the AST owed for it if the granted request names no routine.
 fn queue_warning(store: &mut Store, at: ProcAt, row: &StoredRow)
     requires process { IsProcess at row.now.pid store.old }
     requires owed { row_due row.now ≤ due_of row.now.pid store.old }
@@ -54,7 +53,6 @@ fn queue_warning(store: &mut Store, at: ProcAt, row: &StoredRow)
     queue_ast(store, at, ast);
 }
 
-// Warns a granted lock, if it is to be warned: its blocking AST is queued, and it is armed no more.
 fn warn_lock(store: &mut Store, res: ResAt, lock: LockAt)
     requires there { HasResource res store.old }
     requires stored { IsStored lock store.old }
@@ -74,8 +72,7 @@ fn warn_lock(store: &mut Store, res: ResAt, lock: LockAt)
     store.disarm(lock);
 }
 
-// Warns the locks of a list of armed locks that are in the way of a queued request, from the first to the last. The
-// next lock is read before a lock is warned, since a warned lock leaves the list.
+// The next lock is read before a lock is warned, since a warned lock leaves the list.
 fn warn_armed(store: &mut Store, res: ResAt, which: Armed)
     requires there { HasResource res store.old }
     requires spares { SparesOthers which res store.old }
@@ -91,9 +88,9 @@ fn warn_armed(store: &mut Store, res: ResAt, which: Armed)
     }
 }
 
-/// Warns the granted locks of a resource that are armed and in the way of a queued request, in their order: the
-/// blocking AST of each is queued, and it is armed no more. The cost grows with the locks that are warned: after all
-/// grants, each lock of the chosen list is in somebody's way (see [`Armed`]).
+/// Warns the granted locks of a resource that are armed and block a queued request, in their order: queues the blocking
+/// AST of each, and disarms it. The cost grows with the locks that are warned: after all grants, each lock of the
+/// chosen list blocks some request (see [`Armed`]).
 #[inline(never)]
 pub(crate) fn warn(store: &mut Store, res: ResAt)
     requires there { HasResource res store.old }

@@ -15,16 +15,13 @@ use vlm_words::conditions::Cond;
 pub enum EndReason {
     /// It ends with its lock.
     Aborted,
-    /// It is cancelled.
     Cancelled,
-    /// A search found it deadlocked.
     Deadlocked,
     /// It ends with its process, without a status or an AST.
     RunDown,
 }
 
 impl EndReason {
-    /// The status of the request: ABORT, CANCEL or DEADLOCK; none if its process ends.
     pub(crate) fn status(self) -> Option<Cond>
         ensures { ending_status (how_ended self) ≡ result }
     {
@@ -37,15 +34,12 @@ impl EndReason {
     }
 }
 
-/// The withdrawal of a lock: its request ends, the value block may be written or marked invalid, and the lock goes, or
-/// stays granted.
+/// A withdrawal of a lock: its request ends, it may write or invalidate the value block, and it goes or stays granted.
 #[derive(Clone, Copy)]
 pub struct Withdrawal {
-    /// The identification of the lock.
     pub lkid: u32,
-    /// How its request ends if it waits.
+    /// How its request ends if the lock waits, and if it converts.
     pub waiting: EndReason,
-    /// How its request ends if it converts.
     pub converting: EndReason,
     /// Whether a lock that converts stays, granted as before.
     pub stays: bool,
@@ -58,14 +52,12 @@ pub struct Withdrawal {
 }
 
 impl Withdrawal {
-    /// Whether it changes the value block, if the lock may write that.
     pub(crate) fn writes(&self) -> bool
         ensures { result ≡ writes_something self.now }
     {
         self.value.is_some() || self.invalidates
     }
 
-    /// The withdrawal of a lock whose process ends.
     pub(crate) fn rundown(lkid: u32) -> Self
         ensures { plain_withdrawal result ≡ rundown_of lkid }
     {
@@ -80,7 +72,7 @@ impl Withdrawal {
         }
     }
 
-    /// The withdrawal of the victim of a search: a lock that waits goes with its request, and one that converts stays.
+    /// The withdrawal of a search's victim: a waiting lock goes with its request, and a converting lock stays.
     pub fn victim(lkid: u32) -> Self
         ensures { plain_withdrawal result ≡ deadlock_of lkid }
     {
@@ -95,7 +87,6 @@ impl Withdrawal {
         }
     }
 
-    /// The withdrawal of a lock that is given up together with others.
     pub(crate) fn together(lkid: u32, invalidates: bool) -> Self
         ensures { plain_withdrawal result ≡ giving_up by_abort by_abort invalidates lkid }
     {

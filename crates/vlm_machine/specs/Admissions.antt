@@ -51,7 +51,7 @@ pub record IsAskedBy (m : MachineState) (e : NewRequest) (caller : Caller) (form
   pub stands : IsParent caller.pid form.parent parent m.records
 
 -- the result of a new request's checks: its process, flags and parent lock, the site of its resource, the hash of the
--- key, the handle of the resource if it exists, and whether the request is granted at once; numbers are left
+-- key, the handle of the resource if it exists, and whether it is granted at once; the numbers are not used up
 pub record IsChecked (m : MachineState) (e : NewRequest) (c : CheckedRequest) : Type 0 where
   pub owner : IsProcess c.owner e.pid m.records
   pub flags : flag_bits c.flags ≡ e.flags
@@ -78,13 +78,13 @@ pub record IsEntry (m : MachineState) (e : NewRequest) (new_lock : NewLock) : Ty
   pub found : FindsResource m.records new_lock.site.key new_lock.res
   pub at_once : new_lock.at_once ≡ enq_at_once (plain_state m) e
 
--- the new request is admitted so: this is the entry of its lock, and there are numbers for it
+-- the new request is admitted: this is its new lock, and the numbers are not used up
 pub record IsAdmitted (m : MachineState) (e : NewRequest) (new_lock : NewLock) : Type 0 where
   pub entered : IsEntry m e new_lock
   pub lkid : m.next_lkid < 2 ^ 32
   pub number : m.next_request < 2 ^ 64
 
--- an admitted conversion: its granted lock, and whether the request is granted at once; request numbers are left
+-- an admitted conversion: its granted lock, and whether it is granted at once; the request numbers are not used up
 pub record IsAdmittedConversion (m : MachineState) (c : Conversion) (f : LocatedLock) (now : Bool) : Type 0 where
   pub located : IsLocatedLockOf c.pid (convert_lkid (plain_state m) c) f m.records
   pub granted : f.queue ≡ Granted
@@ -92,12 +92,12 @@ pub record IsAdmittedConversion (m : MachineState) (c : Conversion) (f : Located
   pub found : convert_admission (plain_state m) c ≡ Some (admission_on f (convert_request (plain_state m) c) located.located.resource)
   pub number : m.next_request < 2 ^ 64
 
--- the dequeue is admitted: it gives one lock up, and this is that lock
+-- the dequeue is admitted: it names one lock, without DEQALL, and this is the lock
 pub record IsAdmittedDequeue (m : MachineState) (d : Dequeue) (f : LocatedLock) : Type 0 where
   pub located : IsLocatedLockOf d.pid (dequeue_lkid (plain_state m) d) f m.records
   pub alone : has_flag d.flags deqall ≡ false
 
--- the locks that a dequeue with DEQALL gives up where this one is named: those below it, and with 0 all of the caller
+-- the locks that a dequeue with DEQALL gives up: all below the lock that it names, or all of the caller if it names 0
 abbrev pub scope_of : ℕ → Scope
 scope_of zero = All
 scope_of (suc n) = Below (suc n)
@@ -106,19 +106,19 @@ scope_of (suc n) = Below (suc n)
 abbrev pub IsChildless : MachineState → Dequeue → LocatedLock → Type 0
 IsChildless m d f = goes (has_flag d.flags cancel) f.queue ≡ true → HasNoSublocks f.lock m.records
 
--- the checks of a dequeue that come after those of its caller, its flags and its name of a lock
+-- the refusal by the later checks of a dequeue, after its caller, its flags and the lock that it names
 abbrev pub later_refusal : State → Dequeue → Option Cond
 later_refusal s d =
     or_else (dequeued_lock_refusal s d)
     (or_else (cancel_refusal s d) (sublocks_refusal s (leaves_none d) (dequeue_lkid s d)))
 
--- the checks of a dequeue of one lock that come after that of the lock
+-- the refusal by the last checks of a dequeue of one lock, after the lock is found
 abbrev pub refusal_alone : State → Dequeue → Option Cond
 refusal_alone s d =
     or_else (cancel_refusal s d) (sublocks_refusal s (has_flag d.flags cancel) (dequeue_lkid s d))
 
--- a dequeue that has passed its first checks: its caller, its flags, which fit its value and tail, and the identification
--- that it names; the later checks decide
+-- a dequeue that has passed its first checks: its caller, its flags, which fit its value and tail, and the
+-- identification that it names; the later checks decide
 pub record IsCheckedDequeue (m : MachineState) (d : Dequeue) (c : CheckedDequeue) : Type 0 where
   pub caller : IsCaller c.caller m.records
   pub pid : c.caller.pid ≡ d.pid

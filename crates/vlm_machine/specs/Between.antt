@@ -8,8 +8,8 @@ use Rattle.vlm_words.specs.State.{State}
 
 -- the laws that a step relies on: no resource needs a sweep; identifications of locks differ, are not 0 and were given;
 -- serials rise from 1, and are no more than the identifications given; a declaration gives an identification that no
--- living process has; each process is of one of the eight nodes; each parent lock holds a mode; no lock is more than 15
--- levels below another; and each lock is in the queue that fits its held and its wanted mode
+-- living process has; each process belongs to one of the eight nodes; each parent lock holds a mode; no lock is more
+-- than 15 levels below another; and each lock is in the queue that fits its held and its wanted mode
 pub record IsBetweenSteps (s : State) : Type 0 where
   pub settled : AllByRecursion IsSettled s.resources
   pub identifications : IdentificationsAreApart s

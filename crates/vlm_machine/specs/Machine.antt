@@ -1,4 +1,4 @@
--- The state of the machine of records, and the plain machine's state that it stands for.
+-- The state of the machine of records, and the state of the plain machine that it represents.
 use Rattle.std.specs.Prelude.{ℕ, List, ◌+◌}
 use Rattle.vlm_words.specs.State.{Node, State}
 use Rattle.vlm_store.specs.Plain.{plain_processes, plain_resources}
@@ -7,7 +7,7 @@ use Rattle.vlm_locks.specs.Owing.{IsPaid}
 use Rattle.vlm_locks.specs.Rest.{IsAtRest}
 use Rattle.vlm_machine.specs.declared.records.Machine.TheInside.{Inside}
 
--- the nodes, the records under their handles, and the numbers that come next
+-- the nodes, the records under their handles, and the next numbers
 pub record MachineState : Type 0 where
   pub nodes : List Node
   pub records : Records
@@ -15,7 +15,7 @@ pub record MachineState : Type 0 where
   pub next_request : ℕ
   pub next_serial : ℕ
 
--- the numbers that come next are one more than those given last
+-- each next number is one more than the last one given
 abbrev pub kept : Inside → MachineState
 kept m = record {
   nodes = m.nodes;
@@ -36,8 +36,8 @@ plain_state m = record {
   next_serial = m.next_serial;
 }
 
--- the records are as they are to be between two steps, and each process is owed the ASTs that are due to it for its
--- locks, in each part of a step too
+-- the records are at rest, and each process is owed the ASTs that are due to it for its locks; both hold between two
+-- steps and between the parts of a step
 pub record HasRecordsAtRest (m : Inside) : Type 0 where
   pub rest : IsAtRest m.store
   pub paid : IsPaid m.store

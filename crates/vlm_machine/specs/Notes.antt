@@ -21,7 +21,7 @@ pub record HasRoomToNote (touched : Touches) (m : MachineState) : Type 0 where
 abbrev pub HasRoomToMark : Scratch → MachineState → Type 0
 HasRoomToMark marks m = AllByRecursion (λ p. HasRoomInBoth marks p.pid) (plain_state m).processes
 
--- what a step leaves to its sweep: the resources that it touched are noted, and on the others nothing is to be done
+-- the step is ready for its sweep: the resources that it touched are noted, and no other resource needs a sweep
 pub record IsToSweep (touched : Touches) (m : MachineState) : Type 0 where
   pub noted : AreThere touched.noted m.records
   pub rise : StandBySerial m.records.resources

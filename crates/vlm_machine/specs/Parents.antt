@@ -14,7 +14,7 @@ pub record IsParentLock (pid lkid : ℕ) (parent : Parent) (s : Records) : Type 
   pub named : lkid ≢ 0
   pub above : located.located.resource.level < 15
 
--- the parent lock of this identification, if one is named, is this
+-- this is the parent lock with this identification; without a parent lock the identification is 0
 abbrev pub IsParent : ℕ → ℕ → Option Parent → Records → Type 0
 IsParent pid lkid None s = lkid ≡ 0
 IsParent pid lkid (Some parent) s = IsParentLock pid lkid parent s

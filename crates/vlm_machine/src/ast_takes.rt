@@ -14,7 +14,7 @@ use vlm_words::asts::Ast;
 use vlm_words::steps::{Answer, Step};
 
 impl Machine {
-    /// Takes the oldest AST of a process. It touches no resource, so there is no sweep.
+    /// Takes the oldest AST of a process. It touches no resource, so no sweep follows.
     pub(crate) fn take(&mut self, pid: u32) -> Answer
         requires { IsBetweenSteps (plain_state self.old) }
         ensures { Outcome (plain_state self.old) (Step.Take pid) (plain_state self.new) result }
@@ -25,7 +25,6 @@ impl Machine {
         }
     }
 
-    // The change: the AST is taken.
     #[tactic(auto, unfolding(vlm_model::specs::Take::take_change))]
     fn take_change(&mut self, caller: &Caller) -> Option<Ast>
         requires { IsCaller caller.now self.old.records }

@@ -25,7 +25,7 @@ use vlm_words::ids::process_node;
 use vlm_words::steps::Which;
 
 impl Machine {
-    /// BADPARAM if there is no such node, DEPARTED if it has departed before.
+    /// BADPARAM if the node does not exist, DEPARTED if it has departed.
     #[tactic(auto, unfolding(vlm_model::specs::Rundown::leave_refusal))]
     pub(crate) fn check_node(&self, node: u8) -> Result<(), Cond>
         ensures refusal { result_err result ≡ leave_refusal (plain_state self.now) node }
@@ -94,7 +94,6 @@ impl Machine {
         }
     }
 
-    // The status block of this number. ACCVIO if the caller has no such block.
     #[tactic(auto, unfolding(vlm_model::specs::Checks::status_block_refusal, vlm_model::specs::StatusBlocks::status_block_at))]
     fn checked_status_block(&self, caller: &Caller, number: u8) -> Result<Block, Cond>
         requires { IsCaller caller.now self.now.records }
@@ -106,7 +105,7 @@ impl Machine {
         status_block(&self.store, caller.at, number).ok_or(Cond::Accvio)
     }
 
-    /// ACCVIO if the caller has no status block of this number.
+    /// ACCVIO if the caller has no status block with this number.
     #[tactic(auto, unfolding(vlm_model::specs::Checks::status_block_refusal))]
     pub(crate) fn check_status_block(&self, caller: &Caller, number: u8) -> Result<(), Cond>
         requires { IsCaller caller.now self.now.records }
@@ -120,8 +119,7 @@ impl Machine {
         }
     }
 
-    /// The named identification: given by itself, or by a status block of the caller. ACCVIO if the caller has no such
-    /// block.
+    /// The named identification, given directly or by a status block. ACCVIO if the caller has no such block.
     #[tactic(auto, unfolding(vlm_model::specs::Checks::which_refusal))]
     pub(crate) fn checked_lkid(&self, caller: &Caller, lock: Which) -> Result<u32, Cond>
         requires { IsCaller caller.now self.now.records }
@@ -149,7 +147,6 @@ impl Machine {
         find_lock(&self.store, caller.pid, lkid).ok_or(Cond::Ivlockid)
     }
 
-    /// Locates a lock that a check has found.
     pub(crate) fn located(&self, lock: LockAt) -> LocatedLock
         requires { IsStored lock self.now.records }
         ensures lock { result.lock ≡ lock }

@@ -32,7 +32,7 @@ pub(crate) struct NamedLock {
 }
 
 impl Machine {
-    /// Asks for another mode of a granted lock: its checks, its change, and the sweep of its resource.
+    /// Converts a granted lock to another mode: its checks, its change, and the sweep of its resource.
     pub(crate) fn convert(&mut self, conversion: &Conversion) -> Answer
         requires { IsBetweenSteps (plain_state self.old) }
         ensures { Outcome (plain_state self.old) (Step.Convert conversion.now)
@@ -67,7 +67,7 @@ impl Machine {
         Ok(NamedLock { lock, flags })
     }
 
-    // Converts a lock of the caller: the later checks, the change, and the sweep.
+    // The later checks, the change, and the sweep.
     fn convert_named(
         &mut self,
         conversion: &Conversion,
@@ -96,8 +96,7 @@ impl Machine {
         }
     }
 
-    // The later checks, in their order. The first is CVTUNGRANT, for a lock that is not granted. Answers whether the
-    // request is granted at once.
+    // The later checks, in their order. Answers whether the request is granted at once.
     fn checked_admission(
         &self,
         flags: EnqFlags,
@@ -123,8 +122,7 @@ impl Machine {
         Ok(at_once)
     }
 
-    // The change: the lock converts, its status block is written, and its request number is used up. If memory for the
-    // ASTs of its routines is refused, nothing is changed.
+    // The change: the lock converts, its status block is written, and its request number is used up.
     fn convert_change(
         &mut self,
         conversion: &Conversion,
@@ -172,7 +170,6 @@ fn check_pair(conversion: &Conversion, flags: EnqFlags, row: &StoredRow) -> Resu
     }
 }
 
-// Whether QUECVT goes with a conversion from the held mode to this one.
 fn is_legal_from(held: Option<Request>, mode: Mode) -> bool
     ensures { result ≡ is_queued_legally_from held mode }
 {

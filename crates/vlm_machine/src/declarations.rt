@@ -18,7 +18,7 @@ use vlm_words::ids::{LAST_ORDINAL, process_id};
 use vlm_words::steps::{Answer, Declaration, Step};
 
 impl Machine {
-    /// Declares a process: its checks and its change. It touches no resource, so there is no sweep.
+    /// Declares a process: its checks and its change. It touches no resource, so no sweep follows.
     pub(crate) fn declare(&mut self, scratch: &mut Scratch, declaration: Declaration) -> Answer
         requires { IsBetweenSteps (plain_state self.old) }
         ensures outcome { Outcome (plain_state self.old) (Step.Declare declaration)
@@ -53,7 +53,6 @@ impl Machine {
         }
     }
 
-    // The identification of the node's next process.
     fn next_pid(&self, node: u8) -> u32
         requires first { 1 ≤ node }
         requires last { node ≤ 8 }

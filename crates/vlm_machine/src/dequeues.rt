@@ -28,17 +28,17 @@ use vlm_words::conditions::Cond;
 use vlm_words::flags::DeqFlags;
 use vlm_words::steps::{Answer, Dequeue, Step};
 
-/// A dequeue that has passed the checks of its caller, its flags and its name of a lock.
+/// A dequeue that has passed the checks of its caller, its flags and the lock that it names.
 #[derive(Clone, Copy)]
 pub(crate) struct CheckedDequeue {
     caller: Caller,
     flags: DeqFlags,
-    // the identification that it names, 0 for none
+    // the identification that it names, or 0 if it names no lock
     lkid: u32,
 }
 
 impl Machine {
-    /// Gives up or cancels the named lock; or with DEQALL gives up all locks of the caller, or all below the named one.
+    /// Gives up or cancels the named lock. With DEQALL it gives up all locks of the caller, or all below the named one.
     pub(crate) fn deq(&mut self, touched: &mut Touched, dequeue: &Dequeue) -> Answer
         requires between { IsBetweenSteps (plain_state self.old) }
         requires notes { HasRoomToNote touched.old self.old }
@@ -59,7 +59,7 @@ impl Machine {
         }
     }
 
-    // The checks of the caller, the flags and the name of a lock, in this order.
+    // The checks of the caller, the flags and the named lock, in this order.
     #[tactic(auto, unfolding(vlm_model::specs::Dequeue::deq_refusal))]
     fn checked_dequeue(&self, dequeue: &Dequeue) -> Result<CheckedDequeue, Cond>
         ensures refused { IfErr result
@@ -100,8 +100,7 @@ impl Machine {
         }
     }
 
-    // With DEQALL: the check of the lock, the change, and one sweep of all touched resources. It never answers
-    // CANCELGRANT or SUBLOCKS.
+    // With DEQALL: the check of the lock, the change, and one sweep. It never answers CANCELGRANT or SUBLOCKS.
     fn deq_all(
         &mut self,
         touched: &mut Touched,
@@ -127,7 +126,7 @@ impl Machine {
         }
     }
 
-    // All locks of the caller if the dequeue names no lock, else those below the named one. IVLOCKID if the caller has no such lock.
+    // All locks of the caller, or those below the named one. IVLOCKID if the caller has no such lock.
     fn checked_scope(&self, caller: &Caller, lkid: u32) -> Result<Scope, Cond>
         ensures refusal { result_err result ≡ (if lkid == 0 then None
             else lock_refusal (plain_state self.now) caller.now.pid lkid) }
@@ -159,7 +158,7 @@ impl Machine {
         self.check_sublocks(cancels, located)
     }
 
-    // CANCELGRANT if a granted lock is to be cancelled.
+    // CANCELGRANT if the lock to cancel is granted.
     #[tactic(auto, unfolding(vlm_model::specs::Dequeue::cancel_refusal))]
     fn check_cancel(
         &self,
@@ -178,7 +177,7 @@ impl Machine {
         }
     }
 
-    // SUBLOCKS if a lock with sublocks is to be given up. A waiting lock has none.
+    // SUBLOCKS if the lock to give up has sublocks. A waiting lock has none.
     #[tactic(auto, unfolding(vlm_model::specs::Dequeue::sublocks_refusal))]
     fn check_sublocks(&self, cancels: bool, located: &LocatedLock) -> Result<(), Cond>
         requires between { IsBetweenSteps (plain_state self.now) }
@@ -195,7 +194,6 @@ impl Machine {
         }
     }
 
-    // The change: the lock's request ends, and the lock goes or stays.
     #[tactic(auto, unfolding(vlm_model::specs::Dequeue::deq_change))]
     fn deq_change(&mut self, dequeue: &Dequeue, flags: DeqFlags, located: &LocatedLock)
         requires flags { deq_flag_bits flags ≡ dequeue.now.flags }
@@ -210,7 +208,6 @@ impl Machine {
         withdraw(&mut self.store, located, &withdrawal);
     }
 
-    // The change: the requests of the chosen locks end, and then these locks go.
     fn deq_all_change(
         &mut self,
         touched: &mut Touched,
@@ -239,8 +236,7 @@ impl Machine {
     }
 }
 
-// The flags. BADPARAM if one of them is unknown, if DEQALL comes with CANCEL or a value, or if a tail comes without a
-// value.
+// BADPARAM if a flag is unknown, if DEQALL comes with CANCEL or a value, or if a tail comes without a value.
 #[tactic(auto, unfolding(vlm_model::specs::Dequeue::deq_flags_refusal))]
 fn checked_flags(dequeue: &Dequeue) -> Result<DeqFlags, Cond>
     ensures refusal { result_err result ≡ deq_flags_refusal dequeue.now }
@@ -257,7 +253,7 @@ fn checked_flags(dequeue: &Dequeue) -> Result<DeqFlags, Cond>
     Ok(flags)
 }
 
-// The withdrawal that the dequeue asks for: the lock goes, or only its request. A cancel leaves the value block alone.
+// The lock goes, or with CANCEL only its request. A cancel leaves the value block alone.
 fn withdrawal_of(lkid: u32, flags: DeqFlags, dequeue: &Dequeue) -> Withdrawal
     requires { deq_flag_bits flags ≡ dequeue.now.flags }
     ensures { plain_withdrawal result ≡ record {

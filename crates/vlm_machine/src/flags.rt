@@ -9,7 +9,7 @@ use bitflags::Flags;
 use vlm_words::conditions::Cond;
 use vlm_words::flags::{DeqFlags, EnqFlags};
 
-/// The flags of a request, or BADPARAM if one of them is unknown.
+/// BADPARAM if a flag is unknown.
 #[tactic(auto, unfolding(vlm_model::specs::Checks::request_flags_refusal, vlm_words::specs::Flags::is_known, bitflags::proofs::OnLiterals::bitflags_on_literals))]
 pub(crate) fn checked_request_flags(bits: u16) -> Result<EnqFlags, Cond>
     ensures refusal { result_err result ≡ request_flags_refusal bits }
@@ -18,7 +18,6 @@ pub(crate) fn checked_request_flags(bits: u16) -> Result<EnqFlags, Cond>
     EnqFlags::from_bits(bits).ok_or(Cond::Badparam)
 }
 
-/// The flags of a dequeue, if all bits are known.
 #[tactic(auto, unfolding(vlm_words::specs::Flags::is_known, bitflags::proofs::OnLiterals::bitflags_on_literals))]
 pub(crate) fn deq_flags(bits: u16) -> Option<DeqFlags>
     ensures { MatchOption result (is_known deq_bits bits ≡ false)

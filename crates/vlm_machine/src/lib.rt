@@ -1,6 +1,6 @@
 //! The machine of records, which makes the steps of the lock machine.
 //!
-//! Each step has four stages. The checks only read. They look up the records that the step needs, and answer the first
+//! Each step has four stages. The checks only read: they look up the records that the step needs, and answer the first
 //! refusal in the stated order. The growth makes all room that the change may need, so that a refused allocation leaves
 //! the state as it was. The change refuses nothing. The sweep serves the resources that the change touched.
 //!
@@ -17,8 +17,8 @@
 //! | Search | `searches` | `check_node` | none | `end_victim` | the victim's resource |
 //!
 //! A [`Machine`] has the records, the nodes and the next numbers. `checks` and `parents` have the checks that several
-//! steps share. A step needs some facts of the state in which it begins (`IsBetweenSteps`). They hold after every run, by
-//! the laws: `vlm_core` gets them from there, and makes whole steps.
+//! steps share. A step needs some facts of the state in which it begins (`IsBetweenSteps`). The laws say that they hold
+//! after every run: `vlm_core` takes them from the laws, and makes whole steps.
 #![tactic(auto)]
 
 mod ast_takes;

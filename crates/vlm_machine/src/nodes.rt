@@ -8,10 +8,9 @@ ghost use Rattle.vlm_words.specs.State.{new_node};
 use std::marker::Model;
 use vlm_words::ids::NODES;
 
-/// A node.
 #[derive(Clone, Copy)]
 pub(crate) struct Node {
-    // how many processes it has declared, ended ones included
+    // how many processes it has declared, counting ended ones
     declared: u16,
     departed: bool,
 }
@@ -27,7 +26,6 @@ impl Model for Node {
 }
 
 impl Node {
-    /// A node before its first declaration.
     pub(crate) fn new() -> Self
         ensures { result ≡ new_node }
     {
@@ -37,7 +35,6 @@ impl Node {
         }
     }
 
-    /// How many processes it has declared.
     pub(crate) fn declared(&self) -> u16
         ensures { result ≡ self.now.declared }
     {
@@ -59,7 +56,6 @@ impl Node {
         }
     }
 
-    /// The node after one more declaration.
     pub(crate) fn counted(&self) -> Self
         requires { self.now.declared < 65535 }
         ensures { result ≡ record self.now { declared = self.now.declared + 1 } }
@@ -71,7 +67,7 @@ impl Node {
     }
 }
 
-/// Whether there is such a node, and it has departed.
+/// Whether the node exists and has departed.
 pub(crate) fn has_departed(nodes: &[Node; NODES], node: u16) -> bool
     ensures { result ≡ has_departed nodes.now node }
 {
@@ -79,7 +75,6 @@ pub(crate) fn has_departed(nodes: &[Node; NODES], node: u16) -> bool
     0 < node && node <= NODES && nodes[node - 1].departed()
 }
 
-/// Lets the node depart.
 pub(crate) fn depart(nodes: &mut [Node; NODES], node: u8)
     requires first { 1 ≤ node }
     requires last { node ≤ 8 }

@@ -10,13 +10,10 @@ use vlm_store::{ProcAt, Store};
 /// A living process that makes a step.
 #[derive(Clone, Copy)]
 pub struct Caller {
-    /// Its handle.
     pub at: ProcAt,
-    /// Its identification.
     pub pid: u32,
 }
 
-/// The living process with this identification.
 pub fn living(store: &Store, pid: u32) -> Option<Caller>
     ensures caller { IfSome result (λ caller. IsCaller caller store.now) }
     ensures pid { IfSome result (λ caller. caller.pid ≡ pid) }

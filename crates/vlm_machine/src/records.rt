@@ -24,7 +24,6 @@ use vlm_words::steps::{Answer, Step};
 pub struct Machine {
     // node k is at index k - 1
     pub(crate) nodes: [Node; NODES],
-    /// The processes, the resources and their locks.
     pub store: Store,
     // how many identifications, request numbers and serials are used
     pub(crate) last_lkid: u32,
@@ -58,7 +57,6 @@ impl Machine {
         }
     }
 
-    /// Makes one step of any kind.
     pub fn step(&mut self, touched: &mut Touched, scratch: &mut Scratch, step: &Step) -> Answer
         requires between { IsBetweenSteps (plain_state self.old) }
         requires notes { HasRoomToNote touched.old self.old }
@@ -80,8 +78,7 @@ impl Machine {
         }
     }
 
-    /// Ends a step that touched one resource: grants what can be granted there, warns the locks that are in the way of
-    /// the rest, and removes the resource if it has no locks. No other resource needs this.
+    /// Ends a step that touched one resource. No other resource needs a sweep.
     pub(crate) fn sweep(&mut self, res: ResAt)
         requires there { HasResource res self.old.records }
         requires settled { AreSettledBut (res ∷ []) self.old.records.resources }
@@ -90,7 +87,7 @@ impl Machine {
         sweep_resource(&mut self.store, res);
     }
 
-    /// Ends a step that touched the noted resources, in the order of their making, and forgets the notes.
+    /// Ends a step that touched the noted resources, in the order of making, and clears the notes.
     pub(crate) fn sweep_touched(&mut self, touched: &mut Touched)
         requires { IsToSweep touched.old self.old }
         ensures swept { plain_state self.new ≡ state_after_sweep (plain_state self.old) }

@@ -36,7 +36,6 @@ impl Machine {
         }
     }
 
-    // The change: the locks of the process go, and then the process.
     fn rundown_change(&mut self, touched: &mut Touched, caller: &Caller)
         requires caller { IsCaller caller.now self.old.records }
         requires between { IsBetweenSteps (plain_state self.old) }
@@ -68,7 +67,6 @@ impl Machine {
         }
     }
 
-    // The change: the processes of the node go with their locks, and then the node departs.
     fn leave_change(&mut self, touched: &mut Touched, node: u8)
         requires first { 1 ≤ node }
         requires last { node ≤ 8 }

@@ -17,8 +17,7 @@ use vlm_locks::{LocatedLock, Withdrawal, withdraw};
 use vlm_words::steps::{Answer, Step};
 
 impl Machine {
-    /// Searches for a deadlock: its checks, the end of the victim's request, and the sweep of its resource. It takes no
-    /// memory.
+    /// Searches for a deadlock, ends the victim's request, and sweeps its resource. It takes no memory.
     // Kept out of line: inlined, it would cost the other steps registers.
     #[inline(never)]
     pub(crate) fn search(&mut self, scratch: &mut Scratch, node: u8) -> Answer

@@ -15,8 +15,7 @@ use vlm_words::conditions::Cond;
 use vlm_words::steps::{Answer, Step, ValueSetting};
 
 impl Machine {
-    /// Writes the value part of a status block of the caller, and its tail if one is given. It touches no resource, so
-    /// there is no sweep.
+    /// Writes the value part of a status block, and its tail if given. It touches no resource, so no sweep follows.
     pub(crate) fn set_value(&mut self, setting: &ValueSetting) -> Answer
         requires { IsBetweenSteps (plain_state self.old) }
         ensures { Outcome (plain_state self.old) (Step.SetValue setting.now)
@@ -31,7 +30,6 @@ impl Machine {
         }
     }
 
-    // The checks in their order.
     #[tactic(auto, unfolding(vlm_model::specs::SetValue::set_refusal))]
     fn checked_setting(&self, setting: &ValueSetting) -> Result<Caller, Cond>
         ensures refusal { result_err result ≡ set_refusal (plain_state self.now) setting.now }
@@ -43,7 +41,6 @@ impl Machine {
         Ok(caller)
     }
 
-    // The change: the value part is written, and the tail if one is given.
     #[tactic(auto, unfolding(vlm_model::specs::SetValue::set_change))]
     fn set_change(&mut self, caller: &Caller, setting: &ValueSetting)
         requires caller { IsCaller caller.now self.old.records }

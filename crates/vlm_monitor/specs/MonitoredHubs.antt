@@ -8,7 +8,7 @@ use Rattle.vlm_watch.specs.declared.rows.RootKey.{RootKey}
 use Rattle.vlm_monitor.specs.declared.watched.MonitoredHub.{MonitoredHub}
 use Rattle.vlm_monitor.specs.WatchedPorts.{HasLeft, Posts, posts_of}
 
--- turns and settlings change neither the key, nor the posts of each port, nor the steps of each node before the last cut
+-- turns and settlings change neither the key, nor the posts of a port, nor the steps of a node before the last cut
 abbrev pub standing : MonitoredHub → RootKey × List Posts × List Base
 standing w = (w.key, map posts_of w.ports.items, bases w.hub)
 

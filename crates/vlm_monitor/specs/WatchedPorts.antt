@@ -1,4 +1,4 @@
--- The steps that were posted at a port, and those that its hub has made.
+-- The steps that were posted at a port, and the steps that its hub has made.
 use Rattle.std.specs.Prelude.{◌≡◌, ◌++◌, ℕ, List}
 use Rattle.vlm_words.specs.declared.steps.Step.{Step}
 use Rattle.vlm_journal.specs.Told.{asked}

@@ -66,8 +66,8 @@ pub data AreSeen (key : RootKey) : List ScriptStep → List WatchedRow → State
       → (step : ScriptStep) (new : State) → Makes step.step old new
       → AreSeen key (steps ++ step ∷ []) (rows ++ row_at new key ∷ []) new
 
--- the lines of the steps in order, without this many last ones: each with the row of the watched resource in the state to
--- which its step led
+-- the lines of the steps in order, without this many last ones: each with the row of the watched resource in the state
+-- to which its step led
 pub record AreWatched (key : RootKey) (steps : List ScriptStep) (left : ℕ) (text : List ℕ) : Type 0 where
   pub rows : List WatchedRow
   pub state : State

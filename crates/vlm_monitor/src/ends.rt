@@ -11,7 +11,6 @@ pub enum WatchFault {
     Play(PlayFault),
     /// There is no seat for the watcher, or it sees nothing.
     NoSeat,
-    /// A step had no answer.
     NoAnswer,
 }
 
@@ -21,7 +20,6 @@ impl From<PlayFault> for WatchFault {
 
     ghost from_gives = { λ fault ended. ended ≡ Play fault };
 
-    /// A fault of a run ends a watch.
     fn from(fault: PlayFault) -> WatchFault {
         WatchFault::Play(fault)
     }
@@ -34,7 +32,6 @@ impl From<AllocError> for WatchFault {
 
     ghost from_gives = { λ _ ended. ended ≡ Play Memory };
 
-    /// A refused allocation ends a watch.
     fn from(_refused: AllocError) -> WatchFault {
         WatchFault::Play(PlayFault::Memory)
     }

@@ -41,7 +41,6 @@ pub(crate) struct MonitoredHub {
 #[derive(Clone, Copy, PartialEq, Eq)]
 enum Came {
     Nothing,
-    // only ASTs
     Asts,
     // an answer, and perhaps ASTs
     Answer,
@@ -83,8 +82,8 @@ impl MonitoredHub {
         })
     }
 
-    /// Makes steps in order, and after each appends the line of the watched row to the text. Besides the step itself, its
-    /// cost does not grow with what is held.
+    /// Makes steps in order, and after each appends the line of the watched row to the text. Besides the step itself,
+    /// its cost does not grow with what is held.
     pub(crate) fn make_all<R: Wait>(
         &mut self,
         rt: &R,
@@ -149,8 +148,8 @@ impl MonitoredHub {
         }
     }
 
-    // Posts a step at the port of its node, and answers the place of that port. Refused if the hub has not made all steps
-    // that were posted there.
+    // Posts a step at the port of its node, and answers the place of that port. Refused if the hub has not made all
+    // steps that were posted there.
     fn post(&mut self, step: Step) -> Result<usize, WatchFault>
         ensures key { self.new.key ≡ self.old.key }
         ensures written { IsAsWritten self.old.hub self.new.hub }
@@ -252,7 +251,6 @@ impl MonitoredHub {
         }
     }
 
-    /// Ends the hub.
     pub(crate) fn finish<R: Wait>(self, rt: &R) {
         let MonitoredHub {
             hub,
@@ -292,7 +290,6 @@ fn take_all(ports: &mut [Port], place: usize) -> Came
     came
 }
 
-// Takes all items that wait at a port.
 fn take_items(port: &mut Port) -> Came
     ensures { posts_of port.new ≡ posts_of port.old }
 {
@@ -312,7 +309,6 @@ fn take_items(port: &mut Port) -> Came
     came
 }
 
-// The printed part of a row.
 fn watched_row(row: &Row) -> WatchedRow
     ensures { result ≡ printed_row row.now }
 {

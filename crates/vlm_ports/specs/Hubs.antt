@@ -64,8 +64,8 @@ known_posts h node = (asked_before h node ++ asked node (journal h)) ++ waiting 
 abbrev pub known_places : Hub → ℕ → ℕ
 known_places h node = length (told_before h node ++ told node (journal h)) + free_for h node
 
--- the hub forgets nothing: each post that it knew of it has made or still knows, and each place that it knew to be free
--- it has used or still knows
+-- the hub forgets nothing: it has made or still knows each post that it knew of, and it has used or still knows each
+-- place that it knew to be free
 abbrev pub KeepsKnown : Hub → Hub → Type 0
 KeepsKnown old new = (node : ℕ) → 0 < node → node ≤ nodes old
     → IsPrefix (known_posts old node) (known_posts new node) × (known_places old node ≤ known_places new node)
@@ -105,7 +105,7 @@ MayIdle h = (node : ℕ) → 0 < node → node ≤ nodes h
 abbrev pub IsDeliveredAt : Hub → ℕ → Type 0
 IsDeliveredAt h k = (d : NodeRings) → IsDelivered (state h) (slice_index_or h.all_node_rings.items k d)
 
--- the node at a place may rest
+-- the hub may do nothing for the node at a place
 abbrev pub MayRestAt : Hub → ℕ → Type 0
 MayRestAt h k = (d : NodeRings) → MayRest (state h) (slice_index_or h.all_node_rings.items k d)
 

@@ -28,8 +28,8 @@ knows l = map (λ step. on_behalf l.node step) (known_items l.requests)
 abbrev pub places : NodeRings → ℕ
 places l = known_free l.items
 
--- the ends of a node's rings forget nothing: each known post is taken or still known, and each place that was known to be free has an item
--- or is still known to be free
+-- the ends of a node's rings forget nothing: each known post is taken or still known, and each place that was known to
+-- be free has an item or is still known to be free
 pub record Lasts (was l : NodeRings) : Type 0 where
   pub posts : IsPrefix (has_taken was ++ knows was) (has_taken l ++ knows l)
   pub places : length (has_told was) + places was ≤ length (has_told l) + places l

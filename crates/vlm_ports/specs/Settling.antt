@@ -23,7 +23,7 @@ PortKnowsMore was port = IsPrefix (arrived was) (arrived port) × (free_places w
 abbrev pub HaveMovedNothing : NodeRings → NodeRings → Type 0
 HaveMovedNothing old new = (has_taken new ≡ has_taken old) × (has_told new ≡ has_told old)
 
--- a port of the hub is settled: what is on its rings is counted, and hub and port know of it
+-- a port of the hub is settled: the posts and items on its rings are counted, and hub and port know of them
 pub record HasSettled (settled : Settled) (was port : Port) (old new : Hub) : Type 0 where
   pub rings : rings new ≡ rings old
   pub base : (base new ≡ base old) × (bases new ≡ bases old)

@@ -9,15 +9,15 @@ use Rattle.vlm_watch.specs.declared.watcher.Watcher.{Watcher}
 use Rattle.vlm_watch.specs.Rows.{IsChangeOf}
 use Rattle.vlm_watch.specs.Watching.{board_of, keys_of, name_of, published as published_on}
 
--- the board of the hub's watchers, once somebody watches it
+-- the board of the hub's watchers, once the hub is watched
 abbrev pub board : Hub → Option Board
 board h = h.board
 
--- somebody watches the hub
+-- the hub is watched
 abbrev pub IsWatched : Hub → Type 0
 IsWatched h = IsSome (board h)
 
--- nobody watches the hub
+-- the hub is not watched
 abbrev pub IsUnwatched : Hub → Type 0
 IsUnwatched h = IsNone (board h)
 

@@ -27,7 +27,6 @@ pub struct Hub {
     ghost linked: { AreLinked all_node_rings.items journaled.entries },
 }
 
-/// The result of a turn.
 #[derive(Clone, Copy, Debug, PartialEq, Eq)]
 pub enum Turn {
     /// It made this many entries, at least one.
@@ -38,7 +37,6 @@ pub enum Turn {
     NoMemory(usize),
 }
 
-// The result of attending to a node.
 #[derive(Clone, Copy)]
 struct Attended {
     made: usize,
@@ -108,9 +106,9 @@ impl Hub {
         Ok((hub, ports))
     }
 
-    /// Attends to each node once: takes and sends at most one of its ASTs, and makes and answers at most one of its
-    /// posts. A post of a node that has departed or was lost is answered DEPARTED. `Idle` comes only if no node both
-    /// has work, a pending AST or a post that the hub knows of, and a place on its item ring that the hub knows to be
+    /// Attends to each node once: takes and sends at most one of its ASTs, then makes and answers at most one of its
+    /// posts. A post of a node that has departed or was lost is answered DEPARTED. `Idle` comes only if no node has
+    /// both work (a pending AST, or a post that the hub knows of) and a place on its item ring that the hub knows to be
     /// free. It never waits.
     pub fn turn(&mut self) -> Turn
         ensures rings { rings self.new ≡ rings self.old }
@@ -139,7 +137,7 @@ impl Hub {
     }
 
     /// Makes the departure of a lost node, whatever the node has posted. It answers NORMAL, or DEPARTED if the node had
-    /// departed before. Later posts of the node are answered DEPARTED. If it is refused, nothing is changed.
+    /// departed before. Later posts of the node are answered DEPARTED. If memory is refused, nothing is changed.
     pub fn lost(&mut self, node: u8) -> Result<Cond, AllocError>
         requires node { (0 < node) × (node ≤ 8) }
         ensures rings { rings self.new ≡ rings self.old }
@@ -159,8 +157,8 @@ impl Hub {
         Ok(condition_of(answer))
     }
 
-    /// Settles a port of this hub that its thread has handed back: it counts the posts that the hub has not taken, and
-    /// the items that the port has not taken. It moves nothing. After it the hub knows those posts, and the port knows
+    /// Settles a port of this hub that its thread has handed back: counts the posts that the hub has not taken and the
+    /// items that the port has not taken. It moves nothing. After it the hub knows of those posts, and the port of
     /// those items.
     pub fn settle(&mut self, port: &mut Port) -> Settled
         requires { IsPortOf self.old port.old }
@@ -233,7 +231,6 @@ impl Hub {
         hub.close()
     }
 
-    // Delivers and serves for the node at a place.
     fn attend(&mut self, at: usize) -> Attended
         requires { at < nodes self.old }
         ensures rings { rings self.new ≡ rings self.old }
@@ -264,8 +261,7 @@ impl Hub {
         }
     }
 
-    // Sends a node one of its pending ASTs, if there is one, and a place for it that the hub knows to be free. Answers
-    // how many entries it made.
+    // Sends a node one pending AST, if there is one and a place known to be free. Answers how many entries it made.
     fn deliver_ast(&mut self, at: usize) -> Result<usize, AllocError>
         requires { at < nodes self.old }
         ensures rings { rings self.new ≡ rings self.old }
@@ -292,8 +288,8 @@ impl Hub {
         Ok(1)
     }
 
-    // Takes a post of a node and answers it, if the hub knows of a post, and of a free place for the answer. Answers
-    // how many entries it made. If it is refused, no post is lost.
+    // Makes and answers a known post of a node, if a place for the answer is known to be free. Answers how many entries
+    // it made. If it is refused, no post is lost.
     fn serve(&mut self, at: usize) -> Result<usize, AllocError>
         requires { at < nodes self.old }
         ensures rings { rings self.new ≡ rings self.old }
@@ -324,7 +320,6 @@ impl Hub {
     }
 }
 
-// The hub's and the nodes' ends of the rings of this many nodes.
 fn ring_ends(alloc: Global, count: usize) -> Result<(Vec<NodeRings>, Vec<Port>), AllocError>
     requires count { count ≤ 8 }
     ensures all_node_rings { IfOk result (λ r. (length r.0.items ≡ count) × AreFresh r.0.items) }
@@ -341,7 +336,6 @@ fn ring_ends(alloc: Global, count: usize) -> Result<(Vec<NodeRings>, Vec<Port>),
     Ok((all_node_rings, ports))
 }
 
-// The condition in an answer.
 fn condition_of(answer: Answer) -> Cond
     requires { (cond : Cond) × (answer ≡ Answer.Plain cond) }
     ensures { answer ≡ Answer.Plain result }

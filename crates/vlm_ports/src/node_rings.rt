@@ -11,17 +11,12 @@ use std::alloc::{AllocError, Global};
 use vlm_journal::entries::Item;
 use vlm_words::steps::Step;
 
-// How many places a ring has.
 const PLACES: usize = 64;
 
-/// The hub's ends of the two rings of a node.
 #[derive(Drop)]
 pub(crate) struct NodeRings {
-    /// The node, from 1.
     pub(crate) node: u8,
-    /// The ring of the node's posts.
     pub(crate) requests: Consumer<Step>,
-    /// The ring of the node's items.
     pub(crate) items: Producer<Item>,
     ghost places: { producer_capacity items ≡ 64 },
 }
@@ -40,7 +35,6 @@ impl NodeRings {
     ghost use Rattle.vlm_ports.specs.Ports.{arrived, free_places, identity, posted, taken};
     ghost use Rattle.vlm_ports.specs.Settling.{HaveMovedNothing, IsSamePort, PortKnowsMore};
 
-    /// The rings of a node, for the hub and for the node.
     pub(crate) fn make(alloc: Global, node: u8) -> Result<(NodeRings, Port), AllocError>
         ensures rings { IfOk result (λ r. node_rings_identity r.0 ≡ identity r.1) }
         ensures node_rings { IfOk result (λ r.
@@ -64,7 +58,7 @@ impl NodeRings {
         Ok((node_rings, port))
     }
 
-    /// Whether a place for an item is known to be free. If it knows of no place, it looks at the ring.
+    /// Whether a place for an item is known to be free. If none is, it looks at the ring.
     pub(crate) fn has_place(&mut self) -> bool
         ensures rings { node_rings_identity self.new ≡ node_rings_identity self.old }
         ensures taken { has_taken self.new ≡ has_taken self.old }
@@ -77,7 +71,7 @@ impl NodeRings {
         !self.items.is_full()
     }
 
-    /// Whether a post is known to be on the ring. If it knows of no post, it looks at the ring.
+    /// Whether a post is known to be on the ring. If none is, it looks at the ring.
     pub(crate) fn has_request(&mut self) -> bool
         ensures rings { node_rings_identity self.new ≡ node_rings_identity self.old }
         ensures taken { has_taken self.new ≡ has_taken self.old }
@@ -109,7 +103,6 @@ impl NodeRings {
         self.requests.peek_known()
     }
 
-    /// Takes the next known post off the ring.
     pub(crate) fn take_request(&mut self)
         requires { 0 < length (knows self.old) }
         ensures rings { node_rings_identity self.new ≡ node_rings_identity self.old }
@@ -122,7 +115,6 @@ impl NodeRings {
         let _taken = self.requests.pop_known();
     }
 
-    /// Sends an item.
     pub(crate) fn tell(&mut self, item: Item)
         requires { 0 < places self.old }
         ensures rings { node_rings_identity self.new ≡ node_rings_identity self.old }

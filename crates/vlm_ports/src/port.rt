@@ -11,18 +11,15 @@ use vlm_journal::entries::Item;
 use vlm_journal::posts::is_post_of;
 use vlm_words::steps::Step;
 
-/// The port knows no free place, and has posted nothing. This is the step.
+/// The port knows no free place, and has posted nothing. It gives the step back.
 #[derive(Clone, Copy)]
 pub struct Full(pub Step);
 
 /// The port of a node, for a thread of its own. Its calls never wait, and take no memory.
 #[derive(Drop)]
 pub struct Port {
-    /// The node, from 1.
     pub(crate) node: u8,
-    /// The ring of its posts.
     pub(crate) requests: Producer<Step>,
-    /// The ring of its items.
     pub(crate) items: Consumer<Item>,
     ghost places: { producer_capacity requests ≡ 64 },
 }
@@ -45,8 +42,8 @@ impl Port {
         is_post_of(self.node, step)
     }
 
-    /// Posts a step of its own node. It is refused by [`Full`] only if the port knows no free place, and then only what
-    /// the port knows is changed (this project's own).
+    /// Posts a step of its own node. It is refused with [`Full`] only if the port knows no free place, and then only
+    /// what the port knows changes (this project's own).
     pub fn post(&mut self, step: Step) -> Result<(), Full>
         requires { IsPostOf self.old.node step }
         ensures same { identity self.new ≡ identity self.old }
@@ -91,7 +88,7 @@ impl Port {
         self.items.slots()
     }
 
-    /// Takes the next item. `None` if the port knows of no item that has come.
+    /// Takes the next item; `None` if the port knows of no item that has come.
     pub fn take(&mut self) -> Option<Item>
         ensures same { identity self.new ≡ identity self.old }
         ensures posted { posted self.new ≡ posted self.old }

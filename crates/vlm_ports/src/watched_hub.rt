@@ -19,9 +19,9 @@ impl Hub {
     }
 
     /// Makes 1 to 8 watchers of the root resources under 1 to 16 keys, for a hub that is not watched yet. Until the
-    /// first publish each watcher sees resources that do not exist. If it is refused, the hub is not watched, and the
-    /// memory is given back: by `Memory` first, then by `Seat` if there is no place for a watcher. It may wait only if
-    /// it is refused. It makes no entry (this project's own).
+    /// first publish each watcher sees resources that do not exist. Refusals, in this order: `Memory` for the board;
+    /// then for each watcher in turn `Memory`, and `Seat` if there is no place for it. If it is refused, the hub is not
+    /// watched, and the memory is given back. It may wait only then. It makes no entry (this project's own).
     pub fn watch<R: Wait>(
         &mut self,
         rt: &R,
@@ -48,9 +48,9 @@ impl Hub {
     }
 
     /// Publishes the rows of its keys in the present state of the core, with the number of entries so far, to all its
-    /// watchers at once. It answers a told value of all that is published. It is refused if there is no room for the
-    /// change, or if there were 2 ^ 64 - 1 changes, and then nothing is published. It makes no entry and moves nothing.
-    /// It may wait for watchers that still read the change before the last. Its cost grows only with the number of keys
+    /// watchers at once, and answers a told value of all that is published. If there is no room for the change, or
+    /// there were 2 ^ 64 - 1 changes, it is refused, and nothing is published. It makes no entry and moves nothing. It
+    /// may wait for watchers that still read the change before the last. Its cost grows only with the number of keys
     /// (this project's own).
     pub fn publish<R: Wait>(&mut self, rt: &R) -> Result<Told, AllocError>
         requires { IsWatched self.old }

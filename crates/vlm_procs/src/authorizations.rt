@@ -9,7 +9,6 @@ ghost use Rattle.vlm_store.specs.Records.{HasProcess, IsProcess};
 
 use vlm_store::{ProcAt, Store};
 
-/// The UIC group of a process.
 pub fn group_of(store: &Store, at: ProcAt) -> u16
     requires { HasProcess at store.now }
     ensures { (pid : ℕ) → IsProcess at pid store.now → result
@@ -18,7 +17,6 @@ pub fn group_of(store: &Store, at: ProcAt) -> u16
     store.process_record(at).authorization.group
 }
 
-/// Whether a process has the privilege SYSLCK.
 pub fn has_syslck(store: &Store, at: ProcAt) -> bool
     requires { HasProcess at store.now }
     ensures { (pid : ℕ) → IsProcess at pid store.now → result
@@ -27,7 +25,7 @@ pub fn has_syslck(store: &Store, at: ProcAt) -> bool
     store.process_record(at).authorization.syslck
 }
 
-/// Whether a process may have one more lock: it has fewer than its quota, waiting ones included.
+/// Whether a process may have one more lock: it has fewer than its quota, counting waiting ones.
 pub fn has_room(store: &Store, at: ProcAt) -> bool
     requires { HasProcess at store.now }
     ensures { (pid : ℕ) → IsProcess at pid store.now → result

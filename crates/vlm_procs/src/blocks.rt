@@ -30,7 +30,6 @@ fn write(store: &mut Store, at: ProcAt, number: u8, block: Block)
     store.set_status_block(at, number, block);
 }
 
-/// Whether the process has a status block with this number.
 pub fn has_status_block(store: &Store, at: ProcAt, number: u8) -> bool
     requires { HasProcess at store.now }
     ensures { (pid : ℕ) → IsProcess at pid store.now
@@ -40,7 +39,6 @@ pub fn has_status_block(store: &Store, at: ProcAt, number: u8) -> bool
     0 < number && usize::from(number) <= status_blocks(store, at).len()
 }
 
-/// The status block with this number, if the process has it.
 #[tactic(auto, unfolding(vlm_model::specs::StatusBlocks::status_block_at))]
 pub fn status_block(store: &Store, at: ProcAt, number: u8) -> Option<Block>
     requires { HasProcess at store.now }
@@ -55,7 +53,6 @@ pub fn status_block(store: &Store, at: ProcAt, number: u8) -> Option<Block>
         .copied()
 }
 
-/// The status block with this number. If the process does not have it, a new one.
 pub fn status_block_or_new(store: &Store, at: ProcAt, number: u8) -> Block
     requires { HasProcess at store.now }
     ensures { (pid : ℕ) → IsProcess at pid store.now → result
@@ -64,7 +61,7 @@ pub fn status_block_or_new(store: &Store, at: ProcAt, number: u8) -> Block
     status_block(store, at, number).unwrap_or(Block::new())
 }
 
-/// Marks the status block of an accepted request as pending, with its lock. Value part and tail stay.
+/// Writes that an accepted request is pending, with its lock. Value part and tail stay.
 #[tactic(auto, unfolding(vlm_model::specs::StatusBlocks::processes_after_acceptance))]
 pub fn accept(store: &mut Store, at: ProcAt, number: u8, lkid: u32)
     requires { HasProcess at store.old }
@@ -76,8 +73,7 @@ pub fn accept(store: &mut Store, at: ProcAt, number: u8, lkid: u32)
     store.set_request(at, number, 0, lkid);
 }
 
-/// Marks the status block of a request that is granted at once: its lock and NORMAL. Value part and tail stay. It is
-/// `accept` and `end` in one write.
+/// Writes NORMAL and the lock of a request that is granted at once: `accept` and `end` in one write.
 #[tactic(auto, unfolding(vlm_model::specs::StatusBlocks::processes_after_acceptance))]
 pub fn accept_granted(store: &mut Store, at: ProcAt, number: u8, lkid: u32)
     requires { HasProcess at store.old }
@@ -90,7 +86,6 @@ pub fn accept_granted(store: &mut Store, at: ProcAt, number: u8, lkid: u32)
     store.set_request(at, number, Cond::Normal.number(), lkid);
 }
 
-/// Writes the value part of a status block, and its tail if one is given.
 #[tactic(auto, unfolding(vlm_model::specs::StatusBlocks::processes_after_setting))]
 pub fn set_value(store: &mut Store, at: ProcAt, number: u8, value: [u8; 16], tail: Option<[u8; 48]>)
     requires { HasProcess at store.old }
@@ -108,7 +103,7 @@ pub fn set_value(store: &mut Store, at: ProcAt, number: u8, value: [u8; 16], tai
     write(store, at, number, set);
 }
 
-/// Ends a request: its status block gets the condition. Lock, value part and tail stay.
+/// Ends a request: writes the condition to its status block. Lock, value part and tail stay.
 #[tactic(auto, unfolding(vlm_model::specs::StatusBlocks::processes_after_status))]
 pub fn end(store: &mut Store, at: ProcAt, number: u8, cond: Cond)
     requires { HasProcess at store.old }
@@ -121,7 +116,7 @@ pub fn end(store: &mut Store, at: ProcAt, number: u8, cond: Cond)
 }
 
 /// Ends a request whose grant returns the value block: its status block gets the value, if wide the tail too, and
-/// NORMAL, VALNOTVALID or WIDENOTVALID by their marks. The lock stays.
+/// the status NORMAL, VALNOTVALID or WIDENOTVALID by the parts that are valid. The lock stays.
 #[tactic(auto, unfolding(vlm_model::specs::StatusBlocks::processes_after_return))]
 pub fn end_with_return(store: &mut Store, at: ProcAt, number: u8, wide: bool, returned: &ValueBlock)
     requires { HasProcess at store.old }

@@ -8,7 +8,7 @@ use Rattle.vlm_collections.specs.Lists.{IsIn}
 use Rattle.vlm_records.specs.declared.handles.Place.TheVariants.{Queued}
 use Rattle.vlm_store.specs.Plain.{plain_resource}
 use Rattle.vlm_store.specs.Records.{Records, StoredLock, StoredResource, at_after, first_at, locks_at, resource_at, rows_of_locks}
--- for callers that walk and do not read records themselves
+-- for callers that walk without reading records themselves
 pub use Rattle.vlm_store.specs.Records.{HasResource}
 
 -- ---- resources
@@ -23,7 +23,7 @@ resources_from None rs = []
 resources_from (Some res) [] = []
 resources_from (Some res) (r ∷ rest) = if r.at == res then map plain_resource (r ∷ rest) else resources_from (Some res) rest
 
--- the resources that a walk has left
+-- the resources that a walk still has to visit
 abbrev pub resources_left : Option ℕ → Records → List Resource
 resources_left next s = resources_from next s.resources
 
@@ -43,7 +43,7 @@ rows_from None locks = []
 rows_from (Some at) [] = []
 rows_from (Some at) (k ∷ rest) = if k.at == at then rows_of_locks (k ∷ rest) else rows_from (Some at) rest
 
--- the rows that a walk of a queue has left
+-- the rows that a walk of a queue still has to visit
 abbrev pub rows_to_walk : ℕ → Queue → Option ℕ → Records → List LockRow
 rows_to_walk res queue next s = rows_from next (locks_at (Queued res queue) s)
 

@@ -1,5 +1,4 @@
-//! Readers of the records: the queues of a resource, walks over resources and queues, and views of resources and
-//! locks.
+//! Readers of the records: queues of a resource, walks over resources and queues, and views of resources and locks.
 //!
 //! The crate only reads the store, and knows no rules of granting.
 #![tactic(auto)]

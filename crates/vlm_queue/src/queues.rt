@@ -13,7 +13,6 @@ use vlm_store::{LockAt, Place, ResAt, Store};
 use vlm_words::modes::Mode;
 use vlm_words::resources::Queue;
 
-/// The first lock of a queue, if there is one.
 pub fn head(store: &Store, res: ResAt, queue: Queue) -> Option<LockAt>
     requires { HasResource res store.now }
     ensures first { result ≡ first_at (locks_at (Place.Queued res queue) store.now) }
@@ -23,7 +22,6 @@ pub fn head(store: &Store, res: ResAt, queue: Queue) -> Option<LockAt>
     store.first(Place::Queued(res, queue))
 }
 
-/// The next lock in the queue of this lock, if there is one.
 pub fn next(store: &Store, lock: LockAt) -> Option<LockAt>
     requires { IsStored lock store.now }
     ensures { (place : Place) (row : LockRow)
@@ -33,8 +31,7 @@ pub fn next(store: &Store, lock: LockAt) -> Option<LockAt>
     store.next(lock)
 }
 
-/// Whether the mode fits: it is compatible with the held mode of every lock of the resource, granted or converting,
-/// except the asking lock.
+/// Whether the mode is compatible with the modes that all locks of the resource except one hold, granted or converting.
 #[inline(always)]
 pub fn can_hold(store: &Store, res: ResAt, mode: Mode, except: Option<LockAt>) -> bool
     requires there { HasResource res store.now }
@@ -45,7 +42,6 @@ pub fn can_hold(store: &Store, res: ResAt, mode: Mode, except: Option<LockAt>) -
     store.can_hold(res, mode, except)
 }
 
-/// Whether the queue has no lock.
 pub fn is_empty(store: &Store, res: ResAt, queue: Queue) -> bool
     requires { HasResource res store.now }
     ensures empty { IfSome (resource_at res store.now.resources)
@@ -55,7 +51,7 @@ pub fn is_empty(store: &Store, res: ResAt, queue: Queue) -> bool
     head(store, res, queue).is_none()
 }
 
-/// Whether the resource has no lock, in any queue.
+/// Whether the resource has no lock in any queue.
 pub fn is_idle(store: &Store, res: ResAt) -> bool
     requires { HasResource res store.now }
     ensures idle { OnTrue result (IsIdle res store.now) }

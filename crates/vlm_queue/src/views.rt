@@ -22,7 +22,6 @@ pub struct ResourceView {
     pub parent: u32,
     /// The domain of its root.
     pub domain: Domain,
-    /// Its name.
     pub name: Name,
     /// The 16 bytes of its value block, valid or not.
     pub value: [u8; 16],
@@ -30,20 +29,17 @@ pub struct ResourceView {
     pub valid: bool,
     /// The 48 bytes of the value block's tail, valid or not.
     pub tail: [u8; 48],
-    /// Whether the tail is valid.
     pub tail_valid: bool,
 }
 
 /// A lock and its modes.
 #[derive(Clone, Copy)]
 pub struct RowView {
-    /// Its identification.
     pub lkid: u32,
-    /// The process that owns it.
     pub pid: u32,
-    /// The mode that it holds; no mode while it waits.
+    /// `None` while it waits.
     pub held: Option<Mode>,
-    /// The mode that its queued request wants; no mode while it is granted.
+    /// The mode that its queued request wants; `None` while it is granted.
     pub want: Option<Mode>,
 }
 
@@ -52,9 +48,8 @@ pub struct RowView {
 pub struct Usage {
     /// How many locks hold each mode, from NL to EX, granted or converting.
     pub held: [u32; 6],
-    /// How many conversions are queued.
     pub conversions: u32,
-    /// How many locks wait, conversions left out.
+    /// How many locks wait, without conversions.
     pub waiters: u32,
     /// The 16 bytes of its value block, valid or not. The tail is left out.
     pub value: [u8; 16],
@@ -63,7 +58,6 @@ pub struct Usage {
 }
 
 impl ResourceView {
-    /// The view of a record.
     pub fn of(resource: &Resource) -> ResourceView
         ensures { result ≡ record {
           serial = resource.now.serial;
@@ -90,7 +84,6 @@ impl ResourceView {
 }
 
 impl RowView {
-    /// The view of a row.
     pub fn of(row: &LockRow) -> RowView
         ensures { result ≡ row_view row.now }
     {
@@ -103,7 +96,6 @@ impl RowView {
     }
 }
 
-/// The view of a resource in the store.
 pub fn resource_view(store: &Store, res: ResAt) -> ResourceView
     requires { HasResource res store.now }
     ensures { IfSome (plain_resource_at res store.now) (λ r. result ≡ resource_view r) }
@@ -111,7 +103,6 @@ pub fn resource_view(store: &Store, res: ResAt) -> ResourceView
     ResourceView::of(store.resource_record(res))
 }
 
-/// The view of a lock in the store.
 pub fn row_view(store: &Store, lock: LockAt) -> RowView
     requires { IsStored lock store.now }
     ensures { (row : LockRow) → Stores store.now lock row → result ≡ row_view row }
@@ -119,7 +110,7 @@ pub fn row_view(store: &Store, lock: LockAt) -> RowView
     RowView::of(&store.lock_record(lock).row.row())
 }
 
-/// The use of a resource in the store. It takes constant time, since it reads counts.
+/// It takes constant time, since it reads counts.
 pub fn usage_of(store: &Store, res: ResAt) -> Usage
     requires { HasResource res store.now }
     ensures { IfSome (plain_resource_at res store.now) (λ r. result ≡ usage r) }

@@ -21,7 +21,6 @@ pub fn first_resource(store: &Store) -> Option<ResAt>
     store.first_resource()
 }
 
-/// The next resource by serial, if there is one.
 pub fn next_resource(store: &Store, res: ResAt) -> Option<ResAt>
     requires { HasResource res store.now }
     ensures there { ForSome result (λ next. HasResource next store.now) }
@@ -31,7 +30,6 @@ pub fn next_resource(store: &Store, res: ResAt) -> Option<ResAt>
     store.next_resource(res)
 }
 
-// The resource at an index, from 0, in the order of making. It walks to that index.
 fn nth_resource(store: &Store, index: usize) -> Option<ResAt>
     ensures found { result ≡ resource_at_index index store.now.resources }
     ensures there { IfSome result (λ res. HasResource res store.now) }
@@ -47,7 +45,6 @@ fn nth_resource(store: &Store, index: usize) -> Option<ResAt>
     at
 }
 
-// The lock at an index, from 0, of a queue. It walks to that index.
 fn nth_lock(store: &Store, res: ResAt, queue: Queue, index: usize) -> Option<LockAt>
     requires { HasResource res store.now }
     ensures found { result ≡ lock_at_index index (locks_at (Place.Queued res queue) store.now) }
@@ -63,7 +60,7 @@ fn nth_lock(store: &Store, res: ResAt, queue: Queue, index: usize) -> Option<Loc
     at
 }
 
-/// The resource at an index, from 0, by serial; nothing after the last one. The cost grows with the index.
+/// The resource at an index, from 0, by serial, or `None` after the last. The cost grows with the index.
 pub fn resource_at(store: &Store, index: usize) -> Option<ResourceView>
     ensures { result ≡ option_map resource_view (slice_get (plain_resources store.now) index) }
 {
@@ -71,8 +68,7 @@ pub fn resource_at(store: &Store, index: usize) -> Option<ResourceView>
     Some(resource_view(store, res))
 }
 
-/// The lock at an index, from 0, in a queue of the resource at an index; nothing if there is no such lock. The cost
-/// grows with both indexes.
+/// The lock at an index, from 0, in a queue of the resource at an index, or `None`. The cost grows with both indexes.
 pub fn row_at(store: &Store, resource: usize, queue: Queue, index: usize) -> Option<RowView>
     ensures { result ≡ row_shown (slice_get (plain_resources store.now) resource) queue index }
 {

@@ -86,7 +86,7 @@ granted_on (Queued res Waiting) = None
 abbrev pub armed_of : Armed → Lock → Option ℕ
 armed_of which l = if is_listed which l.row then granted_on l.place else None
 
--- the same for the lock in a place of the slab
+-- the same, of the lock in a place of the slab
 abbrev pub armed_on : Armed → Option Lock → Option ℕ
 armed_on which None = None
 armed_on which (Some l) = armed_of which l
@@ -123,8 +123,8 @@ module _ (q : Queues) where
   abbrev pub StandsLast : ℕ → Type 0
   StandsLast at = (place : Place) → noted q at ≡ Some place → IsLast at (handles_at q place)
 
-  -- the invariant of the queues: each lock is in the queue that it notes, each resource counts its locks, and lists
-  -- those that are armed
+  -- the invariant of the queues: each lock is in the queue that it notes, and each resource counts its locks and lists
+  -- the armed ones
   pub record IsLaidOut : Type 0 where
     pub placed : IsPlaced q None
     pub tallied : IsTallied q None

@@ -40,7 +40,7 @@ held_beside own tally mode = how_many of_held tally mode - one_if (is_mode mode 
 abbrev pub by_mode : (Mode → ℕ) → List ℕ
 by_mode counts = counts Nl ∷ counts Cr ∷ counts Cw ∷ counts Pr ∷ counts Pw ∷ counts Ex ∷ []
 
--- the request that a lock in a queue is counted by; a waiting lock holds nothing, and a granted lock wants nothing
+-- the request by which a lock in a queue is counted; a waiting lock holds nothing, and a granted lock wants nothing
 abbrev pub counted_request : Count → Queue → LockRow → Option Request
 counted_request of_held Granted row = row.held
 counted_request of_held Conversion row = row.held

@@ -35,7 +35,6 @@ fn held_on(res: ResAt, place: &Place, row: &StoredRow) -> Option<Request>
 }
 
 impl Queues {
-    /// Counts a lock out of its queue.
     pub(crate) fn count_out(&mut self, at: usize)
         requires placed { IsPlaced self.old None }
         requires present { ContainsKey self.old.locks at }
@@ -48,7 +47,6 @@ impl Queues {
         self.resources[res.slot()].tally.remove(queue, &row.row());
     }
 
-    /// Counts a lock into its queue.
     pub(crate) fn count_in(&mut self, at: usize)
         requires placed { IsPlaced self.old None }
         requires present { ContainsKey self.old.locks at }
@@ -61,7 +59,6 @@ impl Queues {
         self.resources[res.slot()].tally.add(queue, &row.row());
     }
 
-    /// Counts a lock with another row instead of its own.
     pub(crate) fn recount(&mut self, at: usize, row: &StoredRow)
         requires placed { IsPlaced self.old None }
         requires present { ContainsKey self.old.locks at }

@@ -7,36 +7,28 @@ ghost use Rattle.vlm_records.specs.declared.handles.Place.{Place};
 use vlm_collections::At;
 use vlm_words::resources::Queue;
 
-/// Marks handles of locks.
+/// Each of these types names a kind of record.
 pub struct LockKind;
 
-/// Marks handles of resources.
 pub struct ResourceKind;
 
-/// Marks handles of processes.
 pub struct ProcessKind;
 
-/// The handle of a lock, in four bytes.
 pub type LockAt = At<LockKind>;
 
-/// The handle of a resource, in four bytes.
 pub type ResAt = At<ResourceKind>;
 
-/// The handle of a process, in four bytes.
 pub type ProcAt = At<ProcessKind>;
 
-/// A list of armed locks of a resource. A step that warns walks one of the two lists: above NL if a queued request
-/// wants EX, else above CR. NL is compatible with every mode, and CR with every mode except EX.
+/// A list of armed granted locks of a resource: those above NL, or those above CR. A step that warns walks one of them:
+/// above NL if a queued request wants EX, else above CR. NL is compatible with all modes, CR with all except EX.
 #[derive(Clone, Copy)]
 pub enum Armed {
-    /// The armed granted locks that hold more than NL.
     AboveNl,
-    /// The armed granted locks that hold more than CR.
     AboveCr,
 }
 
 impl Armed {
-    /// The rank of the highest mode that is not in the list.
     pub(crate) fn floor(self) -> usize
         ensures { result ≡ floor self }
     {
@@ -50,7 +42,6 @@ impl Armed {
 /// Where a lock is.
 #[derive(Clone, Copy)]
 pub enum Place {
-    /// In this queue of this resource.
     Queued(ResAt, Queue),
 }
 
@@ -64,7 +55,6 @@ impl Place {
         (res, queue)
     }
 
-    /// Whether a lock at this place has a queued request.
     pub fn is_queued(&self) -> bool
         ensures { result ≡ is_queued self.now }
     {

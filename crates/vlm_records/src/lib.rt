@@ -13,15 +13,14 @@
 //!
 //! A resource counts its locks by mode in a tally: a granted lock as holding, a waiting lock as wanting, and a
 //! converting lock as both. So two questions take constant time: does a mode fit beside all others, and is a held mode
-//! in the way of a queued request? A lock that moves leaves the armed locks, is counted out, is
-//! linked anew, is counted in, and joins the armed locks again if it is armed. One case is shorter: a granted lock
-//! that is last in its queue, and goes to the end of that queue with the same armed rank, keeps its links. Only its
-//! row and the counts change.
+//! in the way of a queued request? A lock that moves leaves the armed locks, is counted out, is linked anew, is counted
+//! in, and joins the armed locks again if it is armed. One case is shorter: a granted lock that is last in its queue,
+//! and goes to the end of that queue with the same armed rank, keeps its links. Only its row and the counts change.
 //!
 //! `Queues` has the slabs of locks and resources, and links the lists of a resource (`queues`, `counts`, `armed`).
 //! The store has the slab of processes, the wait list, and the two orders of making, so functions beside `Queues` link
-//! their lists and the sublocks (`kin`, `wait_list`). Nothing here takes memory or looks a record up: the caller made the
-//! room, and has the handle.
+//! their lists and the sublocks (`kin`, `wait_list`). Nothing here takes memory or looks up a record: the caller made
+//! the room, and has the handle.
 #![tactic(auto)]
 
 mod armed;

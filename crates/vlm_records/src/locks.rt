@@ -7,13 +7,11 @@ use crate::rows::StoredRow;
 use vlm_collections::{Linked, LinkedList, Links, MaybeAt};
 use vlm_words::resources::Queue;
 
-/// Marks the queues of resources.
+/// Each of these types names a kind of list of locks.
 pub struct InQueue;
 
-/// Marks the lists of armed granted locks that hold more than NL, in the order of the granted queue.
 pub struct InAboveNl;
 
-/// Marks the lists of armed granted locks that hold more than CR, in the same order.
 pub struct InAboveCr;
 
 /// Marks the wait list: the queued locks of all resources, in the order of queueing.
@@ -25,29 +23,19 @@ pub struct OfProcess;
 /// Marks the lists of the sublocks of a lock, in the order of making.
 pub struct OfParent;
 
-/// The record of a lock, at most 144 bytes. It is in two to five lists, and has a pair of links for each kind of
-/// list.
+/// The record of a lock, at most 144 bytes. It is in two to five lists, and has a pair of links for each kind of list.
 #[derive(Clone, Copy)]
 pub struct Lock {
-    /// What it holds and wants.
     pub row: StoredRow,
-    /// Its queue.
     pub place: Place,
-    // its neighbours in that queue
+    // its neighbours in its queue; each further pair is for another list
     pub(crate) in_queue: Links,
-    // its neighbours in the armed locks above NL, if it is one of them
     pub(crate) in_above_nl: Links,
-    // its neighbours in the armed locks above CR, if it is one of them
     pub(crate) in_above_cr: Links,
-    // its neighbours in the wait list, if its request is queued
     pub(crate) in_wait_list: Links,
-    /// The process that owns it.
     pub owner: ProcAt,
-    // its neighbours in the locks of its process
     pub(crate) of_process: Links,
-    /// Its parent lock, if it has one.
     pub parent: MaybeAt<LockKind>,
-    // its neighbours in the sublocks of its parent lock, if it has one
     pub(crate) of_parent: Links,
     /// Its sublocks, the direct ones only.
     pub sublocks: LinkedList<OfParent>,

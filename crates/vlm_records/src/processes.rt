@@ -33,7 +33,6 @@ pub struct Authorization {
 pub struct Process {
     /// Its identification, node x 65,536 + ordinal.
     pub pid: u32,
-    /// Its group, quota and privilege.
     pub authorization: Authorization,
     /// Its status blocks. Block n is at index n - 1.
     pub blocks: Vec<Block>,
@@ -41,12 +40,10 @@ pub struct Process {
     pub asts: AstQueue,
     /// Its locks in the order of making, waiting ones included.
     pub own: LinkedList<OfProcess>,
-    // the previous and the next process in the order of making
     pub(crate) in_order: Links,
 }
 
 impl Process {
-    /// A new process: without locks and ASTs, with these status blocks.
     pub fn new(pid: u32, declaration: &Declaration, blocks: Vec<Block>) -> Self
         requires { blocks.items ≡ (new_process pid declaration.now).blocks }
         ensures plain { plain_process result ≡ new_process pid declaration.now }
@@ -83,7 +80,6 @@ impl Process {
         }
     }
 
-    /// Writes the status of the status block with this number, from 1, if there is one. The rest of the block stays.
     pub fn set_status(&mut self, number: u8, status: u8)
         ensures plain { plain_process self.new
             ≡ with_changed_block number (with_status status) (plain_process self.old) }
@@ -99,8 +95,7 @@ impl Process {
         }
     }
 
-    /// Writes status and lock of the status block with this number, from 1, if there is one. Status 0 means that the
-    /// request is pending. Value part and tail stay.
+    /// Writes status and lock of a status block. Status 0 means that the request is pending. Value part and tail stay.
     pub fn set_request(&mut self, number: u8, status: u8, lkid: u32)
         ensures plain { plain_process self.new
             ≡ with_changed_block number (requested status lkid) (plain_process self.old) }
@@ -134,7 +129,6 @@ pub fn put_in(
     at
 }
 
-/// Removes a process, also from the order of making.
 pub fn take_out(processes: &mut Slab<Process>, order: &mut LinkedList<InOrder>, at: usize)
     requires linked { IsLinked process_links processes.old order.old }
     requires listed { IsIn at (handles_of process_links processes.old order.old) }

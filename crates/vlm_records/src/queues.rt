@@ -41,7 +41,7 @@ impl Queues {
         }
     }
 
-    // Takes a lock off the list in which it stands.
+    // Takes a lock out of its queue.
     fn take_off(&mut self, at: usize)
         requires placed { IsPlaced self.old None }
         requires present { ContainsKey self.old.locks at }
@@ -55,7 +55,7 @@ impl Queues {
         self.resources[res.slot()].unlink(&mut self.locks, queue, at);
     }
 
-    // Puts a lock that is in no queue at the end of the queue that its record notes.
+    // Puts a lock that is in no queue at the end of the queue that its record names.
     fn push_at(&mut self, at: usize, place: &Place)
         requires placed { IsPlaced self.old (Some at) }
         requires noted { noted self.old at ≡ Some place.now }
@@ -73,7 +73,7 @@ impl Queues {
         self.resources[res.slot()].push_back(&mut self.locks, queue, at);
     }
 
-    // Notes a queue in a lock's record, and puts the lock at the end of that queue.
+    // Writes a queue into a lock's record, and puts the lock at the end of that queue.
     fn put_at(&mut self, at: usize, place: Place)
         requires placed { IsPlaced self.old (Some at) }
         requires present { ContainsKey self.old.locks at }
@@ -118,7 +118,7 @@ impl Queues {
         self.list(place).next(&self.locks, at).is_none()
     }
 
-    // Whether a move changes no link: the lock is granted, is last in its queue, goes to the end of that queue, and
+    // Whether a move changes no link: the lock is granted and last in its queue, goes to the end of that queue, and
     // keeps its armed rank.
     fn stays(&self, at: usize, row: &StoredRow, to: &Place) -> bool
         requires placed { IsPlaced self.now None }
@@ -235,7 +235,7 @@ impl Queues {
         at
     }
 
-    /// Removes a lock with its record. The caller has taken it out of all lists that are not of its resource.
+    /// Removes a lock from its resource, with its record. The caller has taken it out of all other lists.
     pub fn remove(&mut self, at: usize)
         requires laid_out { IsLaidOut self.old }
         requires present { ContainsKey self.old.locks at }

@@ -27,7 +27,6 @@ pub struct Resource {
     pub serial: u32,
     /// The domain of its root.
     pub domain: Domain,
-    /// The key that it is found by.
     pub key: Key,
     /// The hash of its key. It is kept, so that a removal need not hash the key again.
     pub hash: u32,
@@ -47,7 +46,6 @@ pub struct Resource {
     pub(crate) armed_above_cr: LinkedList<InAboveCr>,
     /// Counts of its locks by mode: those that hold each mode, and those that want it.
     pub tally: Tally,
-    // the previous and the next resource in the order of making
     pub(crate) in_order: Links,
 }
 
@@ -102,7 +100,6 @@ impl Resource {
         }
     }
 
-    /// Puts a lock that is in no queue at the end of this one.
     pub(crate) fn push_back(&mut self, locks: &mut Slab<Lock>, queue: Queue, at: usize)
         requires linked { IsLinked queue_links locks.old (queue_list queue self.old) }
         requires present { ContainsKey locks.old at }
@@ -124,7 +121,6 @@ impl Resource {
         }
     }
 
-    /// Takes a lock out of a list of armed locks.
     #[inline(always)]
     pub(crate) fn unlink_armed(&mut self, locks: &mut Slab<Lock>, which: Armed, at: usize)
         requires { Lists (armed_links which) locks.old (list_of which self.old) at }
@@ -143,7 +139,6 @@ impl Resource {
         }
     }
 
-    /// Puts a lock that is not in this list of armed locks at its end.
     #[inline(always)]
     pub(crate) fn push_back_armed(&mut self, locks: &mut Slab<Lock>, which: Armed, at: usize)
         requires linked { IsLinked (armed_links which) locks.old (list_of which self.old) }
@@ -165,7 +160,6 @@ impl Resource {
         }
     }
 
-    /// The first lock in a list of armed locks, if there is one.
     pub fn first_armed(&self, locks: &Slab<Lock>, which: Armed) -> Option<usize>
         requires { IsLinked (armed_links which) locks.now (list_of which self.now) }
         ensures { result ≡ first_handle (handles_of (armed_links which) locks.now (list_of which self.now)) }
@@ -176,7 +170,6 @@ impl Resource {
         }
     }
 
-    /// The lock after this one in a list of armed locks, if there is one.
     pub fn next_armed(&self, locks: &Slab<Lock>, which: Armed, at: usize) -> Option<usize>
         requires { Lists (armed_links which) locks.now (list_of which self.now) at }
         ensures { result ≡ handle_after at (handles_of (armed_links which) locks.now (list_of which self.now)) }
@@ -222,7 +215,6 @@ impl Queues {
         at
     }
 
-    /// Removes a resource without locks.
     pub fn remove_resource(&mut self, order: &mut LinkedList<InOrder>, res: usize)
         requires laid_out { IsLaidOut self.old }
         requires linked { IsLinked order_links self.old.resources order.old }
@@ -234,7 +226,6 @@ impl Queues {
         self.resources.remove(res);
     }
 
-    /// Writes the value block of a resource.
     pub fn set_value_block(&mut self, res: usize, value_block: ValueBlock)
         requires laid_out { IsLaidOut self.old }
         requires there { ContainsKey self.old.resources res }

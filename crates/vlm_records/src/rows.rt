@@ -14,19 +14,14 @@ use vlm_words::flags::EnqFlags;
 use vlm_words::locks::{LockRow, Request};
 use vlm_words::modes::Mode;
 
-// Which routines a request names, if there is a request. Every number is a valid routine, so no number can say that
-// there is no routine.
+// Which routines a request names; `Nothing` if there is no request. Every number is a valid routine, so no number can
+// say that there is no routine.
 #[derive(Clone, Copy)]
 enum RequestTag {
-    // there is no request
     Nothing,
-    // a request without routines
     NoRoutine,
-    // only a completion routine
     Completion,
-    // only a blocking routine
     Blocking,
-    // both routines
     Both,
 }
 
@@ -38,7 +33,6 @@ struct Routines {
     param: u32,
 }
 
-// The flags, mode and status block of a request.
 #[derive(Clone, Copy)]
 struct RequestTerms {
     flags: EnqFlags,
@@ -67,7 +61,6 @@ pub struct StoredRow {
     // whether there is a held request and a wanted one, and which routines each names
     held_tag: RequestTag,
     want_tag: RequestTag,
-    // whether the held request may still bring a blocking AST
     armed: bool,
 }
 
@@ -162,8 +155,7 @@ fn blocking_shown(kept: RequestTag, routines: &Routines) -> Option<u32>
     }
 }
 
-// A request from its parts. Each part is computed by itself, so a caller that reads one part does not pay for the
-// others.
+// Each part is computed by itself, so a caller that reads one part does not pay for the others.
 fn request_shown(
     kept: RequestTag,
     number: u64,
@@ -198,7 +190,6 @@ fn is_arming(kept: RequestTag) -> bool
 }
 
 impl StoredRow {
-    /// Packs a row.
     pub fn of(row: &LockRow) -> Self
         ensures { result ≡ row.now }
     {
@@ -218,7 +209,6 @@ impl StoredRow {
         }
     }
 
-    /// Unpacks the row.
     pub fn row(&self) -> LockRow
         ensures { result ≡ self.now }
     {
@@ -232,14 +222,12 @@ impl StoredRow {
         }
     }
 
-    /// The identification of the lock.
     pub fn lkid(&self) -> u32
         ensures { result ≡ self.now.lkid }
     {
         self.lkid
     }
 
-    /// The process that owns the lock.
     pub fn pid(&self) -> u32
         ensures { result ≡ self.now.pid }
     {
@@ -260,8 +248,7 @@ impl StoredRow {
         self.armed
     }
 
-    /// The rank of the held mode if the lock is armed, else 0. NL has rank 0 too: no list of armed locks has such a
-    /// lock.
+    /// The rank of the held mode if the lock is armed, else 0. NL has rank 0 too: no armed list has such a lock.
     #[inline(always)]
     pub(crate) fn armed_rank(&self) -> usize
         ensures { result ≡ armed_rank self.now }
@@ -272,7 +259,6 @@ impl StoredRow {
         self.held_terms.mode.rank()
     }
 
-    /// The last granted request, if there is one.
     pub fn held(&self) -> Option<Request>
         ensures { result ≡ self.now.held }
     {
@@ -295,7 +281,6 @@ impl StoredRow {
         }
     }
 
-    /// The queued request, if there is one.
     pub fn want(&self) -> Option<Request>
         ensures { result ≡ self.now.want }
     {
@@ -307,7 +292,6 @@ impl StoredRow {
         )
     }
 
-    /// The row after its grant: it holds the wanted request, and is armed if that names a blocking routine.
     pub fn granted(&self) -> Self
         ensures { result ≡ granted_row self.now }
     {
@@ -321,7 +305,6 @@ impl StoredRow {
         }
     }
 
-    /// The row with this wanted request. Its held request stays.
     pub fn wanting(&self, request: &Request) -> Self
         ensures { result ≡ wanting_row self.now request.now }
     {
@@ -335,7 +318,6 @@ impl StoredRow {
         }
     }
 
-    /// The row without its wanted request. Its held request stays.
     pub fn without_want(&self) -> Self
         ensures { result ≡ record self.now { want = None } }
     {

@@ -10,7 +10,6 @@ use crate::locks::{InWaitList, Lock};
 use slab::Slab;
 use vlm_collections::{LAST_HANDLE, LinkedList};
 
-/// Takes a lock out of the wait list, if its place is a conversion or waiting queue.
 pub fn leave_wait_list(
     locks: &mut Slab<Lock>,
     wait_list: &mut LinkedList<InWaitList>,

@@ -21,7 +21,7 @@ abbrev pub is_of_nodes : Option Process → Bool
 is_of_nodes None = false
 is_of_nodes (Some p) = is_node (p.pid / 65536)
 
--- exactly the processes that this is true of are marked, and each process has room for a mark
+-- exactly the processes that pass the test are marked, and each process has room for a mark
 pub record IsMarked (tells : Option Process → Bool) (processes : Slab Process) (marks : List (List Bool)) : Type 0 where
   pub told : (at pid : ℕ) → pid_at processes at ≡ Some pid → is_marked marks pid ≡ tells (get processes at)
   pub room : (at pid : ℕ) → pid_at processes at ≡ Some pid → HasRoomFor marks pid

@@ -174,7 +174,7 @@ is_place (Queued a p) (Queued b q) = (a == b) && is_queue p q
 abbrev pub without_lock : ℕ → List StoredLock → List StoredLock
 without_lock at locks = filter (λ k. not (k.at == at)) locks
 
--- a change of queues: what becomes of the locks at each place
+-- a change of queues: a function from a place and its locks to the new locks there
 abbrev pub QueueChange : Type 0
 QueueChange = Place → List StoredLock → List StoredLock
 
@@ -267,7 +267,7 @@ joined_by Waiting lock r = record r { waiting = r.waiting ++ lock ∷ [] }
 abbrev pub process_at : ℕ → List StoredProcess → Option StoredProcess
 process_at at processes = find (λ p. p.at == at) processes
 
--- the process after the one with this handle
+-- the process after the process with this handle
 abbrev pub process_after : ℕ → List StoredProcess → Option Process
 process_after at [] = None
 process_after at (p ∷ rest) = if p.at == at then option_map (λ x. x.process) (slice_get rest 0) else process_after at rest
@@ -486,7 +486,7 @@ pub record IsTaken (old new : Room) : Type 0 where
   pub slots : old.slots ≤ new.slots + 1
   pub finds : UsesOneSpare old.finds new.finds
 
--- a removed record gives its place back; of the index it is only known that it keeps its room
+-- a removed record gives back its place in the slab; no part of the index has less room
 pub record IsGivenBack (old new : Room) : Type 0 where
   pub slots : new.slots ≡ old.slots + 1
   pub next_handle : new.next_handle ≤ LAST_HANDLE

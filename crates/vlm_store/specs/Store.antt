@@ -32,7 +32,7 @@ pub record Beside : Type 0 where
   pub room : Rooms
   pub keys : HashKeys
 
--- the room in a slab, and in an index whose parts take these numbers more
+-- the room in a slab, and in an index whose parts each take this many more numbers
 abbrev pub room_of : {T : Type 0} → Slab T → List ℕ → Room
 room_of nodes finds = record { slots = (room_in nodes).0; next_handle = (room_in nodes).1; finds = finds }
 

@@ -19,7 +19,6 @@ use vlm_words::blocks::Block;
 use vlm_words::steps::Declaration;
 
 impl Store {
-    /// The living process with this identification, if there is one.
     pub fn process(&self, pid: u32) -> Option<ProcAt>
         ensures found { FindsProcess self.now pid result }
         ensures there { IfSome result (λ at. HasProcess at self.now) }
@@ -75,7 +74,6 @@ impl Store {
         Ok(ProcAt::of(slot))
     }
 
-    /// Removes a process that has no locks, with its status blocks and ASTs. The other processes keep their order.
     pub fn remove_process(&mut self, at: ProcAt)
         requires there { HasProcess at self.old }
         requires idle { HasNoLocks at self.old }
@@ -91,7 +89,6 @@ impl Store {
         self.pending.unmark(pid);
     }
 
-    /// The record of a process. Status block n is at index n - 1.
     pub fn process_record(&self, at: ProcAt) -> &Process
         requires { HasProcess at self.now }
         ensures authorization { IfSome (process_at at self.now.processes)
@@ -114,7 +111,6 @@ impl Store {
         Some(&self.processes[at])
     }
 
-    /// The process after this one in the order of making, if there is one.
     pub fn next_process(&self, at: ProcAt) -> Option<&Process>
         requires { HasProcess at self.now }
         ensures { option_map (λ p. plain_process p.now) result ≡ process_after at self.now.processes }
@@ -134,7 +130,6 @@ impl Store {
         self.processes[at.slot()].put_status_block(number, block);
     }
 
-    /// Writes the status of the status block with this number, from 1, if there is one. The rest of the block stays.
     pub fn set_status(&mut self, at: ProcAt, number: u8, status: u8)
         requires { HasProcess at self.old }
         ensures written { self.new ≡ record self.old {
@@ -146,8 +141,7 @@ impl Store {
         self.processes[at.slot()].set_status(number, status);
     }
 
-    /// Writes status and lock of the status block with this number, from 1, if there is one. Status 0 means that the
-    /// request is pending. Value part and tail stay.
+    /// Writes status and lock of a status block. Status 0 means that the request is pending. Value part and tail stay.
     pub fn set_request(&mut self, at: ProcAt, number: u8, status: u8, lkid: u32)
         requires { HasProcess at self.old }
         ensures written { self.new ≡ record self.old {
@@ -159,7 +153,6 @@ impl Store {
         self.processes[at.slot()].set_request(number, status, lkid);
     }
 
-    /// Takes the oldest AST of a process, if there is one.
     pub fn take_ast(&mut self, at: ProcAt) -> Option<Ast>
         requires { HasProcess at self.old }
         ensures taken { IfSome (process_at at self.old.processes)
@@ -172,8 +165,7 @@ impl Store {
         self.processes[at.slot()].take_ast(&mut self.pending)
     }
 
-    /// Makes room for this many more ASTs of a process, and counts them as due. If memory is refused, nothing is
-    /// changed.
+    /// Makes room for this many more ASTs of a process, and counts them as due. Changes nothing if memory is refused.
     pub fn owe(&mut self, at: ProcAt, count: usize) -> Result<(), AllocError>
         requires { HasProcess at self.old }
         ensures owed { OnOk result (self.new ≡ record self.old {
@@ -220,7 +212,6 @@ impl Store {
         self.processes[at.slot()].own.len(&self.queues.locks)
     }
 
-    /// Whether a lock has sublocks.
     pub fn has_sublocks(&self, lock: LockAt) -> bool
         requires { IsStored lock self.now }
         ensures none { OnFalse result (HasNoSublocks lock self.now) }

@@ -30,7 +30,6 @@ use vlm_words::resources::{Key, Queue, Site, ValueBlock};
 pub struct Store {
     // makes status blocks and the room for ASTs; slabs and indexes have a copy
     pub(crate) alloc: Global,
-    // the locks and the resources
     pub(crate) queues: Queues,
     // the locks whose requests are queued, on all resources
     pub(crate) wait_list: LinkedList<InWaitList>,
@@ -38,13 +37,10 @@ pub struct Store {
     order: LinkedList<InOrder>,
     // the living processes
     pub(crate) processes: Slab<Process>,
-    // the living processes in the order of making
     pub(crate) process_order: LinkedList<InOrder>,
-    // the handle of each lock, by its identification
+    // the indexes: of locks and of living processes by identification, of resources by key
     lock_index: PartedIndex<LockKind>,
-    // the handle of each resource, by its key
     resource_index: KeyIndex,
-    // the handle of each living process, by its identification
     pub(crate) process_index: HandleTable,
     // the keys of the hash for resources; callers choose names, so nobody should foresee their hashes
     keys: HashKeys,
@@ -95,9 +91,8 @@ impl Store {
         Store::with_keys(alloc, HashKeys::fixed())
     }
 
-    /// An empty store that hashes names by these keys. Callers choose names, so a caller who knows the keys could
-    /// choose names with equal hashes; identifications need no keys, since the machine gives them. It takes no
-    /// memory.
+    /// An empty store that hashes names by these keys. It takes no memory. Callers choose names, so a caller who knows
+    /// the keys could choose names with equal hashes.
     pub fn with_keys(alloc: Global, keys: HashKeys) -> Store
         ensures empty { result ≡ record (nothing result.keys) { room = result.room } }
         ensures sound { IsSound result }
@@ -121,7 +116,6 @@ impl Store {
         }
     }
 
-    /// The lock with this identification, if there is one.
     pub fn lock(&self, lkid: u32) -> Option<LockAt>
         ensures found { FindsLock self.now lkid result }
         ensures sound { IsSound self.now }
@@ -137,7 +131,6 @@ impl Store {
         self.keys.hash_of(&words[..key.word_count()])
     }
 
-    /// The resource with this key, if there is one.
     pub fn resource(&self, key: &Key, hash: u32) -> Option<ResAt>
         requires { hash ≡ hash_key self.now.keys key.now }
         ensures found { FindsResource self.now key.now result }
@@ -147,7 +140,6 @@ impl Store {
         self.resource_index.get(&self.queues.resources, key, hash)
     }
 
-    /// The record of a lock: its row, its queue, its owner, its parent lock.
     pub fn lock_record(&self, lock: LockAt) -> &Lock
         requires { IsStored lock self.now }
         ensures row { Stores self.now lock result.now.row }
@@ -171,8 +163,7 @@ impl Store {
         self.lock_index.reserve(lkid)
     }
 
-    /// Adds a lock to the end of a queue, of its process's locks, and of its parent's sublocks. `reserve_lock` made
-    /// the room.
+    /// Adds a lock at the end of a queue, its process's locks and its parent's sublocks. `reserve_lock` made the room.
     pub fn add_lock_reserved(
         &mut self,
         row: &StoredRow,
@@ -221,7 +212,6 @@ impl Store {
         join_wait_list(&mut self.queues.locks, &mut self.wait_list, at, &to);
     }
 
-    /// Disarms a lock, which keeps its place.
     pub fn disarm(&mut self, lock: LockAt)
         requires { IsStored lock self.old }
         ensures disarmed { self.new ≡ with_lists (disarming lock) self.old }
@@ -230,8 +220,7 @@ impl Store {
         self.queues.disarm(lock.slot());
     }
 
-    /// Removes a lock without sublocks: from its queue, its process's locks, and its parent's sublocks. The index may
-    /// have to grow for the next lock.
+    /// Removes a lock without sublocks from all its lists. The index may have to grow for the next lock.
     pub fn remove_lock(&mut self, lock: LockAt)
         requires stored { IsStored lock self.old }
         requires childless { HasNoSublocks lock self.old }
@@ -265,8 +254,7 @@ impl Store {
         self.resource_index.reserve(hash)
     }
 
-    /// Adds a resource without locks, last in the order of making, with a value block of zeros, all valid.
-    /// `reserve_resource` made the room.
+    /// Adds a resource without locks, last in order, its value block valid zeros. `reserve_resource` made the room.
     pub fn add_resource_reserved(&mut self, serial: u32, site: &Site, hash: u32) -> ResAt
         requires room { HasRoomForResource hash self.old }
         requires new { IsNewKey site.now.key self.old }
@@ -287,7 +275,6 @@ impl Store {
         res
     }
 
-    /// The first lock of a queue, if there is one.
     pub fn first(&self, place: Place) -> Option<LockAt>
         requires { HasPlace place self.now }
         ensures first { result ≡ first_at (locks_at place self.now) }
@@ -297,7 +284,6 @@ impl Store {
         Some(LockAt::of(at))
     }
 
-    /// The next lock in the queue of this lock, if there is one.
     pub fn next(&self, lock: LockAt) -> Option<LockAt>
         requires { IsStored lock self.now }
         ensures { (place : Place) (row : LockRow)
@@ -309,7 +295,6 @@ impl Store {
         Some(LockAt::of(at))
     }
 
-    /// The previous lock in the queue of this lock, if there is one.
     pub fn previous(&self, lock: LockAt) -> Option<LockAt>
         requires { IsStored lock self.now }
         ensures { (place : Place) (row : LockRow)
@@ -321,28 +306,24 @@ impl Store {
         Some(LockAt::of(at))
     }
 
-    /// How many resources exist.
     pub fn resource_count(&self) -> usize
         ensures { result ≡ length self.now.resources }
     {
         self.order.len(&self.queues.resources)
     }
 
-    /// How many locks exist, of all processes.
     pub fn total_locks(&self) -> usize
         ensures { result ≡ lock_total self.now }
     {
         self.queues.locks.len()
     }
 
-    /// How many processes live.
     pub fn total_processes(&self) -> usize
         ensures { result ≡ length self.now.processes }
     {
         self.process_order.len(&self.processes)
     }
 
-    /// The first resource in the order of making, if there is one.
     pub fn first_resource(&self) -> Option<ResAt>
         ensures first { result ≡ first_resource_at self.now.resources }
         ensures sound { IsSound self.now }
@@ -351,7 +332,6 @@ impl Store {
         Some(ResAt::of(at))
     }
 
-    /// The next resource in the order of making, if there is one.
     pub fn next_resource(&self, res: ResAt) -> Option<ResAt>
         requires { HasResource res self.now }
         ensures next { result ≡ resource_at_after res self.now.resources }
@@ -361,7 +341,6 @@ impl Store {
         Some(ResAt::of(at))
     }
 
-    /// The record of a resource: its serial, its site, its value block.
     pub fn resource_record(&self, res: ResAt) -> &Resource
         requires { HasResource res self.now }
         ensures serial { IfSome (resource_at res self.now.resources)
@@ -378,7 +357,6 @@ impl Store {
         &self.queues.resources[res.slot()]
     }
 
-    /// Writes the value block of a resource.
     pub fn set_value_block(&mut self, res: ResAt, value_block: ValueBlock)
         requires { HasResource res self.old }
         ensures written { self.new ≡ record self.old {
@@ -390,8 +368,7 @@ impl Store {
         self.queues.set_value_block(res.slot(), value_block);
     }
 
-    /// Removes a resource without locks. The others keep their order. The index may have to grow for the next
-    /// resource.
+    /// Removes a resource without locks. The index may have to grow for the next resource.
     // Kept out of line: inlined, it would cost registers in steps that remove nothing.
     #[inline(never)]
     pub fn remove_resource(&mut self, res: ResAt)
@@ -407,8 +384,7 @@ impl Store {
         self.queues.remove_resource(&mut self.order, res.slot());
     }
 
-    /// Whether the mode fits: it is compatible with the held mode of every lock, granted or converting, except the
-    /// asking lock. It reads counts, not locks.
+    /// Whether the mode is compatible with each held mode except the asking lock's. It reads counts, not locks.
     #[inline(always)]
     pub fn can_hold(&self, res: ResAt, mode: Mode, except: Option<LockAt>) -> bool
         requires there { HasResource res self.now }
@@ -431,8 +407,7 @@ impl Store {
             .blocks_a_request(held)
     }
 
-    /// How many locks of the resource hold each mode, from NL to EX, granted or converting. It reads counts, not
-    /// locks.
+    /// How many locks, granted or converting, hold each mode, from NL to EX. It reads counts, not locks.
     pub fn held_counts(&self, res: ResAt) -> [u32; 6]
         requires { HasResource res self.now }
         ensures { IfSome (resource_at res self.now.resources) (λ r. result

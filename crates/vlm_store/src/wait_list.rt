@@ -16,9 +16,7 @@ use vlm_records::{InWaitList, Lock, LockAt};
 /// A walk over the locks whose requests are queued. Its model is the list of the locks that are left.
 #[derive(Drop)]
 pub struct QueuedLocks<'a> {
-    // the records that the list runs through
     locks: &'a Slab<Lock>,
-    // the list of all queued locks
     wait_list: LinkedList<InWaitList>,
     // the next lock of the walk, if one is left
     next: Option<usize>,

@@ -20,7 +20,7 @@ book_of v = record { number = v.number; log_name = v.log_name; cells_name = v.ce
 abbrev pub knowing : Book → View → View
 knowing book v = record v { knows = true; number = book.number; log_name = book.log_name; cells_name = book.cells_name }
 
--- the changes up to the sheet begin with those that the view saw, and the book that the view knows is the sheet's
+-- the changes up to the sheet begin with the changes that the view saw, and the book that the view knows is the sheet's
 pub record Fits (sheet : Sheet) (v : View) : Type 0 where
   pub begins : IsPrefix v.seen (changes_to sheet)
   pub book : v.knows ≡ true → book_of v ≡ sheet.before.book
@@ -42,11 +42,11 @@ See v shown next w =
 abbrev pub Publish : View → Sheet → Sheet → View → Type 0
 Publish v shown next w = w ≡ record v { seen = changes_to next }
 
--- the writer knows the sheet's book
+-- the writer knows the sheet's book afterwards
 abbrev pub Open : View → Sheet → Sheet → View → Type 0
 Open v shown next w = w ≡ knowing shown.before.book v
 
--- a note: the board that it names
+-- a note names a board, and no changes
 abbrev pub note_of : View → View
 note_of v = record v { seen = [] }
 

@@ -20,7 +20,7 @@ changes_to sheet = with_last sheet.before.log sheet.last
 abbrev pub updated : Sheet → Update → Sheet
 updated sheet update = record { last = Some update.change; count = update.count; before = update.before }
 
--- the row at a place after the last: a change has 16
+-- the row at a place past the end; no change has such a place, since it has 16 rows
 abbrev pub no_row : Row
 no_row = record { held = []; conversions = 0; waiters = 0; value = []; valid = false; journal = 0 }
 

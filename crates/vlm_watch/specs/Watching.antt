@@ -37,7 +37,7 @@ board_of w = book_of (view w.reader.place)
 abbrev pub seen : Watcher → List Change
 seen w = changes_to w.shown
 
--- the changes that a watcher was told of
+-- the changes that a watcher has learned of
 abbrev pub learnt : Watcher → List Change
 learnt w = w.learnt.history.log
 

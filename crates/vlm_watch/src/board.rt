@@ -21,9 +21,9 @@ pub struct Board {
 impl Board {
     ghost use Rattle.vlm_watch.specs.Watching.{HasPublished, IsNew, keys_of, name_of, published, told_board, told_changes};
 
-    /// A board of 1 to 16 keys with nothing published, and 1 to 8 watchers of it. If it is refused, there is neither,
-    /// and the memory is given back: by `Memory` first, then by `Seat` if there is no place for a watcher. It may wait
-    /// only if it is refused.
+    /// A board of 1 to 16 keys with nothing published, and 1 to 8 watchers of it. Refusals, in this order: `Memory` for
+    /// the board; then for each watcher in turn `Memory`, and `Seat` if there is no place for it. If it is refused,
+    /// there is neither board nor watcher, and the memory is given back. It may wait only then.
     pub fn open<R: Wait>(
         rt: &R,
         alloc: Global,
@@ -49,8 +49,8 @@ impl Board {
         }
     }
 
-    /// Publishes the rows of the keys in the present state of the journaled core, and answers a told value of all that is
-    /// published. If the writer's log can't grow or there were 2 ^ 64 - 1 changes, it is refused, and nothing is
+    /// Publishes the rows of the keys in the present state of the journaled core, and answers a told value of all that
+    /// is published. If the writer's log can't grow or there were 2 ^ 64 - 1 changes, it is refused, and nothing is
     /// published. It may wait for readers of the change before the last. Its cost grows only with the number of keys.
     pub fn publish<R: Wait>(
         &mut self,

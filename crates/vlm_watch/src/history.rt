@@ -36,7 +36,6 @@ impl Gain<Change, u64> for NoGain {
     ghost after = { λ names about answer. ftrue };
 }
 
-/// The step that adds a change.
 pub(crate) struct Lengthening;
 
 impl Play<Change, u64> for Lengthening {
@@ -56,10 +55,8 @@ impl Plain<Change, Change, u64> for Lengthening {
 /// A first part of the published changes. It takes no room.
 pub(crate) type History = Seen<Change, u64, IsCounted>;
 
-/// The number of changes.
 pub(crate) type Count = Word<Change, u64, IsCounted>;
 
-/// A history of no change, and its number.
 pub(crate) fn empty() -> (Count, History)
     ensures word { result.0 ≡ word_of result.1.book }
     ensures empty { result.1.log ≡ [] }
@@ -68,7 +65,7 @@ pub(crate) fn empty() -> (Count, History)
     (Count::tracked(0, &mut pen), history)
 }
 
-/// Adds a change after this part, and says whether it did. It does not if there are more changes already.
+/// Adds a change after this part, and says whether it did: not if there are more changes already.
 pub(crate) fn lengthen(word: &Count, history: &mut History, count: u64, change: &Change) -> bool
     requires word { word.now ≡ word_of history.old.book }
     requires count { count ≡ length history.old.log }

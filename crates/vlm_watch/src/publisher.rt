@@ -22,7 +22,6 @@ pub(crate) struct Publisher {
     writer: SheetWriter,
     // the number of changes, which only the publisher has
     count: Count,
-    // the published changes
     pub(crate) history: History,
     ghost word: { count ≡ word_of history.book },
     ghost shows: { changes_to writer.desk.shown.value ≡ history.log },
@@ -76,7 +75,6 @@ impl Publisher {
         })
     }
 
-    /// Watchers of this many keys, before anything is published.
     pub(crate) fn watchers(
         &mut self,
         alloc: Global,
@@ -102,7 +100,6 @@ impl Publisher {
         Ok(all)
     }
 
-    // Publishes a change. If it is refused, nothing is published.
     fn publishing<R: Wait>(self, rt: &R, change: Change) -> (Publisher, Result<(), AllocError>)
         ensures book { result.0.history.book ≡ self.history.book }
         ensures ok { OnOk result.1 (result.0.history.log ≡ self.history.log ++ change ∷ []) }
@@ -165,7 +162,6 @@ impl Publisher {
         Ok(self.tell())
     }
 
-    /// A told value of all that is published.
     pub(crate) fn tell(&self) -> Told
         ensures board { told_board result ≡ self.now.history.book }
         ensures told { told_changes result ≡ self.now.history.log }
@@ -178,7 +174,7 @@ impl Publisher {
         }
     }
 
-    /// Ends it, as soon as no reader is reading.
+    /// Ends it, once no reader is reading.
     pub(crate) fn close<R: Wait>(self, rt: &R) {
         let Publisher {
             writer,

@@ -11,9 +11,7 @@ use vlm_words::resources::Domain;
 /// The key of a root resource: its domain and its name.
 #[derive(Clone, Copy)]
 pub struct RootKey {
-    /// Its domain.
     pub domain: Domain,
-    /// Its name.
     pub name: Name,
 }
 
@@ -26,12 +24,10 @@ pub struct Row {
     pub conversions: u32,
     /// How many new requests wait.
     pub waiters: u32,
-    /// The value block.
     pub value: [u8; 16],
-    /// Whether the value block is valid.
     pub valid: bool,
-    /// How many entries the hub had made when the row was published; `u64::MAX` if that is less than their number; 0
-    /// before the first publish.
+    /// How many entries the hub had made when the row was published; `u64::MAX` if there were more; 0 before the first
+    /// publish.
     pub journal: u64,
 }
 
@@ -42,7 +38,6 @@ pub(crate) struct Change {
 }
 
 impl Row {
-    /// The row of a resource that does not exist, before any entry.
     pub(crate) fn absent() -> Row
         ensures { result ≡ absent }
     {
@@ -56,7 +51,6 @@ impl Row {
         }
     }
 
-    // The row of a resource with this usage, or of one that does not exist, after this many entries.
     fn of(usage: Option<Usage>, journal: u64) -> Row
         ensures { result ≡ row_with usage journal }
     {
@@ -87,7 +81,6 @@ impl Row {
     }
 }
 
-// The row of a resource in the present state of the journaled core.
 fn root_row(journaled: &JournaledCore, key: &RootKey) -> Row
     ensures { result ≡ row_of journaled.now key.now }
 {
@@ -95,7 +88,6 @@ fn root_row(journaled: &JournaledCore, key: &RootKey) -> Row
 }
 
 impl Change {
-    /// The rows of the resources under these keys in the present state of the journaled core.
     pub(crate) fn of(journaled: &JournaledCore, keys: &[RootKey]) -> Change
         requires { length keys.now ≤ 16 }
         ensures { IsChangeOf journaled.now keys.now result }
@@ -107,7 +99,6 @@ impl Change {
         Change { rows }
     }
 
-    /// Whether the two are equal.
     pub(crate) fn is_same(&self, other: &Change) -> bool
         ensures { IsTrue result → self.now ≡ other.now }
     {

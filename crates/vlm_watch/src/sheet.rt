@@ -16,7 +16,6 @@ pub(crate) struct Sheet {
     pub(crate) before: History,
 }
 
-/// An update of a sheet: the change, the number of changes with it, and the history before it.
 #[derive(Drop)]
 pub(crate) struct Update {
     pub(crate) change: Change,
@@ -45,7 +44,6 @@ impl Absorb<Update> for Sheet {
 }
 
 impl Sheet {
-    /// A sheet that shows no change.
     pub(crate) fn blank(history: &History) -> Sheet
         ensures { result ≡ record { last = None; count = 0; before = history.now } }
     {
@@ -56,7 +54,6 @@ impl Sheet {
         }
     }
 
-    /// A copy.
     pub(crate) fn again(&self) -> Sheet
         ensures { result ≡ self.now }
     {

@@ -21,7 +21,7 @@ pub struct Told {
 impl Told {
     ghost use Rattle.vlm_watch.specs.Sheets.{changes_to};
 
-    /// Whether the changes up to the sheet begin with these. They do for each sheet that is read later.
+    /// Whether the changes up to the sheet begin with these. It is true of each sheet that is read later.
     pub(crate) fn begins(&self, sheet: &Sheet) -> bool
         requires book { self.now.history.book ≡ sheet.now.before.book }
         requires count { sheet.now.count ≡ length (changes_to sheet.now) }
@@ -55,7 +55,6 @@ impl Told {
     }
 }
 
-// Whether both are the same change, or none.
 fn is_same(one: &Option<Change>, other: &Option<Change>) -> bool
     ensures { IsTrue result → one.now ≡ other.now }
 {

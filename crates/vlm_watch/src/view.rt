@@ -7,8 +7,8 @@ use crossbeam_utils::rule::{Outcome, Protocol};
 use left_right::reader::Reader;
 use left_right::writer::Writer;
 
-/// What a place at the board knows: the changes that it saw, and its board, by the numbers of the board's book, as soon
-/// as it knows them. No value of this type is made: a clause reads the array as a list of any length.
+/// What a place at the board knows: the changes that it saw, and its board, by the numbers of the board's book, once it
+/// knows them. No value of this type is made: a clause reads the array as a list of any length.
 pub(crate) struct View {
     pub(crate) seen: [Change; 0],
     pub(crate) knows: bool,
@@ -55,7 +55,7 @@ impl Outcome<Sheet, View> for Opens {
     ghost then = { Open };
 }
 
-/// A note names the board, and no changes. Who takes it keeps what it saw.
+/// A note names the board, and no changes. A place that takes it keeps what it saw.
 pub(crate) struct Notes;
 
 impl Split<View> for Notes {
@@ -74,8 +74,6 @@ impl Join<View> for Notes {
     ghost spent = { newcomer };
 }
 
-/// A watcher's end of a board.
 pub(crate) type SheetReader = Reader<Sheet, View, BeginsWithWhatWasSeen>;
 
-/// The publisher's end of a board.
 pub(crate) type SheetWriter = Writer<Sheet, Update, View, BeginsWithWhatWasSeen>;

@@ -16,7 +16,6 @@ use core::mem::replace_with;
 #[derive(Drop)]
 pub struct Watcher {
     pub(crate) reader: SheetReader,
-    // how many keys its board has
     pub(crate) keys: usize,
     // the longest list that it has learned
     pub(crate) learnt: Told,
@@ -33,7 +32,6 @@ pub struct Watcher {
 impl Watcher {
     ghost use Rattle.vlm_watch.specs.Watching.{IsAsBefore, board_of, learnt, seen, told_board, told_changes};
 
-    // Reads the published sheet, and shows its row at a place.
     fn looking(self, place: usize) -> (Watcher, Option<Row>)
         requires { place < self.keys }
         ensures same { IsAsBefore self result.0 }
@@ -83,10 +81,10 @@ impl Watcher {
     }
 
     /// The row of the key at a place, from 0, in the last change of a list. That list begins with all changes that this
-    /// watcher has seen, and with all that it was told. Before any change it is the row of a resource that does not
-    /// exist, with `journal` 0. `None` if the hub is finished, and then nothing is changed. (`None` also if the list is
-    /// shorter than what was told. That never happens, since a change is published before it is told.) It takes the
-    /// same time however much is held.
+    /// watcher has seen or learned of. Before any change it is the row of a resource that does not exist, with
+    /// `journal` 0. `None` if the hub is finished, and then nothing is changed. (It is also `None` if the list is
+    /// shorter than what was learned, which never happens: a change is published before it is told.) The time does not
+    /// depend on how much is held.
     pub fn see(&mut self, place: usize) -> Option<Row>
         requires { place < self.old.keys }
         ensures same { IsAsBefore self.old self.new }
@@ -99,7 +97,6 @@ impl Watcher {
         replace_with(self, place, |watcher, place| watcher.looking(place))
     }
 
-    // Takes in a told value.
     fn learning(self, told: Told) -> (Watcher, ())
         requires { told_board told ≡ board_of self }
         ensures same { IsAsBefore self result.0 }
@@ -122,7 +119,7 @@ impl Watcher {
         (watcher, ())
     }
 
-    /// All that this watcher sees later begins with the told changes. The told value is of the same hub, and is used up.
+    /// All that this watcher sees later begins with the told changes. `told` is of the same hub, and is used up.
     pub fn learn(&mut self, told: Told)
         requires { told_board told ≡ board_of self.old }
         ensures same { IsAsBefore self.old self.new }

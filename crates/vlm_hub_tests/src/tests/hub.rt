@@ -102,7 +102,7 @@ fn a_lock_goes_to_the_other_node(rt: HostRuntime) -> Result<(), Fail> {
     Ok(())
 }
 
-// The ring of posts, and that of items, hold 64. A full one holds up its own node alone.
+// The ring of posts and the ring of items hold 64. A full ring holds up only its own node.
 #[test]
 fn rings_fill(rt: HostRuntime) -> Result<(), Fail> {
     let mut pair = Pair::new(rt.alloc())?;

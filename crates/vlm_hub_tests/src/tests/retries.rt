@@ -16,7 +16,6 @@ use vlm_words::asts::AstKind;
 use vlm_words::conditions::Cond;
 use vlm_words::steps::{Answer, Step};
 
-// A hub and its ports.
 fn pair_of(alloc: Global) -> Result<Pair, AllocError> {
     match Pair::new(alloc) {
         Ok(pair) => Ok(pair),
@@ -51,8 +50,8 @@ fn make(rt: &impl Abort, pair: &mut Pair, node: Node, step: &Step, want: Answer)
     assert!(rt; is_answer(second, want));
 }
 
-// Has the hub make a turn in which each node has posted one step. A turn that tells of no want of memory has served both; one
-// that tells of it has left the others to the next turn, and says how many it served.
+// Has the hub make a turn in which each node has posted one step. A turn without `NoMemory` has served both. With it
+// the turn says how many it served, and the next turn serves the others.
 fn serve_both(rt: &impl Abort, pair: &mut Pair) {
     assert!(rt; pair.post(First, SEARCH).is_ok());
     assert!(rt; pair.post(Second, SECOND_SEARCH).is_ok());
@@ -81,7 +80,6 @@ fn a_turn_tells_of_want_of_memory(rt: HostRuntime) -> Result<(), Fail> {
     Ok(())
 }
 
-// A node is lost.
 fn lose(pair: &mut Pair, node: Node) -> Result<Cond, AllocError> {
     match pair.lost(node) {
         Ok(condition) => Ok(condition),
@@ -121,7 +119,7 @@ fn a_hub_goes_on_without_memory(rt: HostRuntime) -> Result<(), Fail> {
     Ok(())
 }
 
-// A hub that is watched, opened once more where that was refused.
+// A watched hub; if the watch was refused, it is opened once more.
 fn watched<R: Abort + AllocGlobal + Wait>(rt: &R) -> Result<WatchedHub, Fail> {
     match try_watched(rt) {
         Some(hub) => Ok(hub),
@@ -140,7 +138,7 @@ fn try_watched<R: AllocGlobal + Wait>(rt: &R) -> Option<WatchedHub> {
     WatchedHub::open(rt, rt.alloc(), keys, 8).ok()
 }
 
-// Has a step made, and made once more where its answer was INSFMEM, in a turn more where the journal could not grow.
+// Has a step made: once more if its answer was INSFMEM, in one more turn if the journal could not grow.
 fn make_watched(rt: &impl Abort, hub: &mut WatchedHub, step: &Step, want: Answer) {
     for _ in 0..2 {
         let item = match hub.make(*step) {
@@ -166,7 +164,7 @@ fn publish<R: Abort + Wait>(rt: &R, hub: &mut WatchedHub, before: u32, after: u3
     }
 }
 
-// A lock comes and goes before the eyes of eight watchers.
+// Eight watchers see a lock come and go.
 #[test]
 fn a_watched_hub_goes_on_without_memory(rt: HostRuntime) -> Result<(), Fail> {
     let mut hub = watched(&rt)?;

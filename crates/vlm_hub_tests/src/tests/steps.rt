@@ -57,7 +57,7 @@ pub fn exclusive(pid: u32) -> Step {
     request(pid, Some(COMPLETION), Some(BLOCKING))
 }
 
-// The same without watchers.
+// The same without routines.
 pub fn quiet(pid: u32) -> Step {
     request(pid, None, None)
 }
@@ -76,7 +76,6 @@ fn request(pid: u32, ast: Option<u32>, bast: Option<u32>) -> Step {
     })
 }
 
-// A lock is given up.
 pub fn give_up(pid: u32, lock: u32) -> Step {
     Step::Deq(Dequeue {
         pid,

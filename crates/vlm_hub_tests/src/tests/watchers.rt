@@ -34,7 +34,7 @@ pub fn shows(row: Option<Row>, exclusive: u32) -> bool {
     row.held == [0, 0, 0, 0, 0, exclusive] && row.conversions == 0 && row.waiters == 0 && value
 }
 
-// How many entries a row tells of.
+// How many entries had been made, by a row.
 fn entries(row: Option<Row>) -> Option<u64> {
     row.map(|row| row.journal)
 }
@@ -92,8 +92,8 @@ fn sixteen_resources_are_told_apart(rt: HostRuntime) -> Result<(), Fail> {
     Ok(())
 }
 
-// Watchers look in threads of their own while the hub makes steps and publishes: none sees fewer entries than before, and
-// after it learns of it, each sees the last publish.
+// Watchers look in threads of their own while the hub makes steps and publishes: none sees fewer entries than before,
+// and after it learns of it, each sees the last publish.
 fn look_on<R: Abort + AllocGlobal + Threads + Wait + Sync>(
     rt: &R,
     watchers: usize,
