@@ -42,31 +42,25 @@ pub fn enters_at_once(store: &Store, res: ResAt, flags: EnqFlags, mode: Mode) ->
 /// A new lock before it enters its resource.
 #[derive(Clone, Copy)]
 pub struct NewLock {
-    /// Its request.
     pub asked: Request,
-    /// Its identification.
     pub lkid: u32,
-    /// The identification of its process.
     pub pid: u32,
-    /// The identification of its parent lock, or 0.
+    /// Its parent lock, or 0.
     pub parent_lkid: u32,
-    /// The handle of its process.
+    /// Its process.
     pub owner: ProcAt,
-    /// The handle of its parent lock, if it has one.
     pub parent: Option<LockAt>,
-    /// The site of its resource.
     pub site: Site,
     /// The hash of the resource's key.
     pub hash: u32,
-    /// The serial that its resource gets, if it has to be made.
+    /// The serial of its resource, if that has to be made.
     pub serial: u32,
-    /// The handle of its resource, if it exists.
+    /// Its resource, if that exists.
     pub res: Option<ResAt>,
     /// Whether the request is granted at once.
     pub at_once: bool,
 }
 
-// The row of a new lock before its grant.
 fn new_row(new_lock: &NewLock) -> StoredRow
     ensures { result ≡ new_row new_lock.now }
 {
@@ -80,8 +74,7 @@ fn new_row(new_lock: &NewLock) -> StoredRow
     })
 }
 
-// Adds a new lock to a resource: to the end of the granted queue if it is granted at once, else to the end of the
-// waiting queue.
+// Adds a new lock at the end of a queue: granted if it is granted at once, else waiting.
 fn enter_at(store: &mut Store, new_lock: &NewLock, row: &StoredRow, res: ResAt)
     requires may_enter { MayEnter new_lock.now store.old }
     requires row { row.now ≡ new_row new_lock.now }
@@ -100,7 +93,6 @@ fn enter_at(store: &mut Store, new_lock: &NewLock, row: &StoredRow, res: ResAt)
     }
 }
 
-// The resource of a new lock. It is made if it does not exist.
 fn resource_or_new(store: &mut Store, new_lock: &NewLock) -> ResAt
     requires may_enter { MayEnter new_lock.now store.old }
     requires found { FindsResource store.old new_lock.now.site.key new_lock.now.res }
@@ -119,8 +111,8 @@ fn resource_or_new(store: &mut Store, new_lock: &NewLock) -> ResAt
     }
 }
 
-// Accepts the request of a lock that has entered, and ends it if it is granted at once. With VALBLK such a grant returns
-// the value block; a new request never writes it.
+// Accepts the request of a lock that has entered, and ends it if it is granted at once. Such a grant never writes the
+// value block.
 fn accept_entered(store: &mut Store, new_lock: &NewLock, row: &StoredRow, res: ResAt)
     requires row { row.now ≡ new_row new_lock.now }
     requires owner { IsProcess new_lock.now.owner new_lock.now.pid store.old }
@@ -143,8 +135,6 @@ fn accept_entered(store: &mut Store, new_lock: &NewLock, row: &StoredRow, res: R
     }
 }
 
-// Makes room for a new lock, and for its resource if it does not exist. If memory is refused, nothing is changed,
-// except that there may be more room.
 fn reserve(store: &mut Store, new_lock: &NewLock) -> Result<(), AllocError>
     ensures unchanged { IsUnchanged store.old store.new }
     ensures lock { OnOk result (HasRoomForLock new_lock.now.lkid store.new) }
@@ -159,8 +149,7 @@ fn reserve(store: &mut Store, new_lock: &NewLock) -> Result<(), AllocError>
     }
 }
 
-// The growth: room for a new lock, for its resource if it does not exist, and for the ASTs of its routines. If memory
-// is refused, nothing is changed, except that there may be more room.
+// The growth: room for the lock, for a new resource, and for the ASTs of its routines.
 fn make_ready(store: &mut Store, new_lock: &NewLock) -> Result<(), AllocError>
     requires owner { IsProcess new_lock.now.owner new_lock.now.pid store.old }
     ensures ready { OnOk result (IsReady new_lock.now store.old store.new) }
