@@ -44,7 +44,7 @@ use vlm_words::steps::{Answer, NewRequest, Step};
 #[derive(Clone, Copy)]
 pub(crate) struct RequestForm {
     pub(crate) flags: EnqFlags,
-    // the identification of its parent lock, 0 for none
+    // the identification of the parent lock, 0 for none
     pub(crate) parent: u32,
 }
 
@@ -59,12 +59,10 @@ pub(crate) struct ResourceLookup {
 /// A new request that has passed its checks, with the handles and the hash that they found.
 #[derive(Clone, Copy)]
 pub(crate) struct CheckedRequest {
-    // the handle of its process
     owner: ProcAt,
     flags: EnqFlags,
-    // the identification of its parent lock, 0 for none
+    // 0 for no parent
     parent_lkid: u32,
-    // the handle of its parent lock, if it names one
     parent: Option<LockAt>,
     // the site of its resource, and what a look-up found there
     site: Site,
@@ -72,6 +70,7 @@ pub(crate) struct CheckedRequest {
 }
 
 // Looks up the resource of a new request, and finds out whether the request is granted at once.
+#[inline(always)]
 fn look_up(store: &Store, key: &Key, flags: EnqFlags, mode: Mode) -> ResourceLookup
     requires { IsAtRest store.now }
     ensures hash { result.hash ≡ hash_key store.now.keys key.now }
@@ -137,8 +136,10 @@ impl Machine {
         }
     }
 
-    // The checks in their order.
+    // The checks in their order. This function, `looked_up`, `look_up` and `checked_parent` are inlined: each has one
+    // caller, which would copy the record that a call answers.
     #[tactic(auto, unfolding(vlm_model::specs::Enqueue::enq_refusal, vlm_model::specs::Enqueue::enq_form_refusal, vlm_model::specs::Enqueue::enq_limit_refusal, vlm_model::specs::Trees::site_refusal))]
+    #[inline(always)]
     fn checked_request(&self, request: &NewRequest) -> Result<CheckedRequest, Cond>
         requires { IsBetweenSteps (plain_state self.now) }
         ensures refusal { result_err result ≡ enq_refusal (plain_state self.now) request.now }
@@ -163,7 +164,7 @@ impl Machine {
         Ok(checked)
     }
 
-    // Looks up the resource of the request.
+    #[inline(always)]
     fn looked_up(
         &self,
         caller: &Caller,

@@ -34,13 +34,10 @@ const LAST_LEVEL: u8 = 15;
 /// The parent lock of a new request.
 #[derive(Clone, Copy)]
 pub(crate) struct Parent {
-    // the lock
     lock: LockAt,
-    // its resource
     res: ResAt,
 }
 
-/// The handle of the parent lock, if there is one.
 pub(crate) fn lock_of(parent: &Option<Parent>) -> Option<LockAt>
     ensures { result ≡ option_map (λ up. up.lock) parent.now }
 {
@@ -51,6 +48,7 @@ impl Machine {
     /// The parent lock of a request, with its handle and its resource's; none for 0. IVLOCKID if the lock is not one of
     /// the caller, PARNOTGRANT if it waits, EXDEPTH if its resource is on the lowest level.
     #[tactic(auto, unfolding(vlm_model::specs::Trees::parent_refusal))]
+    #[inline(always)]
     pub(crate) fn checked_parent(&self, caller: &Caller, lkid: u32) -> Result<Option<Parent>, Cond>
         ensures refusal { result_err result
             ≡ parent_refusal (plain_state self.now) caller.now.pid lkid }
