@@ -1,7 +1,7 @@
 //! A worker: it posts a list of steps, and then the departure of its node.
 
 ghost use Rattle.std.specs.Prelude.{◌≡◌, ◌≤◌, ◌++◌, [], false, length, not, take, true};
-ghost use Rattle.vlm_ports.specs.Ports.{identity, posted, taken};
+ghost use Rattle.vlm_ports.specs.Ports.{identity, posted};
 ghost use Rattle.vlm_cluster.specs.Gates.{IsFollowed, moves};
 ghost use Rattle.vlm_cluster.specs.Posts.{ArePostsOf};
 ghost use Rattle.vlm_cluster.specs.Works.{IsGatedWork, IsWorkOn, work_of};

@@ -1,6 +1,6 @@
 //! The structs that C gets of the entries of the journal.
 
-ghost use Rattle.std.specs.Prelude.{◌≡◌, ◌≤◌, ◌++◌, drop, length, map};
+ghost use Rattle.std.specs.Prelude.{◌≡◌, ◌≤◌, ◌++◌, length};
 ghost use Rattle.vlm_hub_c.specs.Entries.{ast_in, declaration_in, dequeue_in, entry_of, name_in, named_node, named_process, request_in, setting_in, step_number, written};
 ghost use Rattle.vlm_words.specs.Padding.{padded};
 

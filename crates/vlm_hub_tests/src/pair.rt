@@ -1,10 +1,9 @@
 //! A hub of two nodes, with their ports in one hand.
 
 ghost use Rattle.std.specs.Prelude.{◌≡◌, ◌<◌, ◌≤◌, [], IfOk};
-ghost use Rattle.vlm_journal.specs.Journals.{IsPostOf};
 ghost use Rattle.vlm_ports.specs.Hubs.{IsPortOf, journal};
 ghost use Rattle.vlm_ports.specs.Ports.{identity};
-ghost use Rattle.vlm_ports.specs.Watched.{IsUnwatched, board};
+ghost use Rattle.vlm_ports.specs.Watched.{IsUnwatched};
 
 use std::alloc::{AllocError, Global};
 use vlm_journal::entries::{Item, Part};

@@ -1,6 +1,6 @@
 //! A core that writes a journal: an entry for each step.
 
-ghost use Rattle.std.specs.Prelude.{◌≡◌, ◌⊎◌, ◌∷◌, ◌+◌, ◌++◌, ◌-◌, ◌^◌, ◌/◌, ◌<◌, ◌≤◌, ℕ, [], OnErr, OnOk, Some, length, min};
+ghost use Rattle.std.specs.Prelude.{◌≡◌, ◌⊎◌, ◌∷◌, ◌+◌, ◌++◌, ◌-◌, ◌^◌, ◌/◌, ◌<◌, ◌≤◌, [], OnErr, OnOk, Some};
 ghost use Rattle.vlm_words.specs.declared.conditions.Cond.TheVariants.{Departed, Normal};
 ghost use Rattle.vlm_model.specs.Pending.{first_pending};
 ghost use Rattle.vlm_model.specs.Reasons.{HasDeparted};
@@ -10,7 +10,7 @@ ghost use Rattle.std.specs.Option.{option_map};
 ghost use Rattle.vlm_queue.specs.Views.{usage};
 ghost use Rattle.vlm_core.specs.Readers.{root_of};
 ghost use Rattle.vlm_journal.specs.Accounts.{GoesOn, made};
-ghost use Rattle.vlm_journal.specs.Journals.{IsPostOf, JournalFrom};
+ghost use Rattle.vlm_journal.specs.Journals.{IsPostOf};
 ghost use Rattle.vlm_journal.specs.Written.{IsWritten};
 
 use crate::entries::{Entry, Part};

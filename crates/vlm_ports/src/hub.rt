@@ -53,7 +53,7 @@ impl Hub {
     ghost use Rattle.vlm_journal.specs.Accounts.{GoesOn, made};
     ghost use Rattle.vlm_ports.specs.Turns.{IsIdleTurn, IsServedTurn, turn_entries};
     ghost use Rattle.vlm_ports.specs.Hubs.{EachAsksOnce, HubGrew, KnowsAllTheSame, PutsBeforeCut, IsAsWritten, IsDeliveredAt, IsNewHub, IsPortOf, IsSameBut, KeepsKnown, AllNodeRingsLast, MayIdle, MayRestAt, NoneAsks, OneAsks, OthersLast, base, bases, journal, nodes, rings, state, waiting};
-    ghost use Rattle.vlm_ports.specs.Ports.{AreNew, identity, posted, taken};
+    ghost use Rattle.vlm_ports.specs.Ports.{AreNew, identity};
     ghost use Rattle.vlm_ports.specs.Watched.{IsUnwatched, board};
     ghost use Rattle.vlm_ports.specs.Settling.{HasSettled};
 
