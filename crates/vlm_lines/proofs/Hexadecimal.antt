@@ -23,7 +23,7 @@ as_read (Err e) = Err WrongWord
 digit_read : (c i : ℕ) → value_at c i ≡ cond (is_ascii_hexdigit c) (Ok (digit_value c)) (Err (InvalidHexCharacter c i))
 digit_read c i = grind (arith, nat_tests)
 
--- two digits and what is read behind them
+-- two digits and what is read after them
 joined : (p q t : Bool) (v w : ℕ) (e f : FromHexError) (bytes : List ℕ) (r : Result (List ℕ) FromHexError)
     → as_read r ≡ cond t (Ok bytes) (Err WrongWord)
     → as_read (((cond p (Ok v) (Err e)) >>= λ high. cond q (Ok w) (Err f) >>= λ low. Ok (high * 16 + low)) >>= λ byte. r >>= λ rest. Ok (byte ∷ rest))
@@ -50,7 +50,7 @@ not_ok : (r : Result (List ℕ) FromHexError) → ((bytes : List ℕ) → r ≡ 
 not_ok (Ok bytes) h = absurd (h bytes refl)
 not_ok (Err e) h = refl
 
--- what the crate reads into room for so many bytes are so many bytes
+-- the crate reads `count` bytes as the definition does
 pub bytes_read : (count : ℕ) (word : List ℕ) → bytes_of count word ≡ as_read (decode_sized word count)
 unfolding bytes_of
 bytes_read count word = elim (cases_eq (length word) (2 * count)) [
@@ -109,12 +109,12 @@ same_Ok : (a b : List ℕ) → ◌≡◌ {A = Result (List ℕ) FromHexError} (O
 same_Ok a b is = cc
 
 -- what was written, where it is read as it was decoded
-pub written_is : (r : Result (List ℕ) FromHexError) (told : Result Unit FromHexError) (bytes out : List ℕ) → r ≡ Ok bytes
-    → MatchResult r (λ read. (told ≡ Ok tt) × (out ≡ read)) (λ e. told ≡ Err e) → out ≡ bytes
-written_is (Ok read) told bytes out is written = written.1 ∙ same_Ok read bytes is
-written_is (Err e) told bytes out is written = cc
+pub written_is : (r : Result (List ℕ) FromHexError) (answered : Result Unit FromHexError) (bytes out : List ℕ) → r ≡ Ok bytes
+    → MatchResult r (λ read. (answered ≡ Ok tt) × (out ≡ read)) (λ e. answered ≡ Err e) → out ≡ bytes
+written_is (Ok read) answered bytes out is written = written.1 ∙ same_Ok read bytes is
+written_is (Err e) answered bytes out is written = cc
 
--- of the bytes that count none is left out: those of so many pairs
+-- the written bytes begin with the first 32 bytes of the name
 pub name_of_pairs : (digits written rest : List ℕ) (count : ℕ) → count ≡ min 32 (length digits / 2) → written ≡ hex_value (take (2 * count) digits)
     → take 32 (take count (written ++ rest)) ≡ take 32 (hex_value digits)
 name_of_pairs digits written rest count is read =

@@ -46,9 +46,16 @@ words_of-drop_blanks (byte ∷ bytes) = drop_blank byte bytes _ (is_blank byte) 
 pub end_found : (ends : ℕ → Bool) (bytes : List ℕ) (r : Option ℕ) → r ≡ cond (ltb (position_or_len ends bytes) (length bytes)) (Some (position_or_len ends bytes)) None → unwrap_or r (length bytes) ≡ position_or_len ends bytes
 end_found ends bytes r e = let l = prefix_len-le-length (λ byte. not (ends byte)) bytes in grind (arith, nat_tests)
 
--- a list of blanks alone has no word
-pub no_word : (bytes : List ℕ) (n : ℕ) → n ≡ position_or_len (λ byte. not (is_blank byte)) bytes → length (drop n bytes) ≡ 0 → words_of bytes ≡ []
-no_word bytes n e h = sym (words_of-drop_blanks bytes) ∙ ap words_of (ap (λ m. drop m bytes) (sym e) ∙ nil_from_length (drop n bytes) h)
+-- where no byte but blanks is found there is no word
+pub no_word : (bytes : List ℕ) (r : Option ℕ) → r ≡ cond (ltb (position_or_len (λ byte. not (is_blank byte)) bytes) (length bytes)) (Some (position_or_len (λ byte. not (is_blank byte)) bytes)) None → r ≡ None → words_of bytes ≡ []
+no_word bytes r e none =
+    let n = position_or_len (λ byte. not (is_blank byte)) bytes in
+    let past : length (drop n bytes) ≡ 0 = let l = length-drop n bytes in grind (arith, nat_tests) in
+    sym (words_of-drop_blanks bytes) ∙ ap words_of (nil_from_length (drop n bytes) past)
+
+-- the place of the first byte that is no blank, where there is one
+pub start_found : (bytes : List ℕ) (start : ℕ) (r : Option ℕ) → r ≡ cond (ltb (position_or_len (λ byte. not (is_blank byte)) bytes) (length bytes)) (Some (position_or_len (λ byte. not (is_blank byte)) bytes)) None → r ≡ Some start → start ≡ position_or_len (λ byte. not (is_blank byte)) bytes
+start_found bytes start r e some = grind (arith, nat_tests)
 
 -- a piece with a byte is a word
 piece_kept : (n byte : ℕ) (bytes : List ℕ) (rest : List (List ℕ)) → 0 < n
@@ -73,7 +80,7 @@ false_from_not : (b : Bool) → not b ≡ true → b ≡ false
 false_from_not true e = sym e
 false_from_not false e = refl
 
--- behind the blanks in front stands no blank
+-- the byte after the blanks in front is no blank
 no_blank : (bytes rest : List ℕ) (byte : ℕ) → byte ∷ rest ≡ drop (position_or_len (λ byte. not (is_blank byte)) bytes) bytes → is_blank byte ≡ false
 no_blank bytes rest byte e =
     let n = position_or_len (λ byte. not (is_blank byte)) bytes in
@@ -83,8 +90,25 @@ no_blank bytes rest byte e =
     let same : get_or bytes n 0 ≡ byte = ap (λ m. get_or bytes m 0) sum ∙ sym (get_or-drop n bytes 0 0) ∙ ap (λ xs. get_or xs 0 0) (sym e) in
     false_from_not (is_blank byte) (ap (λ x. not (is_blank x)) (sym same) ∙ passes)
 
--- behind the blanks in front stands the first word
+-- a word is followed by the same words with the blank after it and without
+pass_blank : (byte : ℕ) (bytes : List ℕ) (n : ℕ) (b : Bool) → is_blank byte ≡ b → words_of (drop (suc n) bytes) ≡ words_of (drop n bytes)
+    → words_of (drop (suc (cond (not b) (1 + n) 0)) (byte ∷ bytes)) ≡ words_of (drop (cond (not b) (1 + n) 0) (byte ∷ bytes))
+pass_blank byte bytes n true blank e = rw blank refl
+pass_blank byte bytes n false blank e = let next : 1 + n ≡ suc n = omega arith in rw next e
+
+blank_kept : (bytes : List ℕ) → words_of (drop (suc (position_or_len is_blank bytes)) bytes) ≡ words_of (drop (position_or_len is_blank bytes) bytes)
+blank_kept [] = refl
+blank_kept (byte ∷ bytes) = pass_blank byte bytes _ (is_blank byte) refl (blank_kept bytes)
+
+-- the first word begins after the blanks in front
 pub first_word : (bytes rest : List ℕ) (n : ℕ) → rest ≡ drop (position_or_len (λ byte. not (is_blank byte)) bytes) bytes → 0 < length rest → n ≡ position_or_len is_blank rest
-    → words_of bytes ≡ take n rest ∷ words_of (drop (n + 1) rest)
+    → words_of bytes ≡ take n rest ∷ words_of (drop n rest)
 first_word bytes [] n e h m = absurd (omega arith)
-first_word bytes (byte ∷ rest) n e h m = sym (words_of-drop_blanks bytes) ∙ ap words_of (sym e) ∙ rw (m, add-one) (word_in_front byte rest (no_blank bytes rest byte e))
+first_word bytes (byte ∷ rest) n e h m =
+    sym (words_of-drop_blanks bytes) ∙ ap words_of (sym e)
+    ∙ rw m (word_in_front byte rest (no_blank bytes rest byte e) ∙ ap (λ words. take (position_or_len is_blank (byte ∷ rest)) (byte ∷ rest) ∷ words) (blank_kept (byte ∷ rest)))
+
+-- and it has a byte
+pub word_has_byte : (bytes rest : List ℕ) (n : ℕ) → rest ≡ drop (position_or_len (λ byte. not (is_blank byte)) bytes) bytes → 0 < length rest → n ≡ position_or_len is_blank rest → 0 < n
+word_has_byte bytes [] n e h m = absurd (omega arith)
+word_has_byte bytes (byte ∷ rest) n e h m = rw m (some_byte _ (is_blank byte) (no_blank bytes rest byte e))

@@ -44,7 +44,7 @@ lines_of bytes = pieces is_line_feed bytes
 abbrev pub is_blank : ℕ → Bool
 is_blank byte = (byte == 32) || (byte == 9) || (byte == 13)
 
--- no byte
+-- the text has no bytes
 abbrev pub is_nothing : List ℕ → Bool
 is_nothing [] = true
 is_nothing (byte ∷ bytes) = false
@@ -110,8 +110,8 @@ abbrev pub has_key : List ℕ → List ℕ → Bool
 has_key key word = starts_with ◌==◌ word key
 
 -- the part of the word after the key
-abbrev pub behind : List ℕ → List ℕ → List ℕ
-behind key word = drop (length key) word
+abbrev pub after_key : List ℕ → List ℕ → List ℕ
+after_key key word = drop (length key) word
 
 -- the value of a word, if no word before it had the same key
 abbrev pub once : {A : Type 0} → Option A → Result A LineFault → Result (Option A) LineFault
@@ -133,14 +133,14 @@ hex_value [] = []
 hex_value (digit ∷ []) = []
 hex_value (high ∷ low ∷ digits) = (digit_value high * 16 + digit_value low) ∷ hex_value digits
 
--- the name whose bytes these hexadecimal digits are, cut to 32 bytes; None if their number is odd or one is not a digit
+-- a name in hexadecimal digits, cut to 32 bytes; None if the number of digits is odd or a byte is no digit
 unfoldable pub hex_name : List ℕ → Option (List ℕ)
 hex_name digits =
     if (length digits % 2 == 0) && list_all is_ascii_hexdigit digits then Some (take 32 (hex_value digits)) else None
 
 -- a resource's name as a script writes it, cut to 32 bytes: `x:` and hexadecimal digits, or the bytes of the name
 unfoldable pub name_read : List ℕ → Option (List ℕ)
-name_read bytes = if has_key (codes "x:") bytes then hex_name (behind (codes "x:") bytes) else Some (take 32 bytes)
+name_read bytes = if has_key (codes "x:") bytes then hex_name (after_key (codes "x:") bytes) else Some (take 32 bytes)
 
 -- N bytes, written in exactly two hexadecimal digits each
 unfoldable pub bytes_of : ℕ → List ℕ → Result (List ℕ) LineFault
@@ -158,7 +158,7 @@ tail_of word = bytes_of 48 word
 -- a lock: `@N` is the lock in status block N, and a number is the identification of the lock
 unfoldable pub lock_named : List ℕ → Result Which LineFault
 lock_named word =
-    if has_key (codes "@") word then number_within 255 (behind (codes "@") word) >>= (λ n. Ok (Block n))
+    if has_key (codes "@") word then number_within 255 (after_key (codes "@") word) >>= (λ n. Ok (Block n))
     else number_within 4294967295 word >>= (λ lkid. Ok (Id lkid))
 
 -- an identification that no process has: a line names its process instead
@@ -173,13 +173,13 @@ no_declare_words = record { node = None; group = None; quota = None; blocks = No
 unfoldable pub declare_word : DeclareWords → List ℕ → Result DeclareWords LineFault
 declare_word d word =
     if has_key (codes "node=") word then
-    once d.node (number_within 255 (behind (codes "node=") word)) >>= (λ n. Ok (record d { node = n }))
+    once d.node (number_within 255 (after_key (codes "node=") word)) >>= (λ n. Ok (record d { node = n }))
     else if has_key (codes "group=") word then
-    once d.group (number_within 65535 (behind (codes "group=") word)) >>= (λ n. Ok (record d { group = n }))
+    once d.group (number_within 65535 (after_key (codes "group=") word)) >>= (λ n. Ok (record d { group = n }))
     else if has_key (codes "quota=") word then
-    once d.quota (number_within 65535 (behind (codes "quota=") word)) >>= (λ n. Ok (record d { quota = n }))
+    once d.quota (number_within 65535 (after_key (codes "quota=") word)) >>= (λ n. Ok (record d { quota = n }))
     else if has_key (codes "blocks=") word then
-    once d.blocks (number_within 255 (behind (codes "blocks=") word)) >>= (λ n. Ok (record d { blocks = n }))
+    once d.blocks (number_within 255 (after_key (codes "blocks=") word)) >>= (λ n. Ok (record d { blocks = n }))
     else if is_text word (codes "syslck") && not d.syslck then Ok (record d { syslck = true })
     else Err WrongWord
 
@@ -243,7 +243,7 @@ unfoldable pub flag_once : ℕ → Option ℕ → Result ℕ LineFault
 flag_once flags None = Err WrongWord
 flag_once flags (Some flag) = if has_flag flags flag then Err WrongWord else Ok (bit_or flags flag)
 
--- before any flag word and any bits
+-- no flag word and no bits yet
 abbrev pub no_flag_words : FlagWords
 no_flag_words = record { words = 0; bits = None }
 
@@ -251,28 +251,28 @@ no_flag_words = record { words = 0; bits = None }
 unfoldable pub flag_word : FlagWords → List ℕ → Option ℕ → Result FlagWords LineFault
 flag_word f word flag =
     if has_key (codes "bits=") word then
-    once f.bits (number_within 65535 (behind (codes "bits=") word)) >>= (λ n. Ok (record f { bits = n }))
+    once f.bits (number_within 65535 (after_key (codes "bits=") word)) >>= (λ n. Ok (record f { bits = n }))
     else flag_once f.words flag >>= (λ words. Ok (record f { words = words }))
 
--- the flags of a step: those of its words, and the bits
+-- the flags of a step: its flag words and its bits together
 unfoldable pub flags_of : FlagWords → ℕ
 flags_of f = bit_or f.words (unwrap_or f.bits 0)
 
--- before the keyed words that an enq and a cvt line share
+-- no keyed word yet that enq and cvt lines share
 abbrev pub no_request_words : RequestWords
 no_request_words = record { block = None; ast = None; bast = None; param = None; flags = no_flag_words }
 
--- adds one keyed word or flag that an enq and a cvt line share
+-- adds one keyed word or flag that enq and cvt lines share
 unfoldable pub request_word : RequestWords → List ℕ → Result RequestWords LineFault
 request_word r word =
     if has_key (codes "block=") word then
-    once r.block (number_within 255 (behind (codes "block=") word)) >>= (λ n. Ok (record r { block = n }))
+    once r.block (number_within 255 (after_key (codes "block=") word)) >>= (λ n. Ok (record r { block = n }))
     else if has_key (codes "ast=") word then
-    once r.ast (number_within 4294967295 (behind (codes "ast=") word)) >>= (λ n. Ok (record r { ast = n }))
+    once r.ast (number_within 4294967295 (after_key (codes "ast=") word)) >>= (λ n. Ok (record r { ast = n }))
     else if has_key (codes "bast=") word then
-    once r.bast (number_within 4294967295 (behind (codes "bast=") word)) >>= (λ n. Ok (record r { bast = n }))
+    once r.bast (number_within 4294967295 (after_key (codes "bast=") word)) >>= (λ n. Ok (record r { bast = n }))
     else if has_key (codes "param=") word then
-    once r.param (number_within 4294967295 (behind (codes "param=") word)) >>= (λ n. Ok (record r { param = n }))
+    once r.param (number_within 4294967295 (after_key (codes "param=") word)) >>= (λ n. Ok (record r { param = n }))
     else flag_word r.flags word (enq_flag word) >>= (λ flags. Ok (record r { flags = flags }))
 
 -- without the word the parameter is 0
@@ -287,9 +287,9 @@ no_enq_words = record { resource = None; parent = None; request = no_request_wor
 unfoldable pub enq_word : EnqWords → List ℕ → Result EnqWords LineFault
 enq_word e word =
     if has_key (codes "name=") word then
-    once e.resource (given (name_read (behind (codes "name=") word))) >>= (λ r. Ok (record e { resource = r }))
+    once e.resource (given (name_read (after_key (codes "name=") word))) >>= (λ r. Ok (record e { resource = r }))
     else if has_key (codes "parent=") word then
-    once e.parent (lock_named (behind (codes "parent=") word)) >>= (λ lock. Ok (record e { parent = lock }))
+    once e.parent (lock_named (after_key (codes "parent=") word)) >>= (λ lock. Ok (record e { parent = lock }))
     else request_word e.request word >>= (λ r. Ok (record e { request = r }))
 
 -- without the word the identification 0 names no parent
@@ -348,9 +348,9 @@ no_deq_words = record { value = None; tail = None; flags = no_flag_words }
 unfoldable pub deq_word : DeqWords → List ℕ → Result DeqWords LineFault
 deq_word d word =
     if has_key (codes "value=") word then
-    once d.value (value_of (behind (codes "value=") word)) >>= (λ value. Ok (record d { value = value }))
+    once d.value (value_of (after_key (codes "value=") word)) >>= (λ value. Ok (record d { value = value }))
     else if has_key (codes "tail=") word then
-    once d.tail (tail_of (behind (codes "tail=") word)) >>= (λ tail. Ok (record d { tail = tail }))
+    once d.tail (tail_of (after_key (codes "tail=") word)) >>= (λ tail. Ok (record d { tail = tail }))
     else flag_word d.flags word (deq_flag word) >>= (λ flags. Ok (record d { flags = flags }))
 
 -- deq NAME LOCK [value=HEX] [tail=HEX] [flags] [bits=N]
@@ -377,11 +377,11 @@ no_set_words = record { block = None; value = None; tail = None }
 unfoldable pub set_word : SetWords → List ℕ → Result SetWords LineFault
 set_word s word =
     if has_key (codes "block=") word then
-    once s.block (number_within 255 (behind (codes "block=") word)) >>= (λ n. Ok (record s { block = n }))
+    once s.block (number_within 255 (after_key (codes "block=") word)) >>= (λ n. Ok (record s { block = n }))
     else if has_key (codes "value=") word then
-    once s.value (value_of (behind (codes "value=") word)) >>= (λ value. Ok (record s { value = value }))
+    once s.value (value_of (after_key (codes "value=") word)) >>= (λ value. Ok (record s { value = value }))
     else if has_key (codes "tail=") word then
-    once s.tail (tail_of (behind (codes "tail=") word)) >>= (λ tail. Ok (record s { tail = tail }))
+    once s.tail (tail_of (after_key (codes "tail=") word)) >>= (λ tail. Ok (record s { tail = tail }))
     else Err WrongWord
 
 -- set NAME block=N value=HEX [tail=HEX]
@@ -394,12 +394,12 @@ set_line words =
     given s.value >>= λ value.
     Ok (Set name (record { pid = unnamed_process; block = block; value = value; tail = s.tail }))
 
--- end NAME
-unfoldable pub end_line : List (List ℕ) → Result Line LineFault
-end_line words =
+-- NAME and no other word
+unfoldable pub name_alone : List (List ℕ) → Result (List ℕ) LineFault
+name_alone words =
     next_word words >>= λ first.
     process_name first.0 >>= λ name.
-    no_more (End name) first.1
+    no_more name first.1
 
 -- a leave or search line before its keyed word
 abbrev pub no_node_words : NodeWords
@@ -409,7 +409,7 @@ no_node_words = record { node = None }
 unfoldable pub node_word : NodeWords → List ℕ → Result NodeWords LineFault
 node_word w word =
     if has_key (codes "node=") word then
-    once w.node (number_within 255 (behind (codes "node=") word)) >>= (λ n. Ok (record w { node = n }))
+    once w.node (number_within 255 (after_key (codes "node=") word)) >>= (λ n. Ok (record w { node = n }))
     else Err WrongWord
 
 -- node=N and no other word
@@ -417,25 +417,6 @@ unfoldable pub node_alone : List (List ℕ) → Result ℕ LineFault
 node_alone words =
     all_words node_word no_node_words words >>= λ w.
     given w.node
-
--- leave node=N
-unfoldable pub leave_line : List (List ℕ) → Result Line LineFault
-leave_line words =
-    node_alone words >>= λ node.
-    Ok (Leave node)
-
--- search node=N
-unfoldable pub search_line : List (List ℕ) → Result Line LineFault
-search_line words =
-    node_alone words >>= λ node.
-    Ok (Search node)
-
--- ast NAME
-unfoldable pub ast_line : List (List ℕ) → Result Line LineFault
-ast_line words =
-    next_word words >>= λ first.
-    process_name first.0 >>= λ name.
-    no_more (Ast name) first.1
 
 -- NAME N and no other word: a process, and the number of one of its status blocks
 unfoldable pub block_alone : List (List ℕ) → Result (List ℕ × ℕ) LineFault
@@ -446,18 +427,6 @@ block_alone words =
     number_within 255 second.0 >>= λ number.
     no_more (name, number) second.1
 
--- block NAME N
-unfoldable pub block_command : List (List ℕ) → Result Line LineFault
-block_command words =
-    block_alone words >>= λ block.
-    Ok (block_words block.0 block.1)
-
--- tail NAME N
-unfoldable pub tail_command : List (List ℕ) → Result Line LineFault
-tail_command words =
-    block_alone words >>= λ block.
-    Ok (tail_words block.0 block.1)
-
 -- a line by its command
 unfoldable pub command_line : List ℕ → List (List ℕ) → Result Line LineFault
 command_line command words =
@@ -466,12 +435,12 @@ command_line command words =
     else if is_text command (codes "cvt") then cvt_line words
     else if is_text command (codes "deq") then deq_line words
     else if is_text command (codes "set") then set_line words
-    else if is_text command (codes "end") then end_line words
-    else if is_text command (codes "leave") then leave_line words
-    else if is_text command (codes "search") then search_line words
-    else if is_text command (codes "ast") then ast_line words
-    else if is_text command (codes "block") then block_command words
-    else if is_text command (codes "tail") then tail_command words
+    else if is_text command (codes "end") then name_alone words >>= (λ name. Ok (End name))
+    else if is_text command (codes "leave") then node_alone words >>= (λ node. Ok (Leave node))
+    else if is_text command (codes "search") then node_alone words >>= (λ node. Ok (Search node))
+    else if is_text command (codes "ast") then name_alone words >>= (λ name. Ok (Ast name))
+    else if is_text command (codes "block") then block_alone words >>= (λ block. Ok (block_words block.0 block.1))
+    else if is_text command (codes "tail") then block_alone words >>= (λ block. Ok (tail_words block.0 block.1))
     else if is_text command (codes "show") then no_more Show words
     else if is_text command (codes "tails") then no_more Tails words
     else Err UnknownCommand

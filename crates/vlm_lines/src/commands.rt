@@ -1,7 +1,7 @@
 //! Reads a line by its command.
 
 ghost use Rattle.std.specs.Prelude.{◌≡◌, MatchResult};
-ghost use Rattle.vlm_lines.specs.Lines.{ast_line, block_alone, block_command, line_read, line_of, command_line, declare_line, enq_line, cvt_line, deq_line, set_line, end_line, leave_line, node_alone, search_line, tail_command, declaration_of, words_of, next_word, no_more};
+ghost use Rattle.vlm_lines.specs.Lines.{block_alone, command_line, cvt_line, declaration_of, declare_line, deq_line, enq_line, line_read, name_alone, next_word, no_more, node_alone, set_line, words_of};
 
 use crate::cuts;
 use crate::faults::LineFault;
@@ -9,7 +9,7 @@ use crate::keyed::{DeclareWords, DeqWords, EnqWords, Keyed, NodeWords, RequestWo
 use crate::lines::{Line, NO_PROCESS, ProcessName};
 use crate::locks::lock;
 use crate::numbers::byte;
-use crate::words::{behind_key, is_text, mode, process_name};
+use crate::words::{after_key, is_text, mode, process_name};
 use vlm_words::steps::{Conversion, Declaration, Dequeue, NewRequest, ValueSetting, Which};
 
 // The longest line, in bytes.
@@ -20,25 +20,17 @@ const LONGEST: usize = 255;
 /// The checks come in this order. `TooLong`: the line has more than 255 bytes. `UnknownCommand`. Then the first faulty
 /// word from left to right: `WrongWord` if it has the wrong form for its place or comes twice, else `NumberOutOfRange`.
 /// Last `WrongWord`, if a word is missing. The run finds the two faults of names.
-#[tactic(auto, unfolding(crate::specs::Lines::line_read))]
+#[tactic(auto, unfolding(crate::specs::Lines::line_read, crate::specs::Lines::line_of))]
 pub fn read_line(bytes: &[u8]) -> Result<Line, LineFault>
     ensures { result ≡ line_read bytes.now }
 {
     if bytes.len() > LONGEST {
         return Err(LineFault::TooLong);
     }
-    line_of(bytes)
-}
-
-// A blank line, or a comment: its first word begins with `#`.
-#[tactic(auto, unfolding(crate::specs::Lines::line_of))]
-fn line_of(line: &[u8]) -> Result<Line, LineFault>
-    ensures { result ≡ line_of (words_of line.now) }
-{
-    let Some((word, rest)) = cuts::next_word(line) else {
+    let Some((word, rest)) = cuts::next_word(bytes) else {
         return Ok(Line::Empty);
     };
-    if behind_key(b"#", word).is_some() {
+    if after_key(b"#", word).is_some() {
         return Ok(Line::Empty);
     }
     command_line(word, rest)
@@ -59,17 +51,19 @@ fn command_line(command: &[u8], rest: &[u8]) -> Result<Line, LineFault>
     } else if is_text(command, b"set") {
         set_line(rest)
     } else if is_text(command, b"end") {
-        end_line(rest)
+        Ok(Line::End(name_alone(rest)?))
     } else if is_text(command, b"leave") {
-        leave_line(rest)
+        Ok(Line::Leave(node_alone(rest)?))
     } else if is_text(command, b"search") {
-        search_line(rest)
+        Ok(Line::Search(node_alone(rest)?))
     } else if is_text(command, b"ast") {
-        ast_line(rest)
+        Ok(Line::Ast(name_alone(rest)?))
     } else if is_text(command, b"block") {
-        block_line(rest)
+        let (name, number) = block_alone(rest)?;
+        Ok(Line::Block(name, number))
     } else if is_text(command, b"tail") {
-        tail_line(rest)
+        let (name, number) = block_alone(rest)?;
+        Ok(Line::Tail(name, number))
     } else if is_text(command, b"show") {
         no_more(Line::Show, rest)
     } else if is_text(command, b"tails") {
@@ -86,7 +80,7 @@ fn declare_line(line: &[u8]) -> Result<Line, LineFault>
 {
     let (first, rest) = needed_word(line)?;
     let name = process_name(first)?;
-    let words = DeclareWords::new().with_words(rest)?;
+    let words = DeclareWords::default().with_words(rest)?;
     let declaration = declaration_of(words)?;
     Ok(Line::Declare(name, declaration))
 }
@@ -117,7 +111,7 @@ fn enq_line(line: &[u8]) -> Result<Line, LineFault>
     let name = process_name(first)?;
     let (second, rest) = needed_word(after_name)?;
     let mode = mode(second)?;
-    let words = EnqWords::new().with_words(rest)?;
+    let words = EnqWords::default().with_words(rest)?;
     let resource = words.resource.ok_or(LineFault::WrongWord)?;
     let asked = words.request;
     let block = asked.block.ok_or(LineFault::WrongWord)?;
@@ -146,7 +140,7 @@ fn cvt_line(line: &[u8]) -> Result<Line, LineFault>
     let lock = lock(second)?;
     let (third, rest) = needed_word(after_lock)?;
     let mode = mode(third)?;
-    let words = RequestWords::new().with_words(rest)?;
+    let words = RequestWords::default().with_words(rest)?;
     let block = words.block.ok_or(LineFault::WrongWord)?;
     let conversion = Conversion {
         pid: NO_PROCESS,
@@ -170,7 +164,7 @@ fn deq_line(line: &[u8]) -> Result<Line, LineFault>
     let name = process_name(first)?;
     let (second, rest) = needed_word(after_name)?;
     let lock = lock(second)?;
-    let words = DeqWords::new().with_words(rest)?;
+    let words = DeqWords::default().with_words(rest)?;
     let dequeue = Dequeue {
         pid: NO_PROCESS,
         lock,
@@ -188,7 +182,7 @@ fn set_line(line: &[u8]) -> Result<Line, LineFault>
 {
     let (first, rest) = needed_word(line)?;
     let name = process_name(first)?;
-    let words = SetWords::new().with_words(rest)?;
+    let words = SetWords::default().with_words(rest)?;
     let block = words.block.ok_or(LineFault::WrongWord)?;
     let value = words.value.ok_or(LineFault::WrongWord)?;
     let setting = ValueSetting {
@@ -200,49 +194,23 @@ fn set_line(line: &[u8]) -> Result<Line, LineFault>
     Ok(Line::Set(name, setting))
 }
 
-// The word of an end line: NAME.
-#[tactic(auto, unfolding(crate::specs::Lines::end_line))]
-fn end_line(line: &[u8]) -> Result<Line, LineFault>
-    ensures { result ≡ end_line (words_of line.now) }
-{
-    let (first, rest) = needed_word(line)?;
-    let name = process_name(first)?;
-    no_more(Line::End(name), rest)
-}
-
 // The word of a leave or search line: node=N.
 #[tactic(auto, unfolding(crate::specs::Lines::node_alone))]
 fn node_alone(line: &[u8]) -> Result<u8, LineFault>
     ensures { result ≡ node_alone (words_of line.now) }
 {
-    let words = NodeWords::new().with_words(line)?;
+    let words = NodeWords::default().with_words(line)?;
     words.node.ok_or(LineFault::WrongWord)
 }
 
-#[tactic(auto, unfolding(crate::specs::Lines::leave_line))]
-fn leave_line(line: &[u8]) -> Result<Line, LineFault>
-    ensures { result ≡ leave_line (words_of line.now) }
-{
-    let node = node_alone(line)?;
-    Ok(Line::Leave(node))
-}
-
-#[tactic(auto, unfolding(crate::specs::Lines::search_line))]
-fn search_line(line: &[u8]) -> Result<Line, LineFault>
-    ensures { result ≡ search_line (words_of line.now) }
-{
-    let node = node_alone(line)?;
-    Ok(Line::Search(node))
-}
-
-// The word of an ast line: NAME.
-#[tactic(auto, unfolding(crate::specs::Lines::ast_line))]
-fn ast_line(line: &[u8]) -> Result<Line, LineFault>
-    ensures { result ≡ ast_line (words_of line.now) }
+// The word of an end or ast line: NAME.
+#[tactic(auto, unfolding(crate::specs::Lines::name_alone))]
+fn name_alone(line: &[u8]) -> Result<ProcessName, LineFault>
+    ensures { result ≡ name_alone (words_of line.now) }
 {
     let (first, rest) = needed_word(line)?;
     let name = process_name(first)?;
-    no_more(Line::Ast(name), rest)
+    no_more(name, rest)
 }
 
 // The words of a block or tail line: NAME N.
@@ -255,22 +223,6 @@ fn block_alone(line: &[u8]) -> Result<(ProcessName, u8), LineFault>
     let (second, rest) = needed_word(after_name)?;
     let number = byte(second)?;
     no_more((name, number), rest)
-}
-
-#[tactic(auto, unfolding(crate::specs::Lines::block_command))]
-fn block_line(line: &[u8]) -> Result<Line, LineFault>
-    ensures { result ≡ block_command (words_of line.now) }
-{
-    let (name, number) = block_alone(line)?;
-    Ok(Line::Block(name, number))
-}
-
-#[tactic(auto, unfolding(crate::specs::Lines::tail_command))]
-fn tail_line(line: &[u8]) -> Result<Line, LineFault>
-    ensures { result ≡ tail_command (words_of line.now) }
-{
-    let (name, number) = block_alone(line)?;
-    Ok(Line::Tail(name, number))
 }
 
 fn needed_word(line: &[u8]) -> Result<(&[u8], &[u8]), LineFault>

@@ -1,17 +1,17 @@
 //! The words of flags.
 
 ghost use Rattle.std.specs.Prelude.{◌≡◌};
-ghost use Rattle.vlm_lines.specs.Lines.{deq_flag, enq_flag, flag_once, flag_word, flags_of, no_flag_words};
+ghost use Rattle.vlm_lines.specs.Lines.{deq_flag, enq_flag, flag_once, flag_word, flags_of};
 
 use crate::faults::LineFault;
 use crate::keyed::once;
 use crate::numbers::short;
-use crate::words::{behind_key, is_text};
+use crate::words::{after_key, is_text};
 use bitflags::Flags;
 use vlm_words::flags::{DeqFlags, EnqFlags};
 
 /// The flags that a line has given so far.
-#[derive(Clone, Copy)]
+#[derive(Clone, Copy, Default)]
 pub(crate) struct FlagWords {
     // the bits of the flags that came as words
     pub(crate) words: u16,
@@ -20,21 +20,12 @@ pub(crate) struct FlagWords {
 }
 
 impl FlagWords {
-    pub(crate) fn new() -> Self
-        ensures { result ≡ no_flag_words }
-    {
-        FlagWords {
-            words: 0,
-            bits: None,
-        }
-    }
-
     /// Adds one more word: `bits=`, or this flag.
     #[tactic(auto, unfolding(crate::specs::Lines::flag_word))]
     pub(crate) fn with(self, word: &[u8], flag: Option<u16>) -> Result<Self, LineFault>
         ensures { result ≡ flag_word self word.now flag }
     {
-        if let Some(digits) = behind_key(b"bits=", word) {
+        if let Some(digits) = after_key(b"bits=", word) {
             let bits = once(self.bits, short(digits))?;
             Ok(FlagWords { bits, ..self })
         } else {
@@ -43,7 +34,6 @@ impl FlagWords {
         }
     }
 
-    /// The flags of the step.
     #[tactic(auto, unfolding(crate::specs::Lines::flags_of))]
     pub(crate) fn flags(self) -> u16
         ensures { result ≡ flags_of self }
@@ -80,7 +70,6 @@ pub(crate) fn enq_flag(word: &[u8]) -> Option<u16>
     }
 }
 
-/// The flag of a word of a deq line.
 #[tactic(auto, unfolding(crate::specs::Lines::deq_flag))]
 pub(crate) fn deq_flag(word: &[u8]) -> Option<u16>
     ensures { result ≡ deq_flag word.now }
@@ -96,7 +85,6 @@ pub(crate) fn deq_flag(word: &[u8]) -> Option<u16>
     }
 }
 
-// Adds a flag to those before it. A flag that came before, or a word that is no flag, is a fault.
 #[tactic(auto, unfolding(crate::specs::Lines::flag_once, vlm_words::specs::Flags::has_flag))]
 fn flag_once(flags: u16, flag: Option<u16>) -> Result<u16, LineFault>
     ensures { result ≡ flag_once flags flag }

@@ -1,7 +1,7 @@
 //! The keyed words and flags that follow the places of a line.
 
 ghost use Rattle.std.specs.Prelude.{◌≡◌};
-ghost use Rattle.vlm_lines.specs.Lines.{all_words, declare_word, deq_word, enq_word, no_declare_words, no_deq_words, no_enq_words, no_node_words, no_request_words, no_set_words, node_word, once, request_word, set_word, words_of};
+ghost use Rattle.vlm_lines.specs.Lines.{all_words, declare_word, deq_word, enq_word, node_word, once, request_word, set_word, words_of};
 
 use crate::cuts::next_word;
 use crate::faults::LineFault;
@@ -10,7 +10,7 @@ use crate::locks::lock;
 use crate::names::read_res;
 use crate::numbers::{byte, long, short};
 use crate::values::{tail_of, value_of};
-use crate::words::{behind_key, is_text};
+use crate::words::{after_key, is_text};
 use vlm_words::names::NameArg;
 use vlm_words::steps::Which;
 
@@ -39,10 +39,8 @@ pub(crate) trait Keyed: Copy {
     }
 }
 
-/// The keyed words of a declare line.
-#[derive(Clone, Copy)]
+#[derive(Clone, Copy, Default)]
 pub(crate) struct DeclareWords {
-    // 0 to 255
     pub(crate) node: Option<u8>,
     pub(crate) group: Option<u16>,
     pub(crate) quota: Option<u16>,
@@ -50,35 +48,21 @@ pub(crate) struct DeclareWords {
     pub(crate) syslck: bool,
 }
 
-impl DeclareWords {
-    pub(crate) fn new() -> Self
-        ensures { result ≡ no_declare_words }
-    {
-        DeclareWords {
-            node: None,
-            group: None,
-            quota: None,
-            blocks: None,
-            syslck: false,
-        }
-    }
-}
-
 impl Keyed for DeclareWords {
     ghost with_word = { declare_word };
 
     #[tactic(auto, unfolding(crate::specs::Lines::declare_word))]
     fn with_word(self, word: &[u8]) -> Result<Self, LineFault> {
-        if let Some(digits) = behind_key(b"node=", word) {
+        if let Some(digits) = after_key(b"node=", word) {
             let node = once(self.node, byte(digits))?;
             Ok(DeclareWords { node, ..self })
-        } else if let Some(digits) = behind_key(b"group=", word) {
+        } else if let Some(digits) = after_key(b"group=", word) {
             let group = once(self.group, short(digits))?;
             Ok(DeclareWords { group, ..self })
-        } else if let Some(digits) = behind_key(b"quota=", word) {
+        } else if let Some(digits) = after_key(b"quota=", word) {
             let quota = once(self.quota, short(digits))?;
             Ok(DeclareWords { quota, ..self })
-        } else if let Some(digits) = behind_key(b"blocks=", word) {
+        } else if let Some(digits) = after_key(b"blocks=", word) {
             let blocks = once(self.blocks, byte(digits))?;
             Ok(DeclareWords { blocks, ..self })
         } else if is_text(word, b"syslck") && !self.syslck {
@@ -93,9 +77,8 @@ impl Keyed for DeclareWords {
 }
 
 /// The keyed words and flags of a cvt line. An enq line may have them too.
-#[derive(Clone, Copy)]
+#[derive(Clone, Copy, Default)]
 pub(crate) struct RequestWords {
-    // the number of the status block
     pub(crate) block: Option<u8>,
     // the completion routine
     pub(crate) ast: Option<u32>,
@@ -106,35 +89,21 @@ pub(crate) struct RequestWords {
     pub(crate) flags: FlagWords,
 }
 
-impl RequestWords {
-    pub(crate) fn new() -> Self
-        ensures { result ≡ no_request_words }
-    {
-        RequestWords {
-            block: None,
-            ast: None,
-            bast: None,
-            param: None,
-            flags: FlagWords::new(),
-        }
-    }
-}
-
 impl Keyed for RequestWords {
     ghost with_word = { request_word };
 
     #[tactic(auto, unfolding(crate::specs::Lines::request_word))]
     fn with_word(self, word: &[u8]) -> Result<Self, LineFault> {
-        if let Some(digits) = behind_key(b"block=", word) {
+        if let Some(digits) = after_key(b"block=", word) {
             let block = once(self.block, byte(digits))?;
             Ok(RequestWords { block, ..self })
-        } else if let Some(digits) = behind_key(b"ast=", word) {
+        } else if let Some(digits) = after_key(b"ast=", word) {
             let ast = once(self.ast, long(digits))?;
             Ok(RequestWords { ast, ..self })
-        } else if let Some(digits) = behind_key(b"bast=", word) {
+        } else if let Some(digits) = after_key(b"bast=", word) {
             let bast = once(self.bast, long(digits))?;
             Ok(RequestWords { bast, ..self })
-        } else if let Some(digits) = behind_key(b"param=", word) {
+        } else if let Some(digits) = after_key(b"param=", word) {
             let param = once(self.param, long(digits))?;
             Ok(RequestWords { param, ..self })
         } else {
@@ -145,26 +114,13 @@ impl Keyed for RequestWords {
 }
 
 /// The keyed words and flags of an enq line.
-#[derive(Clone, Copy)]
+#[derive(Clone, Copy, Default)]
 pub(crate) struct EnqWords {
     // the name of the resource, before its check
     pub(crate) resource: Option<NameArg>,
-    // the parent lock
     pub(crate) parent: Option<Which>,
     // the words that a cvt line has too
     pub(crate) request: RequestWords,
-}
-
-impl EnqWords {
-    pub(crate) fn new() -> Self
-        ensures { result ≡ no_enq_words }
-    {
-        EnqWords {
-            resource: None,
-            parent: None,
-            request: RequestWords::new(),
-        }
-    }
 }
 
 impl Keyed for EnqWords {
@@ -172,10 +128,10 @@ impl Keyed for EnqWords {
 
     #[tactic(auto, unfolding(crate::specs::Lines::enq_word))]
     fn with_word(self, word: &[u8]) -> Result<Self, LineFault> {
-        if let Some(name) = behind_key(b"name=", word) {
+        if let Some(name) = after_key(b"name=", word) {
             let resource = once(self.resource, read_res(name).ok_or(LineFault::WrongWord))?;
             Ok(EnqWords { resource, ..self })
-        } else if let Some(named) = behind_key(b"parent=", word) {
+        } else if let Some(named) = after_key(b"parent=", word) {
             let parent = once(self.parent, lock(named))?;
             Ok(EnqWords { parent, ..self })
         } else {
@@ -185,26 +141,11 @@ impl Keyed for EnqWords {
     }
 }
 
-/// The keyed words and flags of a deq line.
-#[derive(Clone, Copy)]
+#[derive(Clone, Copy, Default)]
 pub(crate) struct DeqWords {
-    // written to the value block
     pub(crate) value: Option<[u8; 16]>,
-    // written to the tail of the value block
     pub(crate) tail: Option<[u8; 48]>,
     pub(crate) flags: FlagWords,
-}
-
-impl DeqWords {
-    pub(crate) fn new() -> Self
-        ensures { result ≡ no_deq_words }
-    {
-        DeqWords {
-            value: None,
-            tail: None,
-            flags: FlagWords::new(),
-        }
-    }
 }
 
 impl Keyed for DeqWords {
@@ -212,10 +153,10 @@ impl Keyed for DeqWords {
 
     #[tactic(auto, unfolding(crate::specs::Lines::deq_word))]
     fn with_word(self, word: &[u8]) -> Result<Self, LineFault> {
-        if let Some(digits) = behind_key(b"value=", word) {
+        if let Some(digits) = after_key(b"value=", word) {
             let value = once(self.value, value_of(digits))?;
             Ok(DeqWords { value, ..self })
-        } else if let Some(digits) = behind_key(b"tail=", word) {
+        } else if let Some(digits) = after_key(b"tail=", word) {
             let tail = once(self.tail, tail_of(digits))?;
             Ok(DeqWords { tail, ..self })
         } else {
@@ -225,27 +166,11 @@ impl Keyed for DeqWords {
     }
 }
 
-/// The keyed words of a set line.
-#[derive(Clone, Copy)]
+#[derive(Clone, Copy, Default)]
 pub(crate) struct SetWords {
-    // the number of the status block
     pub(crate) block: Option<u8>,
-    // written to its value part
     pub(crate) value: Option<[u8; 16]>,
-    // written to its tail
     pub(crate) tail: Option<[u8; 48]>,
-}
-
-impl SetWords {
-    pub(crate) fn new() -> Self
-        ensures { result ≡ no_set_words }
-    {
-        SetWords {
-            block: None,
-            value: None,
-            tail: None,
-        }
-    }
 }
 
 impl Keyed for SetWords {
@@ -253,13 +178,13 @@ impl Keyed for SetWords {
 
     #[tactic(auto, unfolding(crate::specs::Lines::set_word))]
     fn with_word(self, word: &[u8]) -> Result<Self, LineFault> {
-        if let Some(digits) = behind_key(b"block=", word) {
+        if let Some(digits) = after_key(b"block=", word) {
             let block = once(self.block, byte(digits))?;
             Ok(SetWords { block, ..self })
-        } else if let Some(digits) = behind_key(b"value=", word) {
+        } else if let Some(digits) = after_key(b"value=", word) {
             let value = once(self.value, value_of(digits))?;
             Ok(SetWords { value, ..self })
-        } else if let Some(digits) = behind_key(b"tail=", word) {
+        } else if let Some(digits) = after_key(b"tail=", word) {
             let tail = once(self.tail, tail_of(digits))?;
             Ok(SetWords { tail, ..self })
         } else {
@@ -269,18 +194,9 @@ impl Keyed for SetWords {
 }
 
 /// The keyed word of a leave or search line.
-#[derive(Clone, Copy)]
+#[derive(Clone, Copy, Default)]
 pub(crate) struct NodeWords {
-    // 0 to 255
     pub(crate) node: Option<u8>,
-}
-
-impl NodeWords {
-    pub(crate) fn new() -> Self
-        ensures { result ≡ no_node_words }
-    {
-        NodeWords { node: None }
-    }
 }
 
 impl Keyed for NodeWords {
@@ -288,7 +204,7 @@ impl Keyed for NodeWords {
 
     #[tactic(auto, unfolding(crate::specs::Lines::node_word))]
     fn with_word(self, word: &[u8]) -> Result<Self, LineFault> {
-        if let Some(digits) = behind_key(b"node=", word) {
+        if let Some(digits) = after_key(b"node=", word) {
             let node = once(self.node, byte(digits))?;
             Ok(NodeWords { node })
         } else {

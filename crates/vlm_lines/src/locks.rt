@@ -5,7 +5,7 @@ ghost use Rattle.vlm_lines.specs.Lines.{lock_named};
 
 use crate::faults::LineFault;
 use crate::numbers::{byte, long};
-use crate::words::behind_key;
+use crate::words::after_key;
 use vlm_words::steps::Which;
 
 /// A lock: `@N` is the lock in status block N, and a number is the identification of the lock.
@@ -13,7 +13,7 @@ use vlm_words::steps::Which;
 pub(crate) fn lock(word: &[u8]) -> Result<Which, LineFault>
     ensures { result ≡ lock_named word.now }
 {
-    if let Some(digits) = behind_key(b"@", word) {
+    if let Some(digits) = after_key(b"@", word) {
         let block = byte(digits)?;
         Ok(Which::Block(block))
     } else {

@@ -5,7 +5,7 @@ ghost use Rattle.std.specs.Char.{is_ascii_hexdigit};
 ghost use Rattle.std.specs.List.{list_all};
 ghost use Rattle.vlm_lines.specs.Lines.{hex_name, hex_value, name_read};
 
-use crate::words::behind_key;
+use crate::words::after_key;
 use hex::decode_to_slice;
 use vlm_words::names::NameArg;
 
@@ -18,18 +18,18 @@ const LONGEST: usize = 32;
 pub fn read_res(bytes: &[u8]) -> Option<NameArg>
     ensures { result ≡ name_read bytes.now }
 {
-    match behind_key(b"x:", bytes) {
+    match after_key(b"x:", bytes) {
         Some(digits) => hex_name(digits),
         None => Some(NameArg::of(bytes)),
     }
 }
 
-// The name whose bytes these digits are.
 #[tactic(auto, unfolding(crate::specs::Lines::hex_name))]
 fn hex_name(digits: &[u8]) -> Option<NameArg>
     ensures { result ≡ hex_name digits.now }
 {
-    if digits.len() % 2 != 0 || !all_hex_digits(digits) {
+    let all_hex = digits.iter().all(|digit| digit.is_ascii_hexdigit());
+    if digits.len() % 2 != 0 || !all_hex {
         return None;
     }
     let mut name = [0; LONGEST];
@@ -38,17 +38,10 @@ fn hex_name(digits: &[u8]) -> Option<NameArg>
     Some(NameArg::of(&name[..count]))
 }
 
-// Writes a byte for each two digits.
 fn read_pairs(digits: &[u8], bytes: &mut [u8])
     requires digits { list_all is_ascii_hexdigit digits.now ≡ true }
     requires twice { length digits.now ≡ 2 * length bytes.old }
     ensures { bytes.new ≡ hex_value digits.now }
 {
     let _ = decode_to_slice(digits, bytes);
-}
-
-fn all_hex_digits(digits: &[u8]) -> bool
-    ensures { result ≡ list_all is_ascii_hexdigit digits.now }
-{
-    digits.iter().all(|digit| digit.is_ascii_hexdigit())
 }

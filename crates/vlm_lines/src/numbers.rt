@@ -3,7 +3,7 @@
 ghost use Rattle.std.specs.Prelude.{◌≡◌, ◌≤◌, IfOk, length, true};
 ghost use Rattle.std.specs.Char.{is_ascii_digit};
 ghost use Rattle.std.specs.List.{list_all};
-ghost use Rattle.vlm_lines.specs.Lines.{number_within, decimal_value, is_number};
+ghost use Rattle.vlm_lines.specs.Lines.{decimal_value, number_within};
 
 use crate::faults::LineFault;
 
@@ -13,7 +13,8 @@ pub(crate) fn number(limit: u32, word: &[u8]) -> Result<u32, LineFault>
     ensures value { result ≡ number_within limit word.now }
     ensures within { IfOk result (λ n. n ≤ limit) }
 {
-    if !is_number(word) {
+    let all_digits = word.iter().all(|digit| digit.is_ascii_digit());
+    if word.is_empty() || !all_digits {
         return Err(LineFault::WrongWord);
     }
     if word.len() > 10 {
@@ -27,7 +28,6 @@ pub(crate) fn number(limit: u32, word: &[u8]) -> Result<u32, LineFault>
     }
 }
 
-/// A number of at most 255.
 pub(crate) fn byte(word: &[u8]) -> Result<u8, LineFault>
     ensures { result ≡ number_within 255 word.now }
 {
@@ -35,7 +35,6 @@ pub(crate) fn byte(word: &[u8]) -> Result<u8, LineFault>
     Ok(value as u8)
 }
 
-/// A number of at most 65535.
 pub(crate) fn short(word: &[u8]) -> Result<u16, LineFault>
     ensures { result ≡ number_within 65535 word.now }
 {
@@ -43,25 +42,10 @@ pub(crate) fn short(word: &[u8]) -> Result<u16, LineFault>
     Ok(value as u16)
 }
 
-/// A number of at most 4294967295.
 pub(crate) fn long(word: &[u8]) -> Result<u32, LineFault>
     ensures { result ≡ number_within 4294967295 word.now }
 {
     number(u32::MAX, word)
-}
-
-// Whether the word is one or more decimal digits.
-#[tactic(auto, using(crate::proofs::Lengths::is_nothing_by_length))]
-fn is_number(word: &[u8]) -> bool
-    ensures { result ≡ is_number word.now }
-{
-    !word.is_empty() && all_digits(word)
-}
-
-fn all_digits(word: &[u8]) -> bool
-    ensures { result ≡ list_all is_ascii_digit word.now }
-{
-    word.iter().all(|digit| digit.is_ascii_digit())
 }
 
 fn decimal_value(digits: &[u8]) -> u64

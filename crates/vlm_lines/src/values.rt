@@ -20,7 +20,6 @@ pub(crate) fn tail_of(word: &[u8]) -> Result<[u8; 48], LineFault>
     bytes_of(word)
 }
 
-// N bytes, written in exactly two hexadecimal digits each.
 #[tactic(auto, using(crate::proofs::Hexadecimal::bytes_read))]
 fn bytes_of<const N: usize>(word: &[u8]) -> Result<[u8; N], LineFault>
     ensures { result ≡ bytes_of N word.now }

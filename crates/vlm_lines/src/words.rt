@@ -1,8 +1,7 @@
 //! The words of processes and of modes.
 
 ghost use Rattle.std.specs.Prelude.{◌≡◌, MatchOption, true, false};
-ghost use Rattle.std.specs.List.{list_all};
-ghost use Rattle.vlm_lines.specs.Lines.{process_name, begins_with_letter, mode_of, is_name_byte, is_text, has_key, behind};
+ghost use Rattle.vlm_lines.specs.Lines.{after_key, has_key, is_text, mode_of, process_name};
 
 use crate::faults::LineFault;
 use crate::lines::ProcessName;
@@ -13,42 +12,23 @@ use vlm_words::modes::Mode;
 pub(crate) fn process_name(word: &[u8]) -> Result<ProcessName, LineFault>
     ensures { result ≡ process_name word.now }
 {
-    if begins_with_letter(word) && word.len() <= 15 && all_name_bytes(word) {
-        Ok(ProcessName::of(word))
-    } else {
-        Err(LineFault::WrongWord)
-    }
-}
-
-fn begins_with_letter(word: &[u8]) -> bool
-    ensures { result ≡ begins_with_letter word.now }
-{
+    let all_named = word
+        .iter()
+        .all(|byte| byte.is_ascii_alphanumeric() || *byte == b'_');
     match word {
-        [] => false,
-        [first, ..] => first.is_ascii_alphabetic(),
+        [first, ..] if first.is_ascii_alphabetic() && word.len() <= 15 && all_named => {
+            Ok(ProcessName::of(word))
+        }
+        _ => Err(LineFault::WrongWord),
     }
 }
 
-fn all_name_bytes(word: &[u8]) -> bool
-    ensures { result ≡ list_all is_name_byte word.now }
-{
-    word.iter().all(|byte| is_name_byte(*byte))
-}
-
-fn is_name_byte(byte: u8) -> bool
-    ensures { result ≡ is_name_byte byte }
-{
-    byte.is_ascii_alphanumeric() || byte == b'_'
-}
-
-/// Whether the word is this text.
 pub(crate) fn is_text(word: &[u8], text: &[u8]) -> bool
     ensures { result ≡ is_text word.now text.now }
 {
     word == text
 }
 
-/// The mode of this name.
 #[tactic(auto, unfolding(crate::specs::Lines::mode_of))]
 pub(crate) fn mode(word: &[u8]) -> Result<Mode, LineFault>
     ensures { result ≡ mode_of word.now }
@@ -71,9 +51,9 @@ pub(crate) fn mode(word: &[u8]) -> Result<Mode, LineFault>
 }
 
 /// The part of the word after this key, if the word begins with it.
-pub(crate) fn behind_key<'a>(key: &[u8], word: &'a [u8]) -> Option<&'a [u8]>
+pub(crate) fn after_key<'a>(key: &[u8], word: &'a [u8]) -> Option<&'a [u8]>
     ensures { MatchOption result (has_key key.now word.now ≡ false)
-        (λ rest. (has_key key.now word.now ≡ true) × (rest.now ≡ behind key.now word.now)) }
+        (λ rest. (has_key key.now word.now ≡ true) × (rest.now ≡ after_key key.now word.now)) }
 {
     if word.starts_with(key) {
         Some(&word[key.len()..])

@@ -1,4 +1,4 @@
--- The steps of a script's lines so far, in front of those of the lines that are left.
+-- The steps of the lines so far, before the steps of the lines that are left.
 use Rattle.std.proofs.Common.{◌≡◌, ℕ, ◌+◌, All, List, [], ◌∷◌, ◌++◌, length, IfSome, Option, None, Some, Result, Ok, Err, append_assoc, append-nil, refl, sym, ap, subst, ◌∙◌}
 use Rattle.std.proofs.lemmas.List.Elements.{All-push}
 use Rattle.vlm_lines.specs.declared.faults.LineFault.{LineFault}

@@ -5,11 +5,11 @@ use Rattle.std.specs.List.{position_or_len}
 use Rattle.vlm_lines.specs.Lines.{is_line_feed, lines_of}
 use Rattle.vlm_lines.proofs.Pieces.{pieces_first}
 
--- the first line, and what stands behind its line feed
-line_first : (bytes line rest behind : List ℕ) (n : ℕ) → 0 < length bytes → n ≡ position_or_len is_line_feed bytes → line ≡ take n bytes → rest ≡ drop n bytes → behind ≡ drop 1 rest
-    → lines_of bytes ≡ line ∷ lines_of behind
-line_first bytes line rest behind n some e front back next =
-    let more : drop (position_or_len is_line_feed bytes + 1) bytes ≡ behind = ap (λ m. drop (m + 1) bytes) (sym e) ∙ sym (drop-drop 1 n bytes) ∙ ap (drop 1) (sym back) ∙ sym next in
+-- the first line, and the bytes after its line feed
+line_first : (bytes line rest after : List ℕ) (n : ℕ) → 0 < length bytes → n ≡ position_or_len is_line_feed bytes → line ≡ take n bytes → rest ≡ drop n bytes → after ≡ drop 1 rest
+    → lines_of bytes ≡ line ∷ lines_of after
+line_first bytes line rest after n some e front back next =
+    let more : drop (position_or_len is_line_feed bytes + 1) bytes ≡ after = ap (λ m. drop (m + 1) bytes) (sym e) ∙ sym (drop-drop 1 n bytes) ∙ ap (drop 1) (sym back) ∙ sym next in
     pieces_first is_line_feed bytes some
     ∙ ap (λ x. x ∷ lines_of (drop (position_or_len is_line_feed bytes + 1) bytes)) (ap (λ m. take m bytes) (sym e) ∙ sym front)
     ∙ ap (λ x. line ∷ lines_of x) more

@@ -30,7 +30,7 @@ module _ {V : Type 0} (steps_of : V → List Step) (vecs : List V) (node : ℕ) 
   pub steps-unchanged : steps_of new ≡ steps_of old → map steps_of (set vecs (node - 1) new) ≡ map steps_of vecs
   steps-unchanged same = map-set_same steps_of vecs (node - 1) new old (same ∙ ap steps_of is)
 
--- a number that passes the test is that of a node
+-- a number that passes the test is the number of a node
 pub is_node : (nodes node : ℕ) → has_node nodes node ≡ true → IsOneOfNodes nodes node
 is_node nodes node is =
     let parts = and_parts (nat_le 1 node) (nat_le node nodes) is in

@@ -12,7 +12,7 @@ use Rattle.vlm_script.specs.declared.stops.Stop.TheVariants.{Fault, Memory as ou
 use Rattle.vlm_script.specs.Plays.{EndsLines, Passes, PassesPart, Plays, Wrote}
 use Rattle.vlm_script.specs.Sessions.{IsPrinted, StopsBytes, stopped_at}
 
--- the first lines have run; what they print is written but for what still waits to be
+-- the first lines have run; their text is written except the part that still waits
 pub record Reached (input : List ℕ) (count : ℕ) (begun now : Option (List ℕ)) (waiting : List ℕ) (last : Session) : Type 0 where
   pub written : List ℕ
   pub kept : Appends begun now written
@@ -24,12 +24,12 @@ pub record Progress (input rest : List ℕ) (count : ℕ) (begun now : Option (L
   pub short : count + length rest ≤ length input
   pub reached : Reached input count begun now waiting last
 
--- nothing is written behind what is there
+-- nothing more is written
 Appends-nothing : (known : Option (List ℕ)) → Appends known known []
 Appends-nothing None = tt
 Appends-nothing (Some bytes) = sym (append-nil bytes)
 
--- one write behind another
+-- one write after another
 Appends-append : (a b c : Option (List ℕ)) (xs ys : List ℕ) → Appends a b xs → Appends b c ys → Appends a c (xs ++ ys)
 Appends-append None b c xs ys first second = tt
 Appends-append (Some a) None c xs ys first second = absurd first
@@ -43,7 +43,7 @@ take-next [] (suc n) x rest h = cc
 take-next (y ∷ xs) zero x rest h = cc
 take-next (y ∷ xs) (suc n) x rest h = rw add-one (ap (λ t. y ∷ t) (rw add-one at (take-next xs n x rest h)))
 
--- the lines behind the next one are left
+-- the lines after the next one are left
 pub drop-more : {X : Type 0} → (xs : List X) (n : ℕ) (x : X) (rest : List X) → drop n xs ≡ x ∷ rest → rest ≡ drop (n + 1) xs
 drop-more [] zero x rest h = cc
 drop-more [] (suc n) x rest h = cc

@@ -14,9 +14,9 @@ part_of_first old new xs ys part =
     (part.0, short, subst (Appends old new) (sym (take-append-le part.0 xs ys within)) part.2)
 
 -- the first piece and a part of the next are a part of the whole
-pub part_behind : (old mid new : Option (List ℕ)) (xs ys : List ℕ) → Appends old mid xs → PassesPart mid new ys
+pub part_after : (old mid new : Option (List ℕ)) (xs ys : List ℕ) → Appends old mid xs → PassesPart mid new ys
     → PassesPart old new (xs ++ ys)
-part_behind old mid new xs ys first part = (
+part_after old mid new xs ys first part = (
   length xs + part.0,
   omega (arith, part.1, length-append xs ys),
   subst (Appends old new) (sym (take-append-add xs ys part.0)) (Appends-trans old mid new xs (take part.0 ys) first part.2),

@@ -14,6 +14,6 @@ play_fault_text Read = codes "read"
 play_fault_text Write = codes "write"
 play_fault_text Long = codes "script too long"
 
--- the line that the program prints of a fault
+-- the line that the program prints for a fault
 abbrev pub fault_line : PlayFault → List ℕ
 fault_line fault = play_fault_text fault ++ line_feed

@@ -5,7 +5,7 @@ use Rattle.vlm_script.specs.Scripts.{IsText, IsTextOfFirst, HasFault}
 use Rattle.vlm_script.specs.declared.faults.PlayFault.{PlayFault}
 use Rattle.vlm_script.specs.declared.faults.PlayFault.TheVariants.{Line, Memory, Read, Write, Long}
 
--- the written bytes are a first part of the text of some first lines, and not the whole
+-- the written bytes begin the text of the first lines, and some of it is missing
 pub record IsPartOfText (input written : List ℕ) : Type 0 where
   pub count : ℕ
   pub rest : List ℕ
@@ -25,7 +25,7 @@ abbrev pub Plays : List ℕ → Result (Unit {0}) PlayFault → List ℕ → Typ
 Plays input (Ok done) written = IsText input written
 Plays input (Err fault) written = StopsAt input fault written
 
--- some bytes were appended to the writer's, and this holds of them
+-- some bytes were appended, and this holds of them
 abbrev pub Wrote : Option (List ℕ) → Option (List ℕ) → (List ℕ → Type 0) → Type 0
 Wrote old new P = (written : List ℕ) × Appends old new written × P written
 

@@ -59,7 +59,7 @@ name_fault names (Tail name number) = unknown_fault (bound_to names name)
 name_fault names Show = None
 name_fault names Tails = None
 
--- the step, made by this process; a step of a node has no process
+-- the step, made by this process; a step of a node stays as it is
 abbrev pub of_process : ℕ → Step → Step
 of_process pid (declare_step declaration) = declare_step declaration
 of_process pid (set_step setting) = set_step (record setting { pid = pid })
@@ -86,7 +86,7 @@ pub record Declares (old : Session) (name : List ℕ) (declaration : Declaration
   pub names : new.names ≡ bound_by old.names name answer
   pub printed : text ≡ answer_line name answer
 
--- any other line with a name makes a step of the process of that name, and prints the answer
+-- any other line with a name makes a step of its process, and prints the answer
 pub record Makes (old : Session) (name : List ℕ) (step : Step) (text : List ℕ) (new : Session) : Type 0 where
   pub pid : ℕ
   pub bound : bound_to old.names name ≡ Some pid
@@ -95,21 +95,21 @@ pub record Makes (old : Session) (name : List ℕ) (step : Step) (text : List �
   pub names : new.names ≡ old.names
   pub printed : text ≡ answer_line name answer
 
--- a line of a node makes its step, and prints the answer so
-pub record Steps (old : Session) (step : Step) (told : Answer → List ℕ) (text : List ℕ) (new : Session) : Type 0 where
+-- a line of a node makes its step, and prints the answer in this form
+pub record Steps (old : Session) (step : Step) (as_line : Answer → List ℕ) (text : List ℕ) (new : Session) : Type 0 where
   pub answer : Answer
   pub outcome : Outcome old.state step new.state answer
   pub names : new.names ≡ old.names
-  pub printed : text ≡ told answer
+  pub printed : text ≡ as_line answer
 
--- a line with a name and without a step prints something of the process of that name, and changes nothing
+-- a line that only prints about a process changes nothing
 pub record Shows (old : Session) (name : List ℕ) (shown : ℕ → List ℕ) (text : List ℕ) (new : Session) : Type 0 where
   pub pid : ℕ
   pub bound : bound_to old.names name ≡ Some pid
   pub same : new ≡ old
   pub printed : text ≡ shown pid
 
--- a line without a step prints this and changes nothing
+-- a line that only prints this text changes nothing
 pub record Prints (old : Session) (shown text : List ℕ) (new : Session) : Type 0 where
   pub same : new ≡ old
   pub printed : text ≡ shown

@@ -45,11 +45,11 @@ abbrev pub declare_fault : ℕ → Shares → List ℕ → ℕ → Option LineFa
 declare_fault nodes s name node =
     if can_declare nodes s node then used_fault (bound_to s.names name) else Some NumberOutOfRange
 
--- a leave or search line names a node that there is
+-- a leave or search line names a node that exists
 abbrev pub node_fault : ℕ → ℕ → Option LineFault
 node_fault nodes node = if has_node nodes node then None else Some NumberOutOfRange
 
--- the fault of a line among the nodes: of its node, of its name, or that it is not a step of a list
+-- the fault of sharing a line out: of its node, of its name, or that no list can have it
 abbrev pub share_fault : ℕ → Shares → Line → Option LineFault
 share_fault nodes s Empty = None
 share_fault nodes s (Declare name declaration) = declare_fault nodes s name declaration.node
@@ -114,7 +114,7 @@ abbrev pub unless_fault : Option LineFault → Shares → Result Shares LineFaul
 unless_fault None s = Ok s
 unless_fault (Some fault) s = Err fault
 
--- the shares after a line, or its fault: of its bytes, or among the nodes
+-- the shares after a line, or its fault: of its bytes, or of sharing it out
 abbrev pub line_shared : ℕ → Shares → Result Line LineFault → Result Shares LineFault
 line_shared nodes s (Err fault) = Err fault
 line_shared nodes s (Ok line) = unless_fault (share_fault nodes s line) (share_line s line)

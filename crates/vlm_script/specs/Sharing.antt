@@ -12,7 +12,7 @@ use Rattle.vlm_script.specs.declared.faults.PlayFault.TheVariants.{Line as line_
 use Rattle.vlm_script.specs.declared.stops.Stop.{Stop}
 use Rattle.vlm_script.specs.declared.stops.Stop.TheVariants.{Fault, Memory}
 
--- the number is that of one of this many nodes
+-- one of this many nodes has the number
 pub record IsOneOfNodes (nodes node : ℕ) : Type 0 where
   pub above : 0 < node
   pub within : node ≤ nodes
@@ -39,7 +39,7 @@ pub record IsSharedByName (old : Shares) (name : List ℕ) (step : Step) (new : 
   pub bound : bound_to old.names name ≡ Some pid
   pub becomes : new ≡ share_step old (node_of_pid pid) (of_process pid step)
 
--- a step goes to the list of a node that there is
+-- a step goes to the list of a node that exists
 pub record IsPut (old : Shares) (node : ℕ) (step : Step) (new : Shares) : Type 0 where
   pub faultless : node_fault (length old.lists) node ≡ None
   pub becomes : new ≡ share_step old node step

@@ -172,11 +172,11 @@ abbrev pub part_text : Part → Resource → List ℕ
 part_text Queues r = resource_text r
 part_text Tail r = tail_line (resource_view r)
 
--- the line that says that there is no resource
+-- a line that says that there is no resource
 abbrev pub no_resources_line : List ℕ
 no_resources_line = codes "no resources" ++ line_feed
 
--- this part of all resources by rising serial, or the line that says that there are no resources
+-- this part of each resource by rising serial, or a line that says that there is none
 unfoldable pub parts_text : Part → List Resource → List ℕ
 parts_text part [] = no_resources_line
 parts_text part (r ∷ rest) = part_text part r ++ flat_map (part_text part) rest

@@ -1,8 +1,7 @@
 //! Cuts a script into lines.
 
-ghost use Rattle.std.specs.Prelude.{◌≡◌, ◌<◌, ◌≤◌, ◌↔◌, [], ◌∷◌, length, IsNone, IfSome};
-ghost use Rattle.std.specs.List.{position_or_len};
-ghost use Rattle.vlm_lines.specs.Lines.{lines_of, is_line_feed};
+ghost use Rattle.std.specs.Prelude.{◌≡◌, ◌<◌, ◌↔◌, [], ◌∷◌, length, IsNone, IfSome};
+ghost use Rattle.vlm_lines.specs.Lines.{lines_of};
 
 /// The first line without its line feed, and the bytes after it; `None` if there are no bytes. A line ends at its line
 /// feed, and the last one at the end of the bytes.
@@ -14,18 +13,10 @@ pub(crate) fn next_line(bytes: &[u8]) -> Option<(&[u8], &[u8])>
     if bytes.is_empty() {
         return None;
     }
-    let (line, rest) = bytes.split_at(line_len(bytes));
+    let end = bytes.iter().position(|byte| *byte == b'\n');
+    let (line, rest) = bytes.split_at(end.unwrap_or(bytes.len()));
     match rest {
         [] => Some((line, rest)),
-        [_, behind @ ..] => Some((line, behind)),
+        [_, after @ ..] => Some((line, after)),
     }
-}
-
-// How many bytes come before the first line feed.
-fn line_len(bytes: &[u8]) -> usize
-    ensures value { result ≡ position_or_len is_line_feed bytes.now }
-    ensures within { result ≤ length bytes.now }
-{
-    let end = bytes.iter().position(|byte| *byte == b'\n');
-    end.unwrap_or(bytes.len())
 }

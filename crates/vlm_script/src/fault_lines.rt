@@ -25,7 +25,6 @@ impl PlayFault {
         write_whole(writer, b"\n")
     }
 
-    // Writes the fault's text.
     fn write_text<W: Write>(&self, writer: &mut W) -> Result<(), PlayFault>
         ensures whole { OnOk result
             (Appends (W.contents writer.old) (W.contents writer.new) (play_fault_text self.now)) }
@@ -43,7 +42,6 @@ impl PlayFault {
     }
 }
 
-// Writes the number of a line and the text of its fault.
 fn write_line_fault<W: Write>(
     number: usize,
     fault: LineFault,

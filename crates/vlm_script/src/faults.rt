@@ -10,16 +10,14 @@ pub enum PlayFault {
     /// The number of a line, from 1, and its fault.
     #[error("line {0}: {text}", text = .1.text())]
     Line(usize, LineFault),
-    /// Memory ran out.
     #[error("memory")]
     Memory,
-    /// The script could not be read.
     #[error("read")]
     Read,
-    /// What was printed could not be written.
+    /// The printed text could not be written.
     #[error("write")]
     Write,
-    /// The script has more bytes than a script may have.
+    /// The script has more than 16,777,216 bytes.
     #[error("script too long")]
     Long,
 }
@@ -30,7 +28,6 @@ impl From<AllocError> for PlayFault {
 
     ghost from_gives = { λ _ fault. fault ≡ Memory };
 
-    /// A refused allocation ends the run.
     fn from(_refused: AllocError) -> PlayFault {
         PlayFault::Memory
     }

@@ -5,7 +5,7 @@ ghost use Rattle.vlm_lines.specs.Lines.{line_read};
 ghost use Rattle.vlm_script.specs.Shares.{AreListed, no_shares, with_step};
 ghost use Rattle.vlm_script.specs.Sharing.{IsOneOfNodes};
 
-use crate::bindings::{Bindings, bind_reserved, bound_to, process_of};
+use crate::bindings::{Bindings, bind_reserved, is_bound, process_of};
 use crate::session::of_process;
 use crate::stops::Stop;
 use std::alloc::{AllocError, Global};
@@ -52,7 +52,6 @@ impl Sharing {
     ghost use Rattle.vlm_script.specs.Sharing.{IsSharedByName, IsPut, IsShared, StopsNode, StopsShare, StopsShareBytes};
     ghost use Rattle.vlm_script.specs.Steps.{IsPostable, line_step, named_step, read_step};
 
-    /// No names, and an empty list for each node.
     pub(crate) fn new(alloc: Global, keys: HashKeys, nodes: u8) -> Result<Self, AllocError>
         ensures { IfOk result (λ s. s ≡ no_shares nodes) }
     {
@@ -63,7 +62,6 @@ impl Sharing {
         })
     }
 
-    /// The lists, node 1 first.
     pub(crate) fn into_lists(self) -> Vec<Vec<Step>>
         ensures lists { map (λ l. l.items) result.items ≡ self.lists }
         ensures listed { AreListed self.lists }
@@ -71,7 +69,7 @@ impl Sharing {
         self.lists
     }
 
-    /// Shares out a line of the script, and answers its step. A blank line has none.
+    /// Shares out a line, and answers its step. A blank line has none.
     pub(crate) fn share(&mut self, bytes: &[u8]) -> Result<Option<Step>, Stop>
         ensures shared { MatchResult result
             (λ _. line_shared (length self.old.lists) self.old (line_read bytes.now) ≡ Ok self.new)
@@ -85,7 +83,6 @@ impl Sharing {
         self.share_line(line)
     }
 
-    // Shares out a line without a fault, and answers its step.
     fn share_line(&mut self, line: Line) -> Result<Option<Step>, Stop>
         ensures shared { MatchResult result
             (λ _. IsShared self.old line self.new)
@@ -111,7 +108,7 @@ impl Sharing {
         }
     }
 
-    // Shares out a declare line, binds its name to the node's next process, and answers its step.
+    // Binds the name to the node's next process.
     fn declare(&mut self, name: ProcessName, declaration: Declaration) -> Result<Option<Step>, Stop>
         ensures shared { MatchResult result
             (λ _. IsShared self.old (Line.Declare name declaration) self.new)
@@ -125,7 +122,7 @@ impl Sharing {
         if !self.can_declare(node) {
             return Err(Stop::Fault(LineFault::NumberOutOfRange));
         }
-        if bound_to(&self.names, &name).is_some() {
+        if is_bound(&self.names, &name) {
             return Err(Stop::Fault(LineFault::NameUsed));
         }
         self.names.reserve(1)?;
@@ -139,7 +136,7 @@ impl Sharing {
         Ok(Some(Step::Declare(declaration)))
     }
 
-    // Puts a step of the process of this name into the list of the process's node, and answers it.
+    // Puts the step into the list of the process's node.
     fn put_named(&mut self, name: ProcessName, step: Step) -> Result<Option<Step>, Stop>
         requires { (pid : ℕ) → IsListed (node_of_pid pid) (of_process pid step) }
         ensures shared { MatchResult result
@@ -158,7 +155,6 @@ impl Sharing {
         Ok(Some(step))
     }
 
-    // Puts a step into the list of its node, and answers it.
     fn put(&mut self, node: u8, step: Step) -> Result<Option<Step>, Stop>
         requires { IsListed node step }
         ensures shared { MatchResult result
@@ -176,14 +172,12 @@ impl Sharing {
         Ok(Some(step))
     }
 
-    // Whether the node may have one more declare line.
     fn can_declare(&self, node: u8) -> bool
         ensures { result ≡ can_declare (length self.now.lists) self.now node }
     {
         self.has_node(node) && self.declared[usize::from(node) - 1] < u16::MAX
     }
 
-    // Whether there is a node of this number.
     fn has_node(&self, node: u8) -> bool
         ensures { result ≡ has_node (length self.now.lists) node }
     {
@@ -191,14 +185,12 @@ impl Sharing {
     }
 }
 
-// No declare line yet, for each node.
 fn no_declarations(alloc: Global, nodes: u8) -> Result<Vec<u16>, AllocError>
     ensures { IfOk result (λ declared. declared.items ≡ replicate nodes 0) }
 {
     Vec::from_elem(alloc, 0, usize::from(nodes))
 }
 
-// No step yet, for each node.
 fn empty_lists(alloc: Global, nodes: u8) -> Result<Vec<Vec<Step>>, AllocError>
     ensures { IfOk result (λ lists. map (λ l. l.items) lists.items ≡ replicate nodes []) }
 {
@@ -209,7 +201,6 @@ fn empty_lists(alloc: Global, nodes: u8) -> Result<Vec<Vec<Step>>, AllocError>
     Ok(lists)
 }
 
-// Puts a step at the end of a node's list.
 fn add_step(lists: &mut Vec<Vec<Step>>, node: usize, step: &Step) -> Result<(), AllocError>
     requires { IsOneOfNodes (vec_len lists.old) node }
     ensures ok { OnOk result (map (λ l. l.items) lists.new.items
@@ -221,7 +212,7 @@ fn add_step(lists: &mut Vec<Vec<Step>>, node: usize, step: &Step) -> Result<(), 
     Ok(())
 }
 
-// Counts one more declare line of a node, and answers its process.
+// Counts a declare line of the node, and answers its process.
 fn next_process(declared: &mut Vec<u16>, node: u8) -> u32
     requires node { IsOneOfNodes (vec_len declared.old) node }
     requires room { slice_index declared.old.items (node - 1) < 65535 }

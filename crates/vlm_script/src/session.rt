@@ -1,11 +1,10 @@
 //! A session: a machine, and the names that a script has bound.
 
-ghost use Rattle.std.specs.Prelude.{◌≡◌, ◌++◌, MatchResult};
+ghost use Rattle.std.specs.Prelude.{◌≡◌, MatchResult, OnErr};
 ghost use Rattle.vlm_script.specs.Scripts.{of_process, opening};
-ghost use Rattle.vlm_script.specs.Texts.{answer_line};
 ghost use Rattle.vlm_script.specs.Sessions.{RunsStep, IsRun, IsPrinted, StopsBytes, StopsLine, StopsName};
 
-use crate::bindings::{Bindings, bind_reserved, bound_to, process_of};
+use crate::bindings::{Bindings, bind_reserved, is_bound, process_of};
 use crate::printed::{answer_line, node_line, status_block_line, status_tail_line};
 use crate::show::{Part, show};
 use crate::stops::Stop;
@@ -15,7 +14,6 @@ use vlm_core::{Core, HashKeys};
 use vlm_lines::{Line, LineFault, NO_PROCESS, ProcessName, read_line};
 use vlm_words::steps::{Answer, Conversion, Declaration, Dequeue, NewRequest, Step, ValueSetting};
 
-/// The machine, and the names that are bound to its processes.
 #[derive(Drop)]
 pub(crate) struct Session {
     core: Core,
@@ -33,7 +31,7 @@ impl Model for Session {
 }
 
 impl Session {
-    /// A new session. Its indexes hash by these keys.
+    /// A new session. Its name indexes hash with these keys.
     pub(crate) fn new(alloc: Global, keys: HashKeys) -> Self
         ensures { result ≡ opening }
     {
@@ -43,18 +41,26 @@ impl Session {
         }
     }
 
-    /// Runs a line of a script, and appends its text to `out`. If memory is refused, the line may have run and printed
-    /// nothing.
-    pub(crate) fn run(&mut self, bytes: &[u8], out: &mut Vec<u8>) -> Result<(), Stop>
-        ensures { MatchResult result
+    /// Runs a line, and appends its text to `out` when the line is done: `printed` is a buffer for that text. If memory
+    /// is refused, the line may have run and printed nothing.
+    pub(crate) fn run(
+        &mut self,
+        bytes: &[u8],
+        printed: &mut Vec<u8>,
+        out: &mut Vec<u8>,
+    ) -> Result<(), Stop>
+        ensures run { MatchResult result
             (λ _. IsPrinted self.old bytes.now self.new out.old.items out.new.items)
             (λ stop. StopsBytes self.old.names bytes.now stop) }
+        ensures err { OnErr result (out.new.items ≡ out.old.items) }
     {
         let line = read_line(bytes)?;
-        self.run_line(line, out)
+        printed.clear();
+        self.run_line(line, printed)?;
+        out.extend_from_slice(printed)?;
+        Ok(())
     }
 
-    // Runs a line without a fault.
     fn run_line(&mut self, line: Line, out: &mut Vec<u8>) -> Result<(), Stop>
         ensures { MatchResult result
             (λ _. IsRun self.old line self.new out.old.items out.new.items)
@@ -78,7 +84,7 @@ impl Session {
         }
     }
 
-    // Declares a process, prints the answer, and binds the name if the process is declared.
+    // Binds the name only if the process is declared.
     fn declare(
         &mut self,
         name: ProcessName,
@@ -90,7 +96,7 @@ impl Session {
             out.old.items out.new.items)
             (λ stop. StopsLine self.old.names (Line.Declare name declaration) stop) }
     {
-        if bound_to(&self.names, &name).is_some() {
+        if is_bound(&self.names, &name) {
             return Err(Stop::Fault(LineFault::NameUsed));
         }
         self.names.reserve(1)?;
@@ -98,10 +104,11 @@ impl Session {
         if let Answer::Process(pid) = answer {
             bind_reserved(&mut self.names, name, pid);
         }
-        print_answer(name, answer, out)
+        answer_line(out, name.bytes(), answer)?;
+        Ok(())
     }
 
-    // Makes a step of the process of this name, and prints the answer.
+    // Makes a step of the process of this name.
     fn make(&mut self, name: ProcessName, step: Step, out: &mut Vec<u8>) -> Result<(), Stop>
         ensures { MatchResult result
             (λ _. RunsStep self.old name step self.new out.old.items out.new.items)
@@ -109,10 +116,10 @@ impl Session {
     {
         let pid = process_of(&self.names, &name)?;
         let answer = self.core.step(of_process(pid, step));
-        print_answer(name, answer, out)
+        answer_line(out, name.bytes(), answer)?;
+        Ok(())
     }
 
-    // Makes a node depart, and prints the answer.
     fn leave(&mut self, node: u8, out: &mut Vec<u8>) -> Result<(), Stop>
         ensures { MatchResult result
             (λ _. IsRun self.old (Line.Leave node) self.new out.old.items out.new.items)
@@ -123,7 +130,6 @@ impl Session {
         Ok(())
     }
 
-    // Searches for a deadlock, and prints the answer.
     fn search(&mut self, node: u8, out: &mut Vec<u8>) -> Result<(), Stop>
         ensures { MatchResult result
             (λ _. IsRun self.old (Line.Search node) self.new out.old.items out.new.items)
@@ -134,7 +140,6 @@ impl Session {
         Ok(())
     }
 
-    // Prints a status block of the process of this name.
     fn show_status_block(
         &self,
         name: ProcessName,
@@ -151,7 +156,6 @@ impl Session {
         Ok(())
     }
 
-    // Prints the tail of a status block of the process of this name.
     fn show_status_tail(&self, name: ProcessName, number: u8, out: &mut Vec<u8>) -> Result<(), Stop>
         ensures { MatchResult result
             (λ _. IsRun self.now (Line.Tail name number) self.now out.old.items out.new.items)
@@ -164,17 +168,7 @@ impl Session {
     }
 }
 
-// Prints an answer under its name.
-fn print_answer(name: ProcessName, answer: Answer, out: &mut Vec<u8>) -> Result<(), Stop>
-    ensures { MatchResult result
-        (λ _. out.new.items ≡ out.old.items ++ answer_line name answer)
-        (λ stop. stop ≡ Stop.Memory) }
-{
-    answer_line(out, name.bytes(), answer)?;
-    Ok(())
-}
-
-/// The step, made by this process. A step of a node has no process.
+/// The step, made by this process. A step of a node stays as it is.
 pub(crate) fn of_process(pid: u32, step: Step) -> Step
     ensures { result ≡ of_process pid step }
 {

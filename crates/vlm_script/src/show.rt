@@ -13,16 +13,13 @@ use vlm_core::{Core, RowView};
 use vlm_queue::{ResAt, Store, first_resource, head, next, next_resource, resource_view, row_view};
 use vlm_words::resources::Queue;
 
-/// The part of a resource to print.
 #[derive(Clone, Copy)]
 pub(crate) enum Part {
-    /// The resource with its queues.
     Queues,
-    /// The tail of its value block.
     Tail,
 }
 
-/// Prints this part of every resource by rising serial, or the line that there is no resource.
+/// Prints every resource by rising serial, or a line that says that there is none.
 pub(crate) fn show(core: &Core, part: Part, out: &mut Vec<u8>) -> Result<(), AllocError>
     ensures { OnOk result (out.new.items
         ≡ out.old.items ++ parts_text part core.now.resources) }
@@ -34,7 +31,6 @@ pub(crate) fn show(core: &Core, part: Part, out: &mut Vec<u8>) -> Result<(), All
     }
 }
 
-// Prints this part of every resource.
 fn show_resources(core: &Core, part: Part, out: &mut Vec<u8>) -> Result<(), AllocError>
     ensures { OnOk result (out.new.items
         ≡ out.old.items ++ flat_map (part_text part) core.now.resources) }
@@ -48,7 +44,6 @@ fn show_resources(core: &Core, part: Part, out: &mut Vec<u8>) -> Result<(), Allo
     Ok(())
 }
 
-// Prints this part of a resource.
 fn show_part(store: &Store, res: ResAt, part: Part, out: &mut Vec<u8>) -> Result<(), AllocError>
     requires { HasResource res store.now }
     ensures { OnOk result (IfSome (plain_resource_at res store.now)
@@ -60,7 +55,6 @@ fn show_part(store: &Store, res: ResAt, part: Part, out: &mut Vec<u8>) -> Result
     }
 }
 
-// Prints a resource with its three queues.
 fn show_resource(store: &Store, res: ResAt, out: &mut Vec<u8>) -> Result<(), AllocError>
     requires { HasResource res store.now }
     ensures { OnOk result (IfSome (plain_resource_at res store.now)
@@ -73,7 +67,6 @@ fn show_resource(store: &Store, res: ResAt, out: &mut Vec<u8>) -> Result<(), All
     Ok(())
 }
 
-// Prints the locks in a queue of a resource.
 fn show_queue(store: &Store, res: ResAt, queue: Queue, out: &mut Vec<u8>) -> Result<(), AllocError>
     requires { HasResource res store.now }
     ensures { OnOk result (out.new.items
@@ -87,7 +80,6 @@ fn show_queue(store: &Store, res: ResAt, queue: Queue, out: &mut Vec<u8>) -> Res
     Ok(())
 }
 
-// Prints a lock in the form of its queue.
 fn show_row(queue: Queue, row: &RowView, out: &mut Vec<u8>) -> Result<(), AllocError>
     ensures { OnOk result (out.new.items ≡ out.old.items ++ row_line queue row.now) }
 {
@@ -98,7 +90,6 @@ fn show_row(queue: Queue, row: &RowView, out: &mut Vec<u8>) -> Result<(), AllocE
     }
 }
 
-// Prints the tail of a resource's value block.
 fn show_tail(store: &Store, res: ResAt, out: &mut Vec<u8>) -> Result<(), AllocError>
     requires { HasResource res store.now }
     ensures { OnOk result (IfSome (plain_resource_at res store.now)

@@ -23,18 +23,16 @@ use vlm_words::steps::Step;
 pub struct ScriptStep {
     /// The line's number, from 1.
     pub line: usize,
-    /// The step.
     pub step: Step,
 }
 
 /// Reads a script for the nodes 1 to `nodes` whole, and gives its steps in the script's order, each with the number of
 /// its line. A blank line or a comment gives none.
 ///
-/// The steps and the faults are those of `read_lists`, by the same rules and in the same order. Nothing is written, so
-/// `Write` never comes.
+/// The steps and the faults are the same as in `read_lists`, in the same order. `Write` never comes.
 ///
-/// Memory and time grow with the bytes of the script. Names that somebody chooses make no script slow if nobody can
-/// foresee the keys.
+/// Memory and time grow with the bytes of the script. Names that an attacker chooses make no script slow if the keys are
+/// secret.
 pub fn read_steps<R: Read>(
     alloc: Global,
     keys: HashKeys,
@@ -57,7 +55,6 @@ pub fn read_steps<R: Read>(
     script_steps(alloc, keys, nodes, &input)
 }
 
-// The steps of a script.
 fn script_steps(
     alloc: Global,
     keys: HashKeys,

@@ -7,12 +7,9 @@ use crate::faults::PlayFault;
 use std::alloc::AllocError;
 use vlm_lines::LineFault;
 
-/// Why a line ended the run of its script.
 #[derive(Clone, Copy)]
 pub(crate) enum Stop {
-    /// The line has a fault.
     Fault(LineFault),
-    /// Memory was refused.
     Memory,
 }
 
@@ -22,7 +19,6 @@ impl From<AllocError> for Stop {
 
     ghost from_gives = { λ _ stop. stop ≡ Memory };
 
-    /// A refused allocation ends the run.
     fn from(_refused: AllocError) -> Stop {
         Stop::Memory
     }
@@ -34,14 +30,13 @@ impl From<LineFault> for Stop {
 
     ghost from_gives = { λ fault stop. stop ≡ Fault fault };
 
-    /// A line's fault ends the run.
     fn from(fault: LineFault) -> Stop {
         Stop::Fault(fault)
     }
 }
 
 impl Stop {
-    /// The fault of the whole run, for the line of this number.
+    /// The fault of the run that stopped at the line of this number.
     pub(crate) fn at(self, number: usize) -> PlayFault
         ensures { result ≡ stopped_at number self }
     {

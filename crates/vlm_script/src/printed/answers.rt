@@ -8,7 +8,6 @@ use std::alloc::AllocError;
 use vlm_words::asts::{Ast, AstKind};
 use vlm_words::steps::Answer;
 
-/// The line of an answer to a process, under its name.
 #[tactic(auto, unfolding(crate::specs::Texts::answer_line))]
 pub(crate) fn answer_line(out: &mut Vec<u8>, name: &[u8], answer: Answer) -> Result<(), AllocError>
     ensures { OnOk result (out.new.items ≡ out.old.items ++ answer_line name.now answer) }
@@ -19,7 +18,6 @@ pub(crate) fn answer_line(out: &mut Vec<u8>, name: &[u8], answer: Answer) -> Res
     text(out, b"\n")
 }
 
-/// The line of an answer to a node, under its number.
 #[tactic(auto, unfolding(crate::specs::Texts::node_line))]
 pub(crate) fn node_line(out: &mut Vec<u8>, node: u8, answer: Answer) -> Result<(), AllocError>
     ensures { OnOk result (out.new.items ≡ out.old.items ++ node_line node answer) }
@@ -57,7 +55,6 @@ pub(super) fn answer_text(out: &mut Vec<u8>, answer: Answer) -> Result<(), Alloc
     }
 }
 
-/// An AST: its kind, routine, parameter and lock.
 pub(super) fn ast_text(out: &mut Vec<u8>, ast: Ast) -> Result<(), AllocError>
     ensures { OnOk result (out.new.items ≡ out.old.items ++ ast_text ast ast.kind) }
 {

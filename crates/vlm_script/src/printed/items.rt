@@ -9,8 +9,8 @@ use std::alloc::AllocError;
 use vlm_words::asts::Ast;
 use vlm_words::steps::Answer;
 
-/// Appends the line `node K item J: TEXT` to `out`: item J of node K is an answer. Only a refused allocation is an error,
-/// and then a part of the line may be in `out`.
+/// Appends `node K item J: TEXT` to `out`: item J of node K is an answer. Only a refused allocation is an error, and
+/// then a part of the line may be in `out`.
 #[tactic(auto, unfolding(crate::specs::Texts::answer_item_line))]
 pub fn answer_item_line(
     out: &mut Vec<u8>,
@@ -25,8 +25,8 @@ pub fn answer_item_line(
     text(out, b"\n")
 }
 
-/// Appends the line `node K item J: TEXT process P` to `out`: item J of node K is an AST of process P. Only a refused
-/// allocation is an error, and then a part of the line may be in `out`.
+/// Appends `node K item J: TEXT process P` to `out`: item J of node K is an AST of process P. Only a refused allocation
+/// is an error, and then a part of the line may be in `out`.
 #[tactic(auto, unfolding(crate::specs::Texts::ast_item_line))]
 pub fn ast_item_line(
     out: &mut Vec<u8>,
@@ -44,8 +44,8 @@ pub fn ast_item_line(
     text(out, b"\n")
 }
 
-/// Appends the line `journal M` to `out`: a journal has M entries. Only a refused allocation is an error, and then a part
-/// of the line may be in `out`.
+/// Appends `journal M` to `out`: a journal has M entries. Only a refused allocation is an error, and then a part of the
+/// line may be in `out`.
 #[tactic(auto, unfolding(crate::specs::Texts::journal_line))]
 pub fn journal_line(out: &mut Vec<u8>, entries: usize) -> Result<(), AllocError>
     ensures { OnOk result (out.new.items ≡ out.old.items ++ journal_line entries) }
@@ -55,7 +55,6 @@ pub fn journal_line(out: &mut Vec<u8>, entries: usize) -> Result<(), AllocError>
     text(out, b"\n")
 }
 
-// The beginning of an item's line.
 #[tactic(auto, unfolding(crate::specs::Texts::item_text))]
 fn item_text(out: &mut Vec<u8>, node: u8, number: usize) -> Result<(), AllocError>
     ensures { OnOk result (out.new.items ≡ out.old.items ++ item_text node number) }

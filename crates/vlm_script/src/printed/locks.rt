@@ -8,7 +8,6 @@ use std::alloc::AllocError;
 use vlm_core::RowView;
 use vlm_words::modes::Mode;
 
-/// A granted lock.
 #[tactic(auto, unfolding(crate::specs::Texts::granted_line))]
 pub(crate) fn granted_line(out: &mut Vec<u8>, row: &RowView) -> Result<(), AllocError>
     ensures { OnOk result (out.new.items ≡ out.old.items ++ granted_line row.now) }
@@ -18,7 +17,6 @@ pub(crate) fn granted_line(out: &mut Vec<u8>, row: &RowView) -> Result<(), Alloc
     text(out, b"\n")
 }
 
-/// A lock that holds one mode and waits for another.
 #[tactic(auto, unfolding(crate::specs::Texts::converting_line))]
 pub(crate) fn converting_line(out: &mut Vec<u8>, row: &RowView) -> Result<(), AllocError>
     ensures { OnOk result (out.new.items ≡ out.old.items ++ converting_line row.now) }
@@ -30,7 +28,6 @@ pub(crate) fn converting_line(out: &mut Vec<u8>, row: &RowView) -> Result<(), Al
     text(out, b"\n")
 }
 
-/// A lock that waits to be granted for the first time.
 #[tactic(auto, unfolding(crate::specs::Texts::waiting_line))]
 pub(crate) fn waiting_line(out: &mut Vec<u8>, row: &RowView) -> Result<(), AllocError>
     ensures { OnOk result (out.new.items ≡ out.old.items ++ waiting_line row.now) }
@@ -40,7 +37,6 @@ pub(crate) fn waiting_line(out: &mut Vec<u8>, row: &RowView) -> Result<(), Alloc
     text(out, b"\n")
 }
 
-// The beginning of a lock's line.
 #[tactic(auto, unfolding(crate::specs::Texts::lock_text))]
 fn lock_text(out: &mut Vec<u8>, queue: &[u8], row: &RowView) -> Result<(), AllocError>
     ensures { OnOk result (out.new.items ≡ out.old.items ++ lock_text queue.now row.now) }
@@ -54,7 +50,6 @@ fn lock_text(out: &mut Vec<u8>, queue: &[u8], row: &RowView) -> Result<(), Alloc
     text(out, b" ")
 }
 
-// The mode of a request, or nothing if there is no request.
 fn mode_text(out: &mut Vec<u8>, mode: Option<Mode>) -> Result<(), AllocError>
     ensures { OnOk result (out.new.items ≡ out.old.items ++ mode_text mode) }
 {

@@ -9,7 +9,6 @@ use std::alloc::AllocError;
 use vlm_core::ResourceView;
 use vlm_words::resources::Domain;
 
-/// The resource's own line.
 #[tactic(auto, unfolding(crate::specs::Texts::resource_line))]
 pub(crate) fn resource_line(out: &mut Vec<u8>, view: &ResourceView) -> Result<(), AllocError>
     ensures { OnOk result (out.new.items ≡ out.old.items ++ resource_line view.now) }
@@ -29,7 +28,6 @@ pub(crate) fn resource_line(out: &mut Vec<u8>, view: &ResourceView) -> Result<()
     text(out, b"\n")
 }
 
-/// The tail of the resource's value block.
 #[tactic(auto, unfolding(crate::specs::Texts::tail_line))]
 pub(crate) fn tail_line(out: &mut Vec<u8>, view: &ResourceView) -> Result<(), AllocError>
     ensures { OnOk result (out.new.items ≡ out.old.items ++ tail_line view.now) }
@@ -43,7 +41,6 @@ pub(crate) fn tail_line(out: &mut Vec<u8>, view: &ResourceView) -> Result<(), Al
     text(out, b"\n")
 }
 
-/// The line that says that there is no resource.
 pub(crate) fn no_resources(out: &mut Vec<u8>) -> Result<(), AllocError>
     ensures { OnOk result (out.new.items ≡ out.old.items ++ no_resources_line) }
 {
@@ -73,21 +70,19 @@ fn name_text(out: &mut Vec<u8>, name: &[u8]) -> Result<(), AllocError>
     hexadecimal(out, name)
 }
 
-// Whether every byte is readable, and the name does not look like hexadecimal digits.
+// Whether the name can be printed as it is: `x:` in front would make it hexadecimal digits.
 fn is_readable(name: &[u8]) -> bool
     ensures { result ≡ is_readable name.now }
 {
     all_visible(name) && !name.starts_with(b"x:")
 }
 
-// Whether every byte is a visible ASCII character.
 fn all_visible(name: &[u8]) -> bool
     ensures { result ≡ list_all (λ byte. nat_le 33 byte && nat_le byte 126) name.now }
 {
     name.iter().all(|byte| 33 <= *byte && *byte <= 126)
 }
 
-/// Whether a value block, or its tail, is valid.
 pub(super) fn validity(valid: bool) -> &'static str
     ensures { result.now ≡ validity valid }
 {

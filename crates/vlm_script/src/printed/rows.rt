@@ -10,20 +10,16 @@ use std::alloc::AllocError;
 /// The printed part of a watched resource.
 #[derive(Clone, Copy)]
 pub struct WatchedRow {
-    /// How many locks hold each mode, NL, CR, CW, PR, PW and EX.
+    /// How many locks hold NL, CR, CW, PR, PW and EX.
     pub held: [u32; 6],
-    /// How many locks wait in the conversion queue.
     pub conversions: u32,
-    /// How many locks wait in the waiting queue.
     pub waiters: u32,
-    /// The value block.
     pub value: [u8; 16],
-    /// Whether the value block is valid.
     pub valid: bool,
 }
 
-/// Appends the line `line N held A B C D E F conversions X waiters Y value HEX VALID` to `out`: a watched resource after
-/// script line N. Only a refused allocation is an error, and then a part of the line may be in `out`.
+/// Appends `line N held A B C D E F conversions X waiters Y value HEX VALID` to `out`: the resource after script line N.
+/// Only a refused allocation is an error, and then a part of the line may be in `out`.
 #[tactic(auto, unfolding(crate::specs::Texts::watch_line))]
 pub fn watch_line(out: &mut Vec<u8>, line: usize, row: &WatchedRow) -> Result<(), AllocError>
     ensures { OnOk result (out.new.items ≡ out.old.items ++ watch_line line row.now) }
@@ -43,7 +39,6 @@ pub fn watch_line(out: &mut Vec<u8>, line: usize, row: &WatchedRow) -> Result<()
     text(out, b"\n")
 }
 
-// The counts, each after a space.
 fn counts_text(out: &mut Vec<u8>, counts: &[u32]) -> Result<(), AllocError>
     ensures { OnOk result (out.new.items ≡ out.old.items ++ counts_text counts.now) }
 {

@@ -6,14 +6,12 @@ ghost use Rattle.vlm_script.specs.Texts.{hex_text};
 use itoa::Buffer;
 use std::alloc::AllocError;
 
-/// The text itself.
 pub(crate) fn text(out: &mut Vec<u8>, text: &[u8]) -> Result<(), AllocError>
     ensures { OnOk result (out.new.items ≡ out.old.items ++ text.now) }
 {
     out.extend_from_slice(text)
 }
 
-/// A number in decimal digits.
 pub(crate) fn decimal(out: &mut Vec<u8>, n: u32) -> Result<(), AllocError>
     ensures { OnOk result (out.new.items ≡ out.old.items ++ decimal n) }
 {
@@ -21,7 +19,6 @@ pub(crate) fn decimal(out: &mut Vec<u8>, n: u32) -> Result<(), AllocError>
     out.extend_from_slice(buffer.format(n).as_bytes())
 }
 
-/// A number of 64 bits in decimal digits.
 pub(crate) fn decimal_usize(out: &mut Vec<u8>, n: usize) -> Result<(), AllocError>
     ensures { OnOk result (out.new.items ≡ out.old.items ++ decimal n) }
 {
@@ -29,7 +26,6 @@ pub(crate) fn decimal_usize(out: &mut Vec<u8>, n: usize) -> Result<(), AllocErro
     out.extend_from_slice(buffer.format(n).as_bytes())
 }
 
-/// Two hexadecimal digits for each byte.
 pub(crate) fn hexadecimal(out: &mut Vec<u8>, bytes: &[u8]) -> Result<(), AllocError>
     ensures { OnOk result (out.new.items ≡ out.old.items ++ hex_text bytes.now) }
 {

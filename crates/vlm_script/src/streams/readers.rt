@@ -8,14 +8,12 @@ use crate::faults::PlayFault;
 use std::alloc::Global;
 use std::io::Read;
 
-// How many bytes a script has at most.
+// The most bytes that a script may have.
 const LIMIT: usize = 16_777_216;
 
-// The most bytes that one read asks for.
 const PIECE: usize = 8192;
 
-/// All the bytes of the reader. If they are more than the limit, one byte more than that is read, and the fault is
-/// `Long`.
+/// All the bytes of the reader. If they are more than the limit, it reads one byte past it, and the fault is `Long`.
 pub(crate) fn read_whole<R: Read>(alloc: Global, reader: &mut R) -> Result<Vec<u8>, PlayFault>
     ensures whole { IfOk result (λ bytes.
         IfSome (R.remaining reader.old) (λ input. bytes.items ≡ input)) }
@@ -24,7 +22,6 @@ pub(crate) fn read_whole<R: Read>(alloc: Global, reader: &mut R) -> Result<Vec<u
         × (length bytes ≡ 2 ^ 24 + 1)
         × Consumes (R.remaining reader.old) (R.remaining reader.new) bytes }
 
-    // It never reads more than this.
     ensures part { OnErr result
         (ConsumesAtMost 16777217 (R.remaining reader.old) (R.remaining reader.new)) }
     ensures faults { IfErr result (λ fault.

@@ -8,7 +8,7 @@ pub loop-line-init : goal.loop-line-init
 loop-line-init g c = record {
   left = refl;
   short = omega arith;
-  reached = rw (c.new-out.ensures.items, c.requires) (reached-start c.args.input.now (g.W.Write.contents c.args.writer.now));
+  reached = rw (c.new-out.ensures.items, c.new-session.ensures) (reached-start c.args.input.now (g.W.Write.contents c.args.writer.now));
 }
 
 pub loop-line-preserved : goal.loop-line-preserved
@@ -20,7 +20,7 @@ loop-line-preserved g c =
       short = omega (arith, c.in-Some.ensures.shorter, c.loop-line.invariant.short);
       reached =
           reached-passed input (c.loop-line.count + 1) _ _ _ _ _ _ (
-          reached-more input c.loop-line.count _ _ _ _ _ _ _ _ c.loop-line.invariant.reached next c.in_default-run_line.ensures.run
+          reached-more input c.loop-line.count _ _ _ _ _ _ _ _ c.loop-line.invariant.reached next c.in_default-run.ensures.run
           ) c.in_ok-write_when_full.ensures.passed;
     }
 
@@ -52,7 +52,7 @@ returns-in_err-write_when_full-clause-played g c =
     let stop = err_from_is_err_and c.from_residual-in_err-write_when_full.result c.from_residual-in_err-write_when_full.ensures.1 in
     rw stop.1 (
     stops-writing input (c.loop-line.count + 1) _ _ _ _ _ stop.0 (stop.2 ∙ c.in_err-write_when_full.ensures.fault)
-    (reached-more input c.loop-line.count _ _ _ _ _ _ _ _ c.loop-line.invariant.reached next c.in_default-run_line.ensures.run) c.in_err-write_when_full.ensures.part
+    (reached-more input c.loop-line.count _ _ _ _ _ _ _ _ c.loop-line.invariant.reached next c.in_default-run.ensures.run) c.in_err-write_when_full.ensures.part
     )
 
 -- no line is left

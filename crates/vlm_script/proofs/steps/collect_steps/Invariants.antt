@@ -4,7 +4,7 @@ use Rattle.vlm_script.specs.Shares.{ListsStay}
 use Rattle.vlm_script.specs.Steps.{IsPostable, in_front, steps_out}
 use Rattle.vlm_script.proofs.steps.collect_steps.Given as goal
 
--- the steps so far, in front of those of the lines that are left, are what all lines give
+-- the steps so far, before the steps of the lines that are left, are the steps of all lines
 abbrev pub invariant-loop-line : goal.invariant-loop-line
 invariant-loop-line l = record {
   left : in_front l.steps.items (steps_out (length l.initial.sharing.lists) l.sharing l.count (lines_of l.rest)) ≡ steps_out (length l.initial.sharing.lists) l.initial.sharing 0 (lines_of l.input);

@@ -45,7 +45,7 @@ returns-clause-shared c =
       declared = c.next_process-pid.new.declared.items;
       lists = map (λ v. v.items) c.add_step.new.lists.items;
     } in
-    let unbound : bound_to old.names c.args.name ≡ None = sym c.bound_to.ensures ∙ is_none _ (sym c.is_some.ensures ∙ c.if-is_some.false) in
+    let unbound : bound_to old.names c.args.name ≡ None = is_none _ (sym c.is_bound.ensures ∙ c.if-is_bound.false) in
     let bound = rw c.in_ok-reserve.ensures.entries at c.bind_reserved.ensures in
     let put = rw c.from.ensures at c.in_ok-add_step.ensures.ok in
     subst (λ s. IsShared s (Declare c.args.name c.args.declaration) new) c.self.view_is (record {

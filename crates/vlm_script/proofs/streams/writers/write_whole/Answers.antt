@@ -5,13 +5,13 @@ use Rattle.std.proofs.lemmas.Grind.{common_steps}
 use Rattle.std.proofs.lemmas.List.{take_all}
 use Rattle.vlm_script.proofs.streams.writers.write_whole.Goals as goal
 
--- the part before a place and the next bytes of what stands behind it
+-- the part before a place, and the next bytes after it
 joined : (xs : List ℕ) (i n : ℕ) → take i xs ++ take n (take (length xs - i) (drop i xs)) ≡ take (i + n) xs
 joined xs i n =
     let rest : take (length xs - i) (drop i xs) ≡ drop i xs = take_all (length xs - i) (drop i xs) (omega (arith, length-drop i xs)) in
     rw rest (sym (take-add i n xs))
 
--- what a write took stands within the bytes
+-- the bytes that a write took are within the bytes
 within_bytes : (xs : List ℕ) (i n : ℕ) → i ≤ length xs → n ≤ length (take (length xs - i) (drop i xs)) → i + n ≤ length xs
 within_bytes xs i n h took = grind (arith, common_steps)
 
