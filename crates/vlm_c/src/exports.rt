@@ -200,6 +200,7 @@ pub extern "C" fn vlm_search(handle: &mut Vlm, node: u32, victim: &mut u32) -> u
     reply(handle, node_of(node).map(|node| Step::Search(node)), victim)
 }
 
+/// Copies a status block of a process.
 #[unsafe(no_mangle)]
 pub extern "C" fn vlm_block(handle: &mut Vlm, pid: u32, block: u32, out: &mut VlmLksb) -> u32
     ensures told { Told (sized (out.old.size == 80) (option_map lksb_of (block_shown handle.old.slot.core pid block)))
@@ -210,6 +211,7 @@ pub extern "C" fn vlm_block(handle: &mut Vlm, pid: u32, block: u32, out: &mut Vl
     copy_out(sized(out.size == LKSB_SIZE, shown), out)
 }
 
+/// Counts the pending ASTs of a process.
 #[unsafe(no_mangle)]
 pub extern "C" fn vlm_pending(handle: &mut Vlm, pid: u32, count: &mut usize) -> u32
     ensures told { Told (pending_shown handle.old.slot.core pid) count.old count.new result }

@@ -25,6 +25,7 @@ fn write_next(next: Option<Option<LockView>>, out: &mut VlmLock) -> u32
     copy_out(sized(out.size == LOCK_SIZE, shown), out)
 }
 
+/// Copies the lock with this identification.
 #[unsafe(no_mangle)]
 pub extern "C" fn vlm_find_lock(handle: &mut Vlm, lkid: u32, out: &mut VlmLock) -> u32
     ensures { ReadTold (λ s. ShowsNamed s lkid) lock_of handle.old.slot.core handle.new.slot.core
@@ -34,6 +35,7 @@ pub extern "C" fn vlm_find_lock(handle: &mut Vlm, lkid: u32, out: &mut VlmLock) 
     copy_out(sized(out.size == LOCK_SIZE, shown), out)
 }
 
+/// Copies the resource of a lock.
 #[unsafe(no_mangle)]
 pub extern "C" fn vlm_lock_resource(handle: &mut Vlm, lkid: u32, out: &mut VlmResource) -> u32
     ensures { ReadTold (λ s. ShowsResourceOf s lkid) resource_of handle.old.slot.core handle.new.slot.core
@@ -54,6 +56,7 @@ pub extern "C" fn vlm_first_blocker(handle: &mut Vlm, lkid: u32, out: &mut VlmLo
     write_next(handle.first_blocker(lkid), out)
 }
 
+/// Copies the next lock for which it waits.
 #[unsafe(no_mangle)]
 pub extern "C" fn vlm_next_blocker(
     handle: &mut Vlm,
@@ -85,6 +88,7 @@ pub extern "C" fn vlm_first_sublock(handle: &mut Vlm, lkid: u32, out: &mut VlmLo
     write_next(handle.first_sublock(lkid), out)
 }
 
+/// Copies the next lock of the same process.
 #[unsafe(no_mangle)]
 pub extern "C" fn vlm_next_own(handle: &mut Vlm, lkid: u32, out: &mut VlmLock) -> u32
     ensures { ReadTold (λ s. ShowsNextOf s IsLaterOwn lkid) lock_or_none handle.old.slot.core handle.new.slot.core
@@ -93,6 +97,7 @@ pub extern "C" fn vlm_next_own(handle: &mut Vlm, lkid: u32, out: &mut VlmLock) -
     write_next(handle.next_own(lkid), out)
 }
 
+/// Copies the next sublock of the same parent lock.
 #[unsafe(no_mangle)]
 pub extern "C" fn vlm_next_sublock(handle: &mut Vlm, lkid: u32, out: &mut VlmLock) -> u32
     ensures { ReadTold (λ s. ShowsNextOf s IsLaterSublock lkid) lock_or_none handle.old.slot.core handle.new.slot.core
@@ -115,6 +120,7 @@ pub extern "C" fn vlm_first_row(
     write_next(handle.first_row(resource, queue), out)
 }
 
+/// Copies the next lock in the queue of a lock.
 #[unsafe(no_mangle)]
 pub extern "C" fn vlm_next_row(handle: &mut Vlm, lkid: u32, out: &mut VlmLock) -> u32
     ensures { ReadTold (λ s. ShowsNextInQueue s lkid) lock_or_none handle.old.slot.core handle.new.slot.core

@@ -31,6 +31,7 @@ const _: () = prove!(size_of::<VlmRow>() == 32);
 
 const _: () = prove!(size_of::<VlmLock>() == 64);
 
+/// A lock status block.
 #[repr(C)]
 #[derive(Clone, Copy)]
 pub struct VlmLksb {
@@ -40,6 +41,7 @@ pub struct VlmLksb {
     /// The lock of the last accepted request, or 0.
     pub lkid: u32,
     pub reserved: u32,
+    /// The value part.
     pub value: [u8; 16],
     pub tail: [u8; 48],
 }
@@ -95,6 +97,7 @@ pub struct VlmRow {
     pub pid: u32,
     /// The held and the wanted mode, or 255 for no mode.
     pub held: u32,
+    /// A mode, or 255 for no mode.
     pub want: u32,
     pub reserved: [u32; 3],
 }
@@ -109,9 +112,11 @@ pub struct VlmLock {
     pub pid: u32,
     /// The held and the wanted mode, or 255 for no mode.
     pub held: u32,
+    /// A mode, or 255 for no mode.
     pub want: u32,
     /// 0 granted, 1 conversion, 2 waiting.
     pub queue: u32,
+    /// The serial of its resource.
     pub resource: u32,
     /// Its parent lock, or 0.
     pub parent: u32,

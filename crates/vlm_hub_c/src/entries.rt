@@ -37,6 +37,7 @@ pub struct VlmEntry {
     pub pid: u32,
     /// The node that a Leave or a Search names.
     pub node: u32,
+    /// The condition of the answer.
     pub status: u32,
     /// The identification in the answer, or 0.
     pub number: u32,
@@ -56,6 +57,7 @@ pub struct VlmEntry {
 #[derive(Clone, Copy)]
 pub struct VlmCut {
     pub size: u32,
+    /// The size of an entry.
     pub entry_size: u32,
     /// How many entries were handed out before.
     pub base: u64,

@@ -4,10 +4,12 @@ ghost use Rattle.vlm_ports.specs.Watched.{IsUnwatched};
 
 use vlm_ports::{Hub, Port};
 
+/// A hub, or the port of a node.
 #[derive(Drop)]
 pub enum Held {
     /// A hub, in a block of its own: it is large.
     Hub(Box<OwnedHub>),
+    /// A port.
     Port(Port),
 }
 

@@ -119,6 +119,7 @@ pub extern "C" fn vlm_hub_lost(handle: &mut Handle, node: u32) -> u32
     lost_status(&lost)
 }
 
+/// Counts the posts of a node that the hub has not made.
 #[unsafe(no_mangle)]
 pub extern "C" fn vlm_hub_waiting(handle: &mut Handle, node: u32, posts: &mut usize) -> u32
     ensures { CountsPosts node handle.old.slot.held handle.new.slot.held posts.old posts.new result }
@@ -132,6 +133,7 @@ pub extern "C" fn vlm_hub_waiting(handle: &mut Handle, node: u32, posts: &mut us
     }
 }
 
+/// Counts the nodes that the hub serves.
 #[unsafe(no_mangle)]
 pub extern "C" fn vlm_hub_nodes(handle: &mut Handle) -> usize
     ensures told { result ≡ node_count handle.old.slot.held }
@@ -140,6 +142,7 @@ pub extern "C" fn vlm_hub_nodes(handle: &mut Handle) -> usize
     handle.with_hub(|owned| owned.node_count()).unwrap_or(0)
 }
 
+/// Counts the entries since the last cut.
 #[unsafe(no_mangle)]
 pub extern "C" fn vlm_hub_entries(handle: &mut Handle) -> usize
     ensures told { result ≡ length (entries_shown handle.old.slot.held) }

@@ -20,6 +20,7 @@ pub struct VlmItem {
     pub size: u32,
     /// 0 for no item, 1 for an answer, 2 for an AST.
     pub kind: u32,
+    /// The condition of an answer.
     pub status: u32,
     /// The identification in an answer, or 0.
     pub number: u32,

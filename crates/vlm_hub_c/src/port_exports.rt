@@ -35,6 +35,7 @@ fn post(handle: &mut Handle, step: Option<Step>) -> u32
     post_status(handle.with_port(|port| post_step(port, step)))
 }
 
+/// Posts a declaration of a process.
 #[unsafe(no_mangle)]
 pub extern "C" fn vlm_port_declare(handle: &mut Handle, declaration: &VlmDeclaration) -> u32
     ensures { Posts (option_map Declare (declaration_of declaration.now)) handle.old.slot.held
@@ -46,6 +47,7 @@ pub extern "C" fn vlm_port_declare(handle: &mut Handle, declaration: &VlmDeclara
     )
 }
 
+/// Posts a step that sets the value part of a status block.
 #[unsafe(no_mangle)]
 pub extern "C" fn vlm_port_set_value(handle: &mut Handle, setting: &VlmSetting) -> u32
     ensures { Posts (option_map SetValue (setting_of setting.now)) handle.old.slot.held
@@ -87,6 +89,7 @@ pub extern "C" fn vlm_port_deq(handle: &mut Handle, dequeue: &VlmDequeue) -> u32
     post(handle, dequeue_of(dequeue).map(|step| Step::Deq(step)))
 }
 
+/// Posts the rundown of a process.
 #[unsafe(no_mangle)]
 pub extern "C" fn vlm_port_rundown(handle: &mut Handle, pid: u32) -> u32
     ensures { Posts (Some (Rundown pid)) handle.old.slot.held handle.new.slot.held result }
@@ -94,6 +97,7 @@ pub extern "C" fn vlm_port_rundown(handle: &mut Handle, pid: u32) -> u32
     post(handle, Some(Step::Rundown(pid)))
 }
 
+/// Posts a search for a deadlock.
 #[unsafe(no_mangle)]
 pub extern "C" fn vlm_port_search(handle: &mut Handle) -> u32
     ensures { PostsAs (λ p. Search p.node) handle.old.slot.held handle.new.slot.held result }
@@ -101,6 +105,7 @@ pub extern "C" fn vlm_port_search(handle: &mut Handle) -> u32
     post_status(handle.with_port(|port| post_search(port)))
 }
 
+/// Posts the departure of the port's node.
 #[unsafe(no_mangle)]
 pub extern "C" fn vlm_port_bye(handle: &mut Handle) -> u32
     ensures { PostsAs (λ p. Leave p.node) handle.old.slot.held handle.new.slot.held result }
@@ -126,6 +131,7 @@ pub extern "C" fn vlm_port_take(handle: &mut Handle, out: &mut VlmItem) -> u32
     status(Cond::Normal)
 }
 
+/// Counts the items that have come and are not taken.
 #[unsafe(no_mangle)]
 pub extern "C" fn vlm_port_waiting(handle: &mut Handle, items: &mut usize) -> u32
     ensures { CountsItems handle.old.slot.held handle.new.slot.held items.old items.new result }

@@ -15,6 +15,7 @@ const FULL: u32 = 256;
 /// What came of a post.
 #[derive(Clone, Copy)]
 pub enum PostEnd {
+    /// The step is posted.
     Posted,
     /// The port knows no free place.
     Full,

@@ -8,7 +8,9 @@ use vlm_words::steps::{Answer, Step};
 pub struct Entry {
     /// Who asked for it: a node, 1 to 8, or 0 for the hub itself.
     pub sender: u8,
+    /// The step.
     pub step: Step,
+    /// Its answer.
     pub answer: Answer,
 }
 
@@ -26,5 +28,6 @@ pub enum Item {
 pub struct Part {
     /// How many entries came before it; `u64::MAX` if there were more.
     pub base: u64,
+    /// Its entries, in order.
     pub entries: Vec<Entry>,
 }

@@ -3,10 +3,14 @@
 ghost use Rattle.std.specs.Prelude.{◌≡◌};
 ghost use Rattle.vlm_lines.specs.Faults.{fault_text};
 
+/// A fault of a line of a script.
 #[derive(Clone, Copy, Debug)]
 pub enum LineFault {
+    /// More than 255 bytes.
     TooLong,
+    /// The first word is no command.
     UnknownCommand,
+    /// A word has the wrong form for its place, comes twice, is one too many, or is missing.
     WrongWord,
     /// A number has more than 10 digits or is outside its range.
     NumberOutOfRange,
@@ -17,6 +21,7 @@ pub enum LineFault {
 }
 
 impl LineFault {
+    /// The text of the fault, as it is printed.
     pub fn text(self) -> &'static str
         ensures { result.now ≡ fault_text self }
     {

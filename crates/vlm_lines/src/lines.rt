@@ -15,15 +15,21 @@ pub const NO_PROCESS: u32 = 0;
 pub enum Line {
     /// No word, or a comment: the first word begins with `#`.
     Empty,
+    /// Declares a process under a name.
     Declare(ProcessName, Declaration),
+    /// Sets the value part of a status block, or its tail with it.
     Set(ProcessName, ValueSetting),
+    /// Asks for a new lock.
     Enq(ProcessName, NewRequest),
     /// Asks for another mode of a lock.
     Cvt(ProcessName, Conversion),
     /// Gives a lock up, or cancels its request.
     Deq(ProcessName, Dequeue),
+    /// Ends a process with its locks.
     End(ProcessName),
+    /// Lets a node depart with its processes.
     Leave(u8),
+    /// Searches for a deadlock.
     Search(u8),
     /// Takes the oldest pending AST.
     Ast(ProcessName),

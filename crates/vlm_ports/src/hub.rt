@@ -27,6 +27,7 @@ pub struct Hub {
     ghost linked: { AreLinked all_node_rings.items journaled.entries },
 }
 
+/// The result of a turn.
 #[derive(Clone, Copy, Debug, PartialEq, Eq)]
 pub enum Turn {
     /// It made this many entries, at least one.

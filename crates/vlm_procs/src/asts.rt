@@ -10,6 +10,7 @@ use std::alloc::AllocError;
 use vlm_store::{ProcAt, Store};
 use vlm_words::asts::Ast;
 
+/// How many ASTs are pending for a process.
 pub fn pending(store: &Store, at: ProcAt) -> usize
     requires { HasProcess at store.now }
     ensures { (pid : ℕ) → IsProcess at pid store.now → result
@@ -18,6 +19,7 @@ pub fn pending(store: &Store, at: ProcAt) -> usize
     store.process_record(at).asts.len()
 }
 
+/// Takes the oldest pending AST of a process, if there is one.
 pub fn take(store: &mut Store, at: ProcAt) -> Option<Ast>
     requires { HasProcess at store.old }
     ensures taken { (pid : ℕ) → IsProcess at pid store.old → result

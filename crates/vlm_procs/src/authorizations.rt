@@ -9,6 +9,7 @@ ghost use Rattle.vlm_store.specs.Records.{HasProcess, IsProcess};
 
 use vlm_store::{ProcAt, Store};
 
+/// The UIC group of a process.
 pub fn group_of(store: &Store, at: ProcAt) -> u16
     requires { HasProcess at store.now }
     ensures { (pid : ℕ) → IsProcess at pid store.now → result
@@ -17,6 +18,7 @@ pub fn group_of(store: &Store, at: ProcAt) -> u16
     store.process_record(at).authorization.group
 }
 
+/// Whether a process has the privilege SYSLCK.
 pub fn has_syslck(store: &Store, at: ProcAt) -> bool
     requires { HasProcess at store.now }
     ensures { (pid : ℕ) → IsProcess at pid store.now → result

@@ -30,6 +30,7 @@ fn write(store: &mut Store, at: ProcAt, number: u8, block: Block)
     store.set_status_block(at, number, block);
 }
 
+/// Whether the process has a status block with this number.
 pub fn has_status_block(store: &Store, at: ProcAt, number: u8) -> bool
     requires { HasProcess at store.now }
     ensures { (pid : ℕ) → IsProcess at pid store.now
@@ -39,6 +40,7 @@ pub fn has_status_block(store: &Store, at: ProcAt, number: u8) -> bool
     0 < number && usize::from(number) <= status_blocks(store, at).len()
 }
 
+/// The status block with this number, if the process has it.
 #[tactic(auto, unfolding(vlm_model::specs::StatusBlocks::status_block_at))]
 pub fn status_block(store: &Store, at: ProcAt, number: u8) -> Option<Block>
     requires { HasProcess at store.now }
@@ -53,6 +55,7 @@ pub fn status_block(store: &Store, at: ProcAt, number: u8) -> Option<Block>
         .copied()
 }
 
+/// The status block with this number. If the process does not have it, a new one.
 pub fn status_block_or_new(store: &Store, at: ProcAt, number: u8) -> Block
     requires { HasProcess at store.now }
     ensures { (pid : ℕ) → IsProcess at pid store.now → result
@@ -86,6 +89,7 @@ pub fn accept_granted(store: &mut Store, at: ProcAt, number: u8, lkid: u32)
     store.set_request(at, number, Cond::Normal.number(), lkid);
 }
 
+/// Writes the value part of a status block, and its tail if one is given.
 #[tactic(auto, unfolding(vlm_model::specs::StatusBlocks::processes_after_setting))]
 pub fn set_value(store: &mut Store, at: ProcAt, number: u8, value: [u8; 16], tail: Option<[u8; 48]>)
     requires { HasProcess at store.old }

@@ -12,20 +12,24 @@ use vlm_words::ids::process_node;
 /// A process as it was declared, and how many ASTs are pending for it, without its locks.
 #[derive(Clone, Copy)]
 pub struct ProcessView {
+    /// Its identification.
     pub pid: u32,
     /// The node that declared it, 1 to 8.
     pub node: u16,
     /// Its UIC group.
     pub group: u16,
+    /// Whether it has the privilege SYSLCK.
     pub syslck: bool,
     /// How many locks it may have, counting waiting ones (ENQLM).
     pub quota: u16,
     /// How many status blocks it has. They are numbered from 1.
     pub blocks: usize,
+    /// How many ASTs are pending for it.
     pub pending: usize,
 }
 
 impl ProcessView {
+    /// The view of a record.
     pub fn of(process: &Process) -> ProcessView
         ensures { result ≡ process_view (plain_process process.now) }
     {

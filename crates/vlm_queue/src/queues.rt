@@ -13,6 +13,7 @@ use vlm_store::{LockAt, Place, ResAt, Store};
 use vlm_words::modes::Mode;
 use vlm_words::resources::Queue;
 
+/// The first lock of a queue, if there is one.
 pub fn head(store: &Store, res: ResAt, queue: Queue) -> Option<LockAt>
     requires { HasResource res store.now }
     ensures first { result ≡ first_at (locks_at (Place.Queued res queue) store.now) }
@@ -22,6 +23,7 @@ pub fn head(store: &Store, res: ResAt, queue: Queue) -> Option<LockAt>
     store.first(Place::Queued(res, queue))
 }
 
+/// The next lock in the queue of this lock, if there is one.
 pub fn next(store: &Store, lock: LockAt) -> Option<LockAt>
     requires { IsStored lock store.now }
     ensures { (place : Place) (row : LockRow)
@@ -42,6 +44,7 @@ pub fn can_hold(store: &Store, res: ResAt, mode: Mode, except: Option<LockAt>) -
     store.can_hold(res, mode, except)
 }
 
+/// Whether the queue has no lock.
 pub fn is_empty(store: &Store, res: ResAt, queue: Queue) -> bool
     requires { HasResource res store.now }
     ensures empty { IfSome (resource_at res store.now.resources)

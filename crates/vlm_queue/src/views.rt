@@ -22,6 +22,7 @@ pub struct ResourceView {
     pub parent: u32,
     /// The domain of its root.
     pub domain: Domain,
+    /// Its name.
     pub name: Name,
     /// The 16 bytes of its value block, valid or not.
     pub value: [u8; 16],
@@ -29,13 +30,16 @@ pub struct ResourceView {
     pub valid: bool,
     /// The 48 bytes of the value block's tail, valid or not.
     pub tail: [u8; 48],
+    /// Whether the tail is valid.
     pub tail_valid: bool,
 }
 
 /// A lock and its modes.
 #[derive(Clone, Copy)]
 pub struct RowView {
+    /// Its identification.
     pub lkid: u32,
+    /// The process that owns it.
     pub pid: u32,
     /// `None` while it waits.
     pub held: Option<Mode>,
@@ -48,6 +52,7 @@ pub struct RowView {
 pub struct Usage {
     /// How many locks hold each mode, from NL to EX, granted or converting.
     pub held: [u32; 6],
+    /// How many conversions are queued.
     pub conversions: u32,
     /// How many locks wait, without conversions.
     pub waiters: u32,
@@ -58,6 +63,7 @@ pub struct Usage {
 }
 
 impl ResourceView {
+    /// The view of a record.
     pub fn of(resource: &Resource) -> ResourceView
         ensures { result ≡ record {
           serial = resource.now.serial;
@@ -84,6 +90,7 @@ impl ResourceView {
 }
 
 impl RowView {
+    /// The view of a row.
     pub fn of(row: &LockRow) -> RowView
         ensures { result ≡ row_view row.now }
     {
@@ -96,6 +103,7 @@ impl RowView {
     }
 }
 
+/// The view of a resource in the store.
 pub fn resource_view(store: &Store, res: ResAt) -> ResourceView
     requires { HasResource res store.now }
     ensures { IfSome (plain_resource_at res store.now) (λ r. result ≡ resource_view r) }
@@ -103,6 +111,7 @@ pub fn resource_view(store: &Store, res: ResAt) -> ResourceView
     ResourceView::of(store.resource_record(res))
 }
 
+/// The view of a lock in the store.
 pub fn row_view(store: &Store, lock: LockAt) -> RowView
     requires { IsStored lock store.now }
     ensures { (row : LockRow) → Stores store.now lock row → result ≡ row_view row }

@@ -21,6 +21,7 @@ pub fn first_resource(store: &Store) -> Option<ResAt>
     store.first_resource()
 }
 
+/// The next resource by serial, if there is one.
 pub fn next_resource(store: &Store, res: ResAt) -> Option<ResAt>
     requires { HasResource res store.now }
     ensures there { ForSome result (λ next. HasResource next store.now) }

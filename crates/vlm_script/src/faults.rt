@@ -10,8 +10,10 @@ pub enum PlayFault {
     /// The number of a line, from 1, and its fault.
     #[error("line {0}: {text}", text = .1.text())]
     Line(usize, LineFault),
+    /// Memory ran out.
     #[error("memory")]
     Memory,
+    /// The script could not be read.
     #[error("read")]
     Read,
     /// The printed text could not be written.

@@ -23,6 +23,7 @@ use vlm_words::steps::Step;
 pub struct ScriptStep {
     /// The line's number, from 1.
     pub line: usize,
+    /// The step.
     pub step: Step,
 }
 

@@ -8,6 +8,7 @@ use crate::store::Store;
 use vlm_records::{Armed, LockAt, ResAt};
 
 impl Store {
+    /// The first lock in a list of armed locks of a resource, if there is one.
     pub fn first_armed(&self, res: ResAt, which: Armed) -> Option<LockAt>
         requires { HasResource res self.now }
         ensures first { result ≡ first_at (armed_at which res self.now) }
@@ -17,6 +18,7 @@ impl Store {
         Some(LockAt::of(at))
     }
 
+    /// The lock after this one in a list of armed locks of a resource, if there is one.
     pub fn next_armed(&self, res: ResAt, which: Armed, lock: LockAt) -> Option<LockAt>
         requires there { HasResource res self.now }
         requires armed { IsArmedAt which res lock self.now }

@@ -29,6 +29,7 @@ impl Store {
         Some(LockAt::of(at))
     }
 
+    /// The next lock of the same process, in the order of making, if there is one.
     pub fn next_own(&self, lock: LockAt) -> Option<LockAt>
         requires { IsStored lock self.now }
         ensures next { (process : ℕ) → IsIn lock (own_handles_at process self.now)
@@ -41,6 +42,7 @@ impl Store {
         Some(LockAt::of(at))
     }
 
+    /// The previous lock of the same process, in the order of making, if there is one.
     pub fn previous_own(&self, lock: LockAt) -> Option<LockAt>
         requires { IsStored lock self.now }
         ensures { (process : ℕ) → IsIn lock (own_handles_at process self.now)
@@ -63,6 +65,7 @@ impl Store {
         Some(LockAt::of(at))
     }
 
+    /// The next sublock of the same parent lock, in the order of making, if there is one.
     pub fn next_sublock(&self, lock: LockAt) -> Option<LockAt>
         requires { IsStored lock self.now }
         ensures after { (parent : ℕ) → IsIn lock (sublocks_at parent self.now)

@@ -19,6 +19,7 @@ use vlm_words::blocks::Block;
 use vlm_words::steps::Declaration;
 
 impl Store {
+    /// The living process with this identification, if there is one.
     pub fn process(&self, pid: u32) -> Option<ProcAt>
         ensures found { FindsProcess self.now pid result }
         ensures there { IfSome result (λ at. HasProcess at self.now) }
@@ -74,6 +75,7 @@ impl Store {
         Ok(ProcAt::of(slot))
     }
 
+    /// Removes a process that has no locks, with its status blocks and ASTs. The other processes keep their order.
     pub fn remove_process(&mut self, at: ProcAt)
         requires there { HasProcess at self.old }
         requires idle { HasNoLocks at self.old }
@@ -89,6 +91,7 @@ impl Store {
         self.pending.unmark(pid);
     }
 
+    /// The record of a process. Status block n is at index n - 1.
     pub fn process_record(&self, at: ProcAt) -> &Process
         requires { HasProcess at self.now }
         ensures authorization { IfSome (process_at at self.now.processes)
@@ -111,6 +114,7 @@ impl Store {
         Some(&self.processes[at])
     }
 
+    /// The process after this one in the order of making, if there is one.
     pub fn next_process(&self, at: ProcAt) -> Option<&Process>
         requires { HasProcess at self.now }
         ensures { option_map (λ p. plain_process p.now) result ≡ process_after at self.now.processes }
@@ -130,6 +134,7 @@ impl Store {
         self.processes[at.slot()].put_status_block(number, block);
     }
 
+    /// Writes the status of the status block with this number, from 1, if there is one. The rest of the block stays.
     pub fn set_status(&mut self, at: ProcAt, number: u8, status: u8)
         requires { HasProcess at self.old }
         ensures written { self.new ≡ record self.old {
@@ -153,6 +158,7 @@ impl Store {
         self.processes[at.slot()].set_request(number, status, lkid);
     }
 
+    /// Takes the oldest AST of a process, if there is one.
     pub fn take_ast(&mut self, at: ProcAt) -> Option<Ast>
         requires { HasProcess at self.old }
         ensures taken { IfSome (process_at at self.old.processes)
@@ -212,6 +218,7 @@ impl Store {
         self.processes[at.slot()].own.len(&self.queues.locks)
     }
 
+    /// Whether a lock has sublocks.
     pub fn has_sublocks(&self, lock: LockAt) -> bool
         requires { IsStored lock self.now }
         ensures none { OnFalse result (HasNoSublocks lock self.now) }

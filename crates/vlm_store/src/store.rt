@@ -116,6 +116,7 @@ impl Store {
         }
     }
 
+    /// The lock with this identification, if there is one.
     pub fn lock(&self, lkid: u32) -> Option<LockAt>
         ensures found { FindsLock self.now lkid result }
         ensures sound { IsSound self.now }
@@ -131,6 +132,7 @@ impl Store {
         self.keys.hash_of(&words[..key.word_count()])
     }
 
+    /// The resource with this key, if there is one.
     pub fn resource(&self, key: &Key, hash: u32) -> Option<ResAt>
         requires { hash ≡ hash_key self.now.keys key.now }
         ensures found { FindsResource self.now key.now result }
@@ -140,6 +142,7 @@ impl Store {
         self.resource_index.get(&self.queues.resources, key, hash)
     }
 
+    /// The record of a lock: its row, its queue, its owner, its parent lock.
     pub fn lock_record(&self, lock: LockAt) -> &Lock
         requires { IsStored lock self.now }
         ensures row { Stores self.now lock result.now.row }
@@ -212,6 +215,7 @@ impl Store {
         join_wait_list(&mut self.queues.locks, &mut self.wait_list, at, &to);
     }
 
+    /// Disarms a lock, which keeps its place.
     pub fn disarm(&mut self, lock: LockAt)
         requires { IsStored lock self.old }
         ensures disarmed { self.new ≡ with_lists (disarming lock) self.old }
@@ -275,6 +279,7 @@ impl Store {
         res
     }
 
+    /// The first lock of a queue, if there is one.
     pub fn first(&self, place: Place) -> Option<LockAt>
         requires { HasPlace place self.now }
         ensures first { result ≡ first_at (locks_at place self.now) }
@@ -284,6 +289,7 @@ impl Store {
         Some(LockAt::of(at))
     }
 
+    /// The next lock in the queue of this lock, if there is one.
     pub fn next(&self, lock: LockAt) -> Option<LockAt>
         requires { IsStored lock self.now }
         ensures { (place : Place) (row : LockRow)
@@ -295,6 +301,7 @@ impl Store {
         Some(LockAt::of(at))
     }
 
+    /// The previous lock in the queue of this lock, if there is one.
     pub fn previous(&self, lock: LockAt) -> Option<LockAt>
         requires { IsStored lock self.now }
         ensures { (place : Place) (row : LockRow)
@@ -306,24 +313,28 @@ impl Store {
         Some(LockAt::of(at))
     }
 
+    /// How many resources exist.
     pub fn resource_count(&self) -> usize
         ensures { result ≡ length self.now.resources }
     {
         self.order.len(&self.queues.resources)
     }
 
+    /// How many locks exist, of all processes.
     pub fn total_locks(&self) -> usize
         ensures { result ≡ lock_total self.now }
     {
         self.queues.locks.len()
     }
 
+    /// How many processes live.
     pub fn total_processes(&self) -> usize
         ensures { result ≡ length self.now.processes }
     {
         self.process_order.len(&self.processes)
     }
 
+    /// The first resource in the order of making, if there is one.
     pub fn first_resource(&self) -> Option<ResAt>
         ensures first { result ≡ first_resource_at self.now.resources }
         ensures sound { IsSound self.now }
@@ -332,6 +343,7 @@ impl Store {
         Some(ResAt::of(at))
     }
 
+    /// The next resource in the order of making, if there is one.
     pub fn next_resource(&self, res: ResAt) -> Option<ResAt>
         requires { HasResource res self.now }
         ensures next { result ≡ resource_at_after res self.now.resources }
@@ -341,6 +353,7 @@ impl Store {
         Some(ResAt::of(at))
     }
 
+    /// The record of a resource: its serial, its site, its value block.
     pub fn resource_record(&self, res: ResAt) -> &Resource
         requires { HasResource res self.now }
         ensures serial { IfSome (resource_at res self.now.resources)
@@ -357,6 +370,7 @@ impl Store {
         &self.queues.resources[res.slot()]
     }
 
+    /// Writes the value block of a resource.
     pub fn set_value_block(&mut self, res: ResAt, value_block: ValueBlock)
         requires { HasResource res self.old }
         ensures written { self.new ≡ record self.old {

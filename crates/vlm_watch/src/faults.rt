@@ -2,8 +2,10 @@
 
 use thiserror::Error;
 
+/// Why there is no board.
 #[derive(Clone, Copy, Debug, Error, PartialEq, Eq)]
 pub enum BoardFault {
+    /// Memory was refused.
     #[error("memory")]
     Memory,
     /// A place for a watcher was refused.

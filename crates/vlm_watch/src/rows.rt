@@ -11,7 +11,9 @@ use vlm_words::resources::Domain;
 /// The key of a root resource: its domain and its name.
 #[derive(Clone, Copy)]
 pub struct RootKey {
+    /// Its domain.
     pub domain: Domain,
+    /// Its name.
     pub name: Name,
 }
 
@@ -24,7 +26,9 @@ pub struct Row {
     pub conversions: u32,
     /// How many new requests wait.
     pub waiters: u32,
+    /// The value block.
     pub value: [u8; 16],
+    /// Whether the value block is valid.
     pub valid: bool,
     /// How many entries the hub had made when the row was published; `u64::MAX` if there were more; 0 before the first
     /// publish.

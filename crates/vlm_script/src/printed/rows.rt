@@ -12,9 +12,13 @@ use std::alloc::AllocError;
 pub struct WatchedRow {
     /// How many locks hold NL, CR, CW, PR, PW and EX.
     pub held: [u32; 6],
+    /// How many locks wait in the conversion queue.
     pub conversions: u32,
+    /// How many locks wait in the waiting queue.
     pub waiters: u32,
+    /// The value block.
     pub value: [u8; 16],
+    /// Whether the value block is valid.
     pub valid: bool,
 }
 
