@@ -58,19 +58,6 @@ pub struct NewLock {
     pub at_once: bool,
 }
 
-fn new_row(new_lock: &NewLock) -> StoredRow
-    ensures { result ≡ new_row new_lock.now }
-{
-    StoredRow::of(&LockRow {
-        lkid: new_lock.lkid,
-        pid: new_lock.pid,
-        parent: new_lock.parent_lkid,
-        held: None,
-        want: Some(new_lock.asked),
-        armed: false,
-    })
-}
-
 // Adds a new lock at the end of a queue: granted if it is granted at once, else waiting.
 fn enter_at(store: &mut Store, new_lock: &NewLock, row: &StoredRow, res: ResAt)
     requires may_enter { MayEnter new_lock.now store.old }
@@ -169,7 +156,14 @@ pub fn enter(store: &mut Store, new_lock: &NewLock) -> Result<ResAt, AllocError>
     ensures err { OnErr result (IsUnchanged store.old store.new) }
 {
     make_ready(store, new_lock)?;
-    let row = new_row(new_lock);
+    let row = StoredRow::of(&LockRow {
+        lkid: new_lock.lkid,
+        pid: new_lock.pid,
+        parent: new_lock.parent_lkid,
+        held: None,
+        want: Some(new_lock.asked),
+        armed: false,
+    });
     let res = resource_or_new(store, new_lock);
     enter_at(store, new_lock, &row, res);
     accept_entered(store, new_lock, &row, res);

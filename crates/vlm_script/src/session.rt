@@ -115,7 +115,7 @@ impl Session {
             (λ stop. StopsName self.old.names name stop) }
     {
         let pid = process_of(&self.names, &name)?;
-        let answer = self.core.step(of_process(pid, step));
+        let answer = self.core.make_step(&of_process(pid, step));
         answer_line(out, name.bytes(), answer)?;
         Ok(())
     }
