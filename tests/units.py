@@ -8,7 +8,7 @@ from functools import partial
 
 from harness import Result, SECONDS, TOP, Test, difference, results_of
 
-CRATES = ("vlm_core_tests", "vlm_hub_tests", "vlm_cluster_tests")
+CRATES = ("vlm_core_tests", "vlm_hub_tests")
 # The longest time of a checked build of a crate's tests and of their runs.
 CHECKED_SECONDS = 900
 

@@ -1,7 +1,9 @@
-//! Callers of the hub and its ports, one that serves one node and one that serves two, and tests. They are built for
-//! the tests alone, so they are proved once, with the tests.
+//! Callers of the hub and its ports, one that serves one node and one that serves two, a caller that serves lists of
+//! steps, and tests. They are built for the tests alone, so they are proved once, with the tests.
 #![tactic(auto)]
 
+#[cfg(test)]
+mod lists;
 #[cfg(test)]
 mod onlookers;
 #[cfg(test)]
@@ -15,6 +17,8 @@ mod threads;
 #[cfg(test)]
 mod watched;
 
+#[cfg(test)]
+pub use lists::{may_serve, serve};
 #[cfg(test)]
 pub use onlookers::Onlooker;
 #[cfg(test)]

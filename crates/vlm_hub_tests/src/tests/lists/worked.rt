@@ -1,7 +1,7 @@
 //! Worked runs: the posts and items of each node, the parts of the journal, and a thread for each list.
 
-use crate::tests::gates::{Closing, Following, Meeting, slow_gates};
-use crate::tests::steps::{
+use crate::tests::lists::gates::{Closing, Following, Meeting, slow_gates};
+use crate::tests::lists::steps::{
     are_answers, are_three_served, declaration, entries_of, is_answer, open_gates, report_of,
     searches, three_lists,
 };

@@ -1,6 +1,6 @@
 //! Lists by chance: the steps of each journal, made once more in one thread, are answered the same.
 
-use crate::tests::steps::{declaration, first_process, open_gates, report_of};
+use crate::tests::lists::steps::{declaration, first_process, open_gates, report_of};
 use std::alloc::{AllocError, Global};
 use std::test::Fail;
 use vlm_cluster::Report;

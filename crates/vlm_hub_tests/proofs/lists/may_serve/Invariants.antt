@@ -3,7 +3,7 @@ use Rattle.std.specs.declared.alloc.Global.{Global}
 use Rattle.std.specs.declared.vec.Vec.{Vec}
 use Rattle.vlm_words.specs.declared.steps.Step.{Step}
 use Rattle.vlm_cluster.specs.Posts.{ArePostsOf}
-use Rattle.vlm_cluster_tests.proofs.lists.may_serve.Given as goal
+use Rattle.vlm_hub_tests.proofs.lists.may_serve.Given as goal
 
 abbrev pub invariant-loop-at : goal.invariant-loop-at
 invariant-loop-at l =

@@ -1,8 +1,8 @@
 //! Nodes whose lists are served. Where memory is refused, all is given back, and they are served once more.
 
 use crate::serve;
-use crate::tests::gates::{Heard, slow_gates};
-use crate::tests::steps::{are_three_served, open_gates, report_of, searches, three_lists};
+use crate::tests::lists::gates::{Heard, slow_gates};
+use crate::tests::lists::steps::{are_three_served, open_gates, report_of, searches, three_lists};
 use std::alloc::{AllocError, Global};
 use std::sync::{Arc, Wait};
 use std::test::Fail;
