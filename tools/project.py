@@ -1,5 +1,6 @@
 """What the tools share: where things are, the kit, and how a tool fails."""
 
+import hashlib
 import os
 import re
 import shutil
@@ -9,7 +10,10 @@ from pathlib import Path
 
 TOP = Path(__file__).resolve().parent.parent
 PROGRAM = TOP / "crates" / "vlm" / "out" / "vlm"
-# What a whole proof left: the program's checksum, the commit and the kit. It is as old as the proof's start.
+# The proved archive of which the libraries for C are made.
+LIBRARY = TOP / "crates" / "vlm_capi" / "out" / "libvlm_capi.a"
+# What a whole proof left: the program's checksum, the commit, the kit, and if the library was built its checksum. It is
+# as old as the proof's start.
 RECORD = PROGRAM.with_name("vlm.proved")
 LOGS = TOP / "out"
 # The kit that the crates are proved with, as `rt version` names it: a name, and the checksum of its logic.
@@ -57,6 +61,13 @@ def is_current():
     return told.stdout.startswith("vlm: proved, ")
 
 
+def is_library_current():
+    """Whether the archive for C is the one that was proved, with the program, from the sources as they are."""
+    if not is_current() or not LIBRARY.exists():
+        return False
+    return RECORD.read_text().splitlines()[3:] == [hashlib.sha256(LIBRARY.read_bytes()).hexdigest()]
+
+
 def crates():
     """Each crate of crates.txt with those of the repository that it uses, the lowest first."""
     lines = [line.partition("#")[0].partition(":") for line in (TOP / "crates.txt").read_text().splitlines()]
@@ -74,10 +85,10 @@ def crates():
     return ordered
 
 
-def crates_below(name):
-    """A crate and all crates below it, the lowest first, each with those that it uses."""
+def crates_below(*names):
+    """Some crates and all crates below them, the lowest first, each with those that it uses."""
     uses = crates()
-    wanted, left = set(), [name]
+    wanted, left = set(), list(names)
     while left:
         it = left.pop()
         if it not in wanted:

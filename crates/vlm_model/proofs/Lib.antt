@@ -82,3 +82,4 @@ pub mod NoNewCircles
 pub mod TailMarks
 pub mod AtOnce
 pub mod WarnedSince
+pub mod TakenAlone

@@ -43,6 +43,7 @@ pub mod Warning
 pub mod WarnedOnce
 pub mod BlocksRequests
 pub mod TakenBelow
+pub mod TakenAlone
 pub mod Departing
 pub mod EndedProcesses
 pub mod Happened

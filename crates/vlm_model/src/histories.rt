@@ -1,14 +1,14 @@
 //! Laws of whole runs of the plain machine. Each law is a function that does nothing but call a law that it rests on,
 //! if there is one: its contract is the law.
 
-ghost use Rattle.std.specs.Prelude.{◌≡◌, ℕ, true, Option};
+ghost use Rattle.std.specs.Prelude.{◌≡◌, ℕ, true, false, Option, Some};
 ghost use Rattle.vlm_words.specs.declared.locks.LockRow.{LockRow};
 ghost use Rattle.vlm_words.specs.declared.conditions.Cond.TheVariants.{Normal};
 ghost use Rattle.vlm_words.specs.declared.steps.Answer.TheVariants.{Plain};
 ghost use Rattle.vlm_words.specs.declared.steps.Dequeue.{Dequeue};
 ghost use Rattle.vlm_words.specs.declared.steps.Step.TheVariants.{Deq, Search};
 ghost use Rattle.vlm_words.specs.declared.steps.Step.{Step};
-ghost use Rattle.vlm_words.specs.Flags.{deqall, has_flag};
+ghost use Rattle.vlm_words.specs.Flags.{cancel, deqall, has_flag};
 ghost use Rattle.vlm_words.specs.State.{State};
 ghost use Rattle.vlm_model.specs.Runs.{History, Run};
 ghost use Rattle.vlm_model.specs.Stepped.{IsChoice, stepped};
@@ -28,6 +28,7 @@ ghost use Rattle.vlm_model.specs.BlocksRequests.{WarnedLocksAreInTheWay};
 ghost use Rattle.vlm_model.specs.NoNewCircles.{NoneIsCaughtAnew};
 ghost use Rattle.vlm_model.specs.TailMarks.{TailsAreValidWithTheirValues};
 ghost use Rattle.vlm_model.specs.TakenBelow.{AbortsByRisingIdentification, TakesThoseBelowAlone};
+ghost use Rattle.vlm_model.specs.TakenAlone.{CancelsItsRequest, EndsItsVictim, TakesItsLock};
 
 use crate::laws::law_asts_are_taken_in_order;
 
@@ -138,6 +139,25 @@ pub fn law_a_dequeue_of_all_aborts_by_rising_identification()
         → (d : Dequeue) (choice : Option LockRow) → has_flag d.flags deqall ≡ true
         → (stepped old (Deq d) choice).answer ≡ Plain Normal
         → AbortsByRisingIdentification old d choice }
+{}
+
+/// In any state: a Deq without DEQALL and CANCEL takes the lock that it names, and no other; before its sweep the other
+/// locks are as they were, in their order. The lock's request, if it has one, ends by ABORT.
+pub fn law_a_dequeue_takes_its_lock()
+    ensures { (s : State) (d : Dequeue) (choice : Option LockRow)
+        → has_flag d.flags deqall ≡ false → has_flag d.flags cancel ≡ false
+        → TakesItsLock s d choice }
+{}
+
+/// In any state: a CANCEL ends the request of the lock that it names, and a search that of its victim, and no other.
+/// A conversion ends by CANCEL or DEADLOCK, and its lock joins the granted queue: it holds what it held, and is armed
+/// as before. A waiting request ends by ABORT or DEADLOCK, and its lock goes.
+pub fn law_a_cancelled_conversion_leaves_its_lock()
+    ensures cancel { (s : State) (d : Dequeue) (choice : Option LockRow)
+        → has_flag d.flags deqall ≡ false → has_flag d.flags cancel ≡ true
+        → CancelsItsRequest s d choice }
+    ensures search { (s : State) (node : ℕ) (victim : LockRow)
+        → EndsItsVictim s node victim.lkid (Some victim) }
 {}
 
 /// A root in the system's domain is made only by a request with SYSTEM whose caller has the privilege SYSLCK.
