@@ -214,7 +214,8 @@ WatchesOrWantsMemory name script left old new status =
 -- the program ends as its words ask: `NAME play` runs the script, `NAME cluster --nodes N` serves it by N nodes,
 -- `NAME cluster` by two, and `NAME watch --name=RES` watches the resource of the name RES, if a resource can have that
 -- name
-pub record EndsAsAsked (words : List Text) (script left : Option (List ℕ)) (old new : Output) (status : ℕ) : Type 0 where
+pub record EndsAsAsked (words : List Text) (script left : Option (List ℕ)) (old new : Output)
+    (status : ℕ) : Type 0 where
   pub ends : EndsByWords words script left old new status
   pub play : (name : List ℕ) → words ≡ name ∷ codes "play" ∷ [] → RunsOrWantsMemory script left old new status
   pub cluster : (name : List ℕ) (nodes : ℕ) → 1 ≤ nodes → nodes ≤ 8

@@ -27,10 +27,10 @@ pub(crate) const REFUSED: u8 = 2;
 // The run failed for memory, random bytes, a stream, the script's length, or the hub.
 pub(crate) const FAILED: u8 = 3;
 
-/// Runs the program on its words, its own name first, and answers its exit status. 0: it is done, or has printed the help
-/// that was asked for. 1: the script has a fault. 2: the command line is refused. 3: memory was refused, there were no
-/// random bytes, no seat for a watcher or no answer, a read or write failed, or the script is too long. It prints the
-/// fault on `faults`; if that fails, the status stays.
+/// Runs the program on its words, its own name first, and answers its exit status. 0: it is done, or has printed the
+/// help that was asked for. 1: the script has a fault. 2: the command line is refused. 3: memory was refused, there
+/// were no random bytes, no seat for a watcher or no answer, a read or write failed, or the script is too long. It
+/// prints the fault on `faults`; if that fails, the status stays.
 pub fn run_words<S: AsStr, R: Read, W: Write, F: Write>(
     rt: &(impl AllocGlobal + RandomSource + Threads + Wait + Clock + Copy + Send + 'static),
     words: &[S],

@@ -49,7 +49,8 @@ fn start_named<R: Read, W: Write, F: Write>(
     }
 }
 
-// The exit status of a watch that ended so. It prints why, if it failed. A line that can't be printed changes no status.
+// The exit status of a watch that ended so. It prints why, if it failed. A line that can't be printed changes no
+// status.
 fn ended<F: Write>(end: &Result<(), WatchFault>, faults: &mut F) -> u8
     ensures status { result ≡ watch_status_of end.now }
     ensures faults { PrintsWatchEnd end.now (F.contents faults.old) (F.contents faults.new) }

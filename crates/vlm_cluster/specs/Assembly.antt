@@ -26,7 +26,8 @@ HaveGates {G} n children gates = (k : ℕ) (h : PromisedHandle (WorkerResult G) 
     → (slice_index_or children k h).promise.gate.value ≡ slice_index_or gates k gate
 
 -- each worker promised its work on this port and this list
-abbrev pub HaveInputs : {G : Type 0} → ℕ → List (PromisedHandle (WorkerResult G) (WorkerPromise G)) → List Port → List StepList → Type 0
+abbrev pub HaveInputs : {G : Type 0} → ℕ → List (PromisedHandle (WorkerResult G) (WorkerPromise G)) → List Port
+    → List StepList → Type 0
 HaveInputs {G} n children ports lists =
     (k : ℕ) (h : PromisedHandle (WorkerResult G) (WorkerPromise G)) (port : Port) (list : StepList) → k < n
     → ((slice_index_or children k h).promise.port.value ≡ slice_index_or ports k port)

@@ -49,7 +49,8 @@ pub record AreServed (lists : List StepList) (r : Report) : Type 0 where
   pub report : IsReport lists r
   pub asked : (k n : ℕ) (list : StepList) → slice_get lists k ≡ Some list → slice_get r.posted.items k ≡ Some n
       → asked (k + 1) (entries_of r) ≡ take n list.items ++ Leave (k + 1) ∷ []
-  pub told : (k : ℕ) (items : Items) → slice_get r.items.items k ≡ Some items → items.items ≡ told (k + 1) (entries_of r)
+  pub told : (k : ℕ) (items : Items) → slice_get r.items.items k ≡ Some items
+      → items.items ≡ told (k + 1) (entries_of r)
 
 -- the same in part: what each node has asked for, and what it was told, is a prefix of that
 pub record AreServedInPart (lists : List StepList) (r : Report) : Type 0 where
@@ -94,7 +95,8 @@ RequestsEndOnce entries last = HoldsThroughout (λ history state. EachRequestEnd
 -- each step that is not refused grants in queue order, conversions before new requests, at each place of the journal
 abbrev pub GrantsKeepOrder : List Entry → State → Type 0
 GrantsKeepOrder entries last = HoldsThroughout
-    (λ history state. (step : Step) (choice : Option LockRow) → IsChoice state step choice → step_refusal state step ≡ None
+    (λ history state. (step : Step) (choice : Option LockRow) → IsChoice state step choice
+    → step_refusal state step ≡ None
     → GrantsFollowQueueOrder state step choice)
     entries last
 

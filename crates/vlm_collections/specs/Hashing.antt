@@ -16,4 +16,6 @@ hash_of keys words = finished (fold compressed keys.words words)
 
 -- four bytes are a number, low byte first; its hash is the upper half of a product of 64 bits
 abbrev pub spreading : HashSpread → List ℕ → HashSpread
-spreading h bytes = record { spread = if length bytes == 4 then (from_le_bytes w32 bytes * 0x9E3779B97F4A7C15) % 2 ^ 64 / 2 ^ 32 else 0 }
+spreading h bytes = record {
+  spread = if length bytes == 4 then (from_le_bytes w32 bytes * 0x9E3779B97F4A7C15) % 2 ^ 64 / 2 ^ 32 else 0;
+}

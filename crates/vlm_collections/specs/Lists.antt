@@ -70,7 +70,8 @@ module _ (next prev : Spot → Spot) where
   -- the links lead from a spot through these handles to the end, and back
   abbrev pub IsChain : Spot → List ℕ → Type 0
   IsChain from [] = (next from ≡ None) × (prev None ≡ from)
-  IsChain from (handle ∷ handles) = (next from ≡ Some handle) × (prev (Some handle) ≡ from) × IsChain (Some handle) handles
+  IsChain from (handle ∷ handles) = (next from ≡ Some handle) × (prev (Some handle) ≡ from)
+      × IsChain (Some handle) handles
 
 -- the list is empty
 pub record IsNoList {Kind : Type 0} (list : LinkedList Kind) : Type 0 where
@@ -136,7 +137,8 @@ module _ {T : Type 0} (with_links : T → Links → T) where
     pub capacity : new.capacity ≡ old.capacity
 
   -- one spot is linked to another; the links back, the length and the other records stay
-  pub record LinksOn {Kind : Type 0} (on back : Slab T → LinkedList Kind → Spot → Spot) (old new : Slab T) (list list' : LinkedList Kind) (from to : Spot) : Type 0 where
+  pub record LinksOn {Kind : Type 0} (on back : Slab T → LinkedList Kind → Spot → Spot) (old new : Slab T)
+      (list list' : LinkedList Kind) (from to : Spot) : Type 0 where
     pub joins : Joins (on old list) (on new list') from to
     pub keeps : (at : Spot) → back new list' at ≡ back old list at
     pub others : (handle : ℕ) → Some handle ≢ from → get new handle ≡ get old handle

@@ -47,7 +47,8 @@ FirstStoredFrom r row (Some at) view =
 
 -- the same for the request of a located lock, on its resource
 abbrev pub IsBlockerShown : Records → LocatedLock → Option ℕ → Option LockView → Type 0
-IsBlockerShown s f from view = (r : StoredResource) → resource_at f.res s.resources ≡ Some r → FirstStoredFrom r f.row from view
+IsBlockerShown s f from view = (r : StoredResource) → resource_at f.res s.resources ≡ Some r
+    → FirstStoredFrom r f.row from view
 
 -- the lock of this identification exists, and the first lock of its resource for which its request waits is shown
 pub record IsFirstBlocker (s : State) (lkid : ℕ) (view : Option LockView) : Type 0 where

@@ -118,7 +118,8 @@ abbrev pub IsLaterSublock : LockRow → LockRow → Type 0
 IsLaterSublock row other = IsSublockOf row.parent other × (row.lkid < other.lkid)
 
 -- the lock exists, and the view shows the first lock that follows it, if there is one
-pub record IsNextOf (s : State) (Follows : LockRow → LockRow → Type 0) (lkid : ℕ) (next : Option LockView) : Type 0 where
+pub record IsNextOf (s : State) (Follows : LockRow → LockRow → Type 0) (lkid : ℕ)
+    (next : Option LockView) : Type 0 where
   pub resource : Resource
   pub queue : Queue
   pub row : LockRow

@@ -40,12 +40,14 @@ IsFirstOf P (k ∷ rest) found = (P k.row × (found ≡ Some k.at)) ⊎ ((P k.ro
 abbrev pub IsFirstFrom : (LockRow → Type 0) → Option ℕ → List StoredLock → Option ℕ → Type 0
 IsFirstFrom P None locks found = IsFirstOf P locks found
 IsFirstFrom P (Some at) locks found =
-    (before rest : List StoredLock) (row : LockRow) → locks ≡ before ++ record { at = at; row = row } ∷ rest → IsFirstOf P rest found
+    (before rest : List StoredLock) (row : LockRow) → locks ≡ before ++ record { at = at; row = row } ∷ rest
+    → IsFirstOf P rest found
 
 -- it is the handle of the first such lock on its resource for which the request of the located lock waits
 abbrev pub IsNextBlocker : Records → LocatedLock → Option ℕ → Option ℕ → Type 0
 IsNextBlocker s f from found =
-    (r : StoredResource) → resource_at f.res s.resources ≡ Some r → IsFirstFrom (WaitsOn (plain_resource r) f.row) from (all_locks r) found
+    (r : StoredResource) → resource_at f.res s.resources ≡ Some r
+    → IsFirstFrom (WaitsOn (plain_resource r) f.row) from (all_locks r) found
 
 -- ---- one lock
 

@@ -31,11 +31,13 @@ rank_of s ranks pid = option_map_or (λ p. rank_at ranks p.at) (find (λ p. p.pr
 -- no request of these rows waits for a process of a higher rank than its own process
 abbrev pub FallsOn : Records → Ranks → List LockRow → Type 0
 FallsOn s ranks rows =
-    (row lock : LockRow) → IsIn row rows → WaitsFor (searched s) row lock → rank_of s ranks lock.pid ≤ rank_of s ranks row.pid
+    (row lock : LockRow) → IsIn row rows → WaitsFor (searched s) row lock
+    → rank_of s ranks lock.pid ≤ rank_of s ranks row.pid
 
 -- no process waits for one of a higher rank
 abbrev pub Falls : Records → Ranks → Type 0
-Falls s ranks = (row lock : LockRow) → WaitsFor (searched s) row lock → rank_of s ranks lock.pid ≤ rank_of s ranks row.pid
+Falls s ranks = (row lock : LockRow) → WaitsFor (searched s) row lock
+    → rank_of s ranks lock.pid ≤ rank_of s ranks row.pid
 
 -- ---- counts
 
@@ -87,16 +89,19 @@ HasPassed s ranks before res Conversion = Unit {0}
 HasPassed s ranks before res Waiting = HasPassedAll s ranks before (rows_queued res Conversion s)
 
 -- the blocker ranks of a resource at the head of a queue: all held modes are counted, and the queue before is passed
-pub record AreBlockerRanksOf (s : Records) (ranks : Ranks) (blocker_ranks : BlockerRanks) (res : ℕ) (queue : Queue) : Type 0 where
+pub record AreBlockerRanksOf (s : Records) (ranks : Ranks) (blocker_ranks : BlockerRanks) (res : ℕ)
+    (queue : Queue) : Type 0 where
   pub granted : CountsHolders s ranks blocker_ranks.held (rows_queued res Granted s)
   pub converting : CountsHolders s ranks blocker_ranks.held (rows_queued res Conversion s)
   pub passed : HasPassed s ranks blocker_ranks.before res queue
 
 -- the blocker ranks of a resource at a lock: the requests before that lock are passed
-pub record AreBlockerRanksAt (s : Records) (ranks : Ranks) (blocker_ranks : BlockerRanks) (f : LocatedLock) : Type 0 where
+pub record AreBlockerRanksAt (s : Records) (ranks : Ranks) (blocker_ranks : BlockerRanks)
+    (f : LocatedLock) : Type 0 where
   pub granted : CountsHolders s ranks blocker_ranks.held (rows_queued f.res Granted s)
   pub converting : CountsHolders s ranks blocker_ranks.held (rows_queued f.res Conversion s)
-  pub passed : (pid : ℕ) → OwnsBefore f.row.lkid f.queue (rows_queued f.res Conversion s) (rows_queued f.res Waiting s) pid → rank_of s ranks pid < blocker_ranks.before
+  pub passed : (pid : ℕ) → OwnsBefore f.row.lkid f.queue (rows_queued f.res Conversion s)
+      (rows_queued f.res Waiting s) pid → rank_of s ranks pid < blocker_ranks.before
 
 -- the blocker ranks pass a queue
 pub record PassesQueue (s : Records) (ranks : Ranks) (rows : List LockRow) (old new : BlockerRanks) : Type 0 where

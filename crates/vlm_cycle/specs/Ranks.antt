@@ -12,7 +12,16 @@ Ranks = List TarjanNode
 
 -- the note of a process that is not found
 abbrev pub blank_node : TarjanNode
-blank_node = record { rank = 0; index = 0; low = 0; tree_parent = None; stack_next = None; own = None; part = Before; at = None }
+blank_node = record {
+  rank = 0;
+  index = 0;
+  low = 0;
+  tree_parent = None;
+  stack_next = None;
+  own = None;
+  part = Before;
+  at = None;
+}
 
 -- the blank note, by no search
 abbrev pub blank_dated : DatedNode

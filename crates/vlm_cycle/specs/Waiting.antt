@@ -19,7 +19,8 @@ searched s = record start { resources = plain_resources s }
 
 -- each living process is of a node, 1 to 8, and has room for its marks
 abbrev pub IsRoomy : Records → Scratch → Type 0
-IsRoomy s marks = (p : StoredProcess) → IsIn p s.processes → HasRoomInBoth marks p.process.pid × (is_node (p.process.pid / 65536) ≡ true)
+IsRoomy s marks = (p : StoredProcess) → IsIn p s.processes
+    → HasRoomInBoth marks p.process.pid × (is_node (p.process.pid / 65536) ≡ true)
 
 -- the process owns a lock for which the request of the row waits
 abbrev pub OwnsWaitedFor : Records → LockRow → ℕ → Type 0
@@ -51,9 +52,11 @@ OwnsBlocker rows pid = (row : LockRow) × (IsIn row rows × BlocksThoseBehind ro
 abbrev pub OwnsBefore : ℕ → Queue → List LockRow → List LockRow → ℕ → Type 0
 OwnsBefore lkid Granted converting waiting pid = ⊥
 OwnsBefore lkid Conversion converting waiting pid = OwnsBlocker (rows_before lkid converting) pid
-OwnsBefore lkid Waiting converting waiting pid = OwnsBlocker (rows_before lkid converting) pid ⊎ OwnsBlocker (rows_before lkid waiting) pid
+OwnsBefore lkid Waiting converting waiting pid = OwnsBlocker (rows_before lkid converting) pid
+    ⊎ OwnsBlocker (rows_before lkid waiting) pid
 
 -- the process owns a lock that keeps the request of the lock of this identification from being granted
 abbrev pub OwnsKeeper : ℕ → Mode → Queue → List LockRow → List LockRow → List LockRow → ℕ → Type 0
 OwnsKeeper lkid mode queue granted converting waiting pid =
-    OwnsHolder lkid mode granted pid ⊎ OwnsHolder lkid mode converting pid ⊎ OwnsBefore lkid queue converting waiting pid
+    OwnsHolder lkid mode granted pid ⊎ OwnsHolder lkid mode converting pid
+    ⊎ OwnsBefore lkid queue converting waiting pid

@@ -26,8 +26,8 @@ pub fn may_serve(lists: &[Vec<Step>]) -> bool
     true
 }
 
-/// Serves lists, each as its gate says, in parts of at least this many entries. `None` if they can't be served, or there
-/// are not as many gates.
+/// Serves lists, each as its gate says, in parts of at least this many entries. `None` if they can't be served, or
+/// there are not as many gates.
 pub fn serve<R: Threads + Wait + Clock + Copy + Send + 'static, G: Gate + Send + 'static>(
     rt: &R,
     alloc: Global,

@@ -16,7 +16,8 @@ IsAnsweredDeparted node entries = (earlier later : ℕ) (leaving entry : Entry) 
 
 -- the entry is a departure of the node that was accepted, or came too late
 abbrev pub ShowsDeparture : ℕ → Entry → Type 0
-ShowsDeparture node entry = (entry.step ≡ Leave node) × ((entry.answer ≡ Plain Normal) ⊎ (entry.answer ≡ Plain Departed))
+ShowsDeparture node entry = (entry.step ≡ Leave node) × ((entry.answer ≡ Plain Normal)
+    ⊎ (entry.answer ≡ Plain Departed))
 
 -- after these entries the node has departed, and each of the node's entries among them is answered DEPARTED
 pub record StaysDeparted (node : ℕ) (entries : List Entry) (last : State) : Type 0 where

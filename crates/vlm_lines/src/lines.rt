@@ -9,8 +9,8 @@ pub type ProcessName = Text<15>;
 /// An identification that no process has. A step has it until the run knows which process makes the step.
 pub const NO_PROCESS: u32 = 0;
 
-/// A line without a fault. A line names its process, so its step has [`NO_PROCESS`] until the run puts in the process of
-/// that name.
+/// A line without a fault. A line names its process, so its step has [`NO_PROCESS`] until the run puts in the process
+/// of that name.
 #[derive(Clone, Copy)]
 pub enum Line {
     /// No word, or a comment: the first word begins with `#`.

@@ -12,8 +12,8 @@ use vlm_words::names::NameArg;
 // A name has at most 31 bytes. Of a longer one 32 are read, which is enough to refuse it.
 const LONGEST: usize = 32;
 
-/// A resource's name as a script writes it: `x:` and an even number of hexadecimal digits of either case, or the bytes of
-/// the name. Both may be empty. `None` if anything else follows `x:`. It takes no memory.
+/// A resource's name as a script writes it: `x:` and an even number of hexadecimal digits of either case, or the bytes
+/// of the name. Both may be empty. `None` if anything else follows `x:`. It takes no memory.
 #[tactic(auto, unfolding(crate::specs::Lines::name_read))]
 pub fn read_res(bytes: &[u8]) -> Option<NameArg>
     ensures { result ≡ name_read bytes.now }

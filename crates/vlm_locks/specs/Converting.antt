@@ -31,7 +31,8 @@ abbrev pub processes_converting : LocatedLock → Request → Records → List P
 processes_converting f asked s = processes_after_acceptance f.row.pid asked.block f.row.lkid (plain_processes s)
 
 -- the lock is converted on its resource as in the plain machine, which starts from these processes
-pub record IsConverted (f : LocatedLock) (asked : Request) (accepted : List Process) (r : StoredResource) (old new : Records) : Type 0 where
+pub record IsConverted (f : LocatedLock) (asked : Request) (accepted : List Process) (r : StoredResource)
+    (old new : Records) : Type 0 where
   pub resources : plain_resources new
       ≡ map
       (resource_after_conversion asked (admission_on f asked r).at_once f.row.pid f.row.lkid
@@ -47,8 +48,10 @@ abbrev pub blocks_granted : LockRow → StoredResource → List Process → Bloc
 blocks_granted row r accepted = blocks_after (grant_endings true row) (blocks_with r.value_block accepted)
 
 -- the request of the lock is granted at once on its resource; these are the processes after it was accepted
-pub record IsConvertedAtOnce (f : LocatedLock) (row : LockRow) (accepted : List Process) (r : StoredResource) (old new : Records) : Type 0 where
-  pub replaced : IsReplaced f.res r (record (moved_in f (granted_row row) Granted r) { value_block = (blocks_granted row r accepted).value_block }) old new
+pub record IsConvertedAtOnce (f : LocatedLock) (row : LockRow) (accepted : List Process) (r : StoredResource)
+    (old new : Records) : Type 0 where
+  pub replaced : IsReplaced f.res r (record (moved_in f (granted_row row) Granted r)
+      { value_block = (blocks_granted row r accepted).value_block }) old new
   pub statuses : plain_processes new ≡ (blocks_granted row r accepted).processes
 
 -- the located lock is converted, the other locks are unchanged, and each process is owed the ASTs due to it

@@ -88,7 +88,8 @@ pub record IsAdded (e : NewLock) (old new : Records) : Type 0 where
   pub row : LockRow
   pub stands : Stores new lock row
   pub same : IsSameLock (new_row e) row
-  pub own_locks : map but_notices new.processes ≡ map but_notices (map (process_with_lock e.owner e.parent lock) old.processes)
+  pub own_locks : map but_notices new.processes ≡ map but_notices
+      (map (process_with_lock e.owner e.parent lock) old.processes)
   pub others : OtherLocksStay lock old new
 
 -- the lock is on the resource with this handle, in the queue that it enters; no other lock or resource changed
@@ -104,11 +105,13 @@ pub record IsEntered (e : NewLock) (res : ℕ) (old new : Records) : Type 0 wher
   pub taken : IsTakenIn e res old new
   pub processes : plain_processes new ≡ plain_processes old
   pub owner : IsProcess e.owner e.pid new
-  pub value_block : IfSome (resource_at res new.resources) (λ r. r.value_block ≡ (resource_for e (plain_resources old)).value_block)
+  pub value_block : IfSome (resource_at res new.resources)
+      (λ r. r.value_block ≡ (resource_for e (plain_resources old)).value_block)
 
 -- the lock is on the resource with this handle, its status block says that it is pending or granted, and each process
 -- is owed the ASTs that are due to it
 pub record HasEntered (e : NewLock) (res : ℕ) (old new : Records) : Type 0 where
   pub taken : IsTakenIn e res old new
-  pub statuses : plain_processes new ≡ processes_entered e (resource_for e (plain_resources old)).value_block (plain_processes old)
+  pub statuses : plain_processes new ≡ processes_entered e (resource_for e (plain_resources old)).value_block
+      (plain_processes old)
   pub paid : IsPaid new

@@ -36,14 +36,17 @@ Rise (lkid ∷ lkids) = AllByRecursion (λ later. lkid < later) lkids × Rise lk
 pub record AreChosen (scope : Scope) (pid : ℕ) (s : Records) (lkids : List ℕ) : Type 0 where
   pub rise : Rise lkids
   pub each : (lkid : ℕ) → IsIn lkid lkids
-      → (at : ℕ) × (row : LockRow) × (Stores s at row × (row.lkid ≡ lkid) × (row.pid ≡ pid) × (is_chosen scope (plain_resources s) lkid ≡ true))
-  pub all : (at : ℕ) (row : LockRow) → Stores s at row → row.pid ≡ pid → is_chosen scope (plain_resources s) row.lkid ≡ true → IsIn row.lkid lkids
+      → (at : ℕ) × (row : LockRow) × (Stores s at row × (row.lkid ≡ lkid) × (row.pid ≡ pid)
+      × (is_chosen scope (plain_resources s) lkid ≡ true))
+  pub all : (at : ℕ) (row : LockRow) → Stores s at row → row.pid ≡ pid
+      → is_chosen scope (plain_resources s) row.lkid ≡ true → IsIn row.lkid lkids
 
 -- the lock whose sublocks are given up is a stored lock of the process; its identification is not 0, which a row
 -- without a parent names
 abbrev pub IsOwnScope : Scope → ℕ → Records → Type 0
 IsOwnScope All pid s = ⊤
-IsOwnScope (Below top) pid s = (top ≢ 0) × (at : ℕ) × (row : LockRow) × (Stores s at row × (row.lkid ≡ top) × (row.pid ≡ pid))
+IsOwnScope (Below top) pid s = (top ≢ 0) × (at : ℕ) × (row : LockRow)
+    × (Stores s at row × (row.lkid ≡ top) × (row.pid ≡ pid))
 
 -- the sublocks of a chosen lock are chosen too
 abbrev pub SublocksGoToo : Scope → Records → Type 0
@@ -76,7 +79,8 @@ IsPaidBut lkids s = (pid : ℕ) → due_of pid s ≡ total_weight (due_but lkids
 abbrev pub RequestsHaveEnded : List ℕ → Bool → Records → Records → Type 0
 RequestsHaveEnded lkids invalidates old new =
     plain_processes new
-    ≡ processes_after (withdrawn_endings (map (giving_up by_abort by_abort invalidates) lkids) (plain_resources old)) (plain_processes old)
+    ≡ processes_after (withdrawn_endings (map (giving_up by_abort by_abort invalidates) lkids) (plain_resources old))
+    (plain_processes old)
 
 -- the requests of these locks have ended, and nothing is owed for these locks
 pub record HaveEnded (lkids : List ℕ) (invalidates : Bool) (old new : Records) : Type 0 where
@@ -111,7 +115,8 @@ pub record AreGone (lkids : List ℕ) (invalidates : Bool) (old new : Records) (
   pub statuses : plain_processes new ≡ plain_processes old
 
 -- the chosen locks are given up together: their requests have ended, by rising identification, and they are gone
-pub record AreGivenUp (scope : Scope) (invalidates : Bool) (pid : ℕ) (old new : Records) (before after : Touches) : Type 0 where
+pub record AreGivenUp (scope : Scope) (invalidates : Bool) (pid : ℕ) (old new : Records)
+    (before after : Touches) : Type 0 where
   pub lkids : List ℕ
   pub chosen : AreChosen scope pid old lkids
   pub left : HaveLeft lkids invalidates old new before after

@@ -20,7 +20,8 @@ OthersStay res old new = without_resource res new.resources ≡ without_resource
 
 -- all other locks are unchanged: they have the same places, order, handles and rows
 abbrev pub OtherLocksStay : ℕ → Records → Records → Type 0
-OtherLocksStay lock old new = (place : Place) → without_lock lock (locks_at place new) ≡ without_lock lock (locks_at place old)
+OtherLocksStay lock old new = (place : Place) → without_lock lock (locks_at place new)
+    ≡ without_lock lock (locks_at place old)
 
 -- each process keeps its own locks, and each of these keeps its sublocks
 abbrev pub OwnLocksStay : Records → Records → Type 0

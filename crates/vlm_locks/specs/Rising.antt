@@ -11,7 +11,8 @@ IsOlder s first second = (a b : LockRow) → Stores s first a → Stores s secon
 -- the locks with these handles are in the order of identifications
 abbrev pub StandByIdentification : Records → List ℕ → Type 0
 StandByIdentification s [] = ⊤
-StandByIdentification s (at ∷ rest) = ((later : ℕ) → IsIn later rest → IsOlder s at later) × StandByIdentification s rest
+StandByIdentification s (at ∷ rest) = ((later : ℕ) → IsIn later rest → IsOlder s at later)
+    × StandByIdentification s rest
 
 -- the handles of the locks of a process
 abbrev pub handles_of_own : List OwnLock → List ℕ

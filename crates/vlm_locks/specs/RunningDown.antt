@@ -21,15 +21,18 @@ resource_after_rundown is_one = resource_left (λ row. is_one row.pid) true
 
 -- a sublock belongs to its parent's process
 abbrev pub SublocksAreOwn : Records → Type 0
-SublocksAreOwn s = (at other : ℕ) (row up : LockRow) → Stores s at row → Stores s other up → row.parent ≡ up.lkid → row.pid ≡ up.pid
+SublocksAreOwn s = (at other : ℕ) (row up : LockRow) → Stores s at row → Stores s other up → row.parent ≡ up.lkid
+    → row.pid ≡ up.pid
 
 -- a granted lock wants nothing
 abbrev pub GrantedWantNothing : Records → Type 0
-GrantedWantNothing s = (res : ℕ) (lock : StoredLock) → IsIn lock (locks_at (Queued res Granted) s) → lock.row.want ≡ None
+GrantedWantNothing s = (res : ℕ) (lock : StoredLock) → IsIn lock (locks_at (Queued res Granted) s)
+    → lock.row.want ≡ None
 
 -- each lock was there before, in the same place and with the same row
 abbrev pub WereThere : Records → Records → Type 0
-WereThere old new = (place : Place) (lock : StoredLock) → IsIn lock (locks_at place new) → IsIn lock (locks_at place old)
+WereThere old new = (place : Place) (lock : StoredLock) → IsIn lock (locks_at place new)
+    → IsIn lock (locks_at place old)
 
 -- processes can be ended: sublocks belong to their parents' processes, granted locks want nothing, each process is owed
 -- the ASTs due to it, every noted resource exists, and there is room to note the resource of each lock

@@ -31,7 +31,8 @@ pub record HasGranted (res : ℕ) (old new : Records) : Type 0 where
   pub stay : LocksStay had left
   pub none_join : LocksStay left had
   pub resource : plain_resource left
-      ≡ with_value_block (blocks_granted_from (plain_processes old) (plain_resource had)).value_block (service (plain_resource had)).resource
+      ≡ with_value_block (blocks_granted_from (plain_processes old) (plain_resource had)).value_block
+      (service (plain_resource had)).resource
   pub statuses : plain_processes new ≡ (blocks_granted_from (plain_processes old) (plain_resource had)).processes
 
 -- the resource with this handle is served, and then its granted locks are warned; all else stays

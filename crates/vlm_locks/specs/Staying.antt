@@ -18,5 +18,6 @@ LocksStay had left = (queue : Queue) (lock : StoredLock) → IsIn lock (queued q
 
 -- each lock of the first resources is on the second resource with the same handle
 abbrev pub LocksStayAmong : List StoredResource → List StoredResource → Type 0
-LocksStayAmong olds news = (r : StoredResource) (queue : Queue) (lock : StoredLock) → IsIn r olds → IsIn lock (queued queue r)
+LocksStayAmong olds news = (r : StoredResource) (queue : Queue) (lock : StoredLock) → IsIn r olds
+    → IsIn lock (queued queue r)
     → (x : StoredResource) × (IsIn x news × (x.at ≡ r.at) × StandsStill lock x)

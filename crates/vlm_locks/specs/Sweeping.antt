@@ -25,7 +25,8 @@ StandInOrder (res ∷ touched) resources = (here : Parted res resources) × Stan
 
 -- only the touched resources may need a sweep
 abbrev pub AreSettledBut : List ℕ → List StoredResource → Type 0
-AreSettledBut touched resources = (r : StoredResource) → IsIn r resources → (IsIn r.at touched → ⊥) → IsSettled (plain_resource r)
+AreSettledBut touched resources = (r : StoredResource) → IsIn r resources → (IsIn r.at touched → ⊥)
+    → IsSettled (plain_resource r)
 
 -- the resources that are not touched
 abbrev pub but_touched : List ℕ → List StoredResource → List StoredResource
@@ -35,7 +36,8 @@ but_touched touched resources = filter (λ r. not (list_any (λ res. r.at == res
 pub record IsSwept (res : ℕ) (old new : Records) (was : Parted res old.resources) : Type 0 where
   pub left : List StoredResource
   pub resources : new.resources ≡ was.before ++ (left ++ was.after)
-  pub served : map plain_resource left ≡ unless_vacant (resource_after_service (plain_processes old) (plain_resource was.own))
+  pub served : map plain_resource left ≡ unless_vacant (resource_after_service (plain_processes old)
+      (plain_resource was.own))
   pub same : (r : StoredResource) → IsIn r left → but_service r ≡ but_service was.own
   pub stay : LocksStayAmong (was.own ∷ []) left
   pub none_join : LocksStayAmong left (was.own ∷ [])

@@ -38,7 +38,8 @@ IsNoted number touches = (t : Note) × (IsIn t touches × (t.number ≡ number))
 
 -- each resource that is not touched is unchanged
 abbrev pub OnlyTouched : List Note → Records → Records → Type 0
-OnlyTouched touches old new = (r : StoredResource) → IsIn r new.resources → (IsIn r.at (touched_handles touches) → ⊥) → IsIn r old.resources
+OnlyTouched touches old new = (r : StoredResource) → IsIn r new.resources → (IsIn r.at (touched_handles touches) → ⊥)
+    → IsIn r old.resources
 
 -- the resources are in the order of serials
 abbrev pub StandBySerial : List StoredResource → Type 0

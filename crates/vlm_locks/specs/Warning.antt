@@ -20,7 +20,8 @@ is_warned_on r row = is_to_warn (rows_of_locks r.converting) (rows_of_locks r.wa
 
 -- every lock of the resource that is to be warned is in this list of armed locks
 abbrev pub SparesOthers : Armed → ℕ → Records → Type 0
-SparesOthers which res s = (r : StoredResource) (row : LockRow) → resource_at res s.resources ≡ Some r → is_listed which row ≡ false → is_warned_on r row ≡ false
+SparesOthers which res s = (r : StoredResource) (row : LockRow) → resource_at res s.resources ≡ Some r
+    → is_listed which row ≡ false → is_warned_on r row ≡ false
 
 -- the records after the lock is disarmed, if it is warned
 abbrev pub disarmed_if : Bool → ℕ → Records → Records
@@ -29,7 +30,8 @@ disarmed_if warned lock s = if warned then with_lists (disarming lock) s else s
 -- a granted lock of the resource is warned, if it is to be
 pub record IsLockWarned (r : StoredResource) (lock : ℕ) (row : LockRow) (old new : Records) : Type 0 where
   pub queued : plain_processes new
-      ≡ processes_after_asts (row_warnings (rows_of_locks r.converting) (rows_of_locks r.waiting) row) (plain_processes old)
+      ≡ processes_after_asts (row_warnings (rows_of_locks r.converting) (rows_of_locks r.waiting) row)
+      (plain_processes old)
   pub only : SameButNotices (disarmed_if (is_warned_on r row) lock old) new
   pub owed : OwedMoves row (row_after_warning (rows_of_locks r.converting) (rows_of_locks r.waiting) row) old new
 

@@ -48,7 +48,8 @@ pub record IsPartDone (f : LocatedLock) (change : Resource → Resource) (gone :
 
 -- the resources are as the withdrawal leaves them
 abbrev pub IsLeftBy : Withdrawal → Records → Records → Type 0
-IsLeftBy w old new = plain_resources new ≡ map (resource_after_withdrawals (plain_withdrawal w ∷ [])) (plain_resources old)
+IsLeftBy w old new = plain_resources new ≡ map (resource_after_withdrawals (plain_withdrawal w ∷ []))
+    (plain_resources old)
 
 -- the lock is gone, and the value block of its resource is changed as the withdrawal says
 pub record HasGivenUp (f : LocatedLock) (w : Withdrawal) (old new : Records) : Type 0 where
@@ -64,5 +65,6 @@ pub record HasWithdrawn (f : LocatedLock) (w : Withdrawal) (old new : Records) :
   pub statuses : plain_processes new
       ≡ processes_after (flat_map (withdrawal_endings (plain_withdrawal w)) (plain_resources old)) (plain_processes old)
   pub beside : LeavesOthers f.res f.lock old new
-  pub own_locks : map but_notices new.processes ≡ map but_notices (owned_after (goes w.stays f.queue) f.lock old.processes)
+  pub own_locks : map but_notices new.processes ≡ map but_notices
+      (owned_after (goes w.stays f.queue) f.lock old.processes)
   pub paid : IsPaid new

@@ -44,7 +44,8 @@ pub record IsRequestForm (s : State) (e : NewRequest) (form : RequestForm) : Typ
   pub name : is_name e.name ≡ true
 
 -- this caller makes the new request; its flags and its parent lock are these
-pub record IsAskedBy (m : MachineState) (e : NewRequest) (caller : Caller) (form : RequestForm) (parent : Option Parent) : Type 0 where
+pub record IsAskedBy (m : MachineState) (e : NewRequest) (caller : Caller) (form : RequestForm)
+    (parent : Option Parent) : Type 0 where
   pub living : IsCaller caller m.records
   pub pid : caller.pid ≡ e.pid
   pub says : IsRequestForm (plain_state m) e form
@@ -89,7 +90,8 @@ pub record IsAdmittedConversion (m : MachineState) (c : Conversion) (f : Located
   pub located : IsLocatedLockOf c.pid (convert_lkid (plain_state m) c) f m.records
   pub granted : f.queue ≡ Granted
   pub at_once : now ≡ (admission_on f (convert_request (plain_state m) c) located.located.resource).at_once
-  pub found : convert_admission (plain_state m) c ≡ Some (admission_on f (convert_request (plain_state m) c) located.located.resource)
+  pub found : convert_admission (plain_state m) c ≡ Some
+      (admission_on f (convert_request (plain_state m) c) located.located.resource)
   pub number : m.next_request < 2 ^ 64
 
 -- the dequeue is admitted: it names one lock, without DEQALL, and this is the lock

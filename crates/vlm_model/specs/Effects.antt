@@ -40,7 +40,10 @@ is_wide request = has_flag (flag_bits request.flags) wide
 -- a grant returns the value block to its status block, valid or not, with WIDE the tail too
 unfoldable pub blocks_after_return : Ending → Blocks → Blocks
 blocks_after_return ending b =
-    record b { processes = processes_after_return ending.pid ending.request.block (is_wide ending.request) b.value_block b.processes }
+    record b {
+      processes = processes_after_return ending.pid ending.request.block
+          (is_wide ending.request) b.value_block b.processes;
+    }
 
 -- a grant writes the value block from its status block
 unfoldable pub blocks_after_writing : Ending → Blocks → Blocks

@@ -13,7 +13,8 @@ HasHappened P (step ∷ steps) (answer ∷ answers) = P step answer ⊎ HasHappe
 HasHappened P steps answers = ⊥
 
 -- the outcome is a refusal by this condition: nothing changes, no request ends, and nothing is queued
-pub record IsRefusal (refusal : Cond) (old : State) (step : Step) (new : State) (answer : Answer) (outcome : Outcome old step new answer) : Type 0 where
+pub record IsRefusal (refusal : Cond) (old : State) (step : Step) (new : State) (answer : Answer)
+    (outcome : Outcome old step new answer) : Type 0 where
   pub answered : answer ≡ Plain refusal
   pub state : new ≡ old
   pub none_ends : outcome_endings outcome ≡ []

@@ -316,7 +316,8 @@ pub record SerialsRise (s : State) : Type 0 where
 -- a declaration gives an identification that no living process has
 abbrev pub DeclarationsGiveNewIdentifications : State → Type 0
 DeclarationsGiveNewIdentifications s = (d : Declaration) (choice : Option LockRow) (pid : ℕ)
-    → IsChoice s (Declare d) choice → (stepped s (Declare d) choice).answer ≡ process_answer pid → All (λ p. p.pid ≢ pid) s.processes
+    → IsChoice s (Declare d) choice → (stepped s (Declare d) choice).answer ≡ process_answer pid
+    → All (λ p. p.pid ≢ pid) s.processes
 
 -- the lock of this process holds a mode on the resource, granted or converting
 abbrev pub HoldsOn : ℕ → ℕ → Resource → Type 0

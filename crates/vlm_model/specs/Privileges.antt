@@ -33,4 +33,5 @@ IsPrivilegedStep s step = ⊥
 -- a root in the system's domain existed before the step, or the step is privileged
 abbrev pub SystemRootsArePrivileged : State → Step → Option LockRow → Type 0
 SystemRootsArePrivileged old step choice =
-    All (λ r. IsSystemRoot r → WasSystemRoot old r ⊎ IsPrivilegedStep old step) (stepped old step choice).state.resources
+    All (λ r. IsSystemRoot r → WasSystemRoot old r ⊎ IsPrivilegedStep old step)
+    (stepped old step choice).state.resources

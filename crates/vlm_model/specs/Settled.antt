@@ -18,13 +18,16 @@ unless_vacant r = if is_vacant r then [] else r ∷ []
 
 -- a sweep whose first resources are settled serves and warns this resource, drops it if no lock is left, and goes on
 -- as a sweep of the result; what is left of this resource is settled
-pub record IsSweptNext (processes : List Process) (before : List Resource) (r : Resource) (after : List Resource) : Type 0 where
+pub record IsSweptNext (processes : List Process) (before : List Resource) (r : Resource)
+    (after : List Resource) : Type 0 where
   pub resources :
       resources_after_sweep processes (before ++ r ∷ after)
-      ≡ resources_after_sweep (blocks_after_service processes r).processes (before ++ (unless_vacant (resource_after_service processes r) ++ after))
+      ≡ resources_after_sweep (blocks_after_service processes r).processes
+      (before ++ (unless_vacant (resource_after_service processes r) ++ after))
   pub statuses :
       processes_after_service processes (before ++ r ∷ after)
-      ≡ processes_after_service (blocks_after_service processes r).processes (before ++ (unless_vacant (resource_after_service processes r) ++ after))
+      ≡ processes_after_service (blocks_after_service processes r).processes
+      (before ++ (unless_vacant (resource_after_service processes r) ++ after))
   pub ends :
       sweep_endings (before ++ r ∷ after)
       ≡ (service r).endings ++ sweep_endings (before ++ (unless_vacant (resource_after_service processes r) ++ after))

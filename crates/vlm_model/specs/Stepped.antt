@@ -167,11 +167,13 @@ abbrev pub Outcome : State → Step → State → Answer → Type 0
 Outcome old step new answer = IsMade old step new answer ⊎ IsShortOfMemory old step new answer
 
 -- the endings of an outcome
-abbrev pub outcome_endings : {old : State} {step : Step} {new : State} {answer : Answer} → Outcome old step new answer → List Ending
+abbrev pub outcome_endings : {old : State} {step : Step} {new : State} {answer : Answer} → Outcome old step new answer
+    → List Ending
 outcome_endings {old} {step} (inl made) = (stepped old step made.choice).endings
 outcome_endings (inr short) = []
 
 -- the ASTs that an outcome queues
-abbrev pub outcome_queued : {old : State} {step : Step} {new : State} {answer : Answer} → Outcome old step new answer → List Queued
+abbrev pub outcome_queued : {old : State} {step : Step} {new : State} {answer : Answer} → Outcome old step new answer
+    → List Queued
 outcome_queued {old} {step} (inl made) = (stepped old step made.choice).queued
 outcome_queued (inr short) = []

@@ -62,8 +62,10 @@ IsWaiting s lkid = Any (λ r. Any (λ row. row.lkid ≡ lkid) r.waiting) s.resou
 
 -- before its sweep the dequeue takes the named lock and no other, and the lock's request ends by abort
 pub record TakesItsLock (s : State) (d : Dequeue) (choice : Option LockRow) : Type 0 where
-  pub lock : AllZip (LosesThisLock (named_lkid s d.pid d.lock)) s.resources (step_change s (Deq d) choice).state.resources
-  pub request : All (λ ending. (ending.lkid ≡ named_lkid s d.pid d.lock) × (ending.how ≡ by_abort)) (step_change s (Deq d) choice).endings
+  pub lock : AllZip (LosesThisLock (named_lkid s d.pid d.lock)) s.resources
+      (step_change s (Deq d) choice).state.resources
+  pub request : All (λ ending. (ending.lkid ≡ named_lkid s d.pid d.lock) × (ending.how ≡ by_abort))
+      (step_change s (Deq d) choice).endings
 
 -- the request of a waiting lock ends by abort, that of a converting lock by cancel
 abbrev pub IsCancelled : State → ℕ → Ending → Type 0
@@ -73,10 +75,12 @@ IsCancelled s lkid ending =
 
 -- before its sweep the cancel ends the request of the named lock; a converting lock is granted as it held
 pub record CancelsItsRequest (s : State) (d : Dequeue) (choice : Option LockRow) : Type 0 where
-  pub lock : AllZip (LosesThisRequest (named_lkid s d.pid d.lock)) s.resources (step_change s (Deq d) choice).state.resources
+  pub lock : AllZip (LosesThisRequest (named_lkid s d.pid d.lock)) s.resources
+      (step_change s (Deq d) choice).state.resources
   pub request : All (IsCancelled s (named_lkid s d.pid d.lock)) (step_change s (Deq d) choice).endings
 
 -- before its sweep the search ends the victim's request by deadlock; a converting lock is granted as it held
 pub record EndsItsVictim (s : State) (node lkid : ℕ) (choice : Option LockRow) : Type 0 where
   pub lock : AllZip (LosesThisRequest lkid) s.resources (step_change s (Search node) choice).state.resources
-  pub request : All (λ ending. (ending.lkid ≡ lkid) × (ending.how ≡ by_deadlock)) (step_change s (Search node) choice).endings
+  pub request : All (λ ending. (ending.lkid ≡ lkid) × (ending.how ≡ by_deadlock))
+      (step_change s (Search node) choice).endings

@@ -13,7 +13,8 @@ use Rattle.vlm_model.specs.Stepped.{step_change}
 -- the lock has this parent lock
 abbrev pub HasParent : State → ℕ → ℕ → Type 0
 HasParent s lkid parent =
-    Any (λ r. Any (λ row. (row.lkid ≡ lkid) × (row.parent ≡ parent)) (r.granted ++ r.converting ++ r.waiting)) s.resources
+    Any (λ r. Any (λ row. (row.lkid ≡ lkid) × (row.parent ≡ parent)) (r.granted ++ r.converting ++ r.waiting))
+    s.resources
 
 -- a chain of parent locks leads from the lock to top
 pub data IsDescendant (s : State) (top : ℕ) : ℕ → Type 0 where
@@ -29,7 +30,8 @@ IsDequeued s d row =
 -- each taken row goes, and is the caller's; the other rows stay as they were, in their order
 pub data LosesRows (caller : ℕ) (Taken : LockRow → Type 0) : List LockRow → List LockRow → Type 0 where
   none_left : LosesRows caller Taken [] []
-  row_goes : {row : LockRow} {before after : List LockRow} → Taken row → row.pid ≡ caller → LosesRows caller Taken before after
+  row_goes : {row : LockRow} {before after : List LockRow} → Taken row → row.pid ≡ caller
+      → LosesRows caller Taken before after
       → LosesRows caller Taken (row ∷ before) after
   row_stays : {row : LockRow} {before after : List LockRow} → (Taken row → ⊥) → LosesRows caller Taken before after
       → LosesRows caller Taken (row ∷ before) (row ∷ after)

@@ -32,7 +32,8 @@ queued_to pid (q ∷ queued) =
     if q.pid == pid then q.ast ∷ queued_to pid queued else queued_to pid queued
 
 -- the ASTs of a process after a step: those left, then those that the step queues
-pub record AstsAfter (step : Step) (answer : Answer) (queued : List Queued) (pid : ℕ) (before after : List Ast) : Type 0 where
+pub record AstsAfter (step : Step) (answer : Answer) (queued : List Queued) (pid : ℕ)
+    (before after : List Ast) : Type 0 where
   pub left : List Ast
   pub taken : AstsLeft step answer pid before left
   pub behind : after ≡ left ++ queued_to pid queued

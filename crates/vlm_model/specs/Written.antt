@@ -115,7 +115,8 @@ pub record IsLeftByEnds (pid number : ℕ) (endings : List Ending) (before after
 
 -- the blocks of a process after a step: first what the step makes of a named block, then what the endings make of it;
 -- block 1 is at index 0
-pub record BlocksAfter (step : Step) (answer : Answer) (endings : List Ending) (pid : ℕ) (before after : List Block) : Type 0 where
+pub record BlocksAfter (step : Step) (answer : Answer) (endings : List Ending) (pid : ℕ)
+    (before after : List Block) : Type 0 where
   pub many : length after ≡ length before
   pub each : (k : ℕ) → k < length before
       → IsLeftByEnds pid (k + 1) endings
@@ -129,4 +130,5 @@ pub record WritesNamedBlocks (old : State) (step : Step) (choice : Option LockRo
       ProcessesAfter step (stepped old step choice).answer old.processes (stepped old step choice).state.processes
   pub blocks : (pid : ℕ) (before after : Process) → process_of old.processes pid ≡ Some before
       → process_of (stepped old step choice).state.processes pid ≡ Some after
-      → BlocksAfter step (stepped old step choice).answer (stepped old step choice).endings pid before.blocks after.blocks
+      → BlocksAfter step (stepped old step choice).answer
+      (stepped old step choice).endings pid before.blocks after.blocks

@@ -1,8 +1,8 @@
 //! The plain machine: the definition of each step, and the laws that hold after every run.
 //!
-//! `specs/` has the checks of each step in their order, its change, and the sweep that ends it (`Stepped` lists the steps).
-//! [`laws`] says what holds of a state after a run, and of the next step. [`histories`] says what holds of all steps and
-//! ASTs since the start.
+//! `specs/` has the checks of each step in their order, its change, and the sweep that ends it (`Stepped` lists the
+//! steps). [`laws`] says what holds of a state after a run, and of the next step. [`histories`] says what holds of all
+//! steps and ASTs since the start.
 #![tactic(auto)]
 
 pub mod histories;

@@ -90,7 +90,8 @@ OthersLast own old new = (node : ℕ) → 0 < node → (node ≡ own → ⊥) �
 
 -- the rings of no node forget anything
 abbrev pub AllNodeRingsLast : Hub → Hub → Type 0
-AllNodeRingsLast old new = (k : ℕ) (d : NodeRings) → Lasts (slice_index_or old.all_node_rings.items k d) (slice_index_or new.all_node_rings.items k d)
+AllNodeRingsLast old new = (k : ℕ) (d : NodeRings) → Lasts (slice_index_or old.all_node_rings.items k d)
+    (slice_index_or new.all_node_rings.items k d)
 
 -- the port was made with this hub
 abbrev pub IsPortOf : Hub → Port → Type 0
@@ -112,7 +113,8 @@ MayRestAt h k = (d : NodeRings) → MayRest (state h) (slice_index_or h.all_node
 -- only the rings at a place have changed, and not the state
 pub record IsSameBut (at : ℕ) (old new : Hub) : Type 0 where
   pub state : new.journaled.state ≡ old.journaled.state
-  pub all_node_rings : (k : ℕ) (d : NodeRings) → (k ≡ at → ⊥) → slice_index_or new.all_node_rings.items k d ≡ slice_index_or old.all_node_rings.items k d
+  pub all_node_rings : (k : ℕ) (d : NodeRings) → (k ≡ at → ⊥)
+      → slice_index_or new.all_node_rings.items k d ≡ slice_index_or old.all_node_rings.items k d
 
 -- the entry is a take, and its answer is an AST
 pub record TakesAst (entry : Entry) : Type 0 where

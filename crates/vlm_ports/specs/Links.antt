@@ -65,7 +65,8 @@ pub record IsLinked (k : ℕ) (l : NodeRings) (journal : List Entry) : Type 0 wh
 
 -- the rings are those of the nodes from 1 on, and each is linked to the journal
 abbrev pub AreLinked : List NodeRings → List Entry → Type 0
-AreLinked all_node_rings journal = (k : ℕ) (d : NodeRings) → k < length all_node_rings → IsLinked k (slice_index_or all_node_rings k d) journal
+AreLinked all_node_rings journal = (k : ℕ) (d : NodeRings) → k < length all_node_rings
+    → IsLinked k (slice_index_or all_node_rings k d) journal
 
 -- the rings are those of the nodes from 1 on, and nothing was taken from or sent to any of them
 abbrev pub AreFresh : List NodeRings → Type 0

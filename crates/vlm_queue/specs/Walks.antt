@@ -21,7 +21,8 @@ plain_resource_at res s = option_map plain_resource (resource_at res s.resources
 abbrev pub resources_from : Option ℕ → List StoredResource → List Resource
 resources_from None rs = []
 resources_from (Some res) [] = []
-resources_from (Some res) (r ∷ rest) = if r.at == res then map plain_resource (r ∷ rest) else resources_from (Some res) rest
+resources_from (Some res) (r ∷ rest) = if r.at == res then map plain_resource (r ∷ rest) else resources_from
+    (Some res) rest
 
 -- the resources that a walk still has to visit
 abbrev pub resources_left : Option ℕ → Records → List Resource
@@ -49,7 +50,8 @@ rows_to_walk res queue next s = rows_from next (locks_at (Queued res queue) s)
 
 -- the walk is at a lock of the queue, or at its end
 abbrev pub IsInQueue : ℕ → Queue → Option ℕ → Records → Type 0
-IsInQueue res queue next s = ForSome next (λ at. (row : LockRow) × IsIn (record { at = at; row = row }) (locks_at (Queued res queue) s))
+IsInQueue res queue next s = ForSome next (λ at. (row : LockRow)
+    × IsIn (record { at = at; row = row }) (locks_at (Queued res queue) s))
 
 -- the handle of the lock at an index
 abbrev pub lock_at_index : ℕ → List StoredLock → Option ℕ
@@ -59,8 +61,10 @@ lock_at_index index locks = option_map (λ k. k.at) (slice_get locks index)
 abbrev pub IsGivenFrom : List StoredLock → Option ℕ → List LockRow → Type 0
 IsGivenFrom locks first [] = first ≡ None
 IsGivenFrom locks first (row ∷ rows) =
-    (at : ℕ) × ((first ≡ Some at) × IsIn (record { at = at; row = row }) locks × IsGivenFrom locks (at_after at locks) rows)
+    (at : ℕ) × ((first ≡ Some at) × IsIn (record { at = at; row = row }) locks
+    × IsGivenFrom locks (at_after at locks) rows)
 
 -- the walk from the head of the queue gives these rows
 abbrev pub GivesInTurn : ℕ → Queue → List LockRow → Records → Type 0
-GivesInTurn res queue rows s = IsGivenFrom (locks_at (Queued res queue) s) (first_at (locks_at (Queued res queue) s)) rows
+GivesInTurn res queue rows s = IsGivenFrom (locks_at (Queued res queue) s)
+    (first_at (locks_at (Queued res queue) s)) rows

@@ -19,7 +19,8 @@ use Rattle.vlm_records.specs.WaitList.{wait_list_links}
 
 -- this part of every record except one stays
 abbrev pub OthersKeep : {T X : Type 0} → (T → X) → ℕ → Slab T → Slab T → Type 0
-OthersKeep part at old new = (other : ℕ) → other ≢ at → option_map part (get new other) ≡ option_map part (get old other)
+OthersKeep part at old new = (other : ℕ) → other ≢ at → option_map part (get new other)
+    ≡ option_map part (get old other)
 
 -- the rows of all locks except one stay
 abbrev pub OtherRowsStay : ℕ → Queues → Queues → Type 0
@@ -88,7 +89,8 @@ pub record RemovesResource (at : ℕ) (listed relisted : LinkedList InOrder) (ol
   pub given_back : room_in new.resources ≡ ((room_in old.resources).0 + 1, at)
 
 -- a new process is the last one in the order of making
-pub record AddsProcess (at : ℕ) (made : Process) (listed relisted : LinkedList InOrder) (old new : Slab Process) : Type 0 where
+pub record AddsProcess (at : ℕ) (made : Process) (listed relisted : LinkedList InOrder)
+    (old new : Slab Process) : Type 0 where
   pub within : at ≤ LAST_HANDLE
   pub fresh : get old at ≡ None
   pub linked : IsLinked process_links new relisted
@@ -98,7 +100,8 @@ pub record AddsProcess (at : ℕ) (made : Process) (listed relisted : LinkedList
   pub taken : (room_in new).0 + 1 ≡ (room_in old).0
 
 -- a lock is the last one of its process
-pub record JoinsProcess (at : ℕ) (was : Slab Process) (old : Slab Lock) (now : Slab Process) (new : Slab Lock) : Type 0 where
+pub record JoinsProcess (at : ℕ) (was : Slab Process) (old : Slab Lock) (now : Slab Process)
+    (new : Slab Lock) : Type 0 where
   pub owned : IsOwned now new None
   pub here : (owner : ℕ) → owner_in (get old at) ≡ Some owner
       → own_handles now new owner ≡ own_handles was old owner ++ at ∷ []

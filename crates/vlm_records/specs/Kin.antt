@@ -75,7 +75,15 @@ lasting_part l = but_kin (but_queued l)
 
 -- the process as the plain machine has it
 abbrev pub plain_process : Process → PlainProcess
-plain_process p = record { pid = p.pid; group = p.authorization.group; syslck = p.authorization.syslck; quota = p.authorization.quota; blocks = p.blocks.items; asts = p.asts.pending }
+plain_process p = record {
+  pid = p.pid;
+  group = p.authorization.group;
+  syslck = p.authorization.syslck;
+  quota =
+      p.authorization.quota;
+  blocks = p.blocks.items;
+  asts = p.asts.pending;
+}
 
 -- the identification of a process
 abbrev pub pid_of : Process → ℕ

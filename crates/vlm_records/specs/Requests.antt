@@ -39,9 +39,11 @@ blocking_shown Both routines = Some routines.blocking
 abbrev pub request_shown : RequestTag → ℕ → Routines → RequestTerms → Option Request
 request_shown Nothing number routines asked = None
 request_shown NoRoutine number routines asked = Some (request_with number None None routines asked)
-request_shown Completion number routines asked = Some (request_with number (Some routines.completion) None routines asked)
+request_shown Completion number routines asked = Some (request_with number
+    (Some routines.completion) None routines asked)
 request_shown Blocking number routines asked = Some (request_with number None (Some routines.blocking) routines asked)
-request_shown Both number routines asked = Some (request_with number (Some routines.completion) (Some routines.blocking) routines asked)
+request_shown Both number routines asked = Some (request_with number (Some routines.completion)
+    (Some routines.blocking) routines asked)
 
 -- which of two routines are named
 abbrev pub named_routines : Option ℕ → Option ℕ → RequestTag

@@ -210,11 +210,13 @@ module _ (q : Queues) where
   abbrev pub shares : (Queue → LockRow → ℕ) → Option ℕ → ℕ → ℕ
   shares weight out res =
       total (weight Granted) rows (handles_but out (Queued res Granted))
-      + (total (weight Conversion) rows (handles_but out (Queued res Conversion)) + total (weight Waiting) rows (handles_but out (Queued res Waiting)))
+      + (total (weight Conversion) rows (handles_but out (Queued res Conversion))
+      + total (weight Waiting) rows (handles_but out (Queued res Waiting)))
 
   -- each resource counts its locks by mode, except one lock
   pub record IsTallied (out : Option ℕ) : Type 0 where
-    pub counts : (count : Count) (res : ℕ) (mode : Mode) → how_many count (tally_in (get q.resources res)) mode ≡ shares (weight_of count mode) out res
+    pub counts : (count : Count) (res : ℕ) (mode : Mode)
+        → how_many count (tally_in (get q.resources res)) mode ≡ shares (weight_of count mode) out res
 
 -- the mode is compatible with the held mode of each of these locks
 abbrev pub handles_fit : Mode → (ℕ → LockRow) → List ℕ → List ℕ → Bool
@@ -236,11 +238,27 @@ pub record Face : Type 0 where
 
 -- the face of a resource
 abbrev pub face_of : Resource → Face
-face_of r = record { serial = r.serial; domain = r.domain; key = r.key; hash = r.hash; level = r.level; value_block = r.value_block }
+face_of r = record {
+  serial = r.serial;
+  domain = r.domain;
+  key = r.key;
+  hash = r.hash;
+  level = r.level;
+  value_block =
+      r.value_block;
+}
 
 -- the face of a missing resource
 abbrev pub no_face : Face
-no_face = record { serial = 0; domain = System; key = Below 0 (replicate 1 0); hash = 0; level = 0; value_block = new_value_block }
+no_face = record {
+  serial = 0;
+  domain = System;
+  key = Below 0
+      (replicate 1 0);
+  hash = 0;
+  level = 0;
+  value_block = new_value_block;
+}
 
 -- the face of the resource in a place of the slab
 abbrev pub face_in : Option Resource → Face
@@ -249,4 +267,12 @@ face_in (Some r) = face_of r
 
 -- the face of a new resource whose key has this hash
 abbrev pub new_face : ℕ → Site → ℕ → Face
-new_face serial site hash = record { serial = serial; domain = site.domain; key = site.key; hash = hash; level = site.level; value_block = new_value_block }
+new_face serial site hash = record {
+  serial = serial;
+  domain = site.domain;
+  key = site.key;
+  hash = hash;
+  level =
+      site.level;
+  value_block = new_value_block;
+}

@@ -69,7 +69,8 @@ none_or test counts mode = (counts mode == 0) || test mode
 -- each mode that some lock has passes the test
 abbrev pub each_counted : (Mode → Bool) → (Mode → ℕ) → Bool
 each_counted test counts =
-    none_or test counts Nl && (none_or test counts Cr && (none_or test counts Cw && (none_or test counts Pr && (none_or test counts Pw && none_or test counts Ex))))
+    none_or test counts Nl && (none_or test counts Cr &&
+    (none_or test counts Cw && (none_or test counts Pr && (none_or test counts Pw && none_or test counts Ex))))
 
 -- the mode is compatible with each mode that some lock has
 unfoldable pub counts_fit : Mode → (Mode → ℕ) → Bool

@@ -80,7 +80,8 @@ bound_by names name (Taken ast) = names
 bound_by names name (Plain cond) = names
 
 -- a declare line makes its step, prints the answer, and binds the name
-pub record Declares (old : Session) (name : List ℕ) (declaration : Declaration) (text : List ℕ) (new : Session) : Type 0 where
+pub record Declares (old : Session) (name : List ℕ) (declaration : Declaration) (text : List ℕ)
+    (new : Session) : Type 0 where
   pub answer : Answer
   pub outcome : Outcome old.state (declare_step declaration) new.state answer
   pub names : new.names ≡ bound_by old.names name answer
@@ -96,7 +97,8 @@ pub record Makes (old : Session) (name : List ℕ) (step : Step) (text : List �
   pub printed : text ≡ answer_line name answer
 
 -- a line of a node makes its step, and prints the answer in this form
-pub record Steps (old : Session) (step : Step) (as_line : Answer → List ℕ) (text : List ℕ) (new : Session) : Type 0 where
+pub record Steps (old : Session) (step : Step) (as_line : Answer → List ℕ) (text : List ℕ)
+    (new : Session) : Type 0 where
   pub answer : Answer
   pub outcome : Outcome old.state step new.state answer
   pub names : new.names ≡ old.names
@@ -144,7 +146,8 @@ fault_of names bytes = fault_among names (line_read bytes)
 -- the lines run in order from a new session, without a fault, and print this text
 pub data Played : List (List ℕ) → List ℕ → Session → Type 0 where
   opened : Played [] [] opening
-  more : {lines : List (List ℕ)} {text : List ℕ} {old : Session} (bytes : List ℕ) (line : Line) (printed : List ℕ) {new : Session}
+  more : {lines : List (List ℕ)} {text : List ℕ} {old : Session} (bytes : List ℕ) (line : Line)
+      (printed : List ℕ) {new : Session}
       → Played lines text old → line_read bytes ≡ Ok line → name_fault old.names line ≡ None → Runs old line printed new
       → Played (lines ++ bytes ∷ []) (text ++ printed) new
 

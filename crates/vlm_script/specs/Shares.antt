@@ -14,7 +14,8 @@ use Rattle.vlm_script.specs.Scripts.{Binding, bound_to, of_process, unknown_faul
 use Rattle.vlm_script.specs.declared.faults.PlayFault.{PlayFault}
 use Rattle.vlm_script.specs.declared.faults.PlayFault.TheVariants.{Line as line_fault, Memory, Read, Write, Long}
 
--- the shares of the lines so far: the bound names, the number of declare lines of each node, and its steps, node 1 first
+-- the shares of the lines so far: the bound names, the number of declare lines of each node, and its steps, node 1
+-- first
 pub record Shares : Type 0 where
   pub names : List Binding
   pub declared : List ℕ
@@ -120,7 +121,8 @@ line_shared nodes s (Err fault) = Err fault
 line_shared nodes s (Ok line) = unless_fault (share_fault nodes s line) (share_line s line)
 
 -- the shares after a line and the lines that follow it, or the line's fault
-abbrev pub then_shares : {T : Type 0} → Result Shares LineFault → ℕ → (Shares → Result T (ℕ × LineFault)) → Result T (ℕ × LineFault)
+abbrev pub then_shares : {T : Type 0} → Result Shares LineFault → ℕ → (Shares → Result T (ℕ × LineFault))
+    → Result T (ℕ × LineFault)
 then_shares (Ok s) number rest = rest s
 then_shares (Err fault) number rest = Err (number, fault)
 

@@ -22,7 +22,8 @@ abbrev pub AreOfNodes : ℕ → List Binding → Type 0
 AreOfNodes nodes [] = Unit {0}
 AreOfNodes nodes (b ∷ bs) = IsOneOfNodes nodes (node_of_pid b.pid) × AreOfNodes nodes bs
 
--- each node has its count and its list, names are bound to processes of the nodes, and each list holds steps of its node
+-- each node has its count and its list, names are bound to processes of the nodes, and each list holds steps of its
+-- node
 pub record IsSharing (names : List Binding) (declared : List ℕ) (lists : List (List Step)) : Type 0 where
   pub counted : length declared ≡ length lists
   pub bound : AreOfNodes (length lists) names

@@ -46,7 +46,8 @@ numbered number None = []
 numbered number (Some step) = record { line = number; step = step } ∷ []
 
 -- these steps and the steps of the lines that follow, unless one of the lines has a fault
-abbrev pub in_front : List ScriptStep → Result (List ScriptStep) (ℕ × LineFault) → Result (List ScriptStep) (ℕ × LineFault)
+abbrev pub in_front : List ScriptStep → Result (List ScriptStep) (ℕ × LineFault)
+    → Result (List ScriptStep) (ℕ × LineFault)
 in_front steps (Ok more) = Ok (steps ++ more)
 in_front steps (Err fault) = Err fault
 

@@ -49,9 +49,11 @@ hex_text (byte ∷ bytes) = hex_digit (byte / 16) ∷ hex_digit (byte % 16) ∷ 
 -- an AST: its kind, routine, parameter and lock
 abbrev pub ast_text : Ast → AstKind → List ℕ
 ast_text ast Completion =
-    codes "completion " ++ decimal ast.routine ++ codes " param " ++ decimal ast.param ++ codes " lock " ++ decimal ast.lkid
+    codes "completion " ++ decimal ast.routine ++ codes " param " ++ decimal ast.param ++ codes " lock "
+    ++ decimal ast.lkid
 ast_text ast Blocking =
-    codes "blocking " ++ decimal ast.routine ++ codes " param " ++ decimal ast.param ++ codes " lock " ++ decimal ast.lkid
+    codes "blocking " ++ decimal ast.routine ++ codes " param " ++ decimal ast.param ++ codes " lock "
+    ++ decimal ast.lkid
 
 -- an answer without the name before it
 unfoldable pub answer_text : Answer → List ℕ
@@ -123,7 +125,8 @@ validity false = codes "invalid"
 unfoldable pub resource_line : ResourceView → List ℕ
 resource_line r =
     codes "resource " ++ decimal r.serial ++ codes " in " ++ decimal r.parent ++ codes " " ++ domain_text r.domain
-    ++ codes " name " ++ name_text r.name ++ codes " value " ++ hex_text r.value ++ codes " " ++ validity r.valid ++ line_feed
+    ++ codes " name " ++ name_text r.name ++ codes " value " ++ hex_text r.value ++ codes " " ++ validity r.valid
+    ++ line_feed
 
 -- the mode of a request, or nothing if there is no request
 abbrev pub mode_text : Option Mode → List ℕ
@@ -132,7 +135,8 @@ mode_text (Some mode) = mode_name mode
 
 -- the beginning of a lock's line
 unfoldable pub lock_text : List ℕ → RowView → List ℕ
-lock_text queue row = codes "  " ++ queue ++ codes " " ++ decimal row.lkid ++ codes " process " ++ decimal row.pid ++ codes " "
+lock_text queue row = codes "  " ++ queue ++ codes " " ++ decimal row.lkid ++ codes " process " ++ decimal row.pid
+    ++ codes " "
 
 -- a granted lock
 unfoldable pub granted_line : RowView → List ℕ
@@ -140,7 +144,8 @@ granted_line row = lock_text (codes "granted") row ++ mode_text row.held ++ line
 
 -- a lock that holds one mode and waits for another
 unfoldable pub converting_line : RowView → List ℕ
-converting_line row = lock_text (codes "converting") row ++ mode_text row.held ++ codes " to " ++ mode_text row.want ++ line_feed
+converting_line row = lock_text (codes "converting") row ++ mode_text row.held ++ codes " to " ++ mode_text row.want
+    ++ line_feed
 
 -- a lock that waits to be granted for the first time
 unfoldable pub waiting_line : RowView → List ℕ
@@ -165,7 +170,8 @@ resource_text r =
 -- the tail of a resource's value block, under its serial
 unfoldable pub tail_line : ResourceView → List ℕ
 tail_line r =
-    codes "tail " ++ decimal r.serial ++ codes " value " ++ hex_text r.tail ++ codes " " ++ validity r.tail_valid ++ line_feed
+    codes "tail " ++ decimal r.serial ++ codes " value " ++ hex_text r.tail ++ codes " " ++ validity r.tail_valid
+    ++ line_feed
 
 -- the text of this part of a resource
 abbrev pub part_text : Part → Resource → List ℕ
@@ -197,5 +203,7 @@ counts_text (count ∷ counts) = codes " " ++ decimal count ++ counts_text count
 -- the line of a watched resource after a line of the script
 unfoldable pub watch_line : ℕ → WatchedRow → List ℕ
 watch_line line row =
-    codes "line " ++ decimal line ++ codes " held" ++ counts_text row.held ++ codes " conversions " ++ decimal row.conversions
-    ++ codes " waiters " ++ decimal row.waiters ++ codes " value " ++ hex_text row.value ++ codes " " ++ validity row.valid ++ line_feed
+    codes "line " ++ decimal line ++ codes " held" ++ counts_text row.held ++ codes " conversions "
+    ++ decimal row.conversions
+    ++ codes " waiters " ++ decimal row.waiters ++ codes " value " ++ hex_text row.value ++ codes " "
+    ++ validity row.valid ++ line_feed

@@ -15,24 +15,24 @@ use std::io::Read;
 use vlm_core::HashKeys;
 use vlm_words::steps::Step;
 
-/// Reads a script for the nodes 1 to `nodes` whole, and shares its steps out to lists in the script's order: one list for
-/// each node, node 1 first.
+/// Reads a script for the nodes 1 to `nodes` whole, and shares its steps out to lists in the script's order: one list
+/// for each node, node 1 first.
 ///
-/// A declare line is a step of its node. It binds its name to a process, whether or not the declaration will be accepted:
-/// the identification is 65,536 times the node plus the number of the line among the node's declare lines, from 1. A
-/// set, enq, cvt, deq or end line is a step of the process of its name, in the list of that process's node. A leave or
-/// search line is a step of its node.
+/// A declare line is a step of its node. It binds its name to a process, whether or not the declaration will be
+/// accepted: the identification is 65,536 times the node plus the number of the line among the node's declare lines,
+/// from 1. A set, enq, cvt, deq or end line is a step of the process of its name, in the list of that process's node. A
+/// leave or search line is a step of its node.
 ///
 /// A script has at most 16,777,216 bytes. The fault is `Long` as soon as one more byte is read, `Read` if a read fails,
-/// and `Memory` if memory is refused. When the whole script is read, its lines are checked in order. The first line with
-/// a fault ends the call with `Line` and its number, from 1. The faults of its bytes come first. The next is
+/// and `Memory` if memory is refused. When the whole script is read, its lines are checked in order. The first line
+/// with a fault ends the call with `Line` and its number, from 1. The faults of its bytes come first. The next is
 /// `NumberOutOfRange`: a declare, leave or search line names a node that does not exist, or a declare line names a node
-/// with 65,535 declare lines. Then comes `NameUsed`: the name of a declare line is bound. A set, enq, cvt, deq or end line
-/// whose name is not bound is `UnknownName`. An ast, block, tail, show or tails line is `UnknownCommand`, whatever its
-/// name. `Write` never comes.
+/// with 65,535 declare lines. Then comes `NameUsed`: the name of a declare line is bound. A set, enq, cvt, deq or end
+/// line whose name is not bound is `UnknownName`. An ast, block, tail, show or tails line is `UnknownCommand`, whatever
+/// its name. `Write` never comes.
 ///
-/// Memory and time grow with the bytes of the script. Names that an attacker chooses make no script slow if the keys are
-/// secret.
+/// Memory and time grow with the bytes of the script. Names that an attacker chooses make no script slow if the keys
+/// are secret.
 pub fn read_lists<R: Read>(
     alloc: Global,
     keys: HashKeys,

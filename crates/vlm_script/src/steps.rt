@@ -32,8 +32,8 @@ pub struct ScriptStep {
 ///
 /// The steps and the faults are the same as in `read_lists`, in the same order. `Write` never comes.
 ///
-/// Memory and time grow with the bytes of the script. Names that an attacker chooses make no script slow if the keys are
-/// secret.
+/// Memory and time grow with the bytes of the script. Names that an attacker chooses make no script slow if the keys
+/// are secret.
 pub fn read_steps<R: Read>(
     alloc: Global,
     keys: HashKeys,

@@ -31,7 +31,8 @@ is_same_hashed-Decides a b = (
       let key : a.key ≡ b.key = (is_same_key-Decides a.key b.key).0 parts.1 in
       ap (λ (n : ℕ). record a { hash = n }) hash ∙ ap (λ (x : Key). record b { key = x }) key,
   λ e.
-      and_from (a.hash == b.hash) (is_same_key a.key b.key) ((unsigned_Decides a.hash b.hash).1 (ap (λ (k : HashedKey). k.hash) e))
+      and_from (a.hash == b.hash) (is_same_key a.key b.key)
+      ((unsigned_Decides a.hash b.hash).1 (ap (λ (k : HashedKey). k.hash) e))
       ((is_same_key-Decides a.key b.key).1 (ap (λ (k : HashedKey). k.key) e)),
 )
 

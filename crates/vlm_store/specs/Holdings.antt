@@ -21,7 +21,10 @@ process_face p = record { plain = plain_process p; due = p.asts.due }
 
 -- the face of a missing process
 abbrev pub no_process : ProcessFace
-no_process = record { plain = record { pid = 0; group = 0; syslck = false; quota = 0; blocks = []; asts = [] }; due = 0 }
+no_process = record {
+  plain = record { pid = 0; group = 0; syslck = false; quota = 0; blocks = []; asts = [] };
+  due = 0;
+}
 
 -- the face of the process in a place of the slab
 abbrev pub process_face_in : Option Process → ProcessFace

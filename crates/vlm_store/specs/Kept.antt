@@ -51,14 +51,16 @@ pub record IsKept (s : Inside) : Type 0 where
   pub armed : (which : Armed) → IsArmed which s.queues None
   pub wait_list : IsWaitList s.queues.locks s.wait_list None
   pub linked : IsLinked order_links s.queues.resources s.order
-  pub ordered : (res : ℕ) → ContainsKey s.queues.resources res → IsIn res (handles_of order_links s.queues.resources s.order)
+  pub ordered : (res : ℕ) → ContainsKey s.queues.resources res
+      → IsIn res (handles_of order_links s.queues.resources s.order)
   pub locks : Indexes (handle_in s.lock_index) (lkid_at s.queues)
   pub resources : IsHashed (hash_key s.keys) s.resource_index (hashed_at s.queues)
   pub owned : IsOwned s.processes s.queues.locks None
   pub below : IsBelow s.queues.locks None
   pub named : IsNamed s.processes s.queues.locks
   pub processes_linked : IsLinked process_links s.processes s.process_order
-  pub processes_ordered : (at : ℕ) → ContainsKey s.processes at → IsIn at (handles_of process_links s.processes s.process_order)
+  pub processes_ordered : (at : ℕ) → ContainsKey s.processes at
+      → IsIn at (handles_of process_links s.processes s.process_order)
   pub processes : IsTable s.process_index (pid_at s.processes)
   pub marked : IsMarked waits_in s.processes s.pending
   pub living : IsMarked is_of_nodes s.processes s.living

@@ -50,7 +50,8 @@ pub record IsSame (old new : KeyIndex) : Type 0 where
 abbrev pub Moves : Slab Resource → Option ℕ → KeyIndex → KeyIndex → Type 0
 Moves resources None old new = (k : HashedKey) → other_of new k ≡ other_of old k
 Moves resources (Some before) old new =
-    (k : HashedKey) → option_map hashed_in (slot_of resources before) ≡ Some k → Updates is_same_hashed old.others new.others k (Some before)
+    (k : HashedKey) → option_map hashed_in (slot_of resources before) ≡ Some k
+    → Updates is_same_hashed old.others new.others k (Some before)
 
 -- the resource becomes the last one with this hash
 pub record Enters (resources : Slab Resource) (at hash : ℕ) (old new : KeyIndex) : Type 0 where
@@ -60,7 +61,8 @@ pub record Enters (resources : Slab Resource) (at hash : ℕ) (old new : KeyInde
 -- the resource with this key and hash leaves `others`, or else `last`
 abbrev pub LeavesBy : Option ℕ → HashedKey → KeyIndex → KeyIndex → Type 0
 LeavesBy None k old new = ((j : HashedKey) → other_of new j ≡ other_of old j) × Writes k.hash None old.last new.last
-LeavesBy (Some at) k old new = Updates is_same_hashed old.others new.others k None × ((hash : ℕ) → last_of new hash ≡ last_of old hash)
+LeavesBy (Some at) k old new = Updates is_same_hashed old.others new.others k None
+    × ((hash : ℕ) → last_of new hash ≡ last_of old hash)
 
 -- the resource with this key and hash leaves the index
 abbrev pub Leaves : HashedKey → KeyIndex → KeyIndex → Type 0
@@ -69,7 +71,8 @@ Leaves k old new = LeavesBy (other_of old k) k old new
 -- the index finds each resource by the key and hash that it records, and no two resources have one key
 pub record IsIndexed (x : KeyIndex) (label : ℕ → Option HashedKey) : Type 0 where
   pub last_is : (hash at : ℕ) → last_of x hash ≡ Some at → (k : HashedKey) × ((label at ≡ Some k) × (k.hash ≡ hash))
-  pub other_is : (k : HashedKey) (at : ℕ) → other_of x k ≡ Some at → (label at ≡ Some k) × ¬ (last_of x k.hash ≡ Some at)
+  pub other_is : (k : HashedKey) (at : ℕ) → other_of x k ≡ Some at
+      → (label at ≡ Some k) × ¬ (last_of x k.hash ≡ Some at)
   pub listed : (at : ℕ) (k : HashedKey) → label at ≡ Some k → (last_of x k.hash ≡ Some at) ⊎ (other_of x k ≡ Some at)
   pub apart : (a b : ℕ) (k : HashedKey) → label a ≡ Some k → label b ≡ Some k → a ≡ b
 

@@ -13,7 +13,8 @@ use Rattle.vlm_store.specs.Records.{Records, locks_at}
 
 -- the lock with this handle is in a conversion queue or a waiting queue
 abbrev pub IsQueued : ℕ → Records → Type 0
-IsQueued at s = (place : Place) × (row : LockRow) × ((is_queued place ≡ true) × IsIn (record { at = at; row = row }) (locks_at place s))
+IsQueued at s = (place : Place) × (row : LockRow) × ((is_queued place ≡ true)
+    × IsIn (record { at = at; row = row }) (locks_at place s))
 
 -- each of these handles is a queued lock
 abbrev pub AreQueued : List ℕ → Records → Type 0

@@ -80,7 +80,13 @@ no_room = record { slots = 0; next_handle = 0; finds = [] }
 
 -- an empty store
 abbrev pub nothing : HashKeys → Records
-nothing keys = record { resources = []; processes = []; room = record { locks = no_room; resources = no_room; processes = no_room }; keys = keys }
+nothing keys = record {
+  resources = [];
+  processes = [];
+  room = record
+      { locks = no_room; resources = no_room; processes = no_room };
+  keys = keys;
+}
 
 -- a new resource
 abbrev pub new_stored_resource : ℕ → ℕ → Site → StoredResource
@@ -243,7 +249,8 @@ but_asking (Some except) locks = without_lock except locks
 
 -- the mode fits beside the locks of the resource, except the asking one
 abbrev pub fits_beside : Mode → Option ℕ → StoredResource → Bool
-fits_beside mode except r = fits mode (rows_of_locks (but_asking except r.granted)) (rows_of_locks (but_asking except r.converting))
+fits_beside mode except r = fits mode (rows_of_locks (but_asking except r.granted))
+    (rows_of_locks (but_asking except r.converting))
 
 -- the handle of the first resource, if there is one
 abbrev pub first_resource_at : List StoredResource → Option ℕ
@@ -270,7 +277,8 @@ process_at at processes = find (λ p. p.at == at) processes
 -- the process after the process with this handle
 abbrev pub process_after : ℕ → List StoredProcess → Option Process
 process_after at [] = None
-process_after at (p ∷ rest) = if p.at == at then option_map (λ x. x.process) (slice_get rest 0) else process_after at rest
+process_after at (p ∷ rest) = if p.at == at then option_map (λ x. x.process)
+    (slice_get rest 0) else process_after at rest
 
 -- the process with this handle exists
 abbrev pub HasProcess : ℕ → Records → Type 0
@@ -540,20 +548,23 @@ AreOwnApart = EachTwo (λ (other own : OwnLock). ¬ (other.at ≡ own.at))
 -- their parent
 pub record AreOwned (s : Records) : Type 0 where
   pub owned : (at : ℕ) (row : LockRow) → Stores s at row
-      → (p : StoredProcess) × (own : OwnLock) × (IsIn p s.processes × (p.process.pid ≡ row.pid) × IsIn own p.own × (own.at ≡ at))
+      → (p : StoredProcess) × (own : OwnLock) × (IsIn p s.processes × (p.process.pid ≡ row.pid) × IsIn own p.own
+      × (own.at ≡ at))
   pub owns : (p : StoredProcess) (own : OwnLock) → IsIn p s.processes → IsIn own p.own
       → (row : LockRow) × (Stores s own.at row × (row.pid ≡ p.process.pid))
   pub below : (p : StoredProcess) (own : OwnLock) (at : ℕ) → IsIn p s.processes → IsIn own p.own → IsIn at own.sublocks
       → (up : LockRow) × (row : LockRow) × (Stores s own.at up × Stores s at row × (row.parent ≡ up.lkid))
   pub named : (at : ℕ) (row : LockRow) → Stores s at row → ¬ (row.parent ≡ 0)
-      → (p : StoredProcess) × (own : OwnLock) × (up : LockRow) × (IsIn p s.processes × IsIn own p.own × IsIn at own.sublocks × Stores s own.at up × (up.lkid ≡ row.parent))
+      → (p : StoredProcess) × (own : OwnLock) × (up : LockRow)
+      × (IsIn p s.processes × IsIn own p.own × IsIn at own.sublocks × Stores s own.at up × (up.lkid ≡ row.parent))
 
 -- what holds in any state: each handle is one record, no lock is at two places, identifications and keys are unique,
 -- and the locks of a process are those that name it
 pub record IsSound (s : Records) : Type 0 where
   pub resources_apart : AreResourcesApart s.resources
   pub locks_apart : (place : Place) → AreApart (locks_at place s)
-  pub one_place : (at : ℕ) (a b : LockRow) (p q : Place) → IsIn (record { at = at; row = a }) (locks_at p s) → IsIn (record { at = at; row = b }) (locks_at q s) → p ≡ q
+  pub one_place : (at : ℕ) (a b : LockRow) (p q : Place) → IsIn (record { at = at; row = a }) (locks_at p s)
+      → IsIn (record { at = at; row = b }) (locks_at q s) → p ≡ q
   pub lkids_apart : (a b : ℕ) (x y : LockRow) → Stores s a x → Stores s b y → x.lkid ≡ y.lkid → a ≡ b
   pub keys_apart : (a b : StoredResource) → IsIn a s.resources → IsIn b s.resources → a.key ≡ b.key → a.at ≡ b.at
   pub processes_apart : AreProcessesApart s.processes

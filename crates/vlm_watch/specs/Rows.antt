@@ -11,7 +11,14 @@ use Rattle.vlm_watch.specs.declared.rows.Row.{Row}
 
 -- the row of a resource that does not exist, before any entry
 abbrev pub absent : Row
-absent = record { held = replicate 6 0; conversions = 0; waiters = 0; value = replicate 16 0; valid = true; journal = 0 }
+absent = record {
+  held = replicate 6 0;
+  conversions = 0;
+  waiters = 0;
+  value = replicate 16 0;
+  valid = true;
+  journal = 0;
+}
 
 -- the row of a resource with this usage, or of one that does not exist, after this many entries
 abbrev pub row_with : Option Usage → ℕ → Row

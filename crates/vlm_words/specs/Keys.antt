@@ -38,7 +38,8 @@ is_same_key-Decides (Root a name) (Root b other) = (
       let domain = (is_domain-Decides a b).0 parts.0 in
       let text = (bytes_decides name other).0 parts.1 in
       cc,
-  λ e. and_from (is_domain a b) (pointwise nat_eq name other) ((is_domain-Decides a b).1 (cc)) ((bytes_decides name other).1 (cc)),
+  λ e. and_from (is_domain a b) (pointwise nat_eq name other) ((is_domain-Decides a b).1 (cc))
+      ((bytes_decides name other).1 (cc)),
 )
 is_same_key-Decides (Root a name) (Below q other) = (λ h. cc, λ e. cc)
 is_same_key-Decides (Below p name) (Root b other) = (λ h. cc, λ e. cc)
@@ -48,5 +49,6 @@ is_same_key-Decides (Below p name) (Below q other) = (
       let parent = (unsigned_Decides p q).0 parts.0 in
       let text = (bytes_decides name other).0 parts.1 in
       cc,
-  λ e. and_from (p == q) (pointwise nat_eq name other) ((unsigned_Decides p q).1 (cc)) ((bytes_decides name other).1 (cc)),
+  λ e. and_from (p == q) (pointwise nat_eq name other) ((unsigned_Decides p q).1 (cc))
+      ((bytes_decides name other).1 (cc)),
 )

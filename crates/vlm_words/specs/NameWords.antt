@@ -22,7 +22,8 @@ word_at bytes at = from_le_bytes w64 (
 
 -- the bytes of a name in four words; 31 bytes are one short, so the last word begins one byte early
 abbrev pub name_words : List ℕ → List ℕ
-name_words name = word_at (padded 31 name) 0 ∷ word_at (padded 31 name) 8 ∷ word_at (padded 31 name) 16 ∷ word_at (padded 31 name) 23 ∷ []
+name_words name = word_at (padded 31 name) 0 ∷ word_at (padded 31 name) 8 ∷ word_at (padded 31 name) 16
+    ∷ word_at (padded 31 name) 23 ∷ []
 
 -- the name space with the length of the name, then the words of the name
 abbrev pub key_words : Key → List ℕ

@@ -22,8 +22,8 @@ pub struct WatchedRow {
     pub valid: bool,
 }
 
-/// Appends `line N held A B C D E F conversions X waiters Y value HEX VALID` to `out`: the resource after script line N.
-/// Only a refused allocation is an error, and then a part of the line may be in `out`.
+/// Appends `line N held A B C D E F conversions X waiters Y value HEX VALID` to `out`: the resource after script line
+/// N. Only a refused allocation is an error, and then a part of the line may be in `out`.
 #[tactic(auto, unfolding(crate::specs::Texts::watch_line))]
 pub fn watch_line(out: &mut Vec<u8>, line: usize, row: &WatchedRow) -> Result<(), AllocError>
     ensures { OnOk result (out.new.items ≡ out.old.items ++ watch_line line row.now) }

@@ -1,6 +1,8 @@
 //! Eight nodes that contend for one resource.
 
-use crate::tests::lists::steps::{declaration, entries_of, first_process, open_gates, report_of, request};
+use crate::tests::lists::steps::{
+    declaration, entries_of, first_process, open_gates, report_of, request,
+};
 use std::alloc::{AllocError, Global};
 use std::test::Fail;
 use vlm_words::modes::Mode;

@@ -45,8 +45,8 @@ fn are_as_heard(report: &Report, all: &[Arc<Heard>]) -> bool {
     workers.zip(all).all(|((posted, items), heard)| is_as_heard(heard, *posted, items.len()))
 }
 
-// Serves two lists by gates that count what they hear. Says whether the outcome is as they heard: without a report no worker was
-// started, so no gate was asked and none heard an item.
+// Serves two lists by gates that count what they hear. Says whether the outcome is as they heard: without a report no
+// worker was started, so no gate was asked and none heard an item.
 fn is_told_truly<R: Threads + Wait + Clock + Copy + Send + 'static>(
     rt: &R,
     alloc: Global,

@@ -120,7 +120,8 @@ fn gates_are_asked_again(rt: HostRuntime) -> Result<(), Fail> {
     Ok(())
 }
 
-// A worker stays until its departure is answered, and tells its gate of that while others are at work: one waits for it.
+// A worker stays until its departure is answered, and tells its gate of that while others are at work: one waits for
+// it.
 #[test]
 fn a_worker_stays_for_its_departure(rt: HostRuntime) -> Result<(), Fail> {
     let told = Arc::new(rt.alloc(), AtomicU64::new(0))?;
