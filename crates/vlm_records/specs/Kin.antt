@@ -79,8 +79,7 @@ plain_process p = record {
   pid = p.pid;
   group = p.authorization.group;
   syslck = p.authorization.syslck;
-  quota =
-      p.authorization.quota;
+  quota = p.authorization.quota;
   blocks = p.blocks.items;
   asts = p.asts.pending;
 }
