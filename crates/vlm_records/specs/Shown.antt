@@ -244,8 +244,7 @@ face_of r = record {
   key = r.key;
   hash = r.hash;
   level = r.level;
-  value_block =
-      r.value_block;
+  value_block = r.value_block;
 }
 
 -- the face of a missing resource
@@ -253,8 +252,7 @@ abbrev pub no_face : Face
 no_face = record {
   serial = 0;
   domain = System;
-  key = Below 0
-      (replicate 1 0);
+  key = Below 0 (replicate 1 0);
   hash = 0;
   level = 0;
   value_block = new_value_block;
@@ -272,7 +270,6 @@ new_face serial site hash = record {
   domain = site.domain;
   key = site.key;
   hash = hash;
-  level =
-      site.level;
+  level = site.level;
   value_block = new_value_block;
 }
