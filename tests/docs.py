@@ -12,6 +12,8 @@ command that a page shows, with its output. A command of a page stands in a bloc
 import os
 import re
 import shlex
+import tempfile
+from pathlib import Path
 
 from harness import Case, Ended, STORED, TOP, Test, difference, results_of, run, run_checked
 
@@ -358,6 +360,34 @@ def shown_tools(_program):
                 yield from (f"{where}: {it}" for it in difference(ended.printed.decode(), printed))
             elif not is_run(words):
                 yield f"{where}: nothing tests {words}"
+
+
+# What a run of .ci/run prints that the tables of the gate are made of, and the rows that they get.
+GATE_LOG = """rt: ok; handles allowed: Threads; every proof and must-fail edit was done in this run
+gate: commit abc1234, a kit, 4 processors
+rt ci: 600.5 seconds by the clock, 1200.25 and 59.75 of processor time
+./vlm test: 60 seconds by the clock, 120 and 0 of processor time
+checks of vlm_low: 60 proof, 0 tests, 120 edits, in seconds of processor time
+checks of vlm_high: 30 proof, 90 tests, 0 edits, in seconds of processor time
+12 passed, 0 failed
+"""
+GATE_ROWS = ("Of commit abc1234, a kit, 4 processors, in minutes. The run ended with `12 passed, 0 failed`.",
+             "| `rt ci` | 10.0 | 21.0 |", "| `./vlm test` | 1.0 | 2.0 |", "| `.ci/run` | 11.0 | 23.0 |",
+             "| `vlm_low` | 1.0 | 0.0 | 2.0 | 3.0 |", "| `all` | 1.5 | 1.5 | 2.0 | 5.0 |")
+
+
+def gate_tables(_program):
+    """`tools/times` makes the tables of the gate of what .ci/run prints, and refuses a run that kept proofs."""
+    with tempfile.TemporaryDirectory() as folder:
+        log, page = Path(folder) / "log", Path(folder) / "page.md"
+        page.write_text(text_of("docs/TESTING.md"))
+        log.write_text(GATE_LOG)
+        run([str(TOP / "tools" / "times"), "table", str(log), str(page)])
+        lines = page.read_text().splitlines()
+        yield from (f"no row {row!r}" for row in GATE_ROWS if row not in lines)
+        log.write_text(GATE_LOG.replace("every proof", "one proof"))
+        if run([str(TOP / "tools" / "times"), "table", str(log), str(page)]).status != 2:
+            yield "a run that kept proofs is taken"
 
 
 def statement(check):

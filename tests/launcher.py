@@ -36,7 +36,7 @@ case $1 in
         sleep "${PAUSE:-0}"
         [ "$name" != "$WRONG" ] || { echo "error: $name is wrong"; exit 1; }
         mkdir -p out
-        [ "$1" = lib ] || cp "$PROGRAM" out/vlm
+        if [ "$1" = run ]; then cp "$PROGRAM" out/vlm; else echo "$name" >"out/lib$name.a"; fi
         echo "ended $name" >>"$CALLS" ;;
 esac
 """
@@ -153,17 +153,44 @@ def out_of_order(tree):
 
 
 def proofs(tree):
-    """Each crate of the program is proved after those below it, and from then on the program runs alone."""
+    """Each crate of what is delivered is proved after those below it, and from then on the program runs alone."""
     status, printed, told = tree.run("prove", PAUSE="0.1")
     names = [line.split()[1] for line in tree.noted() if line.startswith("begun")]
-    ends = [rf"^vlm: proved \w+, {done} of {len(names)}, \d+ seconds$" for done in range(1, len(names) + 1)]
-    yield from unlike((status, printed, told), 0, b"", f"^vlm: proving {len(names)} crates, up to ", *ends)
-    if len(set(names)) != len(names) or names[-1] != "vlm" or "vlm_core" not in names or "vlm_core_tests" in names:
+    yield from unlike((status, printed, told[:1]), 0, b"", f"^vlm: proving {len(names)} crates, up to ")
+    yield from unlike((0, b"", told[-1:]), 0, b"", f"^vlm: {len(names)} of {len(names)} crates proved, [0-9]+ seconds, done$")
+    yield from progress_of(told[1:-1], names)
+    if len(set(names)) != len(names) or not {"vlm", "vlm_capi", "vlm_core"} <= set(names) or "vlm_core_tests" in names:
         yield f"proved {names}"
     yield from out_of_order(tree)
     yield from unlike(tree.run("play", script=SCRIPT), 1, b"no resources\n", "^line 2: unknown command$")
     yield from unlike(tree.run("--version"), 0, f"vlm: proved, no commit, {KIT}\n".encode())
-    yield from unlike(tree.run("prove"), 0, b"", "^vlm: the program is proved already$")
+    yield from unlike(tree.run("prove"), 0, b"", "^vlm: all is proved already$")
+
+
+def progress_of(told, names):
+    """Each line says how many crates are proved, no fewer than the line before, and what is being proved."""
+    counts, seen = [], set()
+    for line in told:
+        parts = re.fullmatch(rf"vlm: ([0-9]+) of {len(names)} crates proved, [0-9]+ seconds, now (\w+(?:, \w+)*)", line)
+        if not parts:
+            yield f"told {line!r}"
+            return
+        counts.append(int(parts[1]))
+        seen |= set(parts[2].split(", "))
+    if counts != sorted(counts) or seen != set(names):
+        yield f"counts {counts}; never told {set(names) - seen}"
+
+
+def library_alone(tree):
+    """After `rt ci` the program is proved, and the library for C alone is left to build."""
+    tree.run("prove")
+    began = len(tree.noted())
+    (tree.top / "crates" / "vlm_capi" / "out" / "libvlm_capi.a").write_text("another\n")
+    status, _, _ = tree.run("prove")
+    begun = [line.split()[1] for line in tree.noted()[began:] if line.startswith("begun")]
+    if status or "vlm_capi" not in begun or "vlm" in begun:
+        yield f"status {status}, {begun}"
+    yield from unlike(tree.run("prove"), 0, b"", "^vlm: all is proved already$")
 
 
 def links_and_changes(tree):
@@ -215,7 +242,7 @@ def two_starts(tree):
             yield "it does not wait"
     told = [it.communicate(timeout=SECONDS)[1].decode() for it in started]
     begun = [line for line in tree.noted() if line.startswith("begun")]
-    if len(set(begun)) != len(begun) or sum("proved already" in it for it in told) != 1:
+    if len(set(begun)) != len(begun) or sum("all is proved already" in it for it in told) != 1:
         yield f"{begun} and {told}"
 
 
@@ -256,6 +283,6 @@ def in_tree(check, program):
 
 
 def tests():
-    checks = (unproved_runs, unanswered_runs, full_disk, slow_pipe, proofs, links_and_changes, other_programs,
-              failed_proof, interrupted_proof, two_starts, missing_parts, unprinted, another_kit, wrong_words)
+    checks = (unproved_runs, unanswered_runs, full_disk, slow_pipe, proofs, library_alone, links_and_changes,
+              other_programs, failed_proof, interrupted_proof, two_starts, missing_parts, unprinted, another_kit, wrong_words)
     return [Test(check.__name__.replace("_", " "), partial(in_tree, check)) for check in checks]
