@@ -111,7 +111,8 @@ typedef struct vlm {
     void *core;
     bool is_held;
 } vlm;
-#define VLM_CLOSED { 0, false }
+#define VLM_CLOSED \
+    { 0, false }
 
 VLM_ASSERT(sizeof(void *) == 8 && sizeof(size_t) == 8);
 VLM_ASSERT(sizeof(vlm) == 16);
@@ -125,7 +126,9 @@ typedef struct vlm_options {
     uint8_t keys[16];
     uint32_t reserved[9];
 } vlm_options;
+/* clang-format off */
 #define VLM_OPTIONS { sizeof(vlm_options), VLM_VERSION, 0, { 0 }, { 0 } }
+/* clang-format on */
 
 typedef struct vlm_declaration {
     uint32_t size;

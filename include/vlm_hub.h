@@ -57,21 +57,23 @@ typedef struct vlm_hub {
     void *held;
     bool is_held;
 } vlm_hub;
-#define VLM_HUB_CLOSED { 0, false }
+#define VLM_HUB_CLOSED \
+    { 0, false }
 
 /* A handle of a port, or of nothing. */
 typedef struct vlm_port {
     void *held;
     bool is_held;
 } vlm_port;
-#define VLM_PORT_CLOSED { 0, false }
+#define VLM_PORT_CLOSED \
+    { 0, false }
 
 /* An item for a node. */
 typedef struct vlm_item {
     uint32_t size;
     uint32_t kind;   /* VLM_NO_ITEM, VLM_ANSWER or VLM_AST */
     uint32_t status; /* VLM_ANSWER: the condition value of the oldest post that had no answer yet */
-    uint32_t number; /* VLM_ANSWER: the process of a declaration, the lock of a request, the victim's lock of a search, or 0 */
+    uint32_t number; /* VLM_ANSWER: a process, a lock, or the victim's lock of a search; or 0 */
     uint32_t pid;    /* VLM_AST: the process that it is for */
     uint32_t reserved[3];
     vlm_ast ast; /* VLM_AST: the AST */
@@ -82,15 +84,15 @@ typedef struct vlm_item {
  * can be passed to the calls of vlm.h. */
 typedef struct vlm_entry {
     uint32_t size;
-    uint32_t sender;   /* the node that posted the step, or 0: the hub took an AST, or a node was lost */
-    uint32_t step;     /* VLM_STEP_DECLARE .. VLM_STEP_TAKE */
-    uint32_t pid;      /* VLM_STEP_RUNDOWN, VLM_STEP_TAKE */
-    uint32_t node;     /* VLM_STEP_LEAVE, VLM_STEP_SEARCH */
-    uint32_t status;   /* of the answer: its condition value */
-    uint32_t number;   /* of the answer: a process, a lock, a victim's lock, or 0 */
-    uint32_t name_len; /* VLM_STEP_ENQ: the length of the name, 1 to 31, or 0 if its length was not allowed */
-    vlm_ast ast;       /* of the answer to VLM_STEP_TAKE */
-    uint8_t name[32];  /* VLM_STEP_ENQ: the name, with zeros after it */
+    uint32_t sender;             /* the node that posted the step, or 0: the hub took an AST, or a node was lost */
+    uint32_t step;               /* VLM_STEP_DECLARE .. VLM_STEP_TAKE */
+    uint32_t pid;                /* VLM_STEP_RUNDOWN, VLM_STEP_TAKE */
+    uint32_t node;               /* VLM_STEP_LEAVE, VLM_STEP_SEARCH */
+    uint32_t status;             /* of the answer: its condition value */
+    uint32_t number;             /* of the answer: a process, a lock, a victim's lock, or 0 */
+    uint32_t name_len;           /* VLM_STEP_ENQ: the length of the name, 1 to 31, or 0 if its length was not allowed */
+    vlm_ast ast;                 /* of the answer to VLM_STEP_TAKE */
+    uint8_t name[32];            /* VLM_STEP_ENQ: the name, with zeros after it */
     vlm_declaration declaration; /* VLM_STEP_DECLARE */
     vlm_setting setting;         /* VLM_STEP_SET_VALUE */
     vlm_request request;         /* VLM_STEP_ENQ, VLM_STEP_CONVERT */
@@ -215,7 +217,7 @@ void vlm_port_close(vlm_port *port);
  * answered INSFMEM changed nothing, and is not made. INSFMEM: memory was refused here; replay the same entry again.
  * BADPARAM: the answer is another one, or this is no entry, or the handle has no lock manager. */
 static inline uint32_t vlm_replay(vlm *handle, const vlm_entry *entry) {
-    vlm_ast ast = { sizeof(vlm_ast), 0, 0, 0, 0, { 0, 0, 0 } };
+    vlm_ast ast = {sizeof(vlm_ast), 0, 0, 0, 0, {0, 0, 0}};
     uint32_t status = 0, number = 0;
     if (!handle->is_held || entry->size != sizeof *entry || entry->name_len > sizeof entry->name)
         return VLM_BADPARAM;
@@ -236,9 +238,9 @@ static inline uint32_t vlm_replay(vlm *handle, const vlm_entry *entry) {
     if (status == VLM_INSFMEM)
         return VLM_INSFMEM;
     return status == entry->status && number == entry->number && ast.kind == entry->ast.kind
-            && ast.routine == entry->ast.routine && ast.param == entry->ast.param && ast.lkid == entry->ast.lkid
-        ? VLM_NORMAL
-        : VLM_BADPARAM;
+                   && ast.routine == entry->ast.routine && ast.param == entry->ast.param && ast.lkid == entry->ast.lkid
+               ? VLM_NORMAL
+               : VLM_BADPARAM;
 }
 
 #ifdef __cplusplus

@@ -19,7 +19,8 @@ static void print_wait(const vlm_lock *waits, const vlm_lock *blocks) {
 static void print_waits(vlm *handle, const vlm_lock *waits) {
     vlm_lock blocks = {.size = sizeof blocks};
     uint32_t status = vlm_first_blocker(handle, waits->lkid, &blocks);
-    for (; status == VLM_NORMAL && blocks.lkid != 0; status = vlm_next_blocker(handle, waits->lkid, blocks.lkid, &blocks))
+    for (; status == VLM_NORMAL && blocks.lkid != 0;
+         status = vlm_next_blocker(handle, waits->lkid, blocks.lkid, &blocks))
         print_wait(waits, &blocks);
 }
 
@@ -57,8 +58,8 @@ static uint32_t declared(void) {
 
 /* Starts a new request, or a conversion if a lock is given: the lock. */
 static uint32_t start(uint32_t pid, uint32_t lock, uint32_t mode, const char *name) {
-    vlm_threads_request request = {.size = sizeof request, .pid = pid, .mode = mode, .lock = lock,
-                                   .completion = ignore};
+    vlm_threads_request request = {
+        .size = sizeof request, .pid = pid, .mode = mode, .lock = lock, .completion = ignore};
     if (lock)
         vlm_threads_start_convert(layer, &request);
     else

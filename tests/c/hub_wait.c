@@ -208,8 +208,8 @@ static void open_all(void) {
         EXPECT(vlm_hub_port(&hub, i + 1, &ports[i]), VLM_NORMAL);
         open_bell(&bells[i]);
     }
-    service = (vlm_hub_service){.size = sizeof service, .hub = &hub, .bell = &hub_bell, .bells = bells,
-                                .bell_count = 2};
+    service =
+        (vlm_hub_service){.size = sizeof service, .hub = &hub, .bell = &hub_bell, .bells = bells, .bell_count = 2};
 }
 
 static void close_all(void) {

@@ -70,11 +70,16 @@ static void wrong_words(vlm *handle) {
         WITH(conversion, size, sizes[i], CONVERT, VLM_BADPARAM);
         WITH(dequeue, size, sizes[i], DEQ, VLM_BADPARAM);
     }
-    for (size_t i = 0; i < 2; i++) WITH(declaration, reserved[i], 1, DECLARE, VLM_BADPARAM);
-    for (size_t i = 0; i < 4; i++) WITH(setting, reserved[i], 1, SET, VLM_BADPARAM);
-    for (size_t i = 0; i < 20; i++) WITH(request, reserved[i], 1, ENQ, VLM_BADPARAM);
-    for (size_t i = 0; i < 20; i++) WITH(conversion, reserved[i], 1, CONVERT, VLM_BADPARAM);
-    for (size_t i = 0; i < 9; i++) WITH(dequeue, reserved[i], 1, DEQ, VLM_BADPARAM);
+    for (size_t i = 0; i < 2; i++)
+        WITH(declaration, reserved[i], 1, DECLARE, VLM_BADPARAM);
+    for (size_t i = 0; i < 4; i++)
+        WITH(setting, reserved[i], 1, SET, VLM_BADPARAM);
+    for (size_t i = 0; i < 20; i++)
+        WITH(request, reserved[i], 1, ENQ, VLM_BADPARAM);
+    for (size_t i = 0; i < 20; i++)
+        WITH(conversion, reserved[i], 1, CONVERT, VLM_BADPARAM);
+    for (size_t i = 0; i < 9; i++)
+        WITH(dequeue, reserved[i], 1, DEQ, VLM_BADPARAM);
     WITH(declaration, node, 257, DECLARE, VLM_BADPARAM);
     WITH(declaration, group, 65537, DECLARE, VLM_BADPARAM);
     WITH(declaration, syslck, 2, DECLARE, VLM_BADPARAM);
@@ -113,7 +118,8 @@ static void wrong_words(vlm *handle) {
     WITH(options, version, VLM_VERSION + 1, OPEN, VLM_BADPARAM);
     WITH(options, version, 0, OPEN, VLM_BADPARAM);
     WITH(options, has_keys, 2, OPEN, VLM_BADPARAM);
-    for (size_t i = 0; i < 9; i++) WITH(options, reserved[i], 1, OPEN, VLM_BADPARAM);
+    for (size_t i = 0; i < 9; i++)
+        WITH(options, reserved[i], 1, OPEN, VLM_BADPARAM);
 }
 
 /* Structs to be written of another size, and what is not there: BADPARAM on each handle, and nothing is written. */
@@ -281,7 +287,8 @@ static void is_as_it_was(vlm *handle) {
     HOLD(process.pid == q && vlm_process_count(handle) == 2);
     EXPECT(vlm_process(handle, 0, &process), VLM_NORMAL);
     HOLD(process.size == sizeof process && process.pid == p && process.node == 1 && process.group == 1);
-    HOLD(process.syslck == 0 && process.quota == 1 && process.blocks == 2 && process.pending == 0 && process.locks == 1);
+    HOLD(process.syslck == 0 && process.quota == 1 && process.blocks == 2 && process.pending == 0
+         && process.locks == 1);
     HOLD(vlm_lock_count(handle) == 1 && vlm_queued_count(handle) == 0);
 }
 

@@ -8,8 +8,7 @@ extern unsigned long strtoul(const char *text, char **end, int base);
 
 enum { READ = 0, WRITE = 1 };
 
-static long move(long call, int file, const void *bytes, size_t count)
-{
+static long move(long call, int file, const void *bytes, size_t count) {
     const char *report = getenv("REPORT");
     long moved = syscall(call, file, bytes, count ? 1l : 0l);
     if (moved == 1 && report)
@@ -17,12 +16,6 @@ static long move(long call, int file, const void *bytes, size_t count)
     return moved;
 }
 
-long read(int file, void *bytes, size_t count)
-{
-    return move(READ, file, bytes, count);
-}
+long read(int file, void *bytes, size_t count) { return move(READ, file, bytes, count); }
 
-long write(int file, const void *bytes, size_t count)
-{
-    return move(WRITE, file, bytes, count);
-}
+long write(int file, const void *bytes, size_t count) { return move(WRITE, file, bytes, count); }
