@@ -1,5 +1,6 @@
-/* Prints who waits for whom. The monitor walks the resources, the queued requests of each, and for each request the locks
- * for which it waits. Each step of these walks takes constant time, except past locks that are in nobody's way. */
+/* Prints who waits for whom. The monitor walks the resources, the queued requests of each, and for each request the
+ * locks for which it waits. Each step of these walks takes constant time, except past locks that are in nobody's
+ * way. */
 #include <vlm_threads.h>
 
 #include <string.h>

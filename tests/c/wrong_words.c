@@ -1,5 +1,5 @@
-/* Each call with each kind of wrong argument, on a closed handle and on an open one: each answer is as expected, nothing
- * is written where nothing is to be, and the locks stay as they are. */
+/* Each call with each kind of wrong argument, on a closed handle and on an open one: each answer is as expected,
+ * nothing is written where nothing is to be, and the locks stay as they are. */
 #include "vlm.h"
 
 #include <stdio.h>
