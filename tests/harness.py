@@ -143,10 +143,11 @@ class Progress:
 
 
 def try_cases(crate, folder, total):
-    """Runs the cases of a folder on the checked build. Gives what they printed and what was told, as the kit writes it."""
-    told, done = [], 0
+    """Runs the cases of a folder on the checked build. Gives what they printed and what was told, as the kit writes
+    it."""
+    words, told, done = ["rt", "try", "--cases", folder], [], 0
     with tempfile.TemporaryFile() as printed:
-        with subprocess.Popen(["rt", "try", "--cases", folder], cwd=crate, stdout=printed, stderr=subprocess.PIPE) as run:
+        with subprocess.Popen(words, cwd=crate, stdout=printed, stderr=subprocess.PIPE) as run:
             for line in run.stderr:
                 told.append(line)
                 done += bool(CASE.match(line))

@@ -125,7 +125,8 @@ def full_disk(tree):
     df.chmod(0o755)
     yield from unlike(tree.run("play", script=SCRIPT, SILENT="fault"), 4, b"", UNPROVED,
                       "^vlm: the disk has 2 MB left, and the checked build gives no answer: make room there$")
-    yield from unlike(tree.run("prove"), 4, b"", "^vlm: the disk has 2 MB left, and a whole proof keeps .*: make room there$")
+    yield from unlike(tree.run("prove"), 4, b"",
+                      "^vlm: the disk has 2 MB left, and a whole proof keeps .*: make room there$")
     if tree.noted():
         yield f"begun {tree.noted()}"
 

@@ -184,7 +184,8 @@ class LockManager:
         """The resource that a call reads, if there is one."""
         return _resource(words) if self._goes_on(name, *arguments, words) else None
 
-    def _locks(self, first: str, following: Optional[str], *arguments: Any, also: Sequence[int] = ()) -> Iterator[LockView]:
+    def _locks(self, first: str, following: Optional[str], *arguments: Any,
+               also: Sequence[int] = ()) -> Iterator[LockView]:
         """The locks of a walk, by its first call and its following calls, which also take these numbers."""
         words = raw.Lock()
         goes_on = self._goes_on(first, *arguments, words)
