@@ -57,7 +57,7 @@ static uint32_t declared(void) {
     return vlm_threads_declare(layer, &declaration, &pid) == VLM_NORMAL ? pid : 0;
 }
 
-/* Starts a new request, or a conversion if a lock is given: the lock. */
+/* Starts a new request, or a conversion if a lock is given: the lock. The name is that of its resource. */
 static uint32_t start(uint32_t pid, uint32_t lock, uint32_t mode, const char *name) {
     vlm_threads_request request = {
         .size = sizeof request, .pid = pid, .mode = mode, .lock = lock, .completion = ignore};
@@ -79,7 +79,7 @@ int main(void) {
     start(q, 0, VLM_EX, "B");
     start(r, 0, VLM_PR, "B");
     start(p, 0, VLM_PR, "B");
-    start(p, lock, VLM_EX, NULL);
+    start(p, lock, VLM_EX, "A");
     vlm_threads_look(layer, print_all, NULL);
     vlm_threads_close(layer);
     return 0;

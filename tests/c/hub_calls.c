@@ -259,12 +259,12 @@ static void wrong_openings(void) {
 }
 
 /* One post with one member changed, then the right words again. */
-#define WITH(words, member, value, post)  \
-    do {                                  \
-        __typeof__(words) before = words; \
-        words.member = (value);           \
-        EXPECT(post, VLM_BADPARAM);       \
-        words = before;                   \
+#define WITH(words, member, value, post)    \
+    do {                                    \
+        __typeof__(words) before = (words); \
+        (words).member = (value);           \
+        EXPECT(post, VLM_BADPARAM);         \
+        (words) = before;                   \
     } while (0)
 
 #define DECLARE vlm_port_declare(port, &declaration)

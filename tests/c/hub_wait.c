@@ -300,7 +300,7 @@ static void closed_port(void) {
         search(2);
     vlm_hub_stop(&service);
     pthread_join(server, NULL);
-    HOLD(vlm_hub_entries(&hub) == 3 * PLACES);
+    HOLD(vlm_hub_entries(&hub) == (size_t)3 * PLACES);
     close_all();
 }
 

@@ -47,7 +47,7 @@ static void set_words(void) {
 /* One call with one member changed, then the right words again. */
 #define WITH(words, member, number, call, want) \
     do {                                        \
-        words.member = (number);                \
+        (words).member = (number);              \
         EXPECT(call, want);                     \
         set_words();                            \
     } while (0)

@@ -10,9 +10,9 @@ enum { READ = 0, WRITE = 1 };
 
 static long move(long call, int file, const void *bytes, size_t count) {
     const char *report = getenv("REPORT");
-    long moved = syscall(call, file, bytes, count ? 1l : 0l);
+    long moved = syscall(call, file, bytes, count ? 1L : 0L);
     if (moved == 1 && report)
-        syscall(WRITE, strtoul(report, 0, 10), "1", 1l);
+        syscall(WRITE, strtoul(report, 0, 10), "1", 1L);
     return moved;
 }
 

@@ -52,7 +52,8 @@ class LockManager:
 
     def _call(self, name: str, *arguments: Any) -> int:
         with self._changed:
-            return getattr(raw.LIBRARY, name)(self._handle, *arguments)
+            answer: int = getattr(raw.LIBRARY, name)(self._handle, *arguments)
+            return answer
 
     def _step(self, name: str, *arguments: Any) -> Condition:
         """Makes a call that changes something, and wakes those who wait."""
