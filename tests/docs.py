@@ -13,7 +13,7 @@ import os
 import re
 import shlex
 
-from harness import Case, Ended, STORED, TOP, Test, difference, results_of, run, run_checked
+from harness import Case, Ended, STORED, TOP, Test, chosen, difference, results_of, run, run_checked
 
 DOCS = TOP / "docs"
 README_LINES = 120
@@ -377,5 +377,5 @@ def tests():
 
 def checked():
     """The results where nothing is proved: the shown runs are made on the checked build."""
-    yield from results_of(once(), None, os.cpu_count())
-    yield from run_checked(STORED, list(shown_cases()))
+    yield from results_of(chosen(once()), None, os.cpu_count())
+    yield from run_checked(STORED, chosen(shown_cases()))

@@ -61,6 +61,14 @@ def result_of(test, program):
         return Result(test.name, [f"{type(failed).__name__}: {failed}"])
 
 
+def chosen(cases):
+    """Those of some tests, cases or results that are wanted: those with this text in their names."""
+    return [it for it in cases if chosen.text in it.name]
+
+
+chosen.text = ""
+
+
 def results_of(tests, program, side_by_side):
     """Runs tests, several at once, and yields their results in order."""
     with ThreadPoolExecutor(side_by_side) as pool:
@@ -158,6 +166,8 @@ def try_cases(crate, folder, total):
 
 def run_checked(crate, cases):
     """Runs cases on the kit's checked build, which is made once, and yields their results in order."""
+    if not cases:
+        return
     with tempfile.TemporaryDirectory() as folder:
         for number, case in enumerate(cases):
             (Path(folder) / f"{number:05}").write_bytes(case.script)

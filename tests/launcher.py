@@ -250,6 +250,15 @@ def wrong_words(tree):
         yield from unlike(tree.run(*words), 2, b"", wanted)
 
 
+def chosen_tests(_tree):
+    """The option -k runs the tests alone whose names have its text, and there must be one."""
+    for text, status, wanted in (("short readme", 0, "1 passed, 0 failed"), ("no such test", 2, "no test of these")):
+        ended = subprocess.run([TOP / "vlm", "test", "docs", "-k", text], capture_output=True, text=True,
+                               timeout=3 * SECONDS)
+        if ended.returncode != status or wanted not in ended.stdout + ended.stderr:
+            yield f"{text}: {ended}"
+
+
 def in_tree(check, program):
     """A check in a tree of its own."""
     with tempfile.TemporaryDirectory() as folder:
@@ -258,5 +267,5 @@ def in_tree(check, program):
 
 def tests():
     checks = (unproved_runs, unanswered_runs, full_disk, slow_pipe, proofs, links_and_changes, other_programs,
-              failed_proof, interrupted_proof, two_starts, missing_parts, unprinted, another_kit, wrong_words)
+              failed_proof, interrupted_proof, two_starts, missing_parts, unprinted, another_kit, wrong_words, chosen_tests)
     return [Test(check.__name__.replace("_", " "), partial(in_tree, check)) for check in checks]
