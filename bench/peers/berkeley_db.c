@@ -66,7 +66,7 @@ static DB_LOCK get(uint32_t me, long resource, int mode) {
 
 // The numbers below `size`, in an order that is the same in every program.
 static uint32_t *shuffled(long size) {
-    uint32_t *order = malloc((size_t)size * sizeof *order);
+    uint32_t *order = calloc((size_t)size, sizeof *order);
     uint64_t x = 88172645463325252ULL;
     for (long i = 0; i < size; i++)
         order[i] = (uint32_t)i;
@@ -90,6 +90,8 @@ static void pairs(long count, long size) {
         must(env->lock_put(env, &locks[i]), "lock_put");
         locks[i] = get(me, i, EX);
     }
+    free(order);
+    free(locks);
 }
 
 // It has no conversion between modes of one's own: a locker asks for the object again in the new mode, since its own
@@ -113,6 +115,7 @@ static void conversions(long count, long size) {
         locks[i] = get(me, i, NL);
     for (long turn = 0; turn < count; turn++)
         convert(me, turn % size, &locks[turn % size], turn / size % 2 == 0 ? EX : NL);
+    free(locks);
 }
 
 static uint32_t hold(long size, int mode) {
