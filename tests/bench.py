@@ -15,8 +15,8 @@ BENCH = TOP / "bench"
 # The longest time of a checked build and its run.
 SECONDS = 900
 # The words of a short run of each program.
-WORDS = {"lists": ("lists", 2, 4, 2), "loads": ("pairs", 4, 10), "long": ("steps", 8, 10), "watchers": ("both", 1, 4, 2),
-         "requests": (4, 4, 0)}
+WORDS = {"lists": ("lists", 2, 4, 2), "loads": ("pairs", 4, 10), "long": ("steps", 8, 10),
+         "watchers": ("both", 1, 4, 2), "requests": (4, 4, 0)}
 
 
 def measuring():

@@ -267,5 +267,6 @@ def in_tree(check, program):
 
 def tests():
     checks = (unproved_runs, unanswered_runs, full_disk, slow_pipe, proofs, links_and_changes, other_programs,
-              failed_proof, interrupted_proof, two_starts, missing_parts, unprinted, another_kit, wrong_words, chosen_tests)
+              failed_proof, interrupted_proof, two_starts, missing_parts, unprinted, another_kit, wrong_words,
+              chosen_tests)
     return [Test(check.__name__.replace("_", " "), partial(in_tree, check)) for check in checks]
