@@ -19,8 +19,8 @@ SECONDS = 300
 MOST_COLUMNS = 120
 MOST_LINES = 40
 BY_HAND = "bench/peers/by_hand/main.rs"
-# How the C is compiled for clang-tidy.
-COMPILED = ["-std=gnu11", "-Iinclude", "-Itests/c"]
+# How the C is compiled for clang-tidy. It follows a third of the paths that it would, in less than half of the time.
+COMPILED = ["-std=gnu11", "-Iinclude", "-Itests/c", "-Xclang", "-analyzer-config", "-Xclang", "max-nodes=75000"]
 # Files whose lines are what is tested, or are laid out by a prover's needs.
 FREE_FILES = re.compile(r".*\.(stdout|out|png)|tests/scripts/play/.*|crates/\w+/proofs/.*|crates/vlm/std(in|out)")
 # Lines that nobody can break: rows of tables, imports and tactics that `rt fmt` lays out, what an edit is, addresses.
