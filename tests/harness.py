@@ -54,10 +54,10 @@ def difference(found, wanted):
 
 
 def result_of(test, program):
-    """What a test found. A run that hangs, or that does not start, is wrong too."""
+    """What a test found. A run that hangs, or that does not start, is wrong too, and so is a test that fails itself."""
     try:
         return Result(test.name, [str(it) for it in test.check(program)])
-    except (OSError, AssertionError, subprocess.SubprocessError) as failed:
+    except Exception as failed:
         return Result(test.name, [f"{type(failed).__name__}: {failed}"])
 
 

@@ -67,8 +67,8 @@ def said(*words, folder=TOP, **env):
     ended = subprocess.run(words, cwd=folder, capture_output=True, text=True, timeout=SECONDS,
                            env={**os.environ, **env})
     if ended.returncode:
-        lines = (ended.stdout + ended.stderr).splitlines()
-        places = [line for line in lines if re.search(r"\.\w+:\d+|^\w[\w./]*:\d+", line)]
+        lines = (ended.stdout + ended.stderr).replace(f"{TOP}/", "").splitlines()
+        places = [line for line in lines if re.search(r"\.\w+:\d+|^\w[\w./]*:\d+", line) and ": note: " not in line]
         yield from places or lines or [f"{words[0]} ends with {ended.returncode}"]
 
 
@@ -132,7 +132,7 @@ def long_lines(_program):
     """Lines have at most 120 columns."""
     for name in files(""):
         if not FREE_FILES.fullmatch(name):
-            for number, line in enumerate((TOP / name).read_text().split("\n"), 1):
+            for number, line in enumerate((TOP / name).read_text(errors="replace").split("\n"), 1):
                 if len(line) > MOST_COLUMNS and not FREE_LINES.match(line):
                     yield f"{name}:{number} has {len(line)} columns"
 
