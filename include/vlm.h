@@ -11,25 +11,26 @@
  *   or in the forked child of a process with threads.
  * All else that is passed is checked, and answered by a condition value.
  *
- * Set `size` of every struct before a call. A struct that is passed in has 0 in each reserved word. A struct that a call
- * writes is written whole, its reserved words as 0, or not at all; its reserved words are not read. A call answers
+ * Set `size` of every struct before a call. A struct that is passed in has 0 in each reserved word. A struct that a
+ * call writes is written whole, its reserved words as 0, or not at all; its reserved words are not read. A call answers
  * VLM_BADPARAM and changes nothing in the lock manager
  * - with a struct of another size, or a reserved word that is not 0;
- * - with a mark (has_keys, syslck, has_ast, has_bast, has_value, has_tail) that is neither 0 nor 1, or a mode that does not exist;
+ * - with a mark (has_keys, syslck, has_ast, has_bast, has_value, has_tail) that is neither 0 nor 1, or a mode that does
+ *   not exist;
  * - with a node, group, quota, number of status blocks, status block or flags above what the core's field holds;
  * - with both `lock` and `lock_block` of a struct;
  * - on a handle with no lock manager.
- * Status blocks are numbered from 1: block 0 does not exist, and lock_block 0 names no block. *pid, *lkid and *victim are
- * written by each call that has them, with 0 where there is nothing to tell.
+ * Status blocks are numbered from 1: block 0 does not exist, and lock_block 0 names no block. *pid, *lkid and *victim
+ * are written by each call that has them, with 0 where there is nothing to tell.
  *
- * The ASTs of a process come in the order in which they are queued. A step queues the completions of a resource before the
- * blocking ASTs of its granted locks. So a process learns of a grant before it learns that the granted lock blocks
+ * The ASTs of a process come in the order in which they are queued. A step queues the completions of a resource before
+ * the blocking ASTs of its granted locks. So a process learns of a grant before it learns that the granted lock blocks
  * somebody, and a converting lock gets no blocking AST. A cache protocol over blocking ASTs needs no more.
  *
  * vlm_open compares the version of this header with that of the library, and refuses another one.
  *
- * Where strangers choose the names of resources, give vlm_open 16 bytes of keys that nobody can foresee. Without keys it
- * hashes by fixed ones, and then names can be chosen that meet in the index.
+ * Where strangers choose the names of resources, give vlm_open 16 bytes of keys that nobody can foresee. Without keys
+ * it hashes by fixed ones, and then names can be chosen that meet in the index.
  */
 #ifndef VLM_H
 #define VLM_H
@@ -111,7 +112,8 @@ typedef struct vlm {
     void *core;
     bool is_held;
 } vlm;
-#define VLM_CLOSED { 0, false }
+#define VLM_CLOSED \
+    { 0, false }
 
 VLM_ASSERT(sizeof(void *) == 8 && sizeof(size_t) == 8);
 VLM_ASSERT(sizeof(vlm) == 16);
@@ -125,7 +127,9 @@ typedef struct vlm_options {
     uint8_t keys[16];
     uint32_t reserved[9];
 } vlm_options;
+/* clang-format off */
 #define VLM_OPTIONS { sizeof(vlm_options), VLM_VERSION, 0, { 0 }, { 0 } }
+/* clang-format on */
 
 typedef struct vlm_declaration {
     uint32_t size;
@@ -427,8 +431,8 @@ size_t vlm_queued_count(vlm *handle);   /* the queued requests; 0 also on a hand
 uint32_t vlm_resource(vlm *handle, size_t place, struct vlm_resource *resource);
 uint32_t vlm_row(vlm *handle, size_t resource, uint32_t queue, size_t place, struct vlm_row *row);
 
-/* The readings that walk and look up, each in constant time. NORMAL, or BADPARAM and nothing is written: there is no such
- * process or resource, or not any more.
+/* The readings that walk and look up, each in constant time. NORMAL, or BADPARAM and nothing is written: there is no
+ * such process or resource, or not any more.
  *
  * vlm_next_process reads the living process that was made after `pid`, or with 0 the first one. vlm_next_resource reads
  * the resource that was made after the one in *resource, or the first one where its serial is 0. After the last one
@@ -437,20 +441,21 @@ uint32_t vlm_row(vlm *handle, size_t resource, uint32_t queue, size_t place, str
  *     struct vlm_resource resource = {.size = sizeof resource};
  *     while (vlm_next_resource(&handle, &resource) == VLM_NORMAL && resource.serial != 0) ...
  *
- * vlm_find reads the resource of a name. The caller sets name and name_len, 1 to 31, and either parent, the serial of the
- * parent resource, or parent 0 with is_system or group. These members name the resource for vlm_next_resource too. */
+ * vlm_find reads the resource of a name. The caller sets name and name_len, 1 to 31, and either parent, the serial of
+ * the parent resource, or parent 0 with is_system or group. These members name the resource for vlm_next_resource
+ * too. */
 uint32_t vlm_next_process(vlm *handle, uint32_t pid, struct vlm_process *process);
 uint32_t vlm_next_resource(vlm *handle, struct vlm_resource *resource);
 uint32_t vlm_find(vlm *handle, struct vlm_resource *resource);
 
 /* The readings of single locks. Each takes constant time, except where it says more. NORMAL, or BADPARAM and nothing is
- * written: there is no such lock, process, resource or queue, or not any more. Lock, process, resource and queue are named
- * by the first arguments; a resource by its members, as for vlm_find.
+ * written: there is no such lock, process, resource or queue, or not any more. Lock, process, resource and queue are
+ * named by the first arguments; a resource by its members, as for vlm_find.
  *
  * vlm_find_lock reads the lock with an identification, and vlm_lock_resource the resource of a lock. The others walk. A
  * first call reads the first lock: of a queue of a resource (in queue order), of a process, or below a parent lock (in
- * the order of making). A next call reads the lock after the one that it names, in the same queue, of the same process, or
- * below the same parent. After the last one they write a struct with lkid 0 and modes VLM_NO_MODE. So a walk is
+ * the order of making). A next call reads the lock after the one that it names, in the same queue, of the same process,
+ * or below the same parent. After the last one they write a struct with lkid 0 and modes VLM_NO_MODE. So a walk is
  *
  *     vlm_lock lock = {.size = sizeof lock};
  *     for (status = vlm_first_own(&handle, pid, &lock); status == VLM_NORMAL && lock.lkid != 0;

@@ -32,7 +32,8 @@
 extern "C" {
 #endif
 
-/* A bell. A ring lasts until a wait takes it, so a ring before the wait is not lost. One wait takes all rings so far. */
+/* A bell. A ring lasts until a wait takes it, so a ring before the wait is not lost. One wait takes all rings so
+ * far. */
 typedef struct vlm_bell {
     void (*ring)(void *context);                       /* null: the bell is an eventfd */
     uint32_t (*wait)(void *context, int milliseconds); /* NORMAL or TIMEOUT */
@@ -42,7 +43,8 @@ typedef struct vlm_bell {
     uint32_t is_rung;   /* 1: the eventfd is readable, or is just about to be */
     uint32_t has_taken; /* 1: vlm_port_next took an item with it, and rang no bell since */
 } vlm_bell;
-#define VLM_BELL_CLOSED { 0, 0, 0, -1, 0, 0, 0 }
+#define VLM_BELL_CLOSED \
+    { 0, 0, 0, -1, 0, 0, 0 }
 
 /* A bell with a new eventfd. NORMAL, INSFMEM: there was no eventfd to be had; BADPARAM: the bell is open. */
 uint32_t vlm_bell_open(vlm_bell *bell);
@@ -83,7 +85,8 @@ typedef struct vlm_hub_service {
     size_t bell_count;  /* how many they are */
     vlm_entry *entries; /* place for a part of the journal, or null: nothing cuts the journal, and it grows */
     size_t capacity;    /* how many entries fit there, VLM_LEAST_CAPACITY or more; else 0 */
-    uint32_t (*keep)(void *context, const vlm_entry *entries, const vlm_cut *cut); /* gets each part, or null */
+    /* Gets each part, or null. */
+    uint32_t (*keep)(void *context, const vlm_entry *entries, const vlm_cut *cut);
     void *context; /* the first argument of keep */
 } vlm_hub_service;
 

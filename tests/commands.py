@@ -28,7 +28,8 @@ HELP = [
     Words("version", ["vlm", "--version"], 0, printed=b"vlm 0.1.0\n"),
     Words("help on play", ["vlm", "play", "--help"], 0, printed=b"Reads a script of lock requests"),
     Words("help on cluster", ["vlm", "cluster", "--help"], 0, printed=b"Serves a script with a thread for each node"),
-    Words("help on watch", ["vlm", "watch", "--help"], 0, printed=b"Watches a resource while a script's steps are made"),
+    Words("help on watch", ["vlm", "watch", "--help"], 0,
+          printed=b"Watches a resource while a script's steps are made"),
 ]
 
 # Where there are no words at all the system may put an empty one.
@@ -217,7 +218,8 @@ def named_example(command, program):
 
 def tests():
     named = [Test("the commands that help names", named_commands), Test("the flags that help names", named_flags)]
-    named += [Test(f"the example of the help on {it}", partial(named_example, it)) for it in ("play", "cluster", "watch")]
+    named += [Test(f"the example of the help on {it}", partial(named_example, it))
+              for it in ("play", "cluster", "watch")]
     words = [Test(case.name, partial(answered, case)) for case in HELP + REFUSED]
     words += [Test("an empty name of a watch", empty_name)]
     silent = [Test(case.name, partial(unwritten, case, True)) for case in UNTOLD]

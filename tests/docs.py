@@ -15,7 +15,7 @@ import shlex
 import tempfile
 from pathlib import Path
 
-from harness import Case, Ended, STORED, TOP, Test, difference, results_of, run, run_checked
+from harness import Case, Ended, STORED, TOP, Test, chosen, difference, results_of, run, run_checked
 
 DOCS = TOP / "docs"
 README_LINES = 120
@@ -90,7 +90,8 @@ def sizes(_program):
     if len(held) != 2:
         yield f"the tests hold {sorted(held)}"
     for page in PAGES:
-        for kind, size in re.findall(r"record of a (lock|resource)(?: takes)? at most (\d+)(?: bytes)?", page.read_text()):
+        named = re.findall(r"record\s+of\s+a\s+(lock|resource)(?:\s+takes)?\s+at\s+most\s+(\d+)", page.read_text())
+        for kind, size in named:
             if (kind, size) not in held:
                 yield f"{page.name}: the record of a {kind} takes {size} bytes"
 
@@ -120,7 +121,8 @@ def help_forms(_program):
     manual, page = plain(MANUAL.read_text()), text_of("docs/SCRIPT.md")
     if len(forms()) < 13:
         yield f"the help names {forms()}"
-    options = re.findall(r'Arg::new\(alloc, "(\w+)"', text_of("crates/vlm/src/arguments.rt")) or ["nodes", "name", "group"]
+    options = re.findall(r'Arg::new\(alloc, "(\w+)"', text_of("crates/vlm/src/arguments.rt"))
+    options = options or ["nodes", "name", "group"]
     for form in [*forms(), *(f"--{it}" for it in options)]:
         if form not in page:
             yield f"docs/SCRIPT.md has no {form}"
@@ -405,5 +407,5 @@ def tests():
 
 def checked():
     """The results where nothing is proved: the shown runs are made on the checked build."""
-    yield from results_of(once(), None, os.cpu_count())
-    yield from run_checked(STORED, list(shown_cases()))
+    yield from results_of(chosen(once()), None, os.cpu_count())
+    yield from run_checked(STORED, chosen(shown_cases()))

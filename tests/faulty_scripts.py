@@ -1,5 +1,5 @@
-"""Scripts of `vlm play` that end with a fault, and short ones that do not. The program and the package for Python are to
-play them alike."""
+"""Scripts of `vlm play` that end with a fault, and short ones that do not. The program and the package for Python are
+to play them alike."""
 
 DECLARED = b"declare P node=1 group=1 quota=9 blocks=4\n"
 VALUE = b"value=000102030405060708090a0b0c0d0e0f"

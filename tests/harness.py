@@ -54,11 +54,19 @@ def difference(found, wanted):
 
 
 def result_of(test, program):
-    """What a test found. A run that hangs, or that does not start, is wrong too."""
+    """What a test found. A run that hangs, or that does not start, is wrong too, and so is a test that fails itself."""
     try:
         return Result(test.name, [str(it) for it in test.check(program)])
-    except (OSError, AssertionError, subprocess.SubprocessError) as failed:
+    except Exception as failed:
         return Result(test.name, [f"{type(failed).__name__}: {failed}"])
+
+
+def chosen(cases):
+    """Those of some tests, cases or results that are wanted: those with this text in their names."""
+    return [it for it in cases if chosen.text in it.name]
+
+
+chosen.text = ""
 
 
 def results_of(tests, program, side_by_side):
@@ -143,10 +151,11 @@ class Progress:
 
 
 def try_cases(crate, folder, total):
-    """Runs the cases of a folder on the checked build. Gives what they printed and what was told, as the kit writes it."""
-    told, done = [], 0
+    """Runs the cases of a folder on the checked build. Gives what they printed and what was told, as the kit writes
+    it."""
+    words, told, done = ["rt", "try", "--cases", folder], [], 0
     with tempfile.TemporaryFile() as printed:
-        with subprocess.Popen(["rt", "try", "--cases", folder], cwd=crate, stdout=printed, stderr=subprocess.PIPE) as run:
+        with subprocess.Popen(words, cwd=crate, stdout=printed, stderr=subprocess.PIPE) as run:
             for line in run.stderr:
                 told.append(line)
                 done += bool(CASE.match(line))
@@ -157,6 +166,8 @@ def try_cases(crate, folder, total):
 
 def run_checked(crate, cases):
     """Runs cases on the kit's checked build, which is made once, and yields their results in order."""
+    if not cases:
+        return
     with tempfile.TemporaryDirectory() as folder:
         for number, case in enumerate(cases):
             (Path(folder) / f"{number:05}").write_bytes(case.script)

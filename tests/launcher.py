@@ -125,7 +125,8 @@ def full_disk(tree):
     df.chmod(0o755)
     yield from unlike(tree.run("play", script=SCRIPT, SILENT="fault"), 4, b"", UNPROVED,
                       "^vlm: the disk has 2 MB left, and the checked build gives no answer: make room there$")
-    yield from unlike(tree.run("prove"), 4, b"", "^vlm: the disk has 2 MB left, and a whole proof keeps .*: make room there$")
+    yield from unlike(tree.run("prove"), 4, b"",
+                      "^vlm: the disk has 2 MB left, and a whole proof keeps .*: make room there$")
     if tree.noted():
         yield f"begun {tree.noted()}"
 
@@ -276,6 +277,15 @@ def wrong_words(tree):
         yield from unlike(tree.run(*words), 2, b"", wanted)
 
 
+def chosen_tests(_tree):
+    """The option -k runs the tests alone whose names have its text, and there must be one."""
+    for text, status, wanted in (("short readme", 0, "1 passed, 0 failed"), ("no such test", 2, "no test of these")):
+        ended = subprocess.run([TOP / "vlm", "test", "docs", "-k", text], capture_output=True, text=True,
+                               timeout=3 * SECONDS)
+        if ended.returncode != status or wanted not in ended.stdout + ended.stderr:
+            yield f"{text}: {ended}"
+
+
 def in_tree(check, program):
     """A check in a tree of its own."""
     with tempfile.TemporaryDirectory() as folder:
@@ -284,5 +294,6 @@ def in_tree(check, program):
 
 def tests():
     checks = (unproved_runs, unanswered_runs, full_disk, slow_pipe, proofs, library_alone, links_and_changes,
-              other_programs, failed_proof, interrupted_proof, two_starts, missing_parts, unprinted, another_kit, wrong_words)
+              other_programs, failed_proof, interrupted_proof, two_starts, missing_parts, unprinted, another_kit,
+              wrong_words, chosen_tests)
     return [Test(check.__name__.replace("_", " "), partial(in_tree, check)) for check in checks]

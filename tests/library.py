@@ -24,7 +24,8 @@ SOURCES = sorted((TOP / "examples" / "c").glob("*.c")) + sorted((TOP / "tests" /
 PLAYER = TOP / "tests" / "c" / "scripts" / "play.c"
 COMPILERS = ("gcc", "clang")
 SANITIZERS = ("none", "address,undefined", "thread")
-TOOLS = (*COMPILERS, "g++", "clang++", "valgrind", "pkg-config", "cmake", "man", "cargo", "dot", "chromium", "chromedriver")
+TOOLS = (*COMPILERS, "g++", "clang++", "valgrind", "pkg-config", "cmake", "man", "cargo", "dot", "chromium",
+         "chromedriver")
 STRICT = ["-Wall", "-Wextra", "-Wpedantic", "-Werror"]
 # What an installation leaves, beside the shared library.
 FILES = ("bin/vlm", *(f"include/{it.name}" for it in (TOP / "include").glob("*.h")),
@@ -343,7 +344,8 @@ def header(compiler, _program):
     """What is wrong with the headers as C++."""
     source = room() / f"header {compiler}.cc"
     source.write_text("".join(f'#include "{it.name}"\n' for it in sorted((TOP / "include").glob("*.h"))))
-    yield from ran(compiler, "-std=c++17", *STRICT, "-fsyntax-only", f"-I{prefix()}/include", f"-I{TOP}/include", source)
+    folders = [f"-I{prefix()}/include", f"-I{TOP}/include"]
+    yield from ran(compiler, "-std=c++17", *STRICT, "-fsyntax-only", *folders, source)
 
 
 def rust(_program):

@@ -2,7 +2,7 @@
 They run on the proved programs, or on the kit's checked build where nothing is proved."""
 
 from faulty_scripts import DECLARED, FAULTY, WHOLE
-from harness import Case, Ended, PLAY, STORED, run_checked
+from harness import Case, Ended, PLAY, STORED, chosen, run_checked
 
 
 def stored_scripts():
@@ -129,4 +129,4 @@ def tests():
 
 def checked():
     """The results on the checked build."""
-    return run_checked(STORED, cases())
+    return run_checked(STORED, chosen(cases()))

@@ -46,7 +46,8 @@ def failing_reads(program):
 
 
 def failing_writes(program):
-    """A run whose text can't be written to its end leaves its first part. The limit on a file's size makes the write fail."""
+    """A run whose text can't be written to its end leaves its first part. The limit on a file's size makes the write
+    fail."""
     for size in range(len(TEXT)):
         with tempfile.TemporaryFile() as printed:
             ended = play(program, input=SCRIPT, stdout=printed, restore_signals=False,

@@ -6,7 +6,7 @@ import subprocess
 from concurrent.futures import ThreadPoolExecutor
 from functools import partial
 
-from harness import Result, SECONDS, TOP, Test, difference, results_of
+from harness import Result, SECONDS, TOP, Test, chosen, difference, results_of
 
 CRATES = ("vlm_core_tests", "vlm_hub_tests")
 # The longest time of a checked build of a crate's tests and of their runs.
@@ -58,7 +58,7 @@ def try_tests(crate):
 def proved():
     """The results of the proved tests that are built."""
     tests = [Test(f"{crate} {name}", partial(passes, crate, name)) for crate in is_built() for name in names_of(crate)]
-    return results_of(tests, None, os.cpu_count())
+    return results_of(chosen(tests), None, os.cpu_count())
 
 
 def checked():
@@ -67,4 +67,4 @@ def checked():
     yield from proved()
     with ThreadPoolExecutor(max(1, os.cpu_count() // 2)) as pool:
         for results in pool.map(try_tests, [crate for crate in CRATES if crate not in built]):
-            yield from results
+            yield from chosen(results)

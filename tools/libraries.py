@@ -1,6 +1,6 @@
-"""Makes the libraries for programs in C: libvlm.a and libvlm.so, from the archives of the proved crates and the layers in
-C. The kit's tools link and pack. The C compiler of the system compiles the layers and makes the shared library, so that
-both fit its C library."""
+"""Makes the libraries for programs in C: libvlm.a and libvlm.so, from the archives of the proved crates and the layers
+in C. The kit's tools link and pack. The C compiler of the system compiles the layers and makes the shared library, so
+that both fit its C library."""
 
 import os
 import shlex

@@ -20,16 +20,14 @@ static vlm handle = VLM_CLOSED;
 static const vlm_options options = VLM_OPTIONS;
 
 /* Ends the program where a call does not answer what it is to answer. */
-static void need(uint32_t status)
-{
+static void need(uint32_t status) {
     if (status != VLM_NORMAL) {
         fprintf(stderr, "a call answered %s\n", vlm_condition_name(status));
         exit(1);
     }
 }
 
-static uint32_t declare(uint32_t node)
-{
+static uint32_t declare(uint32_t node) {
     uint32_t pid;
     vlm_declaration declaration = {.size = sizeof declaration, .node = node, .quota = 65535, .blocks = 1};
     need(vlm_declare(&handle, &declaration, &pid));
@@ -37,8 +35,7 @@ static uint32_t declare(uint32_t node)
 }
 
 /* Makes locks on as many resources, or all on one. */
-static void make_locks(long count, int is_one)
-{
+static void make_locks(long count, int is_one) {
     uint32_t pid = 0, lkid;
     for (long made = 0; made < count; made++) {
         if (made % 65535 == 0)
@@ -49,14 +46,12 @@ static void make_locks(long count, int is_one)
     }
 }
 
-static void make_processes(long count)
-{
+static void make_processes(long count) {
     for (long made = 0; made < count; made++)
         declare((uint32_t)(made % 8) + 1);
 }
 
-static long walk_resources(void)
-{
+static long walk_resources(void) {
     long seen = 0;
     struct vlm_resource resource = {.size = sizeof resource};
     while (vlm_next_resource(&handle, &resource) == VLM_NORMAL && resource.serial != 0)
@@ -65,8 +60,7 @@ static long walk_resources(void)
 }
 
 /* The locks of all queues of all resources. */
-static long walk_rows(void)
-{
+static long walk_rows(void) {
     long seen = 0;
     struct vlm_resource resource = {.size = sizeof resource};
     vlm_lock lock = {.size = sizeof lock};
@@ -79,8 +73,7 @@ static long walk_rows(void)
     return seen;
 }
 
-static long walk_processes(void)
-{
+static long walk_processes(void) {
     long seen = 0;
     struct vlm_process process = {.size = sizeof process};
     while (vlm_next_process(&handle, process.pid, &process) == VLM_NORMAL && process.pid != 0)
@@ -88,8 +81,7 @@ static long walk_processes(void)
     return seen;
 }
 
-static long make_pairs(long count)
-{
+static long make_pairs(long count) {
     static const uint8_t name[] = "one more";
     uint32_t pid = declare(1);
     vlm_request request = {.size = sizeof request, .pid = pid, .mode = VLM_EX, .block = 1};
@@ -101,8 +93,7 @@ static long make_pairs(long count)
     return count;
 }
 
-static long look_for_pending(long count)
-{
+static long look_for_pending(long count) {
     for (long made = 0; made < count; made++) {
         uint32_t pid;
         vlm_ast ast = {.size = sizeof ast};
@@ -111,8 +102,7 @@ static long look_for_pending(long count)
     return count;
 }
 
-int main(int argc, char **argv)
-{
+int main(int argc, char **argv) {
     if (argc != 3)
         return 2;
     long count = atol(argv[2]), seen;
@@ -123,7 +113,11 @@ int main(int argc, char **argv)
     need(vlm_open(&handle, &options));
     resources || rows || dump || pairs ? make_locks(pairs ? 1000 : count, rows) : make_processes(count);
     clock_gettime(CLOCK_MONOTONIC, &from);
-    seen = resources ? walk_resources() : rows || dump ? walk_rows() : pairs ? make_pairs(count) : processes ? walk_processes() : look_for_pending(count);
+    seen = resources      ? walk_resources()
+           : rows || dump ? walk_rows()
+           : pairs        ? make_pairs(count)
+           : processes    ? walk_processes()
+                          : look_for_pending(count);
     clock_gettime(CLOCK_MONOTONIC, &to);
     if (seen != count)
         return 3;

@@ -17,16 +17,14 @@ static const char *const compatible[6] = {"111111", "111110", "111000", "110100"
 
 static DB_ENV *env;
 
-static void must(int error, const char *what)
-{
+static void must(int error, const char *what) {
     if (error) {
         fprintf(stderr, "%s: %s\n", what, db_strerror(error));
         exit(1);
     }
 }
 
-static void open_environment(uint32_t locks, uint32_t lockers, uint32_t objects)
-{
+static void open_environment(uint32_t locks, uint32_t lockers, uint32_t objects) {
     static u_int8_t conflicts[MODES * MODES];
     for (int want = 0; want < 6; want++)
         for (int held = 0; held < 6; held++)
@@ -43,8 +41,7 @@ static void open_environment(uint32_t locks, uint32_t lockers, uint32_t objects)
 }
 
 // The name of a resource, as all programs use it: R and eight digits.
-static DBT *name_of(long number)
-{
+static DBT *name_of(long number) {
     static char text[9];
     static DBT name;
     text[0] = 'R';
@@ -55,24 +52,21 @@ static DBT *name_of(long number)
     return &name;
 }
 
-static uint32_t locker(void)
-{
+static uint32_t locker(void) {
     uint32_t id;
     must(env->lock_id(env, &id), "lock_id");
     return id;
 }
 
-static DB_LOCK get(uint32_t me, long resource, int mode)
-{
+static DB_LOCK get(uint32_t me, long resource, int mode) {
     DB_LOCK lock;
     must(env->lock_get(env, me, 0, name_of(resource), (db_lockmode_t)mode, &lock), "lock_get");
     return lock;
 }
 
 // The numbers below `size`, in an order that is the same in every program.
-static uint32_t *shuffled(long size)
-{
-    uint32_t *order = malloc((size_t)size * sizeof *order);
+static uint32_t *shuffled(long size) {
+    uint32_t *order = calloc((size_t)size, sizeof *order);
     uint64_t x = 88172645463325252ULL;
     for (long i = 0; i < size; i++)
         order[i] = (uint32_t)i;
@@ -85,8 +79,7 @@ static uint32_t *shuffled(long size)
     return order;
 }
 
-static void pairs(long count, long size)
-{
+static void pairs(long count, long size) {
     open_environment((uint32_t)size, 1, (uint32_t)size);
     DB_LOCK *locks = malloc((size_t)size * sizeof *locks);
     uint32_t *order = shuffled(size), me = locker();
@@ -97,12 +90,13 @@ static void pairs(long count, long size)
         must(env->lock_put(env, &locks[i]), "lock_put");
         locks[i] = get(me, i, EX);
     }
+    free(order);
+    free(locks);
 }
 
 // It has no conversion between modes of one's own: a locker asks for the object again in the new mode, since its own
 // locks do not conflict, and puts the old lock.
-static void convert(uint32_t me, long resource, DB_LOCK *lock, int mode)
-{
+static void convert(uint32_t me, long resource, DB_LOCK *lock, int mode) {
     DB_LOCKREQ wanted[2] = {{0}}, *failed;
     wanted[0].op = DB_LOCK_GET;
     wanted[0].mode = (db_lockmode_t)mode;
@@ -113,8 +107,7 @@ static void convert(uint32_t me, long resource, DB_LOCK *lock, int mode)
     *lock = wanted[0].lock;
 }
 
-static void conversions(long count, long size)
-{
+static void conversions(long count, long size) {
     open_environment((uint32_t)(2 * size), 1, (uint32_t)size);
     DB_LOCK *locks = malloc((size_t)size * sizeof *locks);
     uint32_t me = locker();
@@ -122,26 +115,24 @@ static void conversions(long count, long size)
         locks[i] = get(me, i, NL);
     for (long turn = 0; turn < count; turn++)
         convert(me, turn % size, &locks[turn % size], turn / size % 2 == 0 ? EX : NL);
+    free(locks);
 }
 
-static uint32_t hold(long size, int mode)
-{
+static uint32_t hold(long size, int mode) {
     open_environment((uint32_t)size + 10, (uint32_t)size + 10, 10);
     for (long i = 0; i < size; i++)
         get(locker(), 0, mode);
     return locker();
 }
 
-static void beside(long count, long size)
-{
+static void beside(long count, long size) {
     uint32_t me = hold(size, NL);
     DB_LOCK lock = get(me, 0, NL);
     for (long turn = 0; turn < count; turn++)
         convert(me, 0, &lock, turn % 2 == 0 ? EX : NL);
 }
 
-static void shared(long count, long size)
-{
+static void shared(long count, long size) {
     uint32_t me = hold(size, CR);
     for (long turn = 0; turn < count; turn++) {
         DB_LOCK lock = get(me, 0, PR);
@@ -149,8 +140,7 @@ static void shared(long count, long size)
     }
 }
 
-static void refused(long count, long size)
-{
+static void refused(long count, long size) {
     uint32_t me = hold(size, CR);
     for (long turn = 0; turn < count; turn++) {
         DB_LOCK lock;
@@ -159,13 +149,12 @@ static void refused(long count, long size)
     }
 }
 
-int main(int argc, char **argv)
-{
+int main(int argc, char **argv) {
     static const struct {
         const char *name;
         void (*run)(long count, long size);
-    } loads[] = {{"pairs", pairs},   {"conversions", conversions}, {"beside", beside},
-                 {"shared", shared}, {"refused", refused}};
+    } loads[] = {
+        {"pairs", pairs}, {"conversions", conversions}, {"beside", beside}, {"shared", shared}, {"refused", refused}};
     if (argc == 4)
         for (size_t i = 0; i < sizeof loads / sizeof *loads; i++)
             if (!strcmp(argv[1], loads[i].name)) {

@@ -13,49 +13,33 @@ extern void __libc_free(void *block);
 
 static size_t held, most;
 
-static void *taken(void *block)
-{
+static void *taken(void *block) {
     held += malloc_usable_size(block);
     if (most < held)
         most = held;
     return block;
 }
 
-static void given_back(void *block)
-{
-    held -= malloc_usable_size(block);
-}
+static void given_back(void *block) { held -= malloc_usable_size(block); }
 
-void *malloc(size_t size)
-{
-    return taken(__libc_malloc(size));
-}
+void *malloc(size_t size) { return taken(__libc_malloc(size)); }
 
-void *calloc(size_t count, size_t size)
-{
-    return taken(__libc_calloc(count, size));
-}
+void *calloc(size_t count, size_t size) { return taken(__libc_calloc(count, size)); }
 
-void *realloc(void *block, size_t size)
-{
+void *realloc(void *block, size_t size) {
     given_back(block);
     void *moved = __libc_realloc(block, size);
     return taken(moved ? moved : block);
 }
 
-int posix_memalign(void **block, size_t alignment, size_t size)
-{
+int posix_memalign(void **block, size_t alignment, size_t size) {
     *block = taken(__libc_memalign(alignment, size));
     return *block ? 0 : ENOMEM;
 }
 
-void free(void *block)
-{
+void free(void *block) {
     given_back(block);
     __libc_free(block);
 }
 
-__attribute__((destructor)) static void tell(void)
-{
-    fprintf(stderr, "%zu bytes\n", most);
-}
+__attribute__((destructor)) static void tell(void) { fprintf(stderr, "%zu bytes\n", most); }

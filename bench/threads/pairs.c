@@ -124,7 +124,8 @@ static DB_ENV *env;
 
 static void open_db(void) {
     must(!db_env_create(&env, 0) && !env->set_lk_partitions(env, 1)
-             && !env->open(env, NULL, DB_CREATE | DB_INIT_LOCK | DB_PRIVATE | DB_THREAD, 0), "db open");
+             && !env->open(env, NULL, DB_CREATE | DB_INIT_LOCK | DB_PRIVATE | DB_THREAD, 0),
+         "db open");
 }
 
 static uint32_t db_process(void) {
@@ -183,7 +184,8 @@ int main(int count, char **words) {
     static struct worker workers[MOST];
     pthread_t threads[MOST];
     must((count == 5 || (count == 6 && !strcmp(words[1], "layer") && atol(words[5]) > 0)) && atoi(words[2]) > 0
-             && atoi(words[2]) <= MOST, "layer|raw|db THREADS own|shared PAIRS [HOLDERS]");
+             && atoi(words[2]) <= MOST,
+         "layer|raw|db THREADS own|shared PAIRS [HOLDERS]");
     const struct manager *manager = named(words[1]);
     int all = atoi(words[2]);
     pairs = atol(words[4]);
@@ -191,8 +193,8 @@ int main(int count, char **words) {
     if (count == 6)
         add_holders(atol(words[5]));
     for (int i = 0; i < all; i++)
-        workers[i] = (struct worker){manager->process(), {'R', words[3][0] == 's' ? '0' : (uint8_t)('0' + i)},
-                                     manager->run};
+        workers[i] =
+            (struct worker){manager->process(), {'R', words[3][0] == 's' ? '0' : (uint8_t)('0' + i)}, manager->run};
     pthread_barrier_init(&begin, NULL, (unsigned)all + 1);
     for (int i = 0; i < all; i++)
         must(!pthread_create(&threads[i], NULL, run_with_others, &workers[i]), "pthread_create");

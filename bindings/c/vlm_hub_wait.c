@@ -169,7 +169,7 @@ static uint32_t cut(vlm_hub_service *service) {
 /* Cuts, if there might be no place for all that comes before the next cut: an entry for each lost node, and up to two
  * for each node in a turn. */
 static uint32_t cut_if_due(vlm_hub_service *service) {
-    if (!service->entries || vlm_hub_entries(service->hub) + 3 * NODES <= service->capacity)
+    if (!service->entries || vlm_hub_entries(service->hub) + (size_t)3 * NODES <= service->capacity)
         return VLM_NORMAL;
     return cut(service);
 }

@@ -88,7 +88,8 @@ static bool has_manager(vlm_threads *layer, const vlm_threads_options *options) 
     vlm_options core = VLM_OPTIONS;
     core.has_keys = options->has_keys;
     memcpy(core.keys, options->keys, sizeof core.keys);
-    return vlm_open(&layer->handle, &core) == VLM_NORMAL && vlmt_table_is_made(&layer->processes, 4) && vlmt_table_is_made(&layer->locks, 4);
+    return vlm_open(&layer->handle, &core) == VLM_NORMAL && vlmt_table_is_made(&layer->processes, 4)
+           && vlmt_table_is_made(&layer->locks, 4);
 }
 
 static bool has_delivery(vlm_threads *layer, uint32_t delivery) {

@@ -14,10 +14,11 @@ static struct call next_call(vlm_threads *layer) {
     struct event *event = layer->first;
     struct request *request = event->request;
     bool is_completion = event->kind == VLM_COMPLETION;
-    struct call call = {.routine = is_completion ? request->completion : request->blocking,
-                        .context = is_completion ? request->completion_context : request->blocking_context,
-                        .event = {.size = sizeof call.event, .kind = event->kind, .pid = request->process->entry.id,
-                                  .lkid = request->lkid}};
+    struct call call = {
+        .routine = is_completion ? request->completion : request->blocking,
+        .context = is_completion ? request->completion_context : request->blocking_context,
+        .event = {
+            .size = sizeof call.event, .kind = event->kind, .pid = request->process->entry.id, .lkid = request->lkid}};
     if (is_completion) {
         call.event.status = request->status;
         call.event.value_len = vlmt_value_len(request);

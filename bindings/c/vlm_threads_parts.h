@@ -70,8 +70,8 @@ struct request {
     uint32_t status; /* how it ended */
     uint8_t block;   /* its status block while it is queued */
     bool is_queued;
-    bool is_held;  /* its lock holds the mode that it granted */
-    bool is_late;  /* its time is over */
+    bool is_held; /* its lock holds the mode that it granted */
+    bool is_late; /* its time is over */
     uint64_t since;
     struct waiter *waiter; /* null with a completion routine */
     vlm_threads_routine completion, blocking;
@@ -91,8 +91,8 @@ struct lock {
 
 struct process {
     struct entry entry;
-    struct lock *locks;     /* those without a parent */
-    struct bond *bond;      /* the thread that it is tied to, or null */
+    struct lock *locks; /* those without a parent */
+    struct bond *bond;  /* the thread that it is tied to, or null */
     struct process *next_tied;
     uint32_t free_count;
     uint8_t free_blocks[]; /* the status blocks that no queued request has */

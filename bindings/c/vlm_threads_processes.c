@@ -138,8 +138,12 @@ static struct process *made_process(vlm_threads *layer, const vlm_threads_declar
 }
 
 static uint32_t declare(vlm_threads *layer, const vlm_threads_declaration *words, uint32_t *pid) {
-    vlm_declaration step = {.size = sizeof step, .node = words->node, .group = words->group, .syslck = words->syslck,
-                            .quota = words->quota, .blocks = words->requests};
+    vlm_declaration step = {.size = sizeof step,
+                            .node = words->node,
+                            .group = words->group,
+                            .syslck = words->syslck,
+                            .quota = words->quota,
+                            .blocks = words->requests};
     struct process *process = made_process(layer, words);
     if (!process)
         return VLM_INSFMEM;

@@ -43,10 +43,17 @@ static void set_value(vlm_threads *layer, const vlm_threads_request *words, uint
 /* The core's step: SYNCH if it is granted at once, NORMAL if it is queued, or a refusal. */
 static uint32_t core_step(vlm_threads *layer, const struct asked *asked, struct request *request) {
     const vlm_threads_request *words = asked->words;
-    vlm_request step = {.size = sizeof step, .pid = words->pid, .mode = words->mode,
-                        .flags = words->flags | VLM_SYNCSTS, .block = request->block, .lock = words->lock,
-                        .has_ast = 1, .ast = COMPLETION_ROUTINE, .has_bast = words->blocking != NULL,
-                        .bast = BLOCKING_ROUTINE, .param = request->index};
+    vlm_request step = {.size = sizeof step,
+                        .pid = words->pid,
+                        .mode = words->mode,
+                        .flags = words->flags | VLM_SYNCSTS,
+                        .block = request->block,
+                        .lock = words->lock,
+                        .has_ast = 1,
+                        .ast = COMPLETION_ROUTINE,
+                        .has_bast = words->blocking != NULL,
+                        .bast = BLOCKING_ROUTINE,
+                        .param = request->index};
     if (!asked->is_conversion)
         return vlm_enq(&layer->handle, &step, asked->name, asked->name_len, &request->lkid);
     if (words->flags & VLM_VALBLK)
@@ -138,8 +145,8 @@ static uint32_t make_request(vlm_threads *layer, const struct asked *asked, stru
 
 /* Cancels a request whose time is over. Its end wakes the waiter. */
 static void cancel_late(vlm_threads *layer, struct request *request) {
-    vlm_dequeue dequeue = {.size = sizeof dequeue, .pid = request->process->entry.id, .flags = VLM_DEQ_CANCEL,
-                           .lock = request->lkid};
+    vlm_dequeue dequeue = {
+        .size = sizeof dequeue, .pid = request->process->entry.id, .flags = VLM_DEQ_CANCEL, .lock = request->lkid};
     request->is_late = true;
     if (vlm_deq(&layer->handle, &dequeue) == VLM_NORMAL)
         vlmt_take_asts(layer);
@@ -211,8 +218,12 @@ uint32_t vlm_threads_start_convert(vlm_threads *layer, vlm_threads_request *requ
 /* Dequeues. */
 
 static vlm_dequeue core_dequeue(const vlm_threads_dequeue *words) {
-    vlm_dequeue step = {.size = sizeof step, .pid = words->pid, .flags = words->flags, .lock = words->lock,
-                        .has_value = words->value != NULL, .has_tail = words->wide};
+    vlm_dequeue step = {.size = sizeof step,
+                        .pid = words->pid,
+                        .flags = words->flags,
+                        .lock = words->lock,
+                        .has_value = words->value != NULL,
+                        .has_tail = words->wide};
     if (words->value)
         memcpy(step.value, words->value, sizeof step.value);
     if (words->value && words->wide)

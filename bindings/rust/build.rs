@@ -5,6 +5,11 @@ use std::env;
 use std::path::Path;
 
 fn main() {
+    // (docs.rs, and whoever only checks the sources, has no library)
+    println!("cargo:rerun-if-env-changed=DOCS_RS");
+    if env::var_os("DOCS_RS").is_some() {
+        return;
+    }
     println!("cargo:rerun-if-env-changed=VLM_PREFIX");
     let prefix = env::var("VLM_PREFIX").unwrap_or_else(|_| "/usr/local".to_owned());
     let folder = Path::new(&prefix).join("lib");

@@ -8,44 +8,44 @@
 static vlm handle = VLM_CLOSED;
 static const vlm_options options = VLM_OPTIONS;
 
-static void is_granted(uint32_t pid, const vlm_ast *ast)
-{
+static void is_granted(uint32_t pid, const vlm_ast *ast) {
     printf("process %u: lock %u, the request of %u has ended\n", (unsigned)pid, (unsigned)ast->lkid,
            (unsigned)ast->param);
 }
 
-static void is_in_the_way(uint32_t pid, const vlm_ast *ast)
-{
+static void is_in_the_way(uint32_t pid, const vlm_ast *ast) {
     printf("process %u: lock %u is in the way\n", (unsigned)pid, (unsigned)ast->lkid);
 }
 
 static void (*const routines[])(uint32_t pid, const vlm_ast *ast) = {is_granted, is_in_the_way};
 
 /* Takes all pending ASTs, and calls the routines. */
-static void deliver(void)
-{
+static void deliver(void) {
     vlm_ast ast = {.size = sizeof ast};
     uint32_t pid = 0;
     while (vlm_take_any(&handle, &pid, &ast) == VLM_NORMAL && ast.kind != VLM_NO_AST)
         routines[ast.routine](pid, &ast);
 }
 
-static void tell(const char *what, uint32_t status)
-{
-    printf("%s: %s\n", what, vlm_condition_name(status));
-}
+static void tell(const char *what, uint32_t status) { printf("%s: %s\n", what, vlm_condition_name(status)); }
 
-static uint32_t enq(uint32_t pid, const char *name, uint32_t block, uint32_t flags)
-{
-    vlm_request request = {.size = sizeof request, .pid = pid, .mode = VLM_EX, .flags = flags, .block = block,
-                           .has_ast = 1, .ast = 0, .has_bast = 1, .bast = 1, .param = block};
+static uint32_t enq(uint32_t pid, const char *name, uint32_t block, uint32_t flags) {
+    vlm_request request = {.size = sizeof request,
+                           .pid = pid,
+                           .mode = VLM_EX,
+                           .flags = flags,
+                           .block = block,
+                           .has_ast = 1,
+                           .ast = 0,
+                           .has_bast = 1,
+                           .bast = 1,
+                           .param = block};
     uint32_t lkid = 0;
     tell(name, vlm_enq(&handle, &request, (const uint8_t *)name, strlen(name), &lkid));
     return lkid;
 }
 
-int main(void)
-{
+int main(void) {
     vlm_declaration declaration = {.size = sizeof declaration, .node = 1, .group = 1, .quota = 9, .blocks = 2};
     vlm_dequeue dequeue = {.size = sizeof dequeue, .has_value = 1, .value = "fifteen letters"};
     vlm_lksb lksb = {.size = sizeof lksb};

@@ -95,8 +95,11 @@ static bool is_ready(struct client *client) {
     vlm_threads_declaration declaration = {.size = sizeof declaration, .node = 1, .quota = 1, .requests = 1};
     memset(client, 0, sizeof *client);
     pthread_mutex_init(&client->mutex, NULL);
-    client->lock = (vlm_threads_request){.size = sizeof client->lock, .mode = VLM_NL, .flags = VLM_VALBLK,
-                                         .value = (uint8_t *)client->copy, .blocking = give_way,
+    client->lock = (vlm_threads_request){.size = sizeof client->lock,
+                                         .mode = VLM_NL,
+                                         .flags = VLM_VALBLK,
+                                         .value = (uint8_t *)client->copy,
+                                         .blocking = give_way,
                                          .blocking_context = client};
     if (vlm_threads_declare(layer, &declaration, &client->lock.pid) != VLM_NORMAL
         || vlm_threads_enq(layer, &client->lock, (const uint8_t *)"NUMBER", 6) != VLM_NORMAL)

@@ -31,8 +31,8 @@ static void is_granted(void *context, const vlm_threads_event *event) {
 
 static void begin(struct session *session) {
     vlm_threads_declaration declaration = {.size = sizeof declaration, .node = 1, .quota = 9, .requests = 1};
-    vlm_threads_request request = {.size = sizeof request, .mode = VLM_EX, .completion = is_granted,
-                                   .completion_context = session};
+    vlm_threads_request request = {
+        .size = sizeof request, .mode = VLM_EX, .completion = is_granted, .completion_context = session};
     if (vlm_threads_declare(layer, &declaration, &session->pid) != VLM_NORMAL)
         return;
     request.pid = session->pid;

@@ -41,8 +41,8 @@ static void *serve(void *service) {
 
 int main(void) {
     vlm_options options = VLM_OPTIONS;
-    vlm_hub_service service = {.size = sizeof service, .hub = &hub, .bell = &hub_bell, .bells = bells,
-                               .bell_count = NODES};
+    vlm_hub_service service = {
+        .size = sizeof service, .hub = &hub, .bell = &hub_bell, .bells = bells, .bell_count = NODES};
     uint32_t nodes[NODES] = {1, 2};
     pthread_t server, threads[NODES];
     if (vlm_hub_open(&hub, NODES, &options) != VLM_NORMAL || vlm_bell_open(&hub_bell) != VLM_NORMAL)

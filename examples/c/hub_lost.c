@@ -18,13 +18,11 @@ struct worker {
 
 static vlm_hub hub = VLM_HUB_CLOSED;
 static vlm_bell hub_bell = VLM_BELL_CLOSED, bells[NODES];
-static vlm_hub_service service = {.size = sizeof service, .hub = &hub, .bell = &hub_bell, .bells = bells,
-                                  .bell_count = NODES};
+static vlm_hub_service service = {
+    .size = sizeof service, .hub = &hub, .bell = &hub_bell, .bells = bells, .bell_count = NODES};
 static pthread_barrier_t all_wait;
 
-static void *serve(void *given) {
-    return vlm_hub_run(given) == VLM_NORMAL ? NULL : given;
-}
+static void *serve(void *given) { return vlm_hub_run(given) == VLM_NORMAL ? NULL : given; }
 
 /* Waits for the next item, which is to be of this kind. */
 static uint32_t next(struct worker *worker, uint32_t kind) {

@@ -27,9 +27,7 @@ static uint32_t keep(void *context, const vlm_entry *part, const vlm_cut *cut) {
     return fwrite(part, sizeof *part, cut->count, file) == cut->count ? status : VLM_BADPARAM;
 }
 
-static void *serve(void *service) {
-    return vlm_hub_run(service) == VLM_NORMAL ? NULL : service;
-}
+static void *serve(void *service) { return vlm_hub_run(service) == VLM_NORMAL ? NULL : service; }
 
 /* Waits for the answer to a post, past ASTs. */
 static uint32_t answer(struct worker *worker) {
@@ -42,8 +40,8 @@ static uint32_t answer(struct worker *worker) {
 }
 
 static uint32_t ask(struct worker *worker, uint32_t mode, const char *name) {
-    vlm_request request = {.size = sizeof request, .pid = worker->pid, .mode = mode, .flags = VLM_VALBLK, .block = 1,
-                           .has_ast = 1};
+    vlm_request request = {
+        .size = sizeof request, .pid = worker->pid, .mode = mode, .flags = VLM_VALBLK, .block = 1, .has_ast = 1};
     vlm_port_posted(vlm_port_enq(&worker->port, &request, (const uint8_t *)name, strlen(name)), &hub_bell);
     return answer(worker);
 }
@@ -157,8 +155,14 @@ static bool run_threads(struct worker workers[THREADS], vlm_hub_service *service
 int main(void) {
     static struct worker workers[THREADS];
     static vlm_entry part[PART];
-    vlm_hub_service service = {.size = sizeof service, .hub = &hub, .bell = &hub_bell, .bells = bells,
-                               .bell_count = THREADS, .entries = part, .capacity = PART, .keep = keep};
+    vlm_hub_service service = {.size = sizeof service,
+                               .hub = &hub,
+                               .bell = &hub_bell,
+                               .bells = bells,
+                               .bell_count = THREADS,
+                               .entries = part,
+                               .capacity = PART,
+                               .keep = keep};
     if (!is_ready(workers) || !run_threads(workers, &service))
         return 1;
     int wrong = workers[0].wrong + workers[1].wrong, entries = restore();

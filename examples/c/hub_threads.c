@@ -29,9 +29,7 @@ static uint32_t keep(void *context, const vlm_entry *part, const vlm_cut *cut) {
     return VLM_NORMAL;
 }
 
-static void *serve(void *service) {
-    return vlm_hub_run(service) == VLM_NORMAL ? NULL : service;
-}
+static void *serve(void *service) { return vlm_hub_run(service) == VLM_NORMAL ? NULL : service; }
 
 /* Waits for the next item. Here it is of the kind that is due: a post has an answer first, and then perhaps an AST. */
 static vlm_item next(struct worker *worker, uint32_t kind) {
@@ -98,8 +96,14 @@ static bool run_threads(struct worker workers[THREADS], vlm_hub_service *service
 int main(void) {
     static struct worker workers[THREADS];
     static vlm_entry part[PART];
-    vlm_hub_service service = {.size = sizeof service, .hub = &hub, .bell = &hub_bell, .bells = bells,
-                               .bell_count = THREADS, .entries = part, .capacity = PART, .keep = keep};
+    vlm_hub_service service = {.size = sizeof service,
+                               .hub = &hub,
+                               .bell = &hub_bell,
+                               .bells = bells,
+                               .bell_count = THREADS,
+                               .entries = part,
+                               .capacity = PART,
+                               .keep = keep};
     int wrong = 0;
     if (!is_ready(workers) || !run_threads(workers, &service))
         return 1;

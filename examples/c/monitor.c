@@ -1,5 +1,6 @@
-/* Prints who waits for whom. The monitor walks the resources, the queued requests of each, and for each request the locks
- * for which it waits. Each step of these walks takes constant time, except past locks that are in nobody's way. */
+/* Prints who waits for whom. The monitor walks the resources, the queued requests of each, and for each request the
+ * locks for which it waits. Each step of these walks takes constant time, except past locks that are in nobody's
+ * way. */
 #include <vlm_threads.h>
 
 #include <string.h>
@@ -19,7 +20,8 @@ static void print_wait(const vlm_lock *waits, const vlm_lock *blocks) {
 static void print_waits(vlm *handle, const vlm_lock *waits) {
     vlm_lock blocks = {.size = sizeof blocks};
     uint32_t status = vlm_first_blocker(handle, waits->lkid, &blocks);
-    for (; status == VLM_NORMAL && blocks.lkid != 0; status = vlm_next_blocker(handle, waits->lkid, blocks.lkid, &blocks))
+    for (; status == VLM_NORMAL && blocks.lkid != 0;
+         status = vlm_next_blocker(handle, waits->lkid, blocks.lkid, &blocks))
         print_wait(waits, &blocks);
 }
 
@@ -55,10 +57,10 @@ static uint32_t declared(void) {
     return vlm_threads_declare(layer, &declaration, &pid) == VLM_NORMAL ? pid : 0;
 }
 
-/* Starts a new request, or a conversion if a lock is given: the lock. */
+/* Starts a new request, or a conversion if a lock is given: the lock. The name is that of its resource. */
 static uint32_t start(uint32_t pid, uint32_t lock, uint32_t mode, const char *name) {
-    vlm_threads_request request = {.size = sizeof request, .pid = pid, .mode = mode, .lock = lock,
-                                   .completion = ignore};
+    vlm_threads_request request = {
+        .size = sizeof request, .pid = pid, .mode = mode, .lock = lock, .completion = ignore};
     if (lock)
         vlm_threads_start_convert(layer, &request);
     else
@@ -77,7 +79,7 @@ int main(void) {
     start(q, 0, VLM_EX, "B");
     start(r, 0, VLM_PR, "B");
     start(p, 0, VLM_PR, "B");
-    start(p, lock, VLM_EX, NULL);
+    start(p, lock, VLM_EX, "A");
     vlm_threads_look(layer, print_all, NULL);
     vlm_threads_close(layer);
     return 0;

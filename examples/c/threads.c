@@ -16,8 +16,7 @@ static pthread_cond_t ended = PTHREAD_COND_INITIALIZER;
 static int counted;
 
 /* Waits, with the mutex, until the request of the process's first status block has ended, and answers how. */
-static uint32_t awaited(uint32_t pid)
-{
+static uint32_t awaited(uint32_t pid) {
     vlm_lksb lksb = {.size = sizeof lksb};
     while (vlm_block(&handle, pid, 1, &lksb) == VLM_NORMAL && lksb.status == 0)
         pthread_cond_wait(&ended, &mutex);
@@ -25,8 +24,7 @@ static uint32_t awaited(uint32_t pid)
 }
 
 /* Counts, and how often an answer was not the one that was due. */
-static void *run(void *given)
-{
+static void *run(void *given) {
     static const uint8_t name[] = {'C', 'O', 'U', 'N', 'T', 'E', 'R'};
     uint32_t pid = *(uint32_t *)given;
     intptr_t wrong = 0;
@@ -46,8 +44,7 @@ static void *run(void *given)
     return (void *)wrong;
 }
 
-int main(void)
-{
+int main(void) {
     pthread_t threads[2];
     uint32_t pids[2];
     intptr_t wrong = vlm_open(&handle, &options) != VLM_NORMAL;

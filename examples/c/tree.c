@@ -14,8 +14,8 @@ static uint32_t declared(void) {
 
 /* Asks for a lock below another one, or for a root with 0: the lock, or 0 if it is not granted at once. */
 static uint32_t take(uint32_t pid, uint32_t parent, uint32_t mode, const char *name) {
-    vlm_threads_request request = {.size = sizeof request, .pid = pid, .mode = mode, .flags = VLM_NOQUEUE,
-                                   .lock = parent};
+    vlm_threads_request request = {
+        .size = sizeof request, .pid = pid, .mode = mode, .flags = VLM_NOQUEUE, .lock = parent};
     uint32_t status = vlm_threads_enq(layer, &request, (const uint8_t *)name, strlen(name));
     printf("process %u, %s: %s\n", (unsigned)(pid & 0xffff), name, vlm_threads_condition_name(status));
     return request.lkid;

@@ -22,8 +22,16 @@ int main(void) {
     vlm_declaration declaration = {.size = sizeof declaration, .node = 1, .group = 1, .quota = 9, .blocks = 1};
     vlm_declare(&handle, &declaration, &p);
     vlm_declare(&handle, &declaration, &q);
-    vlm_request request = {.size = sizeof request, .pid = p, .mode = VLM_EX, .flags = VLM_VALBLK, .block = 1,
-                           .has_ast = 1, .ast = 0, .has_bast = 1, .bast = 1, .param = 1};
+    vlm_request request = {.size = sizeof request,
+                           .pid = p,
+                           .mode = VLM_EX,
+                           .flags = VLM_VALBLK,
+                           .block = 1,
+                           .has_ast = 1,
+                           .ast = 0,
+                           .has_bast = 1,
+                           .bast = 1,
+                           .param = 1};
     vlm_dequeue dequeue = {.size = sizeof dequeue, .pid = p, .has_value = 1};
     memcpy(dequeue.value, "from P", 6);
     vlm_enq(&handle, &request, (const uint8_t *)"A", 1, &dequeue.lock);

@@ -259,12 +259,12 @@ static void wrong_openings(void) {
 }
 
 /* One post with one member changed, then the right words again. */
-#define WITH(words, member, value, post)      \
-    do {                                      \
-        __typeof__(words) before = words;     \
-        words.member = (value);               \
-        EXPECT(post, VLM_BADPARAM);           \
-        words = before;                       \
+#define WITH(words, member, value, post)    \
+    do {                                    \
+        __typeof__(words) before = (words); \
+        (words).member = (value);           \
+        EXPECT(post, VLM_BADPARAM);         \
+        (words) = before;                   \
     } while (0)
 
 #define DECLARE vlm_port_declare(port, &declaration)
@@ -312,9 +312,12 @@ static void wrong_posts(vlm_port *port) {
         WITH(dequeue, pid, nodes[i] << 16 | 1, DEQ);
         EXPECT(vlm_port_rundown(port, nodes[i] << 16 | 1), VLM_BADPARAM);
     }
-    for (size_t i = 0; i < 2; i++) WITH(declaration, reserved[i], 1, DECLARE);
-    for (size_t i = 0; i < 4; i++) WITH(setting, reserved[i], 1, SET);
-    for (size_t i = 0; i < 9; i++) WITH(dequeue, reserved[i], 1, DEQ);
+    for (size_t i = 0; i < 2; i++)
+        WITH(declaration, reserved[i], 1, DECLARE);
+    for (size_t i = 0; i < 4; i++)
+        WITH(setting, reserved[i], 1, SET);
+    for (size_t i = 0; i < 9; i++)
+        WITH(dequeue, reserved[i], 1, DEQ);
     WITH(declaration, size, 31, DECLARE);
     WITH(declaration, group, 65536, DECLARE);
     WITH(declaration, syslck, 2, DECLARE);

@@ -217,8 +217,14 @@ static void make_worker(struct worker *worker, uint32_t node, uint64_t seed) {
 
 static void run(uint32_t nodes, uint64_t seed) {
     static vlm_entry part[PART];
-    vlm_hub_service service = {.size = sizeof service, .hub = &hub, .bell = &hub_bell, .bells = bells,
-                               .bell_count = nodes, .entries = part, .capacity = PART, .keep = keep};
+    vlm_hub_service service = {.size = sizeof service,
+                               .hub = &hub,
+                               .bell = &hub_bell,
+                               .bells = bells,
+                               .bell_count = nodes,
+                               .entries = part,
+                               .capacity = PART,
+                               .keep = keep};
     pthread_t server, threads[NODES];
     journal.count = 0;
     open_hub(&hub, nodes);

@@ -25,12 +25,12 @@ static bool is_short(uint32_t status) {
 }
 
 /* Makes a call again while it is short of memory. */
-#define MADE(call)                         \
-    do {                                   \
-        uint32_t status;                   \
-        while (is_short(status = (call)))  \
-            continue;                      \
-        EXPECT(status, VLM_NORMAL);        \
+#define MADE(call)                        \
+    do {                                  \
+        uint32_t status;                  \
+        while (is_short(status = (call))) \
+            continue;                     \
+        EXPECT(status, VLM_NORMAL);       \
     } while (0)
 
 static vlm_hub hub;

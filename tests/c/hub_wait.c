@@ -208,8 +208,8 @@ static void open_all(void) {
         EXPECT(vlm_hub_port(&hub, i + 1, &ports[i]), VLM_NORMAL);
         open_bell(&bells[i]);
     }
-    service = (vlm_hub_service){.size = sizeof service, .hub = &hub, .bell = &hub_bell, .bells = bells,
-                                .bell_count = 2};
+    service =
+        (vlm_hub_service){.size = sizeof service, .hub = &hub, .bell = &hub_bell, .bells = bells, .bell_count = 2};
 }
 
 static void close_all(void) {
@@ -300,7 +300,7 @@ static void closed_port(void) {
         search(2);
     vlm_hub_stop(&service);
     pthread_join(server, NULL);
-    HOLD(vlm_hub_entries(&hub) == 3 * PLACES);
+    HOLD(vlm_hub_entries(&hub) == (size_t)3 * PLACES);
     close_all();
 }
 

@@ -27,8 +27,8 @@ static uint32_t declared(void) {
 
 /* A request for a new lock, with its status block and flags. */
 static uint32_t asked(uint32_t pid, const char *name, uint32_t parent, uint32_t mode, uint32_t block, uint32_t flags) {
-    vlm_request request = {.size = sizeof request, .pid = pid, .mode = mode, .flags = flags, .block = block,
-                           .lock = parent};
+    vlm_request request = {
+        .size = sizeof request, .pid = pid, .mode = mode, .flags = flags, .block = block, .lock = parent};
     uint32_t lkid = 0;
     MADE(vlm_enq(&handle, &request, (const uint8_t *)name, strlen(name), &lkid));
     return lkid;
@@ -42,21 +42,21 @@ static void converted(uint32_t pid, uint32_t lock, uint32_t mode, uint32_t block
 
 static int is_lock(const vlm_lock *lock, uint32_t lkid, uint32_t pid, uint32_t held, uint32_t want, uint32_t queue) {
     return lock->size == sizeof *lock && lock->lkid == lkid && lock->pid == pid && lock->held == held
-        && lock->want == want && lock->queue == queue;
+           && lock->want == want && lock->queue == queue;
 }
 
 /* What a walk writes after the last lock. */
 static int is_none(const vlm_lock *lock) { return is_lock(lock, 0, 0, VLM_NO_MODE, VLM_NO_MODE, VLM_GRANTED); }
 
 /* A walk gives exactly these locks, by its first call and its next calls. */
-#define WALKS(first_call, next_call, ...)                              \
-    do {                                                               \
-        const uint32_t expected[] = {__VA_ARGS__, 0};                  \
-        vlm_lock lock = {.size = sizeof lock};                         \
-        uint32_t status = (first_call);                                \
+#define WALKS(first_call, next_call, ...)                               \
+    do {                                                                \
+        const uint32_t expected[] = {__VA_ARGS__, 0};                   \
+        vlm_lock lock = {.size = sizeof lock};                          \
+        uint32_t status = (first_call);                                 \
         for (size_t i = 0; expected[i] != 0; i++, status = (next_call)) \
-            HOLD(status == VLM_NORMAL && lock.lkid == expected[i]);    \
-        HOLD(status == VLM_NORMAL && is_none(&lock));                  \
+            HOLD(status == VLM_NORMAL && lock.lkid == expected[i]);     \
+        HOLD(status == VLM_NORMAL && is_none(&lock));                   \
     } while (0)
 
 /* A walk gives no lock. */
@@ -80,7 +80,8 @@ static void rows(uint32_t p, uint32_t q, uint32_t r) {
     b.name[0] = 'C';
     HOLD(vlm_first_row(&handle, &b, VLM_GRANTED, &lock) == VLM_BADPARAM);
     MADE(vlm_find_lock(&handle, 1, &lock));
-    HOLD(is_lock(&lock, 1, p, VLM_CR, VLM_NO_MODE, VLM_GRANTED) && lock.block == 1 && lock.parent == 0 && lock.resource == 1);
+    HOLD(is_lock(&lock, 1, p, VLM_CR, VLM_NO_MODE, VLM_GRANTED) && lock.block == 1 && lock.parent == 0
+         && lock.resource == 1);
     MADE(vlm_find_lock(&handle, 2, &lock));
     HOLD(is_lock(&lock, 2, p, VLM_CR, VLM_EX, VLM_CONVERSION) && lock.block == 3);
     MADE(vlm_find_lock(&handle, 5, &lock));
@@ -125,17 +126,17 @@ int main(void) {
     vlm_options options = VLM_OPTIONS;
     MADE(vlm_open(&handle, &options));
     uint32_t p = declared(), q = declared(), r = declared();
-    asked(p, "A", 0, VLM_CR, 1, 0);             /* 1 */
-    asked(p, "A", 0, VLM_CR, 2, 0);             /* 2, converts to EX */
-    asked(q, "A", 0, VLM_CR, 1, 0);             /* 3, converts to EX after it */
+    asked(p, "A", 0, VLM_CR, 1, 0); /* 1 */
+    asked(p, "A", 0, VLM_CR, 2, 0); /* 2, converts to EX */
+    asked(q, "A", 0, VLM_CR, 1, 0); /* 3, converts to EX after it */
     converted(p, 2, VLM_EX, 3);
     converted(q, 3, VLM_EX, 2);
-    asked(q, "A", 0, VLM_CR, 3, 0);             /* 4 waits for the conversions */
-    asked(r, "A", 0, VLM_PR, 1, 0);             /* 5 waits for it too */
-    asked(p, "SUB", 1, VLM_NL, 4, 0);           /* 6 */
-    asked(p, "SUB", 1, VLM_NL, 5, 0);           /* 7 */
-    asked(p, "DEEP", 7, VLM_NL, 6, 0);          /* 8 */
-    asked(p, "B", 0, VLM_NL, 7, 0);             /* 9 */
+    asked(q, "A", 0, VLM_CR, 3, 0);    /* 4 waits for the conversions */
+    asked(r, "A", 0, VLM_PR, 1, 0);    /* 5 waits for it too */
+    asked(p, "SUB", 1, VLM_NL, 4, 0);  /* 6 */
+    asked(p, "SUB", 1, VLM_NL, 5, 0);  /* 7 */
+    asked(p, "DEEP", 7, VLM_NL, 6, 0); /* 8 */
+    asked(p, "B", 0, VLM_NL, 7, 0);    /* 9 */
     HOLD(vlm_lock_count(&handle) == 9 && vlm_queued_count(&handle) == 4);
     rows(p, q, r);
     kin(p, q, r);

@@ -11,15 +11,9 @@ static long refused, asked;
 void *__real_malloc(size_t size);
 void *__real_realloc(void *block, size_t size);
 
-void *__wrap_malloc(size_t size)
-{
-    return ++asked == refused ? NULL : __real_malloc(size);
-}
+void *__wrap_malloc(size_t size) { return ++asked == refused ? NULL : __real_malloc(size); }
 
-void *__wrap_realloc(void *block, size_t size)
-{
-    return ++asked == refused ? NULL : __real_realloc(block, size);
-}
+void *__wrap_realloc(void *block, size_t size) { return ++asked == refused ? NULL : __real_realloc(block, size); }
 
 static long told;
 
@@ -27,15 +21,13 @@ static long told;
 #define MADE(call) (again(call) ? (call) : last)
 static uint32_t last;
 
-static int again(uint32_t status)
-{
+static int again(uint32_t status) {
     last = status;
     told += status == VLM_INSFMEM;
     return status == VLM_INSFMEM;
 }
 
-static int ends_as_it_should(void)
-{
+static int ends_as_it_should(void) {
     static const uint8_t name[] = {'A'};
     vlm handle = VLM_CLOSED;
     vlm_options options = VLM_OPTIONS;
@@ -59,8 +51,7 @@ static int ends_as_it_should(void)
     return good && lksb.status == VLM_NORMAL && lksb.lkid == waits;
 }
 
-int main(void)
-{
+int main(void) {
     long all, right = 0;
     if (!ends_as_it_should())
         return 1;
@@ -69,6 +60,7 @@ int main(void)
         asked = 0;
         right += ends_as_it_should();
     }
-    printf("each allocation was refused once: %s\n", right == all && told == all ? "INSFMEM, and then as ever" : "wrong");
+    printf("each allocation was refused once: %s\n",
+           right == all && told == all ? "INSFMEM, and then as ever" : "wrong");
     return right != all || told != all;
 }

@@ -9,9 +9,7 @@ static uint64_t state = 88172645463325252u;
 static uint32_t pids[PROCESSES];
 
 /* The locks of the latest requests, each with its process. */
-static struct known {
-    uint32_t pid, lkid;
-} known[16];
+static struct known { uint32_t pid, lkid; } known[16];
 
 /* How many completions are due, and how many came. */
 static uint64_t due, told;

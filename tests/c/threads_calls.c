@@ -50,12 +50,12 @@ static void test_declare(void) {
     const vlm_threads_declaration right = {.size = sizeof right, .node = 1, .group = 2, .quota = 3, .requests = 2};
     vlm_threads_declaration words;
     uint32_t pid = 9;
-#define WRONG(member, number)                                        \
-    do {                                                             \
-        words = right;                                               \
-        words.member = (number);                                     \
+#define WRONG(member, number)                                           \
+    do {                                                                \
+        words = right;                                                  \
+        words.member = (number);                                        \
         EXPECT(vlm_threads_declare(layer, &words, &pid), VLM_BADPARAM); \
-        HOLD(pid == 0);                                              \
+        HOLD(pid == 0);                                                 \
     } while (0)
     WRONG(size, 4);
     WRONG(node, 0);
@@ -80,12 +80,12 @@ static void test_declare(void) {
 static void test_refused_enq(void) {
     vlm_threads_request request;
     uint8_t value[16];
-#define REFUSED(want, name, ...)                                                              \
-    do {                                                                                      \
+#define REFUSED(want, name, ...)                                                                        \
+    do {                                                                                                \
         request = (vlm_threads_request){.size = sizeof request, .pid = p, .mode = VLM_EX, __VA_ARGS__}; \
-        request.lkid = request.status = 7;                                                    \
-        EXPECT(enq(layer, &request, name), want);                                             \
-        HOLD(request.lkid == 0 && request.status == 0);                                       \
+        request.lkid = request.status = 7;                                                              \
+        EXPECT(enq(layer, &request, name), want);                                                       \
+        HOLD(request.lkid == 0 && request.status == 0);                                                 \
     } while (0)
     request = asked(p, VLM_EX);
     request.size--;
@@ -114,12 +114,12 @@ static void test_refused_convert(void) {
     vlm_threads_request holds = asked(p, VLM_PR), other = asked(q, VLM_PR), request;
     EXPECT(enq(layer, &holds, "C"), VLM_NORMAL);
     EXPECT(enq(layer, &other, "C"), VLM_NORMAL);
-#define REFUSED(want, ...)                                                                               \
-    do {                                                                                                 \
+#define REFUSED(want, ...)                                                                                  \
+    do {                                                                                                    \
         request = (vlm_threads_request){.size = sizeof request, .pid = p, .lock = holds.lkid, __VA_ARGS__}; \
-        request.lkid = request.status = 7;                                                               \
-        EXPECT(vlm_threads_convert(layer, &request), want);                                              \
-        HOLD(request.lkid == 0 && request.status == 0);                                                  \
+        request.lkid = request.status = 7;                                                                  \
+        EXPECT(vlm_threads_convert(layer, &request), want);                                                 \
+        HOLD(request.lkid == 0 && request.status == 0);                                                     \
     } while (0)
     REFUSED(VLM_BADPARAM, .reserved[0] = 1);
     REFUSED(VLM_BADPARAM, .completion = note);
@@ -350,9 +350,7 @@ static void test_last_process(void) {
     HOLD(pid == 0);
 }
 
-static void look(void *context, vlm *handle) {
-    *(size_t *)context = vlm_process_count(handle);
-}
+static void look(void *context, vlm *handle) { *(size_t *)context = vlm_process_count(handle); }
 
 static void test_readings(void) {
     size_t processes = 0;

@@ -18,8 +18,8 @@ static pthread_barrier_t both;
 static void sleep_milliseconds(long count) { nanosleep(&(struct timespec){.tv_nsec = count * 1000000}, NULL); }
 
 static uint32_t declared_tied(void) {
-    vlm_threads_declaration declaration = {.size = sizeof declaration, .node = 1, .group = 1, .quota = 9, .requests = 9,
-                                           .tied = 1};
+    vlm_threads_declaration declaration = {
+        .size = sizeof declaration, .node = 1, .group = 1, .quota = 9, .requests = 9, .tied = 1};
     uint32_t pid;
     EXPECT(vlm_threads_declare(layer, &declaration, &pid), VLM_NORMAL);
     return pid;

@@ -62,15 +62,15 @@ static bool again(uint32_t status) {
 }
 
 /* A call of a layer, made again where it was short of memory. Its answer is in `status`. */
-#define MADE(call)                              \
-    do {                                        \
-        struct figures before = figures_of(layer); \
-        status = (call);                        \
-        if (again(status)) {                    \
+#define MADE(call)                                   \
+    do {                                             \
+        struct figures before = figures_of(layer);   \
+        status = (call);                             \
+        if (again(status)) {                         \
             expect_equal(before, figures_of(layer)); \
-            status = (call);                    \
-        }                                       \
-        EXPECT(status, VLM_NORMAL);             \
+            status = (call);                         \
+        }                                            \
+        EXPECT(status, VLM_NORMAL);                  \
     } while (0)
 
 static void note(void *context, const vlm_threads_event *event) {

@@ -40,16 +40,16 @@ static inline long rounds(long all) {
 }
 
 static inline vlm_threads *opened(uint32_t delivery, uint32_t search_milliseconds) {
-    vlm_threads_options options = {.size = sizeof options, .delivery = delivery,
-                                   .search_milliseconds = search_milliseconds};
+    vlm_threads_options options = {
+        .size = sizeof options, .delivery = delivery, .search_milliseconds = search_milliseconds};
     vlm_threads *layer;
     EXPECT(vlm_threads_open(&options, &layer), VLM_NORMAL);
     return layer;
 }
 
 static inline uint32_t declared(vlm_threads *layer, uint32_t node) {
-    vlm_threads_declaration declaration = {.size = sizeof declaration, .node = node, .group = 1, .quota = 100,
-                                           .requests = 100};
+    vlm_threads_declaration declaration = {
+        .size = sizeof declaration, .node = node, .group = 1, .quota = 100, .requests = 100};
     uint32_t pid;
     EXPECT(vlm_threads_declare(layer, &declaration, &pid), VLM_NORMAL);
     return pid;
@@ -100,8 +100,9 @@ static inline void expect_sums(vlm_threads *layer) {
     for (int i = 0; i < VLM_THREADS_TIMES; i++)
         times += counters.times[i];
     HOLD(counters.requests == counters.granted_at_once + counters.waited + refused);
-    HOLD(counters.waited == counters.granted_later + counters.timed_out + counters.cancelled + counters.victims
-                                + counters.run_down + counters.waiting);
+    HOLD(counters.waited
+         == counters.granted_later + counters.timed_out + counters.cancelled + counters.victims + counters.run_down
+                + counters.waiting);
     HOLD(times == counters.waited - counters.waiting);
 }
 

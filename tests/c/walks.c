@@ -36,8 +36,8 @@ static const uint32_t sizes[] = {0, 4, 31, 33, 63, 65, 143, 145, UINT32_MAX};
 enum { SIZES = sizeof sizes / sizeof *sizes };
 
 static uint32_t declared(vlm *handle, uint32_t node) {
-    vlm_declaration declaration = {.size = sizeof declaration, .node = node, .group = 7, .syslck = 1, .quota = 9,
-                                   .blocks = 9};
+    vlm_declaration declaration = {
+        .size = sizeof declaration, .node = node, .group = 7, .syslck = 1, .quota = 9, .blocks = 9};
     uint32_t pid;
     EXPECT(vlm_declare(handle, &declaration, &pid), VLM_NORMAL);
     return pid;
@@ -45,8 +45,14 @@ static uint32_t declared(vlm *handle, uint32_t node) {
 
 /* A lock at NL on the resource of a name, with a completion routine if it is not 0. */
 static uint32_t locked(vlm *handle, uint32_t pid, const char *name, uint32_t parent, uint32_t flags, uint32_t routine) {
-    vlm_request request = {.size = sizeof request, .pid = pid, .flags = flags, .block = 1, .lock = parent,
-                           .has_ast = routine != 0, .ast = routine, .param = routine + 1};
+    vlm_request request = {.size = sizeof request,
+                           .pid = pid,
+                           .flags = flags,
+                           .block = 1,
+                           .lock = parent,
+                           .has_ast = routine != 0,
+                           .ast = routine,
+                           .param = routine + 1};
     uint32_t lkid;
     EXPECT(vlm_enq(handle, &request, (const uint8_t *)name, strlen(name), &lkid), VLM_NORMAL);
     return lkid;
@@ -155,9 +161,9 @@ static void keys(vlm *handle) {
         EXPECT(vlm_find(handle, &resource), VLM_NORMAL);
         HOLD(resource.serial == found[i].serial && is_named(&resource, found[i].name) && resource.reserved[3] == 0);
     }
-    struct vlm_resource absent[] = {key("A", 0, 8), key("B", 0, 7), key("A", 1, 7), key("B", 2, 7), key("", 0, 7),
-                                    key("A", 0, 65543), key("B", UINT32_MAX, 7), key("A", 0, 7), key("A", 0, 7),
-                                    key("A", 0, 7), key("A", 0, 7)};
+    struct vlm_resource absent[] = {key("A", 0, 8), key("B", 0, 7),     key("A", 1, 7),          key("B", 2, 7),
+                                    key("", 0, 7),  key("A", 0, 65543), key("B", UINT32_MAX, 7), key("A", 0, 7),
+                                    key("A", 0, 7), key("A", 0, 7),     key("A", 0, 7)};
     absent[7].is_system = 2;
     absent[8].name_len = 32;
     absent[9].name_len = 33;

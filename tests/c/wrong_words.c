@@ -1,5 +1,5 @@
-/* Each call with each kind of wrong argument, on a closed handle and on an open one: each answer is as expected, nothing
- * is written where nothing is to be, and the locks stay as they are. */
+/* Each call with each kind of wrong argument, on a closed handle and on an open one: each answer is as expected,
+ * nothing is written where nothing is to be, and the locks stay as they are. */
 #include "vlm.h"
 
 #include <stdio.h>
@@ -47,7 +47,7 @@ static void set_words(void) {
 /* One call with one member changed, then the right words again. */
 #define WITH(words, member, number, call, want) \
     do {                                        \
-        words.member = (number);                \
+        (words).member = (number);              \
         EXPECT(call, want);                     \
         set_words();                            \
     } while (0)
@@ -60,8 +60,8 @@ static uint32_t number;
 #define CONVERT vlm_convert(handle, &conversion, &number)
 #define DEQ vlm_deq(handle, &dequeue)
 
-/* Words that name no step: BADPARAM on each handle. */
-static void wrong_words(vlm *handle) {
+/* Structs of another size, and reserved words that are not 0: BADPARAM on each handle. */
+static void wrong_structs(vlm *handle) {
     static const uint32_t sizes[] = {0, 4, 31, 64, 97, 129, UINT32_MAX};
     for (size_t i = 0; i < sizeof sizes / sizeof *sizes; i++) {
         WITH(declaration, size, sizes[i], DECLARE, VLM_BADPARAM);
@@ -70,11 +70,24 @@ static void wrong_words(vlm *handle) {
         WITH(conversion, size, sizes[i], CONVERT, VLM_BADPARAM);
         WITH(dequeue, size, sizes[i], DEQ, VLM_BADPARAM);
     }
-    for (size_t i = 0; i < 2; i++) WITH(declaration, reserved[i], 1, DECLARE, VLM_BADPARAM);
-    for (size_t i = 0; i < 4; i++) WITH(setting, reserved[i], 1, SET, VLM_BADPARAM);
-    for (size_t i = 0; i < 20; i++) WITH(request, reserved[i], 1, ENQ, VLM_BADPARAM);
-    for (size_t i = 0; i < 20; i++) WITH(conversion, reserved[i], 1, CONVERT, VLM_BADPARAM);
-    for (size_t i = 0; i < 9; i++) WITH(dequeue, reserved[i], 1, DEQ, VLM_BADPARAM);
+    for (size_t i = 0; i < 2; i++)
+        WITH(declaration, reserved[i], 1, DECLARE, VLM_BADPARAM);
+    for (size_t i = 0; i < 4; i++)
+        WITH(setting, reserved[i], 1, SET, VLM_BADPARAM);
+    for (size_t i = 0; i < 20; i++)
+        WITH(request, reserved[i], 1, ENQ, VLM_BADPARAM);
+    for (size_t i = 0; i < 20; i++)
+        WITH(conversion, reserved[i], 1, CONVERT, VLM_BADPARAM);
+    for (size_t i = 0; i < 9; i++)
+        WITH(dequeue, reserved[i], 1, DEQ, VLM_BADPARAM);
+    WITH(options, size, 63, OPEN, VLM_BADPARAM);
+    WITH(options, size, 65, OPEN, VLM_BADPARAM);
+    for (size_t i = 0; i < 9; i++)
+        WITH(options, reserved[i], 1, OPEN, VLM_BADPARAM);
+}
+
+/* Declarations, settings and options with a number out of range: BADPARAM on each handle. */
+static void wrong_numbers(vlm *handle) {
     WITH(declaration, node, 257, DECLARE, VLM_BADPARAM);
     WITH(declaration, group, 65537, DECLARE, VLM_BADPARAM);
     WITH(declaration, syslck, 2, DECLARE, VLM_BADPARAM);
@@ -82,6 +95,16 @@ static void wrong_words(vlm *handle) {
     WITH(declaration, blocks, 257, DECLARE, VLM_BADPARAM);
     WITH(setting, block, 257, SET, VLM_BADPARAM);
     WITH(setting, has_tail, 2, SET, VLM_BADPARAM);
+    WITH(options, version, VLM_VERSION + 1, OPEN, VLM_BADPARAM);
+    WITH(options, version, 0, OPEN, VLM_BADPARAM);
+    WITH(options, has_keys, 2, OPEN, VLM_BADPARAM);
+    EXPECT(vlm_leave(handle, 257), VLM_BADPARAM);
+    EXPECT(vlm_search(handle, 257, &number), VLM_BADPARAM);
+    HOLD(number == 0);
+}
+
+/* Requests and dequeues with a number out of range: BADPARAM on each handle. */
+static void wrong_requests(vlm *handle) {
     static const uint32_t modes[] = {6, 255, 256, UINT32_MAX};
     for (size_t i = 0; i < sizeof modes / sizeof *modes; i++) {
         WITH(request, mode, modes[i], ENQ, VLM_BADPARAM);
@@ -105,78 +128,69 @@ static void wrong_words(vlm *handle) {
     WITH(dequeue, lock_block, 257, DEQ, VLM_BADPARAM);
     WITH(dequeue, has_value, 2, DEQ, VLM_BADPARAM);
     WITH(dequeue, has_tail, 2, DEQ, VLM_BADPARAM);
-    EXPECT(vlm_leave(handle, 257), VLM_BADPARAM);
-    EXPECT(vlm_search(handle, 257, &number), VLM_BADPARAM);
+}
+
+/* Words that name no step. */
+static void wrong_words(vlm *handle) {
+    wrong_structs(handle);
+    wrong_numbers(handle);
+    wrong_requests(handle);
+}
+
+/* What calls write, all of it in one place so that it is compared at once. */
+struct written {
+    vlm_lksb lksb;
+    vlm_ast ast;
+    struct vlm_process process;
+    struct vlm_resource resource;
+    struct vlm_row row;
+    vlm_lock lock;
+};
+
+/* Calls that read into structs of the wrong size, or, where these are right, read what is not there. */
+static void wrong_reading(vlm *handle, struct written *to, bool is_sized) {
+    uint32_t own = is_sized ? 12345 : p_lock;
+    EXPECT(vlm_block(handle, p, is_sized ? 3 : 1, &to->lksb), VLM_BADPARAM);
+    EXPECT(vlm_block(handle, is_sized ? 12345 : p, 1, &to->lksb), VLM_BADPARAM);
+    EXPECT(vlm_block(handle, p, 257, &to->lksb), VLM_BADPARAM);
+    EXPECT(vlm_process(handle, 2 * (size_t)is_sized, &to->process), VLM_BADPARAM);
+    EXPECT(vlm_resource(handle, (size_t)is_sized, &to->resource), VLM_BADPARAM);
+    EXPECT(vlm_row(handle, (size_t)is_sized, VLM_GRANTED, 0, &to->row), VLM_BADPARAM);
+    EXPECT(vlm_row(handle, 0, VLM_GRANTED, (size_t)is_sized, &to->row), VLM_BADPARAM);
+    EXPECT(vlm_row(handle, 0, 3, 0, &to->row), VLM_BADPARAM);
+    EXPECT(vlm_next_process(handle, is_sized ? 12345 : 0, &to->process), VLM_BADPARAM);
+    EXPECT(vlm_next_resource(handle, &to->resource), VLM_BADPARAM);
+    EXPECT(vlm_find(handle, &to->resource), VLM_BADPARAM);
+    EXPECT(vlm_find_lock(handle, own, &to->lock), VLM_BADPARAM);
+    EXPECT(vlm_lock_resource(handle, own, &to->resource), VLM_BADPARAM);
+    EXPECT(vlm_first_row(handle, &to->resource, VLM_GRANTED, &to->lock), VLM_BADPARAM);
+    EXPECT(vlm_next_row(handle, own, &to->lock), VLM_BADPARAM);
+    EXPECT(vlm_first_own(handle, is_sized ? 12345 : p, &to->lock), VLM_BADPARAM);
+    EXPECT(vlm_next_own(handle, own, &to->lock), VLM_BADPARAM);
+    EXPECT(vlm_first_sublock(handle, own, &to->lock), VLM_BADPARAM);
+    EXPECT(vlm_next_sublock(handle, own, &to->lock), VLM_BADPARAM);
+    EXPECT(vlm_first_blocker(handle, own, &to->lock), VLM_BADPARAM);
+    EXPECT(vlm_next_blocker(handle, own, p_lock, &to->lock), VLM_BADPARAM);
+    EXPECT(vlm_take(handle, p, &to->ast), VLM_BADPARAM);
+    EXPECT(vlm_take_any(handle, &number, &to->ast), VLM_BADPARAM);
     HOLD(number == 0);
-    WITH(options, size, 63, OPEN, VLM_BADPARAM);
-    WITH(options, size, 65, OPEN, VLM_BADPARAM);
-    WITH(options, version, VLM_VERSION + 1, OPEN, VLM_BADPARAM);
-    WITH(options, version, 0, OPEN, VLM_BADPARAM);
-    WITH(options, has_keys, 2, OPEN, VLM_BADPARAM);
-    for (size_t i = 0; i < 9; i++) WITH(options, reserved[i], 1, OPEN, VLM_BADPARAM);
 }
 
 /* Structs to be written of another size, and what is not there: BADPARAM on each handle, and nothing is written. */
 static void wrong_readings(vlm *handle) {
-    vlm_lksb lksb, lksb_before;
-    vlm_ast ast, ast_before;
-    struct vlm_process process, process_before;
-    struct vlm_resource resource, resource_before;
-    struct vlm_row row, row_before;
-    vlm_lock lock, lock_before;
+    struct written to, before;
     size_t count = 99;
-    memset(&lksb, 0xA5, sizeof lksb);
-    memset(&ast, 0xA5, sizeof ast);
-    memset(&process, 0xA5, sizeof process);
-    memset(&resource, 0xA5, sizeof resource);
-    memset(&row, 0xA5, sizeof row);
-    memset(&lock, 0xA5, sizeof lock);
-    for (int is_sized = 0; is_sized <= 1; is_sized++) {
-        if (is_sized) {
-            lksb.size = sizeof lksb;
-            process.size = sizeof process;
-            resource.size = sizeof resource;
-            row.size = sizeof row;
-            lock.size = sizeof lock;
-        }
-        lksb_before = lksb;
-        ast_before = ast;
-        process_before = process;
-        resource_before = resource;
-        row_before = row;
-        lock_before = lock;
-        uint32_t own = is_sized ? 12345 : p_lock;
-        EXPECT(vlm_block(handle, p, is_sized ? 3 : 1, &lksb), VLM_BADPARAM);
-        EXPECT(vlm_block(handle, is_sized ? 12345 : p, 1, &lksb), VLM_BADPARAM);
-        EXPECT(vlm_block(handle, p, 257, &lksb), VLM_BADPARAM);
-        EXPECT(vlm_process(handle, 2 * (size_t)is_sized, &process), VLM_BADPARAM);
-        EXPECT(vlm_resource(handle, (size_t)is_sized, &resource), VLM_BADPARAM);
-        EXPECT(vlm_row(handle, (size_t)is_sized, VLM_GRANTED, 0, &row), VLM_BADPARAM);
-        EXPECT(vlm_row(handle, 0, VLM_GRANTED, (size_t)is_sized, &row), VLM_BADPARAM);
-        EXPECT(vlm_row(handle, 0, 3, 0, &row), VLM_BADPARAM);
-        EXPECT(vlm_next_process(handle, is_sized ? 12345 : 0, &process), VLM_BADPARAM);
-        EXPECT(vlm_next_resource(handle, &resource), VLM_BADPARAM);
-        EXPECT(vlm_find(handle, &resource), VLM_BADPARAM);
-        EXPECT(vlm_find_lock(handle, own, &lock), VLM_BADPARAM);
-        EXPECT(vlm_lock_resource(handle, own, &resource), VLM_BADPARAM);
-        EXPECT(vlm_first_row(handle, &resource, VLM_GRANTED, &lock), VLM_BADPARAM);
-        EXPECT(vlm_next_row(handle, own, &lock), VLM_BADPARAM);
-        EXPECT(vlm_first_own(handle, is_sized ? 12345 : p, &lock), VLM_BADPARAM);
-        EXPECT(vlm_next_own(handle, own, &lock), VLM_BADPARAM);
-        EXPECT(vlm_first_sublock(handle, own, &lock), VLM_BADPARAM);
-        EXPECT(vlm_next_sublock(handle, own, &lock), VLM_BADPARAM);
-        EXPECT(vlm_first_blocker(handle, own, &lock), VLM_BADPARAM);
-        EXPECT(vlm_next_blocker(handle, own, p_lock, &lock), VLM_BADPARAM);
-        EXPECT(vlm_take(handle, p, &ast), VLM_BADPARAM);
-        EXPECT(vlm_take_any(handle, &number, &ast), VLM_BADPARAM);
-        HOLD(number == 0);
-        HOLD(memcmp(&lock, &lock_before, sizeof lock) == 0);
-        HOLD(memcmp(&lksb, &lksb_before, sizeof lksb) == 0);
-        HOLD(memcmp(&ast, &ast_before, sizeof ast) == 0);
-        HOLD(memcmp(&process, &process_before, sizeof process) == 0);
-        HOLD(memcmp(&resource, &resource_before, sizeof resource) == 0);
-        HOLD(memcmp(&row, &row_before, sizeof row) == 0);
-    }
+    memset(&to, 0xA5, sizeof to);
+    memset(&before, 0xA5, sizeof before);
+    wrong_reading(handle, &to, false);
+    HOLD(memcmp(&to, &before, sizeof to) == 0);
+    before.lksb.size = to.lksb.size = sizeof to.lksb;
+    before.process.size = to.process.size = sizeof to.process;
+    before.resource.size = to.resource.size = sizeof to.resource;
+    before.row.size = to.row.size = sizeof to.row;
+    before.lock.size = to.lock.size = sizeof to.lock;
+    wrong_reading(handle, &to, true);
+    HOLD(memcmp(&to, &before, sizeof to) == 0);
     EXPECT(vlm_pending(handle, 12345, &count), VLM_BADPARAM);
     HOLD(count == 99);
 }
@@ -281,7 +295,8 @@ static void is_as_it_was(vlm *handle) {
     HOLD(process.pid == q && vlm_process_count(handle) == 2);
     EXPECT(vlm_process(handle, 0, &process), VLM_NORMAL);
     HOLD(process.size == sizeof process && process.pid == p && process.node == 1 && process.group == 1);
-    HOLD(process.syslck == 0 && process.quota == 1 && process.blocks == 2 && process.pending == 0 && process.locks == 1);
+    HOLD(process.syslck == 0 && process.quota == 1 && process.blocks == 2 && process.pending == 0
+         && process.locks == 1);
     HOLD(vlm_lock_count(handle) == 1 && vlm_queued_count(handle) == 0);
 }
 

@@ -12,14 +12,12 @@ extern long write(int file, const void *bytes, size_t count);
 static unsigned long left;
 static int is_counting;
 
-static unsigned long number_of(const char *name)
-{
+static unsigned long number_of(const char *name) {
     const char *text = getenv(name);
     return text ? strtoul(text, 0, 10) : 0;
 }
 
-static int refuses(void)
-{
+static int refuses(void) {
     if (!is_counting) {
         left = number_of("REFUSED");
         is_counting = 1;
@@ -30,12 +28,6 @@ static int refuses(void)
     return 1;
 }
 
-void *malloc(size_t size)
-{
-    return refuses() ? 0 : __libc_malloc(size);
-}
+void *malloc(size_t size) { return refuses() ? 0 : __libc_malloc(size); }
 
-void *realloc(void *block, size_t size)
-{
-    return refuses() ? 0 : __libc_realloc(block, size);
-}
+void *realloc(void *block, size_t size) { return refuses() ? 0 : __libc_realloc(block, size); }

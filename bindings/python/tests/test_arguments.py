@@ -92,8 +92,8 @@ class Arguments(unittest.TestCase):
             process.enq("A", Mode.EX, 1)
             resource, = manager.resources()
             self.assertEqual(len(list(manager.rows(resource, Queue.GRANTED))), 1)
-            for name, group, parent in ((b"B", 0, None), (b"A", 1, None), (b"A", None, None), (b"A", 0, 1), (b"", 0, None),
-                                        (b"A" * 99, 0, None)):
+            for name, group, parent in ((b"B", 0, None), (b"A", 1, None), (b"A", None, None), (b"A", 0, 1),
+                                        (b"", 0, None), (b"A" * 99, 0, None)):
                 gone = Resource(1, parent, group, name, b"", True, b"", True)
                 self.assertEqual(list(manager.rows(gone, Queue.GRANTED)), [])
             self.assertRaises(ValueError, manager.rows, resource, 3)

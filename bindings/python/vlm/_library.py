@@ -4,7 +4,7 @@ import ctypes
 import os
 from ctypes import POINTER, c_bool, c_char_p, c_size_t, c_uint8, c_uint32, c_uint64, c_void_p
 from pathlib import Path
-from typing import TYPE_CHECKING, Any, List, Tuple, Type
+from typing import TYPE_CHECKING, Any, Dict, List, Tuple, Type
 
 FILE = "libvlm.so.0"
 
@@ -71,7 +71,7 @@ FULL = 256
 
 _NUMBER = POINTER(c_uint32)
 # What each call takes after the handle. Each answers a condition value, except those in _ANSWERS.
-_CALLS = {
+_CALLS: Dict[str, List[Any]] = {
     "vlm_open": [POINTER(Options)],
     "vlm_close": [],
     "vlm_declare": [POINTER(Declaration), _NUMBER],

@@ -3,7 +3,7 @@
 import re
 from dataclasses import MISSING, dataclass, field, fields
 from enum import Enum
-from functools import lru_cache
+from functools import cached_property
 from typing import Any, Callable, Dict, FrozenSet, Iterable, Iterator, List, Mapping, NoReturn, Optional, Type, Union
 
 from .values import DequeueFlags, Flags, InBlock, Mode, Which
@@ -226,12 +226,6 @@ def _bytes(size: int) -> _Reader:
     return lambda word: _hex(word) if len(word) == 2 * size else _fail(Fault.WRONG_WORD)
 
 
-@lru_cache(maxsize=None)
-def _needed(does: Type[Any]) -> FrozenSet[str]:
-    """The fields that have no default: the words that a line must have."""
-    return frozenset(it.name for it in fields(does) if it.default is MISSING)
-
-
 @dataclass(frozen=True)
 class _Form:
     """The form of a command: what reads each of its words."""
@@ -244,6 +238,11 @@ class _Form:
     # The words without a key, each with what it stands for. Where a command has `bits=`, they are its flags.
     marks: Mapping[str, Any] = field(default_factory=dict)
 
+    @cached_property
+    def _needed(self) -> FrozenSet[str]:
+        """The fields that have no default: the words that a line must have."""
+        return frozenset(it.name for it in fields(self.does) if it.default is MISSING)
+
     def read(self, words: List[str]) -> Line:
         """Reads the words after the command, from left to right."""
         rest = iter(words)
@@ -253,7 +252,7 @@ class _Form:
             self._add(word, given)
         if "bits" in self.keys:
             given["flags"] = self._flags(given)
-        if not given.keys() >= _needed(self.does):
+        if not given.keys() >= self._needed:
             _fail(Fault.WRONG_WORD)
         return Line(name, self.does(**given))
 
@@ -271,14 +270,15 @@ class _Form:
 
     def _flags(self, given: Dict[str, Any]) -> Union[Flags, DequeueFlags]:
         """Takes the flags out of what is given, those of the words and those of the number together."""
-        flags = type(next(iter(self.marks.values())))(given.pop("bits", 0))
+        flags: Union[Flags, DequeueFlags] = type(next(iter(self.marks.values())))(given.pop("bits", 0))
         for word in self.marks.keys() & given.keys():
             flags |= given.pop(word)
         return flags
 
 
 def _next(words: Iterator[str]) -> str:
-    return next(words, None) or _fail(Fault.WRONG_WORD)
+    word = next(words, None)
+    return word or _fail(Fault.WRONG_WORD)
 
 
 def _words_of(flags: Iterable[Union[Flags, DequeueFlags]]) -> Dict[str, Any]:

@@ -80,7 +80,8 @@ class _Owner:
 
     def _call(self, name: str, *arguments: Any) -> int:
         with self._mutex:
-            return getattr(raw.LIBRARY, name)(self._handle, *arguments)
+            answer: int = getattr(raw.LIBRARY, name)(self._handle, *arguments)
+            return answer
 
     def close(self) -> None:
         """Frees it. A second call does nothing. After it other calls raise BadParam."""

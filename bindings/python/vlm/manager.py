@@ -52,7 +52,8 @@ class LockManager:
 
     def _call(self, name: str, *arguments: Any) -> int:
         with self._changed:
-            return getattr(raw.LIBRARY, name)(self._handle, *arguments)
+            answer: int = getattr(raw.LIBRARY, name)(self._handle, *arguments)
+            return answer
 
     def _step(self, name: str, *arguments: Any) -> Condition:
         """Makes a call that changes something, and wakes those who wait."""
@@ -184,7 +185,8 @@ class LockManager:
         """The resource that a call reads, if there is one."""
         return _resource(words) if self._goes_on(name, *arguments, words) else None
 
-    def _locks(self, first: str, following: Optional[str], *arguments: Any, also: Sequence[int] = ()) -> Iterator[LockView]:
+    def _locks(self, first: str, following: Optional[str], *arguments: Any,
+               also: Sequence[int] = ()) -> Iterator[LockView]:
         """The locks of a walk, by its first call and its following calls, which also take these numbers."""
         words = raw.Lock()
         goes_on = self._goes_on(first, *arguments, words)

@@ -271,10 +271,11 @@ def _plain(value: Any) -> Any:
 
 def step_of(given: Dict[str, Any]) -> Step:
     """The step of a dictionary that `plain` made."""
-    named = {it.__name__: it for it in STEPS}
+    named: Dict[str, Callable[..., Step]] = {it.__name__: it for it in STEPS}
     does = named[given["step"]]
-    kinds = {"mode": Mode, "flags": DequeueFlags if does is Deq else Flags, "parent": _lock_of, "lock": _lock_of,
-             "name": bytes.fromhex, "value": bytes.fromhex, "tail": bytes.fromhex}
+    kinds: Dict[str, Callable[[Any], Any]] = {
+        "mode": Mode, "flags": DequeueFlags if does is Deq else Flags, "parent": _lock_of, "lock": _lock_of,
+        "name": bytes.fromhex, "value": bytes.fromhex, "tail": bytes.fromhex}
     values = {key: value if value is None else kinds.get(key, lambda it: it)(value)
               for key, value in given.items() if key != "step"}
     return does(**values)

@@ -41,7 +41,9 @@ pub(crate) use structs;
 
 structs! {
     Options 64 { version: u32 = VERSION, has_keys: u32 = 0, keys: [u8; 16] = [0; 16], reserved: [u32; 9] = [0; 9] }
-    Declaration 32 { node: u32 = 0, group: u32 = 0, syslck: u32 = 0, quota: u32 = 0, blocks: u32 = 0, reserved: [u32; 2] = [0; 2] }
+    Declaration 32 {
+        node: u32 = 0, group: u32 = 0, syslck: u32 = 0, quota: u32 = 0, blocks: u32 = 0, reserved: [u32; 2] = [0; 2],
+    }
     Setting 96 {
         pid: u32 = 0, block: u32 = 0, has_tail: u32 = 0, value: [u8; 16] = [0; 16], tail: [u8; 48] = [0; 48],
         reserved: [u32; 4] = [0; 4],
@@ -165,7 +167,8 @@ impl Drop for Handle {
 
 /// Defines safe calls of a handle: each passes references to initialized values that don't overlap.
 macro_rules! calls {
-    (of $owner:ident; $(by $handle:ty { $($name:ident = $call:ident($($arg:ident: $kind:ty),*) -> $answer:ty;)* })*) => {
+    (of $owner:ident;
+     $(by $handle:ty { $($name:ident = $call:ident($($arg:ident: $kind:ty),*) -> $answer:ty;)* })*) => {
         impl $owner { $($(
             pub fn $name(self: $handle, $($arg: $kind),*) -> $answer {
                 // SAFETY: the handle is as a call left it. It is no `Sync`, and no call runs code of this crate, so it

@@ -118,15 +118,22 @@ fn locks_are_asked_for_and_given_up() {
         manager.block(q, 1).and_then(|it| it.status),
         Some(Condition::Normal)
     );
+}
+
+#[test]
+fn a_granted_request_is_not_cancelled() {
+    let (mut manager, _, q) = two();
+    let lock = manager
+        .enq(&Request::new(q, Mode::Ex, 1), b"A")
+        .expect("a lock")
+        .lock;
     let cancel = Dequeue {
         flags: DeqFlags::CANCEL,
-        ..Dequeue::new(q, Some(LockId(2).into()))
+        ..Dequeue::new(q, Some(lock.into()))
     };
     assert_eq!(manager.dequeue(&cancel), Err(Condition::Cancelgrant));
-    assert_eq!(
-        (manager.block(q, 3), manager.block(NOBODY, 1)),
-        (None, None)
-    );
+    assert_eq!(manager.block(q, 3), None);
+    assert_eq!(manager.block(NOBODY, 1), None);
 }
 
 #[test]
@@ -136,12 +143,9 @@ fn requests_are_refused() {
         .enq(&Request::new(q, Mode::Ex, 1), b"A")
         .expect("a lock");
     let request = Request::new(p, Mode::Ex, 1);
+    let nobody = Request::new(NOBODY, Mode::Ex, 1);
     for (refused, name, refusal) in [
-        (
-            Request::new(NOBODY, Mode::Ex, 1),
-            &b"A"[..],
-            Condition::Nonexpr,
-        ),
+        (nobody, &b"A"[..], Condition::Nonexpr),
         (Request::new(p, Mode::Ex, 3), b"A", Condition::Accvio),
         (request, b"", Condition::Ivbuflen),
         (request, &[1; 32], Condition::Ivbuflen),

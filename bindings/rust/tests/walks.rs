@@ -21,8 +21,8 @@ fn two() -> (LockManager, ProcessId, ProcessId) {
     (manager, p, q)
 }
 
-#[test]
-fn resources_are_walked_and_found() {
+/// P and Q with a lock on A each, and P with one on a resource below it.
+fn root_and_below() -> (LockManager, ProcessId, ProcessId) {
     let (mut manager, p, q) = two();
     let root = manager
         .enq(&Request::new(p, Mode::Nl, 1), b"A")
@@ -36,6 +36,12 @@ fn resources_are_walked_and_found() {
     manager
         .enq(&Request::new(q, Mode::Pr, 1), b"A")
         .expect("a lock");
+    (manager, p, q)
+}
+
+#[test]
+fn resources_are_walked() {
+    let (manager, _, _) = root_and_below();
     let walked: Vec<_> = manager.resources().collect();
     assert_eq!((manager.resource_count(), manager.resource(2)), (2, None));
     assert_eq!(
@@ -50,6 +56,12 @@ fn resources_are_walked_and_found() {
         (walked[1].parent, &walked[1].name[..]),
         (Some(1), &b"\0\xff"[..])
     );
+}
+
+#[test]
+fn resources_are_found() {
+    let (manager, _, _) = root_and_below();
+    let walked: Vec<_> = manager.resources().collect();
     assert_eq!(
         manager.find(Domain::Group(7), b"A").as_ref(),
         Some(&walked[0])
@@ -71,6 +83,12 @@ fn resources_are_walked_and_found() {
         ),
         (None, None)
     );
+}
+
+#[test]
+fn rows_are_walked() {
+    let (mut manager, p, q) = root_and_below();
+    let walked: Vec<_> = manager.resources().collect();
     let rows: Vec<_> = manager
         .rows(&walked[0], Queue::Granted)
         .map(|it| (it.process, it.held, it.want))
@@ -93,8 +111,17 @@ fn resources_are_walked_and_found() {
     assert_eq!(manager.row(usize::MAX, Queue::Waiting, usize::MAX), None);
 }
 
-#[test]
-fn single_locks_are_found_and_walked() {
+/// Locks of a family: P's on A with its two sublocks, and Q's, which waits for P's on A.
+struct Family {
+    p: ProcessId,
+    q: ProcessId,
+    parent: LockId,
+    first: LockId,
+    second: LockId,
+    waiting: LockId,
+}
+
+fn family() -> (LockManager, Family) {
     let (mut manager, p, q) = two();
     let parent = manager
         .enq(&Request::new(p, Mode::Cr, 1), b"A")
@@ -110,40 +137,62 @@ fn single_locks_are_found_and_walked() {
         .enq(&Request::new(q, Mode::Ex, 1), b"A")
         .expect("a lock")
         .lock;
+    let made = Family {
+        p,
+        q,
+        parent,
+        first,
+        second,
+        waiting,
+    };
+    (manager, made)
+}
+
+#[test]
+fn single_locks_are_walked() {
+    let (manager, it) = family();
     assert_eq!((manager.lock_count(), manager.queued_count()), (4, 1));
     assert!(manager
-        .locks_of(p)
+        .locks_of(it.p)
         .map(|lock| lock.id)
-        .eq([parent, first, second]));
+        .eq([it.parent, it.first, it.second]));
     assert!(manager
-        .sublocks(parent)
+        .sublocks(it.parent)
         .map(|lock| lock.id)
-        .eq([first, second]));
-    assert!(manager.blockers(waiting).map(|lock| lock.id).eq([parent]));
-    assert_eq!(manager.blockers(parent).count(), 0);
-    let found = manager.lock(waiting).expect("it waits");
-    assert_eq!(
-        (found.held, found.want, found.queue),
-        (None, Some(Mode::Ex), Queue::Waiting)
-    );
-    assert_eq!(
-        (found.process, found.resource, found.parent, found.block),
-        (q, 1, None, 1)
-    );
-    assert_eq!(
-        manager.lock(first).and_then(|lock| lock.parent),
-        Some(parent)
-    );
-    assert_eq!(
-        manager.resource_of(second).map(|resource| resource.name),
-        Some(b"T".to_vec())
-    );
+        .eq([it.first, it.second]));
+    assert!(manager
+        .blockers(it.waiting)
+        .map(|lock| lock.id)
+        .eq([it.parent]));
+    assert_eq!(manager.blockers(it.parent).count(), 0);
     assert_eq!(
         manager
             .processes()
             .map(|process| process.locks)
             .collect::<Vec<_>>(),
         [3, 1]
+    );
+}
+
+#[test]
+fn single_locks_are_found() {
+    let (manager, it) = family();
+    let found = manager.lock(it.waiting).expect("it waits");
+    assert_eq!(
+        (found.held, found.want, found.queue),
+        (None, Some(Mode::Ex), Queue::Waiting)
+    );
+    assert_eq!(
+        (found.process, found.resource, found.parent, found.block),
+        (it.q, 1, None, 1)
+    );
+    assert_eq!(
+        manager.lock(it.first).and_then(|lock| lock.parent),
+        Some(it.parent)
+    );
+    assert_eq!(
+        manager.resource_of(it.second).map(|resource| resource.name),
+        Some(b"T".to_vec())
     );
     let nobody = LockId(99);
     assert_eq!(

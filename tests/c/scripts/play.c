@@ -168,8 +168,10 @@ static size_t name_bytes(uint8_t *found) {
     const char *text = needed_text_of("name");
     if (strncmp(text, "x:", 2) == 0)
         return bytes(text + 2, found, LINE);
-    memcpy(found, text, strlen(text));
-    return strlen(text);
+    size_t count = 0;
+    for (; text[count]; count++)
+        found[count] = (uint8_t)text[count];
+    return count;
 }
 
 static uint32_t mode_of(const char *word) {
@@ -255,7 +257,7 @@ static void declare(void) {
         printf("%s: %s\n", name, condition(status));
         return;
     }
-    strcpy(processes[process_count].name, name);
+    memcpy(processes[process_count].name, name, strlen(name) + 1);
     processes[process_count++].pid = pid;
     printf("%s: process %u\n", name, pid);
 }

@@ -172,7 +172,8 @@ class State:
 
     def all_below(self, lock: int) -> List[int]:
         """The locks below a lock, at any depth."""
-        found, rest = [], [lock]
+        found: List[int] = []
+        rest = [lock]
         while rest:
             lower = self.below.get(rest.pop(), set())
             found += lower
@@ -190,7 +191,7 @@ def _hex(value: bytes) -> str:
 
 
 def _process(it: Optional[Declared]) -> Optional[List[Any]]:
-    return it and [it.name, it.node, it.group, it.syslck, it.quota, it.blocks]
+    return None if it is None else [it.name, it.node, it.group, it.syslck, it.quota, it.blocks]
 
 
 def _block(it: StatusBlock) -> Optional[List[Any]]:
@@ -202,10 +203,10 @@ def _ast(it: Ast) -> List[Any]:
 
 
 def _resource(it: Optional[Resource]) -> Optional[List[Any]]:
-    return it and [it.parent or 0, it.group, name_text(it.name), _hex(it.value), it.value_valid, _hex(it.tail),
-                   it.tail_valid]
+    return None if it is None else [it.parent or 0, it.group, name_text(it.name), _hex(it.value), it.value_valid,
+                                    _hex(it.tail), it.tail_valid]
 
 
 def _lock(it: Optional[LockView]) -> Optional[List[Any]]:
-    return it and [it.pid, it.resource, it.held.name if it.held is not None else None,
-                   it.want.name if it.want is not None else None, it.block, it.parent or 0]
+    return None if it is None else [it.pid, it.resource, it.held.name if it.held is not None else None,
+                                    it.want.name if it.want is not None else None, it.block, it.parent or 0]

@@ -8,6 +8,7 @@ ASTs name each lock whose request has ended, and they are all ASTs that the step
 from dataclasses import replace
 from typing import Dict, List, Optional, Set, Tuple
 
+from .._lines import STEPS
 from ..errors import BadParam
 from ..manager import LockManager
 from ..process import Process
@@ -37,8 +38,10 @@ class Tracer:
         return make(self._witness, 0, step).number
 
     def note(self, line: Line, pid: int, outcome: Outcome) -> None:
-        """Follows an accepted step. A search is told to `search` first."""
+        """Follows an accepted step, of which a search is told to `search` first. Other lines change nothing."""
         step = line.does
+        if not isinstance(step, STEPS):
+            return
         if isinstance(step, Take):
             self.state.splice_asts(pid, 0, [outcome.ast] if outcome.ast else [], [])
             return

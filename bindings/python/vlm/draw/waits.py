@@ -33,7 +33,8 @@ class Circle:
 def blockers_of(manager: LockManager, lock: int, most: int = maxsize) -> List[int]:
     """The locks for which the request of a lock waits, up to a limit. A page reads them so often that this calls the
     library itself: `LockManager.blockers` takes four times as long."""
-    words, found = raw.Lock(), []
+    words = raw.Lock()
+    found: List[int] = []
     handle, place, following = byref(manager._handle), byref(words), raw.LIBRARY.vlm_next_blocker
     with manager._changed:
         status = raw.LIBRARY.vlm_first_blocker(handle, lock, place)

@@ -80,6 +80,17 @@ fn each_step_is_posted_and_answered() {
     let weaker = Request::new(p, Mode::Pr, 1);
     let accepted = pair.made(1, |port| port.convert(&weaker, block)).accepted();
     assert_eq!(accepted.map(|it| it.lock), Ok(LockId(1)));
+    assert_eq!(pair.made(1, |port| port.deq(p, block)).done(), Ok(()));
+}
+
+#[test]
+fn searches_and_ends_are_posted_and_answered() {
+    let (mut pair, p, q) = Pair::with_processes();
+    for (node, process) in [(1, p), (2, q)] {
+        let request = Request::new(process, Mode::Pr, 1);
+        let accepted = pair.made(node, |port| port.enq(&request, b"A")).accepted();
+        assert_eq!(accepted.map(|it| it.lock), Ok(LockId(u32::from(node))));
+    }
     for (node, process, lock) in [(1, p, LockId(1)), (2, q, LockId(2))] {
         let stronger = Request::new(process, Mode::Ex, 1);
         let answer = pair.made(node, |port| port.convert(&stronger, lock));
@@ -87,7 +98,6 @@ fn each_step_is_posted_and_answered() {
     }
     assert_eq!(pair.made(1, Port::search).victim(), Ok(Some(LockId(2))));
     assert_eq!(pair.made(1, Port::search).victim(), Ok(None));
-    assert_eq!(pair.made(1, |port| port.deq(p, block)).done(), Ok(()));
     let all = Dequeue {
         flags: DeqFlags::DEQALL,
         ..Dequeue::new(q, None)

@@ -110,10 +110,10 @@ fn nameless(block: u8) -> NewRequest {
     }
 }
 
-// NONEXPR, BADPARAM, ACCVIO, IVBUFLEN, UNSUPPORTED, IVLOCKID, PARNOTGRANT, NOSYSLCK, NOTQUEUED. Each request
-// breaks the rules of later ones too.
+// The refusals of requests are, in their order, NONEXPR, BADPARAM, ACCVIO, IVBUFLEN, UNSUPPORTED, IVLOCKID,
+// PARNOTGRANT, NOSYSLCK, NOTQUEUED. Each request breaks the rules of later ones too.
 #[test]
-fn requests(rt: HostRuntime) {
+fn malformed_requests(rt: HostRuntime) {
     let cases = [
         (
             NewRequest {
@@ -141,6 +141,16 @@ fn requests(rt: HostRuntime) {
         ),
         (nameless(4), Cond::Ivbuflen),
         (request(&[b'B'; 32]), Cond::Ivbuflen),
+    ];
+    check(
+        &rt,
+        &cases.map(|(request, want)| (Step::Enq(request), want)),
+    );
+}
+
+#[test]
+fn requests_below_a_lock(rt: HostRuntime) {
+    let cases = [
         (
             NewRequest {
                 parent: Which::Id(2),
@@ -164,6 +174,16 @@ fn requests(rt: HostRuntime) {
             },
             Cond::Parnotgrant,
         ),
+    ];
+    check(
+        &rt,
+        &cases.map(|(request, want)| (Step::Enq(request), want)),
+    );
+}
+
+#[test]
+fn requests_that_may_not_wait(rt: HostRuntime) {
+    let cases = [
         (
             NewRequest {
                 flags: SYSTEM | NOQUEUE,
@@ -185,13 +205,16 @@ fn requests(rt: HostRuntime) {
     );
 }
 
-// NONEXPR, BADPARAM, ACCVIO, IVLOCKID, CANCELGRANT. Each dequeue breaks the rules of the later ones too.
+// A dequeue by P.
+fn of(lock: Which) -> Dequeue {
+    Dequeue { lock, ..DEQUEUE }
+}
+
+// The refusals of dequeues are, in their order, NONEXPR, BADPARAM, ACCVIO, IVLOCKID, CANCELGRANT. Each dequeue breaks
+// the rules of the later ones too.
 #[test]
-fn dequeues(rt: HostRuntime) {
-    let late = Dequeue {
-        lock: Which::Id(3),
-        ..DEQUEUE
-    };
+fn malformed_dequeues(rt: HostRuntime) {
+    let late = of(Which::Id(3));
     let cases = [
         (
             Dequeue {
@@ -210,46 +233,30 @@ fn dequeues(rt: HostRuntime) {
         ),
         (
             Dequeue {
-                lock: Which::Block(0),
                 tail: Some([7; 48]),
-                ..late
+                ..of(Which::Block(0))
             },
             Cond::Badparam,
         ),
+        (of(Which::Block(0)), Cond::Accvio),
+        (of(Which::Block(5)), Cond::Accvio),
+    ];
+    check(
+        &rt,
+        &cases.map(|(dequeue, want)| (Step::Deq(dequeue), want)),
+    );
+}
+
+#[test]
+fn dequeues_of_the_wrong_lock(rt: HostRuntime) {
+    let cases = [
+        (of(Which::Id(3)), Cond::Ivlockid),
+        (of(Which::Block(2)), Cond::Ivlockid),
+        (of(Which::Id(0)), Cond::Ivlockid),
         (
             Dequeue {
-                lock: Which::Block(0),
-                ..late
-            },
-            Cond::Accvio,
-        ),
-        (
-            Dequeue {
-                lock: Which::Block(5),
-                ..late
-            },
-            Cond::Accvio,
-        ),
-        (late, Cond::Ivlockid),
-        (
-            Dequeue {
-                lock: Which::Block(2),
-                ..late
-            },
-            Cond::Ivlockid,
-        ),
-        (
-            Dequeue {
-                lock: Which::Id(0),
-                ..late
-            },
-            Cond::Ivlockid,
-        ),
-        (
-            Dequeue {
-                lock: Which::Id(2),
                 flags: CANCEL,
-                ..late
+                ..of(Which::Id(2))
             },
             Cond::Ivlockid,
         ),
@@ -267,14 +274,18 @@ fn dequeues(rt: HostRuntime) {
     );
 }
 
+// A dequeue of all locks below one.
+fn all_below(lock: Which) -> Dequeue {
+    Dequeue {
+        flags: DEQALL,
+        ..of(lock)
+    }
+}
+
 // BADPARAM, ACCVIO, IVLOCKID. With 0 no lock is named, and where none is below the named one none goes.
 #[test]
 fn dequeues_of_all(rt: HostRuntime) {
-    let late = Dequeue {
-        lock: Which::Block(5),
-        flags: DEQALL,
-        ..DEQUEUE
-    };
+    let late = all_below(Which::Block(5));
     let cases = [
         (
             Dequeue {
@@ -291,27 +302,9 @@ fn dequeues_of_all(rt: HostRuntime) {
             Cond::Badparam,
         ),
         (late, Cond::Accvio),
-        (
-            Dequeue {
-                lock: Which::Id(2),
-                ..late
-            },
-            Cond::Ivlockid,
-        ),
-        (
-            Dequeue {
-                lock: Which::Id(1),
-                ..late
-            },
-            Cond::Normal,
-        ),
-        (
-            Dequeue {
-                lock: Which::Id(0),
-                ..late
-            },
-            Cond::Normal,
-        ),
+        (all_below(Which::Id(2)), Cond::Ivlockid),
+        (all_below(Which::Id(1)), Cond::Normal),
+        (all_below(Which::Id(0)), Cond::Normal),
         (DEQUEUE, Cond::Ivlockid),
     ];
     check(
@@ -320,39 +313,40 @@ fn dequeues_of_all(rt: HostRuntime) {
     );
 }
 
-// NONEXPR, BADPARAM, ACCVIO, IVLOCKID, CVTUNGRANT, BADPARAM. Each conversion breaks the rules of the
-// later ones too; that it names routines is no fault.
+// It breaks several rules. That it names routines is no fault.
+const LATE: Conversion = Conversion {
+    pid: P,
+    lock: Which::Id(2),
+    mode: Mode::Cr,
+    block: 0,
+    flags: QUECVT,
+    ast: Some(8),
+    bast: Some(9),
+    param: 5,
+};
+
+// NONEXPR, BADPARAM, ACCVIO, IVLOCKID, CVTUNGRANT, BADPARAM. Each conversion breaks the rules of the later ones too.
 #[test]
 fn conversions(rt: HostRuntime) {
-    let late = Conversion {
-        pid: P,
-        lock: Which::Id(2),
-        mode: Mode::Cr,
-        block: 0,
-        flags: QUECVT,
-        ast: Some(8),
-        bast: Some(9),
-        param: 5,
-    };
-    let foreign = Conversion { block: 1, ..late };
+    let foreign = Conversion { block: 1, ..LATE };
     let cases = [
         (
             Conversion {
                 pid: STRANGER,
                 flags: UNKNOWN,
-                ..late
+                ..LATE
             },
             Cond::Nonexpr,
         ),
         (
             Conversion {
                 flags: UNKNOWN,
-                ..late
+                ..LATE
             },
             Cond::Badparam,
         ),
-        (late, Cond::Accvio),
-        (Conversion { block: 5, ..late }, Cond::Accvio),
+        (LATE, Cond::Accvio),
+        (Conversion { block: 5, ..LATE }, Cond::Accvio),
         (
             Conversion {
                 lock: Which::Block(5),
