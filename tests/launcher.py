@@ -158,7 +158,8 @@ def proofs(tree):
     status, printed, told = tree.run("prove", PAUSE="0.1")
     names = [line.split()[1] for line in tree.noted() if line.startswith("begun")]
     yield from unlike((status, printed, told[:1]), 0, b"", f"^vlm: proving {len(names)} crates, up to ")
-    yield from unlike((0, b"", told[-1:]), 0, b"", f"^vlm: {len(names)} of {len(names)} crates proved, [0-9]+ seconds, done$")
+    last = f"^vlm: {len(names)} of {len(names)} crates proved, [0-9]+ seconds, done$"
+    yield from unlike((0, b"", told[-1:]), 0, b"", last)
     yield from progress_of(told[1:-1], names)
     if len(set(names)) != len(names) or not {"vlm", "vlm_capi", "vlm_core"} <= set(names) or "vlm_core_tests" in names:
         yield f"proved {names}"

@@ -12,7 +12,7 @@ use Rattle.vlm_cluster.specs.declared.threads.WorkerPromise.{WorkerPromise}
 use Rattle.vlm_cluster.specs.declared.worker.WorkerResult.{WorkerResult}
 use Rattle.vlm_cluster.specs.Gates.{IsToldOn, Moves}
 use Rattle.vlm_cluster.specs.Headline.{AreGated, IsGatedFault, Items, StepList}
-use Rattle.vlm_cluster.specs.Parts.{AreNumbered, HaveEnough}
+use Rattle.vlm_cluster.specs.Parts.{AreNumbered, HaveEnough, HaveFewer}
 use Rattle.vlm_cluster.specs.Reports.{entries_of, parts_of}
 use Rattle.vlm_cluster.specs.Works.{IsBegun, IsWhole, point_of, work_of}
 
@@ -33,12 +33,14 @@ HaveInputs {G} n children ports lists =
     → ((slice_index_or children k h).promise.port.value ≡ slice_index_or ports k port)
     × ((slice_index_or children k h).promise.list.value ≡ slice_index_or lists k list)
 
--- the journal of the report is legal, its parts are numbered and large enough, and the hub itself only took ASTs
-pub record IsSoundReport (every : ℕ) (r : Report) : Type 0 where
+-- the journal of the report is legal, its parts are numbered, they have at least `every` entries and fewer than the
+-- bound, and the hub itself only took ASTs
+pub record IsSoundReport (every bound : ℕ) (r : Report) : Type 0 where
   pub legal : Journal (entries_of r) r.core
   pub numbered : AreNumbered (parts_of r)
   pub takes : HubTakesAlone (entries_of r)
   pub enough : HaveEnough every r.parts.items
+  pub fewer : HaveFewer bound r.parts.items
 
 -- the report says how many steps each worker has posted
 abbrev pub ArePostedBy : {G : Type 0} → ℕ → Report → List (WorkerResult G) → Type 0

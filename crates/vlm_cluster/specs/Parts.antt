@@ -1,5 +1,5 @@
 -- A journal in parts.
-use Rattle.std.specs.Prelude.{◌≡◌, ◌<◌, ◌≤◌, ◌-◌, ◌^◌, ◌++◌, ℕ, All, List, [], ◌∷◌, Some, length, min, slice_get, take}
+use Rattle.std.specs.Prelude.{◌≡◌, ◌<◌, ◌≤◌, ◌-◌, ◌+◌, ◌*◌, ◌^◌, ◌++◌, ℕ, All, List, [], ◌∷◌, Some, length, min, slice_get, take}
 use Rattle.vlm_journal.specs.declared.entries.Entry.{Entry}
 use Rattle.vlm_journal.specs.declared.entries.Part.{Part}
 use Rattle.vlm_journal.specs.Journals.{Journal}
@@ -15,6 +15,15 @@ entries_in (part ∷ parts) = part.entries.items ++ entries_in parts
 -- each part has at least `every` entries
 abbrev pub HaveEnough : ℕ → List Part → Type 0
 HaveEnough every parts = All (λ part. every ≤ length part.entries.items) parts
+
+-- each part has fewer entries than this
+abbrev pub HaveFewer : ℕ → List Part → Type 0
+HaveFewer most parts = All (λ part. length part.entries.items < most) parts
+
+-- a journal has fewer entries than this: before a turn it has fewer than `every`, and a turn makes at most two for each
+-- node
+abbrev pub bound_of : ℕ → Hub → ℕ
+bound_of every h = every + 2 * length (rings h)
 
 -- the base of a part after these entries: their number, at most 2 ^ 64 - 1
 abbrev pub base_behind : List Entry → ℕ

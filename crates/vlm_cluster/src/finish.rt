@@ -2,7 +2,7 @@
 
 ghost use Rattle.std.specs.Prelude.{◌≡◌, ◌<◌, ◌≤◌, [], ℕ, IsTrue, length, map, replicate, slice_index, slice_index_or, vec_capacity, vec_len};
 ghost use Rattle.vlm_cluster.specs.Gates.{moves};
-ghost use Rattle.vlm_cluster.specs.Parts.{IsAccounted};
+ghost use Rattle.vlm_cluster.specs.Parts.{IsAccounted, bound_of};
 ghost use Rattle.vlm_cluster.specs.Reports.{entries_of};
 ghost use Rattle.vlm_cluster.specs.Works.{ArePortsOf, entries_at};
 ghost use Rattle.vlm_cluster.specs.Assembly.{AreBegunBy, ArePostedBy, AreToldBy, AreWholeBy, IsRoomFor, IsSoundReport};
@@ -39,7 +39,7 @@ pub(crate) fn finish<G: Gate>(
     requires accounted { IsAccounted driver.parts.items driver.hub }
     requires items { IsRoomFor (vec_len results) space.items }
     requires posted { vec_len space.posted ≡ vec_len results }
-    ensures sound { IsSoundReport driver.every result.report }
+    ensures sound { IsSoundReport driver.every (bound_of driver.every driver.hub) result.report }
     ensures rest { IsTrue result.whole → length result.report.rest.entries.items < driver.every }
     ensures counts { (vec_len result.report.items ≡ vec_len results)
         × (vec_len result.report.posted ≡ vec_len results) }
@@ -77,7 +77,7 @@ pub(crate) fn give_up<G: Gate>(
     requires few { length results.now ≤ vec_len space.posted }
     requires posted { space.posted.items ≡ replicate (vec_len space.posted) 0 }
     ensures entries { entries_of result ≡ [] }
-    ensures sound { IsSoundReport driver.every result }
+    ensures sound { IsSoundReport driver.every (bound_of driver.every driver.hub) result }
     ensures counts { (vec_len result.items ≡ vec_len space.posted)
         × (vec_len result.posted ≡ vec_len space.posted) }
     ensures items { (k : ℕ) (v : _) → k < vec_len space.posted

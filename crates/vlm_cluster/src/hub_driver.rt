@@ -1,7 +1,8 @@
 //! The hub, and the parts cut off its journal.
 
 ghost use Rattle.std.specs.Prelude.{◌≡◌, ◌<◌, [], OnOk, length};
-ghost use Rattle.vlm_cluster.specs.Parts.{HaveEnough};
+ghost use Rattle.vlm_ports.specs.Hubs.{journal};
+ghost use Rattle.vlm_cluster.specs.Parts.{HaveEnough, HaveFewer, bound_of};
 
 use crate::pause::Pause;
 use crate::signals::Signals;
@@ -19,6 +20,8 @@ pub(crate) struct HubDriver {
     pub(crate) every: usize,
     ghost some: { 0 < every },
     ghost enough: { HaveEnough every parts.items },
+    ghost fewer: { HaveFewer (bound_of every hub) parts.items },
+    ghost short: { length (journal hub) < bound_of every hub },
 }
 
 impl HubDriver {
@@ -44,8 +47,10 @@ impl HubDriver {
     /// Makes one turn of the hub, and cuts a part off if the journal is long enough. Returns whether the turn made an
     /// entry. If memory is refused, the entries already made stay.
     pub(crate) fn turn(&mut self) -> Result<bool, AllocError>
-        requires { IsAccounted self.old.parts.items self.old.hub }
+        requires accounted { IsAccounted self.old.parts.items self.old.hub }
+        requires few { length (journal self.old.hub) < self.old.every }
         ensures every { self.new.every ≡ self.old.every }
+        ensures few { OnOk result (length (journal self.new.hub) < self.new.every) }
         ensures rings { rings self.new.hub ≡ rings self.old.hub }
         ensures accounted { IsAccounted self.new.parts.items self.new.hub }
     {
@@ -77,7 +82,8 @@ impl HubDriver {
 
     /// Makes turns until `count` workers have finished. If memory is refused, it cancels the run.
     pub(crate) fn serve<R: Wait + Clock>(&mut self, rt: &R, signals: &Signals, count: u64)
-        requires { IsAccounted self.old.parts.items self.old.hub }
+        requires accounted { IsAccounted self.old.parts.items self.old.hub }
+        requires few { length (journal self.old.hub) < self.old.every }
         ensures every { self.new.every ≡ self.old.every }
         ensures rings { rings self.new.hub ≡ rings self.old.hub }
         ensures accounted { IsAccounted self.new.parts.items self.new.hub }

@@ -49,7 +49,7 @@ pub fn serve_lists<R: Threads + Wait + Clock + Copy + Send + 'static, G: Gate + 
     ensures gated { MatchResult result
         (AreGated (moves G.answers G.hears) gates.items lists.items)
         (IsGatedFault (moves G.answers G.hears) gates.items lists.items) }
-    ensures parts { MatchResult result (IsParted every) (IsPartedFault every) }
+    ensures parts { MatchResult result (IsParted every (vec_len lists)) (IsPartedFault every (vec_len lists)) }
 {
     serve_lists_over(rt, alloc, Core::new(alloc), gates, lists, every)
 }
@@ -74,7 +74,7 @@ pub fn serve_lists_over<
     ensures gated { MatchResult result
         (AreGated (moves G.answers G.hears) gates.items lists.items)
         (IsGatedFault (moves G.answers G.hears) gates.items lists.items) }
-    ensures parts { MatchResult result (IsParted every) (IsPartedFault every) }
+    ensures parts { MatchResult result (IsParted every (vec_len lists)) (IsPartedFault every (vec_len lists)) }
 {
     let Ok(preallocated) = Preallocated::new(alloc, lists.len()) else {
         return Err(Fault::Memory(None));
@@ -109,7 +109,8 @@ fn run<R: Threads + Wait + Clock + Copy + Send + 'static, G: Gate + Send + 'stat
     requires posted { preallocated.space.posted.items ≡ replicate (vec_len inputs.lists) 0 }
     ensures serving { IsServing G.never_stops inputs.lists.items result }
     ensures gated { IsGatedRun (moves G.answers G.hears) inputs.gates.items inputs.lists.items result }
-    ensures parts { MatchResult result (IsParted driver.every) (IsPartedFault driver.every) }
+    ensures parts { MatchResult result (IsParted driver.every (vec_len inputs.lists))
+        (IsPartedFault driver.every (vec_len inputs.lists)) }
 {
     let Preallocated {
         signals,

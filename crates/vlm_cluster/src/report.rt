@@ -3,7 +3,7 @@
 ghost use Rattle.std.specs.Prelude.{◌≡◌};
 ghost use Rattle.vlm_journal.specs.Journals.{Journal};
 ghost use Rattle.vlm_ports.specs.Hubs.{HubTakesAlone, journal};
-ghost use Rattle.vlm_cluster.specs.Parts.{AreNumbered, HaveEnough, IsAccounted};
+ghost use Rattle.vlm_cluster.specs.Parts.{AreNumbered, HaveEnough, HaveFewer, IsAccounted, bound_of};
 ghost use Rattle.vlm_cluster.specs.Reports.{entries_of, parts_of};
 ghost use Rattle.vlm_cluster.specs.Works.{entries_at};
 
@@ -44,6 +44,7 @@ impl HubDriver {
         ensures numbered { AreNumbered (parts_of result) }
         ensures takes { HubTakesAlone (entries_of result) }
         ensures enough { HaveEnough self.every result.parts.items }
+        ensures fewer { HaveFewer (bound_of self.every self.hub) result.parts.items }
         ensures rest { result.rest.entries.items ≡ journal self.hub }
         ensures items { result.items ≡ items }
         ensures posted { result.posted ≡ posted }

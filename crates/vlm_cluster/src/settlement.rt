@@ -24,6 +24,7 @@ pub(crate) fn close<G: Gate>(
 ) -> bool
     requires ports { ArePortsOf driver.old.hub results.old }
     requires accounted { IsAccounted driver.old.parts.items driver.old.hub }
+    ensures rings { rings driver.new.hub ≡ rings driver.old.hub }
     ensures same { map work_of results.new ≡ map work_of results.old }
     ensures told { AreTold (moves G.answers G.hears) results.old results.new }
     ensures accounted { IsAccounted driver.new.parts.items driver.new.hub }
@@ -51,12 +52,13 @@ fn serve_rest<G: Gate>(
     ensures every { driver.new.every ≡ driver.old.every }
     ensures few { OnOk result (length (journal driver.new.hub) < driver.new.every) }
 {
+    driver.cut_off()?;
     for _ in rt.forever() {
         if signals.is_cancelled() {
             return Err(AllocError);
         }
         if settle_all(driver, results) {
-            return driver.cut_off();
+            return Ok(());
         }
         driver.turn()?;
         collect_all(results)?;

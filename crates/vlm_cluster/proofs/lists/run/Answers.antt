@@ -1,17 +1,72 @@
-use Rattle.std.proofs.Common.{◌≡◌, ◌<◌, ◌≤◌, ℕ, List, length, get_or, vec_len, arith, ap, subst, sym, ◌∙◌}
+use Rattle.std.proofs.Common.{◌≡◌, ◌<◌, ◌≤◌, ◌+◌, ◌*◌, ℕ, List, length, get_or, map, vec_len, arith, refl, ap, subst, sym, ◌∙◌}
 use Rattle.std.specs.declared.thread.PromisedHandle.{PromisedHandle}
-use Rattle.std.proofs.lemmas.List.{length-replicate}
+use Rattle.std.proofs.lemmas.List.{length-append, length-map, length-replicate}
+use Rattle.vlm_journal.specs.declared.entries.Entry.{Entry}
+use Rattle.vlm_ports.specs.declared.hub.Hub.{Hub}
 use Rattle.vlm_ports.specs.declared.port.Port.{Port}
+use Rattle.vlm_ports.specs.Hubs.{journal, rings}
+use Rattle.vlm_ports.specs.Ports.{identity}
+use Rattle.vlm_ports.specs.Rings.{RingName}
 use Rattle.vlm_cluster.specs.declared.report.Report.{Report}
 use Rattle.vlm_cluster.specs.declared.threads.WorkerPromise.{WorkerPromise}
 use Rattle.vlm_cluster.specs.declared.worker.WorkerResult.{WorkerResult}
 use Rattle.vlm_cluster.specs.Gates.{Moves, moves}
 use Rattle.vlm_cluster.specs.Headline.{StepList}
-use Rattle.vlm_cluster.specs.Parts.{HaveEnough}
+use Rattle.vlm_cluster.specs.Parts.{HaveEnough, HaveFewer, bound_of, entries_in}
 use Rattle.vlm_cluster.proofs.Assembled.{AreNoted, AreWorks, all_posted, begun, given_up, ports_of_works, served, works_of}
 use Rattle.vlm_cluster.proofs.Gated.{AreGatedWorks, gated, gated_by_none, gated_in_part, gated_works_of}
 use Rattle.vlm_cluster.proofs.lists.run.Goals as goal
 use Rattle.vlm_journal.proofs.Lists.{element}
+
+-- the bound of a hub that has a ring pair for each of these ports
+bound_is : (ports : List Port) (n every now : ℕ) (first h : Hub) → length ports ≡ n → map identity ports ≡ rings first
+    → rings h ≡ rings first → now ≡ every → bound_of now h ≡ every + 2 * n
+bound_is ports n every now first h many of same still =
+    omega (
+      arith,
+      many,
+      still,
+      ap (λ (xs : List (ℕ × RingName × RingName)). length xs) of,
+      ap (λ (xs : List (ℕ × RingName × RingName)). length xs) same,
+      length-map ports identity,
+    )
+
+pub serve-requires-clause-few : goal.serve-requires-clause-few
+serve-requires-clause-few g c =
+    let some = c.args.driver.some in
+    omega (
+      arith,
+      some,
+      ap (λ (xs : List Entry). length xs) c.requires.accounted.0,
+      length-append (entries_in c.args.driver.parts.items) (journal c.args.driver.hub),
+    )
+
+-- a run that is given up cut no part that is too long
+pub returns-then-started-count-clause-parts : goal.returns-then-started-count-clause-parts
+returns-then-started-count-clause-parts g c =
+    let op = c.args.inputs.ports.ok in
+    let r : Report = c.give_up-report.result in
+    let many : length c.args.inputs.ports.items ≡ vec_len c.args.inputs.lists = (let n = c.requires.lens.0 in omega arith) in (
+      c.give_up-report.ensures.sound.enough,
+      subst (λ (n : ℕ). HaveFewer n r.parts.items)
+          (bound_is c.args.inputs.ports.items (vec_len c.args.inputs.lists) c.args.driver.every c.args.driver.every c.args.driver.hub c.args.driver.hub
+          many c.requires.new.1 refl refl)
+          c.give_up-report.ensures.sound.fewer,
+    )
+
+-- nor did one whose memory was refused
+pub returns-clause-parts : goal.returns-clause-parts
+returns-clause-parts g c =
+    let op = c.args.inputs.ports.ok in
+    let r : Report = c.finish-finished.result.report in
+    let every = c.serve.ensures.every in
+    let many : length c.args.inputs.ports.items ≡ vec_len c.args.inputs.lists = (let n = c.requires.lens.0 in omega arith) in (
+      subst (λ (n : ℕ). HaveEnough n r.parts.items) every c.finish-finished.ensures.sound.enough,
+      subst (λ (n : ℕ). HaveFewer n r.parts.items)
+          (bound_is c.args.inputs.ports.items (vec_len c.args.inputs.lists) c.args.driver.every c.serve.new.self.every c.args.driver.hub c.serve.new.self.hub
+          many c.requires.new.1 c.serve.ensures.rings every)
+          c.finish-finished.ensures.sound.fewer,
+    )
 
 pub finish-finished-requires-clause-ports : goal.finish-finished-requires-clause-ports
 finish-finished-requires-clause-ports g c =
@@ -131,8 +186,14 @@ returns-then-started-count-clause-serving g c =
 pub returns-then-finished-clause-parts : goal.returns-then-finished-clause-parts
 returns-then-finished-clause-parts g c =
     let r : Report = c.finish-finished.result.report in
+    let op = c.args.inputs.ports.ok in
+    let many : length c.args.inputs.ports.items ≡ vec_len c.args.inputs.lists = (let n = c.requires.lens.0 in omega arith) in
     let every = c.serve.ensures.every in record {
-      parts = subst (λ (n : ℕ). HaveEnough n r.parts.items) every c.finish-finished.ensures.sound.enough;
+      enough = subst (λ (n : ℕ). HaveEnough n r.parts.items) every c.finish-finished.ensures.sound.enough;
+      fewer = subst (λ (n : ℕ). HaveFewer n r.parts.items)
+          (bound_is c.args.inputs.ports.items (vec_len c.args.inputs.lists) c.args.driver.every c.serve.new.self.every c.args.driver.hub c.serve.new.self.hub
+          many c.requires.new.1 c.serve.ensures.rings every)
+          c.finish-finished.ensures.sound.fewer;
       rest = subst (λ (n : ℕ). length r.rest.entries.items < n) every (c.finish-finished.ensures.rest c.if-finished.true);
     }
 

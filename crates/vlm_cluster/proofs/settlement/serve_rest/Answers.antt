@@ -1,11 +1,12 @@
-use Rattle.std.proofs.Common.{sym, ◌∙◌}
+use Rattle.std.proofs.Common.{sym, ◌∙◌, rules}
 use Rattle.vlm_cluster.specs.Gates.{moves}
 use Rattle.vlm_cluster.proofs.Results.{as_many, ports_kept, told_on}
 use Rattle.vlm_cluster.proofs.settlement.serve_rest.Goals as goal
 
 pub settle_all-requires-clause-ports : goal.settle_all-requires-clause-ports
 settle_all-requires-clause-ports g c =
-    ports_kept c.args.driver.now.hub c.loop.driver.hub c.args.results.now c.loop.results c.loop.invariant.rings c.loop.invariant.same c.requires.ports
+    ports_kept c.args.driver.now.hub c.loop.driver.hub c.args.results.now c.loop.results (c.loop.invariant.rings ∙ c.cut_off.ensures.rings)
+    c.loop.invariant.same c.requires.ports
 
 pub returns-then-settle_all-clause-told : goal.returns-then-settle_all-clause-told
 returns-then-settle_all-clause-told g c =
@@ -32,4 +33,5 @@ loop-preserved g c =
       told = told_on M ds c.settle_all.new.results c.collect_all.new.results (sym (as_many c.settle_all.new.results ds (c.settle_all.ensures.same ∙ c.loop.invariant.same))) settled c.collect_all.ensures.told;
       accounted = c.turn.ensures.accounted;
       every = c.turn.ensures.every ∙ c.settle_all.ensures.every ∙ c.loop.invariant.every;
+      few = search rules;
     }

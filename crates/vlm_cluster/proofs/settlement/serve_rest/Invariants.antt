@@ -1,5 +1,5 @@
-use Rattle.std.proofs.Common.{◌≡◌}
-use Rattle.vlm_ports.specs.Hubs.{rings}
+use Rattle.std.proofs.Common.{◌≡◌, ◌<◌, length}
+use Rattle.vlm_ports.specs.Hubs.{journal, rings}
 use Rattle.vlm_cluster.specs.Parts.{IsAccounted}
 use Rattle.vlm_cluster.specs.Gates.{moves}
 use Rattle.vlm_cluster.specs.Works.{AreTold, WorksStay}
@@ -12,4 +12,5 @@ invariant-loop g l = record {
   told : AreTold (moves g.G.Gate.answers g.G.Gate.hears) l.initial.results l.results;
   accounted : IsAccounted l.driver.parts.items l.driver.hub;
   every : l.driver.every ≡ l.initial.driver.every;
+  few : length (journal l.driver.hub) < l.driver.every;
 }
