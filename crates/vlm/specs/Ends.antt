@@ -152,8 +152,7 @@ StartsTask words script left old new status =
     × StartsWatch subject.domain subject.name script left old new status)
 
 -- the help that was asked for is on standard output
-pub record GivesHelp (old new : Output) (status : ℕ) : Type 0 where
-  pub help : List ℕ
+pub record GivesHelp (help : List ℕ) (old new : Output) (status : ℕ) : Type 0 where
   pub printed : Appends old.printed new.printed help
   pub faults : new.faults ≡ old.faults
   pub ended : status ≡ 0
@@ -172,8 +171,7 @@ pub record WantsMemory (old new : Output) (status : ℕ) : Type 0 where
   pub ended : status ≡ 3
 
 -- a write of the help failed, and only a first part of it is on standard output
-pub record FailsHelp (old new : Output) (status : ℕ) : Type 0 where
-  pub help : List ℕ
+pub record FailsHelp (help : List ℕ) (old new : Output) (status : ℕ) : Type 0 where
   pub printed : PassesPart old.printed new.printed help
   pub faults : PrintsFault Write old.faults new.faults
   pub ended : status ≡ 3
@@ -182,7 +180,7 @@ pub record FailsHelp (old new : Output) (status : ℕ) : Type 0 where
 abbrev pub EndsByError : ErrorKind → Output → Output → ℕ → Type 0
 EndsByError kind old new status =
     WantsMemory old new status
-    ⊎ (IsHelp kind × (GivesHelp old new status ⊎ FailsHelp old new status))
+    ⊎ (IsHelp kind × (help : List ℕ) × (GivesHelp help old new status ⊎ FailsHelp help old new status))
     ⊎ ((kind ≢ OutOfMemory) × (IsHelp kind → ⊥) × RefusesWords old new status)
 
 -- the words have no error, and their task was started; or they have an error, and nothing was read

@@ -144,7 +144,7 @@ fn refused<W: Write, F: Write>(alloc: Global, error: &Error, writer: &mut W, fau
 fn help<W: Write, F: Write>(text: &[u8], writer: &mut W, faults: &mut F) -> u8
     ensures { let old = output_of (W.contents writer.old) (F.contents faults.old) in
         let new = output_of (W.contents writer.new) (F.contents faults.new) in
-        GivesHelp old new result ⊎ FailsHelp old new result }
+        GivesHelp text.now old new result ⊎ FailsHelp text.now old new result }
 {
     match write_whole(writer, text) {
         Ok(()) => DONE,
