@@ -1,6 +1,6 @@
-"""Makes the libraries for programs in C: libvlm.a and libvlm.so, from the archives of the proved crates and the layers
-in C. The kit's tools link and pack. The C compiler of the system compiles the layers and makes the shared library, so
-that both fit its C library."""
+"""Makes the libraries for programs in C: libvlm.a and libvlm.so, from the archive of the proved crate and the layers in
+C. The kit's tools link and pack. The C compiler of the system compiles the layers and makes the shared library, so that
+both fit its C library."""
 
 import os
 import shlex
@@ -11,8 +11,6 @@ from pathlib import Path
 
 from project import MISSING, TOP, fail
 
-# The crates that C calls, and the object that is made of the archive of each.
-CRATES = {"vlm_c": "vlm.o", "vlm_hub_c": "vlm_hub.o"}
 # The layers in C, and the sources of each. An object for each, so a program links only what it calls.
 SOURCES = sorted((TOP / "bindings" / "c").glob("*.c"))
 LAYERS = {layer: [it for it in SOURCES if it.stem.startswith(layer)] for layer in ("vlm_threads", "vlm_hub_wait")}
@@ -72,15 +70,14 @@ def make_layer(made, sources):
     hide_names(made)
 
 
-def make_objects(folder, archives):
+def make_objects(folder, archive):
     """Makes the objects of both libraries in a folder."""
-    cores = [folder / CRATES[archive.parent.parent.name] for archive in archives]
-    for made, archive in zip(cores, archives):
-        make_core(made, archive)
+    core = folder / "vlm.o"
+    make_core(core, archive)
     layers = [folder / f"{layer}.o" for layer in LAYERS]
     for made, sources in zip(layers, LAYERS.values()):
         make_layer(made, sources)
-    return [*cores, *layers]
+    return [core, *layers]
 
 
 def make_shared(made, objects, folder):
@@ -96,11 +93,11 @@ def link(name, file):
     return file.parent / name
 
 
-def make_libraries(lib, archives, version):
-    """Makes both libraries in the folder lib, from the archives that the proofs of the crates left."""
+def make_libraries(lib, archive, version):
+    """Makes both libraries in the folder lib, from the archive that the proof of the crate left."""
     with tempfile.TemporaryDirectory() as room:
         folder = Path(room)
-        objects = make_objects(folder, archives)
+        objects = make_objects(folder, archive)
         make_by_kit(lib / "libvlm.a", "llvm-ar", "qcs", lib / "libvlm.a", *objects)
         shared = lib / f"libvlm.so.{version}"
         make_shared(shared, objects, folder)

@@ -1,4 +1,0 @@
-pub mod Slots
-pub mod Keys
-pub mod Served
-pub mod Shown

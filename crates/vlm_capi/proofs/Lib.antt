@@ -1,0 +1,4 @@
+mod Lengths
+mod LooseValues
+mod Values
+mod Serving

@@ -1,0 +1,13 @@
+pub mod Words
+pub mod Replies
+pub mod StepWords
+pub mod Copies
+pub mod Slots
+pub mod Lending
+pub mod Keys
+pub mod Served
+pub mod Shown
+pub mod Items
+pub mod Posts
+pub mod Entries
+pub mod Hubs

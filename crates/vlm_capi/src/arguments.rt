@@ -1,0 +1,278 @@
+//! Reads the structs and numbers that C passes as steps of the machine. include/vlm.h describes their members.
+//!
+//! A struct names no step if it has another size, a reserved word that is not 0, or a number that does not fit.
+
+ghost use Rattle.std.specs.Prelude.{◌≡◌, is_some};
+ghost use Rattle.vlm_capi.specs.Words.{conversion_of, declaration_of, dequeue_of, given, is_blank, is_options, is_request, request_of, setting_of, which_of};
+
+use crate::numbers::mode_of;
+use std::mem::size_of;
+use vlm_collections::HashKeys;
+use vlm_words::names::NameArg;
+use vlm_words::steps::{Conversion, Declaration, Dequeue, NewRequest, ValueSetting, Which};
+
+/// The version of the library and its header, 0.1.0: one byte for each of its numbers.
+pub(crate) const VERSION: u32 = 0x00_01_00;
+
+// The `size` that C writes into each struct.
+const OPTIONS_SIZE: u32 = 64;
+
+pub(crate) const DECLARATION_SIZE: u32 = 32;
+
+pub(crate) const SETTING_SIZE: u32 = 96;
+
+pub(crate) const REQUEST_SIZE: u32 = 128;
+
+pub(crate) const DEQUEUE_SIZE: u32 = 128;
+
+const _: () = prove!(size_of::<VlmOptions>() == 64);
+
+const _: () = prove!(size_of::<VlmDeclaration>() == 32);
+
+const _: () = prove!(size_of::<VlmSetting>() == 96);
+
+const _: () = prove!(size_of::<VlmRequest>() == 128);
+
+const _: () = prove!(size_of::<VlmDequeue>() == 128);
+
+#[repr(C)]
+#[derive(Clone, Copy)]
+pub struct VlmOptions {
+    pub size: u32,
+    /// The version of the caller's header.
+    pub version: u32,
+    /// 1 to hash names by `keys`, or 0 to hash them by fixed keys.
+    pub has_keys: u32,
+    pub keys: [u8; 16],
+    pub reserved: [u32; 9],
+}
+
+#[repr(C)]
+#[derive(Clone, Copy)]
+pub struct VlmDeclaration {
+    pub size: u32,
+    /// 1 to 8.
+    pub node: u32,
+    pub group: u32,
+    /// 1 if it has the privilege SYSLCK, or 0.
+    pub syslck: u32,
+    pub quota: u32,
+    /// How many status blocks it has, numbered from 1.
+    pub blocks: u32,
+    pub reserved: [u32; 2],
+}
+
+#[repr(C)]
+#[derive(Clone, Copy)]
+pub struct VlmSetting {
+    pub size: u32,
+    pub pid: u32,
+    pub block: u32,
+    /// 1 to set the tail too, or 0.
+    pub has_tail: u32,
+    pub value: [u8; 16],
+    pub tail: [u8; 48],
+    pub reserved: [u32; 4],
+}
+
+/// Asks for a new lock, or for another mode of a lock.
+#[repr(C)]
+#[derive(Clone, Copy)]
+pub struct VlmRequest {
+    pub size: u32,
+    pub pid: u32,
+    /// 0 (NL) to 5 (EX).
+    pub mode: u32,
+    pub flags: u32,
+    /// The caller's status block, from 1.
+    pub block: u32,
+    /// The parent lock of a new request, or 0 for a root. The lock of a conversion.
+    pub lock: u32,
+    /// If not 0, the status block that holds that lock's identification. `lock` is 0 then.
+    pub lock_block: u32,
+    /// 1 if `ast` names a completion routine, or 0.
+    pub has_ast: u32,
+    pub ast: u32,
+    /// 1 if `bast` names a blocking routine, or 0.
+    pub has_bast: u32,
+    pub bast: u32,
+    /// Both routines get it.
+    pub param: u32,
+    pub reserved: [u32; 20],
+}
+
+#[repr(C)]
+#[derive(Clone, Copy)]
+pub struct VlmDequeue {
+    pub size: u32,
+    pub pid: u32,
+    pub flags: u32,
+    pub lock: u32,
+    pub lock_block: u32,
+    /// 1 to write the value block, or 0.
+    pub has_value: u32,
+    /// 1 to write its tail too, or 0.
+    pub has_tail: u32,
+    pub value: [u8; 16],
+    pub tail: [u8; 48],
+    pub reserved: [u32; 9],
+}
+
+#[tactic(auto, unfolding(crate::specs::Words::which_of))]
+fn which_of(lock: u32, block: u32) -> Option<Which>
+    ensures { result ≡ which_of lock block }
+{
+    if block == 0 {
+        Some(Which::Id(lock))
+    } else if lock == 0 && block < 256 {
+        Some(Which::Block(block as u8))
+    } else {
+        None
+    }
+}
+
+// It reads every word and never stops early, so the compiler can compare several words at once.
+fn is_blank(words: &[u32]) -> bool
+    ensures { result ≡ is_blank words.now }
+{
+    let mut blank = true;
+    for word in words {
+        blank &= *word == 0;
+    }
+    blank
+}
+
+fn given<T: Copy>(mark: u32, value: T) -> Option<T>
+    ensures { result ≡ given mark value }
+{
+    if mark == 1 { Some(value) } else { None }
+}
+
+/// The keys for the index of names; `None` if the struct is malformed or of another version.
+#[tactic(auto, unfolding(crate::specs::Words::is_options))]
+pub(crate) fn keys_of(words: &VlmOptions) -> Option<HashKeys>
+    ensures { is_some result ≡ is_options words.now }
+{
+    if words.size != OPTIONS_SIZE || words.version != VERSION || !is_blank(&words.reserved) {
+        return None;
+    }
+    match words.has_keys {
+        0 => Some(HashKeys::fixed()),
+        1 => Some(HashKeys::of(words.keys)),
+        _ => None,
+    }
+}
+
+#[tactic(auto, unfolding(crate::specs::Words::declaration_of))]
+pub(crate) fn declaration_of(words: &VlmDeclaration) -> Option<Declaration>
+    ensures { result ≡ declaration_of words.now }
+{
+    if words.size != DECLARATION_SIZE || !is_blank(&words.reserved) {
+        return None;
+    }
+    if words.node > 255 || words.group > 65_535 || words.syslck > 1 {
+        return None;
+    }
+    if words.quota > 65_535 || words.blocks > 255 {
+        return None;
+    }
+    Some(Declaration {
+        node: words.node as u8,
+        group: words.group as u16,
+        syslck: words.syslck == 1,
+        quota: words.quota as u16,
+        blocks: words.blocks as u8,
+    })
+}
+
+#[tactic(auto, unfolding(crate::specs::Words::setting_of))]
+pub(crate) fn setting_of(words: &VlmSetting) -> Option<ValueSetting>
+    ensures { result ≡ setting_of words.now }
+{
+    if words.size != SETTING_SIZE || !is_blank(&words.reserved) {
+        return None;
+    }
+    if words.block > 255 || words.has_tail > 1 {
+        return None;
+    }
+    Some(ValueSetting {
+        pid: words.pid,
+        block: words.block as u8,
+        value: words.value,
+        tail: given(words.has_tail, words.tail),
+    })
+}
+
+fn is_request(words: &VlmRequest) -> bool
+    ensures { result ≡ is_request words.now }
+{
+    words.size == REQUEST_SIZE
+        && is_blank(&words.reserved)
+        && words.flags <= 65_535
+        && words.block <= 255
+        && words.has_ast <= 1
+        && words.has_bast <= 1
+}
+
+#[tactic(auto, unfolding(crate::specs::Words::request_of))]
+pub(crate) fn request_of(words: &VlmRequest, name: &[u8]) -> Option<NewRequest>
+    ensures { result ≡ request_of words.now name.now }
+{
+    if !is_request(words) {
+        return None;
+    }
+    let mode = mode_of(words.mode)?;
+    let parent = which_of(words.lock, words.lock_block)?;
+    Some(NewRequest {
+        pid: words.pid,
+        mode,
+        name: NameArg::of(name),
+        block: words.block as u8,
+        parent,
+        flags: words.flags as u16,
+        ast: given(words.has_ast, words.ast),
+        bast: given(words.has_bast, words.bast),
+        param: words.param,
+    })
+}
+
+#[tactic(auto, unfolding(crate::specs::Words::conversion_of))]
+pub(crate) fn conversion_of(words: &VlmRequest) -> Option<Conversion>
+    ensures { result ≡ conversion_of words.now }
+{
+    if !is_request(words) {
+        return None;
+    }
+    let mode = mode_of(words.mode)?;
+    let lock = which_of(words.lock, words.lock_block)?;
+    Some(Conversion {
+        pid: words.pid,
+        lock,
+        mode,
+        block: words.block as u8,
+        flags: words.flags as u16,
+        ast: given(words.has_ast, words.ast),
+        bast: given(words.has_bast, words.bast),
+        param: words.param,
+    })
+}
+
+#[tactic(auto, unfolding(crate::specs::Words::dequeue_of))]
+pub(crate) fn dequeue_of(words: &VlmDequeue) -> Option<Dequeue>
+    ensures { result ≡ dequeue_of words.now }
+{
+    if words.size != DEQUEUE_SIZE || !is_blank(&words.reserved) {
+        return None;
+    }
+    if words.flags > 65_535 || words.has_value > 1 || words.has_tail > 1 {
+        return None;
+    }
+    let lock = which_of(words.lock, words.lock_block)?;
+    Some(Dequeue {
+        pid: words.pid,
+        lock,
+        value: given(words.has_value, words.value),
+        tail: given(words.has_tail, words.tail),
+        flags: words.flags as u16,
+    })
+}

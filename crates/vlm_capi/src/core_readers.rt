@@ -1,0 +1,140 @@
+//! What a handle reads of its core. Nothing changes, and without a core nothing is answered.
+
+ghost use Rattle.std.specs.Prelude.{◌≡◌, ◌==◌, Some, false};
+ghost use Rattle.vlm_capi.specs.Keys.{key_of};
+ghost use Rattle.vlm_capi.specs.Lending.{core_of};
+ghost use Rattle.vlm_capi.specs.Shown.{Tells, block_shown, count_shown, found_shown, lock_count_shown, next_process_shown, next_resource_shown, pending_shown, process_count_shown, process_shown, queued_count_shown, resource_shown, row_shown_at};
+
+use crate::handle::Handle;
+use crate::resource_keys::{key_of, queue_of};
+use crate::shown::VlmResource;
+use vlm_core::{Core, ProcessView, ResourceView, RowView};
+use vlm_words::blocks::Block;
+
+impl Handle {
+    /// A status block of a process. Numbers start at 1.
+    #[tactic(auto, unfolding(crate::specs::Shown::block_shown))]
+    pub(crate) fn block(&mut self, pid: u32, number: u32) -> Option<Block>
+        ensures { Tells (block_shown (core_of self.old.slot.held) pid number) result
+            self.old.slot.held self.new.slot.held }
+    {
+        if number > 255 {
+            return None;
+        }
+        let number = number as u8;
+        self.with_core(|core| core.block(pid, number))?
+    }
+
+    pub(crate) fn pending(&mut self, pid: u32) -> Option<usize>
+        ensures { Tells (pending_shown (core_of self.old.slot.held) pid) result
+            self.old.slot.held self.new.slot.held }
+    {
+        self.with_core(|core| core.pending(pid))?
+    }
+
+    pub(crate) fn process_count(&mut self) -> usize
+        ensures { Tells (process_count_shown (core_of self.old.slot.held)) result
+            self.old.slot.held self.new.slot.held }
+    {
+        self.with_core(|core| core.process_count()).unwrap_or(0)
+    }
+
+    /// The living process at a place, from 0, and how many locks it has.
+    pub(crate) fn process(&mut self, place: usize) -> Option<(ProcessView, usize)>
+        ensures { Tells (process_shown (core_of self.old.slot.held) place) result
+            self.old.slot.held self.new.slot.held }
+    {
+        self.with_core(|core| process_at(core, place))?
+    }
+
+    /// The living process after the process with this identification, or with 0 the first one. `Some(None)` after the
+    /// last one, `None` if no living process has the identification.
+    pub(crate) fn next_process(&mut self, pid: u32) -> Option<Option<(ProcessView, usize)>>
+        ensures { Tells (next_process_shown (core_of self.old.slot.held) (pid == 0) pid) result
+            self.old.slot.held self.new.slot.held }
+    {
+        if pid == 0 {
+            return self.with_core(|core| process_at(core, 0));
+        }
+        self.with_core(|core| process_after(core, pid))?
+    }
+
+    pub(crate) fn resource_count(&mut self) -> usize
+        ensures { Tells (count_shown (core_of self.old.slot.held)) result
+            self.old.slot.held self.new.slot.held }
+    {
+        self.with_core(|core| core.resource_count()).unwrap_or(0)
+    }
+
+    pub(crate) fn lock_count(&mut self) -> usize
+        ensures { Tells (lock_count_shown (core_of self.old.slot.held)) result
+            self.old.slot.held self.new.slot.held }
+    {
+        self.with_core(|core| core.lock_count()).unwrap_or(0)
+    }
+
+    pub(crate) fn queued_count(&mut self) -> usize
+        ensures { Tells (queued_count_shown (core_of self.old.slot.held)) result
+            self.old.slot.held self.new.slot.held }
+    {
+        self.with_core(|core| core.queued_count()).unwrap_or(0)
+    }
+
+    pub(crate) fn resource(&mut self, place: usize) -> Option<ResourceView>
+        ensures { Tells (resource_shown (core_of self.old.slot.held) place) result
+            self.old.slot.held self.new.slot.held }
+    {
+        self.with_core(|core| core.resource_at(place))?
+    }
+
+    pub(crate) fn find(&mut self, words: &VlmResource) -> Option<ResourceView>
+        ensures { Tells (found_shown (core_of self.old.slot.held) (key_of words.now)) result
+            self.old.slot.held self.new.slot.held }
+    {
+        let key = key_of(words)?;
+        self.with_core(|core| core.resource(key.parent, key.domain, key.name))?
+    }
+
+    /// The resource after the named resource, or with serial 0 the first one. `Some(None)` after the last one, `None`
+    /// if there is no such resource.
+    pub(crate) fn next_resource(&mut self, words: &VlmResource) -> Option<Option<ResourceView>>
+        ensures { Tells
+            (next_resource_shown (core_of self.old.slot.held) (words.now.serial == 0) (key_of words.now))
+            result self.old.slot.held self.new.slot.held }
+    {
+        if words.serial == 0 {
+            return self.with_core(|core| core.resource_at(0));
+        }
+        let key = key_of(words)?;
+        self.with_core(|core| core.resource_after(key.parent, key.domain, key.name))?
+    }
+
+    /// The lock at a place in a queue of a resource, each from 0.
+    pub(crate) fn row(&mut self, resource: usize, queue: u32, place: usize) -> Option<RowView>
+        ensures { Tells (row_shown_at (core_of self.old.slot.held) resource queue place) result
+            self.old.slot.held self.new.slot.held }
+    {
+        let queue = queue_of(queue)?;
+        self.with_core(|core| core.row_at(resource, queue, place))?
+    }
+}
+
+fn process_at(core: &Core, index: usize) -> Option<(ProcessView, usize)>
+    ensures { result ≡ process_shown (Some core.now) index }
+{
+    let process = core.process_at(index)?;
+    let locks = core.own_count(process.pid);
+    Some((process, locks))
+}
+
+fn process_after(core: &Core, pid: u32) -> Option<Option<(ProcessView, usize)>>
+    ensures { result ≡ next_process_shown (Some core.now) false pid }
+{
+    match core.process_after(pid)? {
+        Some(process) => {
+            let locks = core.own_count(process.pid);
+            Some(Some((process, locks)))
+        }
+        None => Some(None),
+    }
+}

@@ -1,4 +1,0 @@
-pub mod Words
-pub mod Replies
-pub mod StepWords
-pub mod Copies
