@@ -87,6 +87,12 @@ impl WatchedHub {
         Ok(())
     }
 
+    /// Publishes, and tells no watcher of it.
+    pub fn publish_untold<R: Wait>(&mut self, rt: &R) -> Result<(), AllocError> {
+        let _told = self.hub.publish(rt)?;
+        Ok(())
+    }
+
     /// What a watcher sees of the resource at a place.
     pub fn see(&mut self, watcher: usize, place: usize) -> Option<Row> {
         if self.onlookers.len() <= watcher || self.keys <= place {

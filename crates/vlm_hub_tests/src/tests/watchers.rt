@@ -7,7 +7,7 @@ use std::process::Abort;
 use std::sync::Wait;
 use std::test::Fail;
 use std::thread::Threads;
-use vlm_ports::{RootKey, Row};
+use vlm_ports::{BoardFault, RootKey, Row};
 use vlm_words::conditions::Cond;
 use vlm_words::names::Name;
 use vlm_words::resources::Domain;
@@ -74,6 +74,30 @@ fn a_resource_comes_and_goes(rt: HostRuntime) -> Result<(), Fail> {
     let made = [entries(hub.see(0, 0)), entries(hub.see(1, 0))];
     hub.close(&rt);
     assert!(&rt; made == [Some(7), Some(7)]);
+    Ok(())
+}
+
+// A watcher that nobody told of a publish sees it all the same.
+#[test]
+fn an_untold_watcher_sees_a_publish(rt: HostRuntime) -> Result<(), Fail> {
+    let mut hub = watched(&rt, 1, 2)?;
+    assert!(&rt; is_answer(hub.make(declaration(1)), Answer::Process(P)));
+    assert!(&rt; is_answer(hub.make(quiet(P)), Answer::Lock(Cond::Normal, 1)));
+    let before = hub.see(0, 0);
+    assert!(&rt; hub.publish_untold(&rt).is_ok());
+    let after = [hub.see(0, 0), hub.see(1, 0)];
+    hub.close(&rt);
+    assert!(&rt; shows(before, 0) && entries(before) == Some(0));
+    assert!(&rt; shows(after[0], 1) && entries(after[0]) == Some(2));
+    assert!(&rt; shows(after[1], 1) && entries(after[1]) == Some(2));
+    Ok(())
+}
+
+// Each fault of a refused board displays its text.
+#[test]
+fn board_faults_have_texts(rt: HostRuntime) -> Result<(), Fail> {
+    assert!(&rt; format!(in rt.alloc(); "{}", BoardFault::Memory)?.as_str() == "memory");
+    assert!(&rt; format!(in rt.alloc(); "{}", BoardFault::Seat)?.as_str() == "no seat");
     Ok(())
 }
 
