@@ -1,6 +1,10 @@
 -- The steps that the structs and numbers of C name.
-use Rattle.std.specs.Prelude.{ℕ, List, Bool, ◌==◌, ◌&&◌, nat_lt, nat_le, take, Option, Some, None, if◌then◌else◌}
+use Rattle.std.specs.Prelude.{◌≡◌, ℕ, List, Bool, ◌==◌, ◌&&◌, nat_lt, nat_le, take, Option, Some, None, if◌then◌else◌}
 use Rattle.std.specs.List.{list_all}
+use Rattle.std.specs.Hash.DefaultHasher.{initial as empty, write}
+use Rattle.vlm_collections.specs.declared.hashers.HashKeys.{HashKeys}
+use Rattle.vlm_collections.specs.Hashing.{key_words}
+use Rattle.vlm_collections.specs.Sip.{initial}
 use Rattle.vlm_words.specs.declared.modes.Mode.{Mode}
 use Rattle.vlm_words.specs.declared.modes.Mode.TheVariants.{Nl, Cr, Cw, Pr, Pw, Ex}
 use Rattle.vlm_words.specs.declared.steps.Which.{Which}
@@ -55,6 +59,12 @@ given mark x = if mark == 1 then Some x else None
 -- the struct has its size and this version, its reserved words are 0, and its mark is 0 or 1
 unfoldable pub is_options : VlmOptions → Bool
 is_options w = (w.size == 64) && (w.version == 256) && is_blank w.reserved && nat_le w.has_keys 1
+
+-- the keys are the 16 bytes that the options give, or the fixed keys
+pub record AreKeysOf (w : VlmOptions) (keys : HashKeys) : Type 0 where
+  pub given : w.has_keys ≡ 1
+      → (keys.words ≡ initial (key_words w.keys).0 (key_words w.keys).1) × (keys.bytes ≡ write empty w.keys)
+  pub fixed : w.has_keys ≡ 0 → (keys.words ≡ initial 0 0) × (keys.bytes ≡ empty)
 
 -- the struct has its size, its reserved words are 0 and its numbers fit
 abbrev pub is_declaration : VlmDeclaration → Bool

@@ -2,8 +2,8 @@
 //!
 //! A struct names no step if it has another size, a reserved word that is not 0, or a number that does not fit.
 
-ghost use Rattle.std.specs.Prelude.{◌≡◌, is_some};
-ghost use Rattle.vlm_capi.specs.Words.{conversion_of, declaration_of, dequeue_of, given, is_blank, is_options, is_request, request_of, setting_of, which_of};
+ghost use Rattle.std.specs.Prelude.{◌≡◌, IfSome, is_some};
+ghost use Rattle.vlm_capi.specs.Words.{AreKeysOf, conversion_of, declaration_of, dequeue_of, given, is_blank, is_options, is_request, request_of, setting_of, which_of};
 
 use crate::numbers::mode_of;
 use std::mem::size_of;
@@ -151,7 +151,8 @@ fn given<T: Copy>(mark: u32, value: T) -> Option<T>
 /// The keys for the index of names; `None` if the struct is malformed or of another version.
 #[tactic(auto, unfolding(crate::specs::Words::is_options))]
 pub(crate) fn keys_of(words: &VlmOptions) -> Option<HashKeys>
-    ensures { is_some result ≡ is_options words.now }
+    ensures options { is_some result ≡ is_options words.now }
+    ensures keys { IfSome result (λ keys. AreKeysOf words.now keys) }
 {
     if words.size != OPTIONS_SIZE || words.version != VERSION || !is_blank(&words.reserved) {
         return None;
@@ -214,6 +215,7 @@ fn is_request(words: &VlmRequest) -> bool
         && words.has_bast <= 1
 }
 
+#[inline(always)]
 #[tactic(auto, unfolding(crate::specs::Words::request_of))]
 pub(crate) fn request_of(words: &VlmRequest, name: &[u8]) -> Option<NewRequest>
     ensures { result ≡ request_of words.now name.now }
@@ -236,6 +238,7 @@ pub(crate) fn request_of(words: &VlmRequest, name: &[u8]) -> Option<NewRequest>
     })
 }
 
+#[inline(always)]
 #[tactic(auto, unfolding(crate::specs::Words::conversion_of))]
 pub(crate) fn conversion_of(words: &VlmRequest) -> Option<Conversion>
     ensures { result ≡ conversion_of words.now }
@@ -257,6 +260,7 @@ pub(crate) fn conversion_of(words: &VlmRequest) -> Option<Conversion>
     })
 }
 
+#[inline(always)]
 #[tactic(auto, unfolding(crate::specs::Words::dequeue_of))]
 pub(crate) fn dequeue_of(words: &VlmDequeue) -> Option<Dequeue>
     ensures { result ≡ dequeue_of words.now }

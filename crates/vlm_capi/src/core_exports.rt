@@ -75,7 +75,7 @@ pub extern "C" fn vlm_close(alloc: Global, handle: &mut Handle)
 fn lent_step(handle: &mut Handle, step: Step) -> Option<Answer>
     ensures { LendsCore (λ s r s'. Outcome s step s' r) handle.old.slot.held result handle.new.slot.held }
 {
-    handle.with_core(|core| core.step(step))
+    handle.with_core(|core| core.make_step(&step))
 }
 
 // Without a core or a step nothing changes, and the answer is BADPARAM.
