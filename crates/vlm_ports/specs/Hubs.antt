@@ -1,5 +1,5 @@
 -- The journal of a hub, and what the hub knows of its ports.
-use Rattle.std.specs.Prelude.{◌≡◌, ◌⊎◌, ◌<◌, ◌≤◌, ◌-◌, ◌+◌, ◌++◌, ℕ, All, List, [], length, map, slice_get, slice_index_or, Some, None, IsNone}
+use Rattle.std.specs.Prelude.{◌≡◌, ◌⊎◌, ◌<◌, ◌≤◌, ◌-◌, ◌+◌, ◌/◌, ◌==◌, ◌&&◌, ◌++◌, ℕ, Bool, false, if◌then◌else◌, sum_by, All, List, [], length, map, slice_get, slice_index_or, Some, None, IsNone}
 use Rattle.vlm_words.specs.declared.asts.Ast.{Ast}
 use Rattle.vlm_words.specs.declared.steps.Answer.TheVariants.{Taken}
 use Rattle.vlm_words.specs.declared.steps.Step.TheVariants.{Take}
@@ -157,6 +157,32 @@ pub record OneAsks (at : ℕ) (old new : List Entry) : Type 0 where
 -- at most one request of each node was taken
 abbrev pub EachAsksOnce : List Entry → List Entry → Type 0
 EachAsksOnce old new = (node : ℕ) → 0 < node → length (asked node new) ≤ length (asked node old) + 1
+
+-- the step takes an AST of a process of the node
+abbrev pub is_take_of : ℕ → Step → Bool
+is_take_of node (Take pid) = pid / 65536 == node
+is_take_of node step = false
+
+-- 1 if the entry is the hub's take of an AST of the node
+abbrev pub delivery_of : ℕ → Entry → ℕ
+delivery_of node entry = if (entry.sender == 0) && is_take_of node entry.step then 1 else 0
+
+-- how many ASTs of the node the hub has taken in these entries
+abbrev pub deliveries : ℕ → List Entry → ℕ
+deliveries node entries = sum_by (delivery_of node) entries
+
+-- these entries take no AST of a node
+abbrev pub NoneIsDelivered : List Entry → List Entry → Type 0
+NoneIsDelivered old new = (k : ℕ) → deliveries (k + 1) new ≡ deliveries (k + 1) old
+
+-- these entries take at most one AST, of the node at a place
+pub record OneIsDelivered (at : ℕ) (old new : List Entry) : Type 0 where
+  pub own : deliveries (at + 1) new ≤ deliveries (at + 1) old + 1
+  pub others : (k : ℕ) → (k ≡ at → ⊥) → deliveries (k + 1) new ≡ deliveries (k + 1) old
+
+-- at most one AST of each node was taken
+abbrev pub EachIsDeliveredOnce : List Entry → List Entry → Type 0
+EachIsDeliveredOnce old new = (node : ℕ) → 0 < node → deliveries node new ≤ deliveries node old + 1
 
 -- a new hub of this many nodes: it has no entries, no requests, no items and no watchers
 pub record IsNewHub (count : ℕ) (h : Hub) : Type 0 where

@@ -53,7 +53,7 @@ impl Hub {
     ghost use Rattle.vlm_model.specs.Stepped.{Outcome};
     ghost use Rattle.vlm_journal.specs.Accounts.{GoesOn, made};
     ghost use Rattle.vlm_ports.specs.Turns.{IsIdleTurn, IsServedTurn, turn_entries};
-    ghost use Rattle.vlm_ports.specs.Hubs.{EachAsksOnce, HubGrew, KnowsAllTheSame, PutsBeforeCut, IsAsWritten, IsDeliveredAt, IsNewHub, IsPortOf, IsSameBut, KeepsKnown, AllNodeRingsLast, MayIdle, MayRestAt, NoneAsks, OneAsks, OthersLast, base, bases, journal, nodes, rings, state, waiting};
+    ghost use Rattle.vlm_ports.specs.Hubs.{EachAsksOnce, EachIsDeliveredOnce, HubGrew, KnowsAllTheSame, PutsBeforeCut, IsAsWritten, IsDeliveredAt, IsNewHub, IsPortOf, IsSameBut, KeepsKnown, AllNodeRingsLast, MayIdle, MayRestAt, NoneAsks, NoneIsDelivered, OneAsks, OneIsDelivered, OthersLast, base, bases, journal, nodes, rings, state, waiting};
     ghost use Rattle.vlm_ports.specs.Ports.{AreNew, identity};
     ghost use Rattle.vlm_ports.specs.Watched.{IsUnwatched, board};
     ghost use Rattle.vlm_ports.specs.Settling.{HasSettled};
@@ -119,6 +119,7 @@ impl Hub {
         ensures some { IsServedTurn result → 0 < turn_entries result }
         ensures most { turn_entries result ≤ 2 * nodes self.old }
         ensures once { EachAsksOnce (journal self.old) (journal self.new) }
+        ensures delivers { EachIsDeliveredOnce (journal self.old) (journal self.new) }
         ensures idle { IsIdleTurn result → MayIdle self.new }
         ensures known { KeepsKnown self.old self.new }
     {
@@ -240,6 +241,7 @@ impl Hub {
         ensures grew { HubGrew result.made self.old self.new }
         ensures most { result.made ≤ 2 }
         ensures once { OneAsks at (journal self.old) (journal self.new) }
+        ensures delivers { OneIsDelivered at (journal self.old) (journal self.new) }
         ensures idle { result.made ≡ 0 → IsFalse result.refused
             → IsSameBut at self.old self.new × MayRestAt self.new at }
         ensures known { AllNodeRingsLast self.old self.new }
@@ -270,6 +272,7 @@ impl Hub {
         ensures board { board self.new ≡ board self.old }
         ensures grew { IfOk result (λ n. (n ≤ 1) × HubGrew n self.old self.new) }
         ensures none_asks { IfOk result (λ n. NoneAsks (journal self.old) (journal self.new)) }
+        ensures delivers { IfOk result (λ n. OneIsDelivered at (journal self.old) (journal self.new)) }
         ensures delivered { IfOk result (λ n. n ≡ 0
             → IsSameBut at self.old self.new × IsDeliveredAt self.new at) }
         ensures known { AllNodeRingsLast self.old self.new }
@@ -298,6 +301,7 @@ impl Hub {
         ensures board { board self.new ≡ board self.old }
         ensures grew { IfOk result (λ n. (n ≤ 1) × HubGrew n self.old self.new) }
         ensures once { IfOk result (λ n. OneAsks at (journal self.old) (journal self.new)) }
+        ensures delivers { IfOk result (λ n. NoneIsDelivered (journal self.old) (journal self.new)) }
         ensures served { IfOk result (λ n. n ≡ 0
             → IsSameBut at self.old self.new × (IsDeliveredAt self.old at → MayRestAt self.new at)) }
         ensures known { AllNodeRingsLast self.old self.new }

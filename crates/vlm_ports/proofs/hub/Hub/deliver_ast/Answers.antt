@@ -4,6 +4,7 @@ use Rattle.vlm_journal.specs.declared.entries.Item.TheVariants.{Ast as ast_item}
 use Rattle.vlm_journal.specs.declared.entries.Item.{Item}
 use Rattle.vlm_ports.specs.Links.{node_rings_base}
 use Rattle.vlm_ports.proofs.Asking.{hub_asks}
+use Rattle.vlm_ports.proofs.Delivering.{delivers_one}
 use Rattle.vlm_ports.proofs.Lines.{delivery, delivered_follows, node_at, rings_set, set_same}
 use Rattle.vlm_ports.proofs.Resting.{grew_none, grew_one}
 use Rattle.vlm_ports.proofs.Lasting.{lasts_at, lasts_then}
@@ -90,3 +91,10 @@ pub returns-clause-known : goal.returns-clause-known
 returns-clause-known c =
     lasts_at c.args.self.now.all_node_rings.items c.args.at c.tell.new.self c.index_mut-node_rings.result.now c.requires c.index_mut-node_rings.ensures.value
     (lasts_then _ _ _ c.has_place.ensures.lasts c.tell.ensures.lasts)
+
+pub returns-clause-delivers : goal.returns-clause-delivers
+returns-clause-delivers c =
+    let ls = c.args.self.now.all_node_rings.items in let js = c.args.self.now.journaled.entries in
+    let was = c.index_mut-node_rings.result.now in
+    let to = c.deliver_ast-ast.ensures.node ∙ node_at ls js c.args.at was was c.args.self.now.linked c.requires c.index_mut-node_rings.ensures.value refl in
+    delivers_one c.args.at js c.reserve.new.self.entries c.deliver_ast-ast.new.self.entries c.in-Some.pid c.deliver_ast-ast.result c.reserve.ensures.entries c.deliver_ast-ast.ensures.written.entries to

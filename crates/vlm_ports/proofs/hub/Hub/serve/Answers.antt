@@ -6,6 +6,7 @@ use Rattle.vlm_journal.specs.declared.entries.Item.TheVariants.{Answer as answer
 use Rattle.vlm_journal.specs.declared.entries.Item.{Item}
 use Rattle.vlm_ports.specs.Links.{knows, node_rings_base}
 use Rattle.vlm_ports.proofs.Asking.{node_asks}
+use Rattle.vlm_ports.proofs.Delivering.{served_delivers_none}
 use Rattle.vlm_ports.proofs.Lines.{node_at, rings_set, served_follows, set_same}
 use Rattle.vlm_ports.proofs.Resting.{grew_none, grew_one}
 use Rattle.vlm_ports.proofs.Lasting.{lasts_at, lasts_then}
@@ -123,3 +124,10 @@ pub returns-clause-known : goal.returns-clause-known
 returns-clause-known c =
     lasts_at c.args.self.now.all_node_rings.items c.args.at c.tell.new.self c.index_mut-node_rings.result.now c.requires c.index_mut-node_rings.ensures.value
     (lasts_then _ _ _ (lasts_then _ _ _ c.has_request.ensures.lasts c.has_place.ensures.lasts) (lasts_then _ _ _ c.take_request.ensures.lasts c.tell.ensures.lasts))
+
+pub returns-clause-delivers : goal.returns-clause-delivers
+returns-clause-delivers c =
+    let ls = c.args.self.now.all_node_rings.items in let js = c.args.self.now.journaled.entries in let seen = c.has_place.new.self in
+    let node = node_at ls js c.args.at seen c.index_mut-node_rings.result.now c.args.self.now.linked c.requires c.index_mut-node_rings.ensures.value (c.has_place.ensures.rings ∙ c.has_request.ensures.rings) in
+    let e : Entry = record { sender = seen.node; step = c.on_behalf-step.result.now; answer = c.serve-answer.result } in
+    served_delivers_none c.args.at js c.reserve.new.self.entries c.serve-answer.new.self.entries e c.reserve.ensures.entries c.serve-answer.ensures.written.entries node

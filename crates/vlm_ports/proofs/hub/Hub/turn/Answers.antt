@@ -1,6 +1,7 @@
 use Rattle.std.proofs.Common.{refl, ◌+◌, ◌≡◌, ◌<◌, sym, ◌∙◌, arith}
 use Rattle.vlm_ports.specs.Hubs.{journal, nodes, state}
 use Rattle.vlm_ports.proofs.Asking.{asked_each, asked_first, asked_more}
+use Rattle.vlm_ports.proofs.Delivering.{delivered_each, delivered_first, delivered_on}
 use Rattle.vlm_ports.proofs.Resting.{grew_add, grew_none, may_idle, rest_more, within_rings}
 use Rattle.vlm_ports.proofs.Lasting.{known_kept, all_node_rings_still, all_node_rings_then}
 use Rattle.vlm_ports.proofs.hub.Hub.turn.Goals as goal
@@ -18,6 +19,7 @@ loop-at-preserved c = record {
   bases = c.attend-attended.ensures.base.1 ∙ c.loop-at.invariant.bases;
   grew = grew_add c.loop-at.invariant.grew c.attend-attended.ensures.grew;
   once = asked_more c.loop-at.at (journal c.args.self.now) (journal c.loop-at.self) (journal c.attend-attended.new.self) c.loop-at.invariant.once c.attend-attended.ensures.once;
+  delivers = delivered_on c.loop-at.at (journal c.args.self.now) (journal c.loop-at.self) (journal c.attend-attended.new.self) c.loop-at.invariant.delivers c.attend-attended.ensures.delivers;
   known = all_node_rings_then c.args.self.now.all_node_rings.items c.loop-at.self.all_node_rings.items c.attend-attended.new.self.all_node_rings.items c.loop-at.invariant.known c.attend-attended.ensures.known;
   most = let most = c.attend-attended.ensures.most in let was = c.loop-at.invariant.most in omega arith;
   idle = λ none.
@@ -41,6 +43,17 @@ returns-then-attended-clause-once c =
 pub returns-else-made-eq0-clause-once : goal.returns-else-made-eq0-clause-once
 returns-else-made-eq0-clause-once c = asked_each c.loop-at.at (journal c.args.self.now) (journal c.loop-at.self) c.loop-at.invariant.once
 
+pub returns-then-attended-clause-delivers : goal.returns-then-attended-clause-delivers
+returns-then-attended-clause-delivers c =
+    delivered_each (c.loop-at.at + 1) (journal c.args.self.now) (journal c.attend-attended.new.self)
+    (delivered_on c.loop-at.at (journal c.args.self.now) (journal c.loop-at.self) (journal c.attend-attended.new.self) c.loop-at.invariant.delivers c.attend-attended.ensures.delivers)
+
+pub returns-then-made-eq0-clause-delivers : goal.returns-then-made-eq0-clause-delivers
+returns-then-made-eq0-clause-delivers c = delivered_each c.loop-at.at (journal c.args.self.now) (journal c.loop-at.self) c.loop-at.invariant.delivers
+
+pub returns-else-made-eq0-clause-delivers : goal.returns-else-made-eq0-clause-delivers
+returns-else-made-eq0-clause-delivers c = delivered_each c.loop-at.at (journal c.args.self.now) (journal c.loop-at.self) c.loop-at.invariant.delivers
+
 pub loop-at-init : goal.loop-at-init
 loop-at-init c = record {
   rings = refl;
@@ -49,6 +62,7 @@ loop-at-init c = record {
   bases = refl;
   grew = grew_none (journal c.args.self.now) (journal c.args.self.now) (state c.args.self.now) (state c.args.self.now) refl refl;
   once = asked_first (journal c.args.self.now);
+  delivers = delivered_first (journal c.args.self.now);
   known = all_node_rings_still c.args.self.now.all_node_rings.items;
   most = omega arith;
   idle = λ none k below. absurd (omega (arith, below));
