@@ -1,6 +1,7 @@
 //! Serves a script by several nodes.
 
 ghost use Rattle.std.specs.Prelude.{◌≡◌, ◌<◌, ◌≤◌, IfOk, MatchResult, map, vec_len};
+ghost use Rattle.vlm_cluster.specs.Reports.{IsParted};
 ghost use Rattle.vlm_script.specs.Plays.{ConsumesAtMost};
 ghost use Rattle.vlm_script.specs.Shares.{AreListed};
 ghost use Rattle.vlm.specs.Ends.{StartsCluster, output_of};
@@ -86,7 +87,8 @@ fn serve_lists(
 ) -> Result<Report, AllocError>
     requires count { (0 < vec_len lists) × (vec_len lists ≤ 8) }
     requires listed { AreListed (map (λ l. l.items) lists.items) }
-    ensures { IfOk result (IsServedText lists.items) }
+    ensures served { IfOk result (IsServedText lists.items) }
+    ensures parts { IfOk result (λ report. IsParted 65536 (vec_len lists) report) }
 {
     let alloc = rt.alloc();
     let gates = Vec::from_elem(alloc, OpenGate, lists.len())?;

@@ -7,8 +7,8 @@ pub serve_lists_over-requires-clause-posts : goal.serve_lists_over-requires-clau
 serve_lists_over-requires-clause-posts g c κs within = listed_posts c.args.lists.items c.requires.listed
 
 -- the gates never stop
-pub returns-in-Ok : goal.returns-in-Ok
-returns-in-Ok g c = record {
+pub returns-in-Ok-clause-served : goal.returns-in-Ok-clause-served
+returns-in-Ok-clause-served g c = record {
   served = c.in-Ok.ensures.serving.served;
   posted = c.in-Ok.ensures.serving.whole refl;
   modes = c.in-Ok.ensures.serving.modes;
