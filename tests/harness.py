@@ -112,7 +112,7 @@ def built_interposer(name):
 
 
 INTERPOSERS = {name: Once(partial(built_interposer, name))
-               for name in ("refuse_allocation", "no_random_bytes", "single_bytes")}
+               for name in ("refuse_allocation", "refuse_thread", "no_random_bytes", "single_bytes")}
 
 
 class Case(NamedTuple):
