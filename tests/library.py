@@ -35,9 +35,10 @@ VALGRIND = ["valgrind", "-q", "--leak-check=full", "--show-leak-kinds=all", "--e
 HELGRIND = ["valgrind", "-q", "--tool=helgrind", f"--suppressions={TOP}/tests/c/helgrind.supp", "--error-exitcode=9"]
 # The layers for threads and for the threads of a hub, and the functions that some tests put their own in the place of.
 LAYER_SOURCES = sorted((TOP / "bindings" / "c").glob("*.c"))
-WRAPPED = {"refused": ("malloc", "realloc"),
+WRAPPED = {"refused": ("malloc", "realloc", "free"),
            "hub_refused": ("malloc", "realloc"),
-           "threads_refused": ("malloc", "realloc", "calloc", "pthread_create", "eventfd")}
+           "hub_starved": ("malloc", "realloc", "free"),
+           "threads_refused": ("malloc", "realloc", "calloc", "free", "pthread_create", "eventfd")}
 
 
 def missing():
