@@ -6,6 +6,7 @@ if a worker whose items can't grow rests and looks again, or if a cut that is re
 import functools
 import itertools
 import subprocess
+from contextlib import contextmanager
 from functools import partial
 
 from allocations import NOTHING, Program, REFUSAL, Wrong, expect, may_want_memory, scripts, watched_script
@@ -25,7 +26,7 @@ WANTED = {
     "the end after refused steps",
     "the fault of a name whose declaration was refused",
 }
-# Entries of a journal after which the program cuts a part off, and nodes that make one more by searches alone.
+# Entries of a journal after which the program cuts a part off, and the nodes of the cluster that makes them.
 PART, NODES = 65_536, 8
 # The places where the list of parts grows are among the last of a run: after it grow only what takes new entries and
 # the text.
@@ -38,6 +39,15 @@ def starved(program, script, number):
         return program.run(script, number, and_all_after=True)
     except subprocess.TimeoutExpired:
         raise Wrong(f"it does not end in {SECONDS} seconds") from None
+
+
+@contextmanager
+def all_refused_from(number):
+    """Says of what is wrong from which allocation on all were refused."""
+    try:
+        yield
+    except Wrong as wrong:
+        raise Wrong(f"without all allocations from {number} on: {wrong}") from wrong
 
 
 def makes_step(words):
@@ -80,15 +90,13 @@ class Played:
 
     def kind_from(self, number):
         """The kind of a run that is refused all memory from this allocation on."""
-        try:
+        with all_refused_from(number):
             run, was_refused = starved(self.program, self.script, number)
             if was_refused:
                 return self.kind_of(run)
             # The keys of the indexes differ from run to run, and with them how often an index grows.
             expect(run, self.ample(self.lines))
             return "nothing was refused"
-        except Wrong as wrong:
-            raise Wrong(f"without all allocations from {number} on: {wrong}") from wrong
 
     def kind_of(self, run):
         """Checks that a run equals one with blanks for the refused steps, except for their answers INSFMEM. A run that
@@ -169,24 +177,26 @@ def clusters():
             yield case.name.removeprefix("cluster "), (case.words[1:], case.script, case.wanted)
 
 
-def expect_memory(run, wanted, number):
-    """Checks that a run of a cluster ends with `memory` and prints nothing, or that it is whole."""
-    if run not in (MEMORY, wanted):
-        raise Wrong(f"without all from {number} on: {run} is not {MEMORY}")
+def served_from(program, script, wanted, number):
+    """Checks that a cluster that is refused all memory from this allocation on prints nothing and ends with `memory`, or
+    is whole. Says whether it came to that allocation."""
+    with all_refused_from(number):
+        run, was_refused = starved(program, script, number)
+        if run != MEMORY or not was_refused:
+            expect(run, wanted)
+        return was_refused
 
 
 def cluster(words, script, wanted, path):
     """What is wrong with a cluster without all allocations from one on, whichever it is."""
     program = Program(path, "cluster", *words)
     try:
-        for number in itertools.count(1):
-            run, was_refused = starved(program, script, number)
-            if not was_refused:
-                expect(run, wanted)
-                return
-            expect_memory(run, wanted, number)
+        count = next(number for number in itertools.count(1) if not served_from(program, script, wanted, number))
     except Wrong as wrong:
         yield wrong
+    else:
+        if count == 1:
+            yield "nothing was refused"
 
 
 @functools.lru_cache(maxsize=None)
@@ -199,9 +209,8 @@ def count_of_cut(path):
 def cut(from_last, path):
     """What is wrong with a cluster whose journal is cut, without as many of its last allocations."""
     words, script, wanted = search_script(NODES, PART // NODES)
-    number = count_of_cut(path) - from_last
     try:
-        expect_memory(starved(Program(path, "cluster", *words), script, number)[0], wanted, number)
+        served_from(Program(path, "cluster", *words), script, wanted, count_of_cut(path) - from_last)
     except Wrong as wrong:
         yield wrong
 
@@ -241,10 +250,10 @@ def watch(path):
     watched, kinds = Watched(path), set()
     try:
         for number in range(1, watched.program.count(b"".join(watched.lines)) + 1):
-            run, _ = starved(watched.program, b"".join(watched.lines), number)
-            kinds.add(watched.kind_of(run))
+            with all_refused_from(number):
+                kinds.add(watched.kind_of(starved(watched.program, b"".join(watched.lines), number)[0]))
     except Wrong as wrong:
-        yield f"without all allocations from {number} on: {wrong}"
+        yield wrong
     yield from sorted({"memory after no rows", "memory after some rows"} - kinds)
 
 

@@ -1,6 +1,6 @@
 /* All allocations of a hub refused from each on, until memory is back, with turns of the program's own and with
- * vlm_hub_run. Each call answers INSFMEM, as often as it is made, or its result. What was made is told, no post is lost,
- * vlm_hub_run does not sleep while a post is left, and closes free all. Linked with
+ * vlm_hub_run. Each call answers INSFMEM, as often as it is made, or its result. What was made is told, no post is
+ * lost, vlm_hub_run does not sleep while a post is left, and closes free all. Linked with
  * -Wl,--wrap=malloc,--wrap=realloc,--wrap=free. */
 #include "hub_test.h"
 #include "vlm_hub_wait.h"

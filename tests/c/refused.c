@@ -1,6 +1,7 @@
 /* Two processes take a lock in turn, with each allocation refused once: the call whose memory is refused answers
  * INSFMEM and changes nothing, and is made again. Then many take locks, with all allocations refused from each on: each
- * call answers INSFMEM or its result, and a close frees all. Linked with -Wl,--wrap=malloc,--wrap=realloc,--wrap=free. */
+ * call answers INSFMEM or its result, and a close frees all. Linked with
+ * -Wl,--wrap=malloc,--wrap=realloc,--wrap=free. */
 #include "vlm.h"
 
 #include <stdio.h>

@@ -1,7 +1,7 @@
 /* Each allocation, thread and eventfd of the layer for threads refused in turn, and the key for data of threads: the
- * call answers INSFMEM and changes nothing, and is made again. Then all of them from each on: each call answers INSFMEM,
- * as often as it is made, or its result, and a close frees all. Linked with -Wl,--wrap= of malloc, calloc, realloc, free,
- * pthread_create and eventfd. */
+ * call answers INSFMEM and changes nothing, and is made again. Then all of them from each on: each call answers
+ * INSFMEM, as often as it is made, or its result, and a close frees all. Linked with -Wl,--wrap= of malloc, calloc,
+ * realloc, free, pthread_create and eventfd. */
 #include "threads_test.h"
 
 #include <errno.h>

@@ -1,5 +1,5 @@
-// Finds names that meet in the index of resources, hashed with both keys 0: as a library for tests/chosen_names.py, since
-// one name of 256 does.
+// Finds names that meet in the index of resources, hashed with both keys 0. It is a library for tests/chosen_names.py:
+// one name of 256 does, so the search would be slow there.
 typedef __UINT64_TYPE__ word;
 typedef __UINT32_TYPE__ half;
 
