@@ -168,9 +168,9 @@ def search_script(nodes, each):
 
 
 def clusters():
-    """Clusters by their names: their words, their scripts and how they end. The journal of a hub and the items of a
-    worker grow at different lengths of the lists, so there are lists of each length."""
-    for nodes, each in [(nodes, each) for nodes in (1, 2) for each in range(9)] + [(8, 1)]:
+    """Clusters by their names: their words, their scripts and how they end. One node makes the items of a worker grow
+    when the journal has room for all that comes. Three nodes make the journal grow when each worker has room."""
+    for nodes, each in [*((1, each) for each in range(9)), (2, 4), (3, 10), (3, 20), (8, 1)]:
         yield f"{nodes} times {each} searches", search_script(nodes, each)
     for case in CLUSTERS:
         if case.wanted.status == 0 and case.script:
@@ -178,8 +178,8 @@ def clusters():
 
 
 def served_from(program, script, wanted, number):
-    """Checks that a cluster that is refused all memory from this allocation on prints nothing and ends with `memory`, or
-    is whole. Says whether it came to that allocation."""
+    """Checks that a cluster that is refused all memory from this allocation on ends with `memory` and has printed
+    nothing, or is whole. Says whether it came to that allocation."""
     with all_refused_from(number):
         run, was_refused = starved(program, script, number)
         if run != MEMORY or not was_refused:
