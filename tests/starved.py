@@ -28,9 +28,9 @@ WANTED = {
 }
 # Entries of a journal after which the program cuts a part off, and the nodes of the cluster that makes them.
 PART, NODES = 65_536, 8
-# The places where the list of parts grows are among the last of a run: after it grow only what takes new entries and
-# the text.
-LAST = 30
+# The list of parts grows at one of the last places of that run. After it come the growths of the next part, one for the
+# items of each worker, and those of the text.
+LAST = 40
 
 
 def starved(program, script, number):
