@@ -7,11 +7,13 @@ import os
 import subprocess
 from functools import partial
 
-from harness import Ended, INTERPOSERS, STORED, Test
+from harness import Ended, INTERPOSERS, SECONDS, STORED, Test
 from scripts import stored_scripts
 from units import is_built, names_of, tests_program
 
 REFUSAL = b": INSFMEM\n"
+# The longest run without one of its allocations.
+LONGEST_SECONDS = 60
 # The module of the tests that try again where memory was refused.
 RETRIES = "tests::retries::"
 # What refused allocations have to come to over all scripts, so that these tests can't pass by doing nothing.
@@ -45,18 +47,29 @@ class Program:
     def __init__(self, *command):
         self.command = [str(word) for word in command]
 
-    def run(self, script, number=0):
-        """Runs a script without its allocation of this number. Says whether the run came to it."""
+    def run(self, script, number=0, and_all_after=False):
+        """Runs a script without its allocation of this number, or without all from there on, which has to end sooner.
+        Says whether the run came to it."""
+        ended, report = self.reported(script, number, and_all_after)
+        return ended, number != 0 and report != b""
+
+    def count(self, script):
+        """How many allocations a run with memory to spare makes."""
+        return len(self.reported(script, 0, False)[1])
+
+    def reported(self, script, number, and_all_after):
+        """Runs a script, and reads what the interposer reports."""
         report, report_to = os.pipe()
         env = {"LD_PRELOAD": INTERPOSERS["refuse_allocation"](), "REFUSED": str(number), "REPORT": str(report_to)}
-        try:
-            ended = subprocess.run(self.command, input=script, capture_output=True,
-                                   env=env, pass_fds=[report_to], timeout=60)
-        finally:
-            os.close(report_to)
-        with open(report, "rb") as refusals:
-            was_refused = refusals.read() != b""
-        return Ended(ended.returncode, ended.stdout, ended.stderr), was_refused
+        if and_all_after:
+            env["AND_ALL_AFTER"] = "1"
+        with open(report, "rb") as reports:
+            try:
+                ended = subprocess.run(self.command, input=script, capture_output=True, env=env, pass_fds=[report_to],
+                                       timeout=SECONDS if and_all_after else LONGEST_SECONDS)
+            finally:
+                os.close(report_to)
+            return Ended(ended.returncode, ended.stdout, ended.stderr), reports.read()
 
 
 class Script:

@@ -1,8 +1,10 @@
-"""Names that an enemy chose: scripts whose 20,000 names of processes and 20,000 of resources meet in an index, by the
-hasher of the kit's maps, whose seed is fixed, or by the program's own with its fixed keys. Each takes at most twice
-the instructions of a script with other names. Where there is no valgrind, processor time is compared instead. Where
-the system gives no random bytes, a run of a script ends before it reads anything."""
+"""Names that an enemy chose: scripts whose 20,000 names of processes or of resources meet in an index, by the hasher of
+the kit's maps, whose seed is fixed, or by the program's own with its fixed keys. Each takes at most twice the
+instructions of a script with other names, by each command. That the names do meet is shown too: where the system's
+random bytes are zeros, they take more. Where there is no valgrind, processor time is compared instead. Where the system
+gives no random bytes, a run of a script ends before it reads anything."""
 
+import ctypes
 import functools
 import re
 import resource
@@ -10,8 +12,9 @@ import shutil
 import subprocess
 import tempfile
 from functools import partial
+from typing import NamedTuple
 
-from harness import Ended, INTERPOSERS, SECONDS, Test, difference
+from harness import Ended, INTERPOSERS, SECONDS, Test, built_library, difference
 
 NAMES = 20_000
 # A run whose names meet costs at most this many times as much as another.
@@ -20,6 +23,8 @@ FACTOR = 2
 COUNTED_SECONDS = 120
 LETTERS = b"ABCDEFGHIJKLMNOPQRSTUVWXYZ"
 LENGTH = 7
+# The group of all processes, and the resource that the last of them asks for.
+GROUP, LAST = 1, "LAST"
 WORD = (1 << 64) - 1
 # The lowest bits of a hash say where the kit's map looks first. It then looks group by group until one is not full.
 # With 20,000 names it has 2,048 groups of 12, and at last 4,096. Names whose hashes have these two bits clear all begin
@@ -72,20 +77,6 @@ class Sip:
         return finished(taken(self.words, last))
 
 
-class SipOfWords:
-    """How the index of resources hashes, with both keys 0: the low 32 bits of SipHash-1-3 of whole words, of which each
-    write of at most eight bytes is one."""
-
-    def __init__(self, words=START):
-        self.words = words
-
-    def write(self, data):
-        return SipOfWords(taken(self.words, int.from_bytes(data, "little")))
-
-    def finish(self):
-        return finished(self.words) & 0xFFFF_FFFF
-
-
 def taken(words, word):
     """The words of SipHash after it takes in a word."""
     a, b, c, d = words
@@ -132,45 +123,79 @@ def names(hasher, clear):
     return [next(found) for _ in range(NAMES)]
 
 
-def script(hasher, clear, of_resources=None):
-    """Each name is declared, and then a resource of each name of a second list is asked for, those chosen by another
-    hasher where one is given."""
-    lines = [f"declare {name} node=1 group=1 quota=65535 blocks=1" for name in names(hasher, clear)]
-    process = lines[0].split()[1]
-    # the group, and the length of each name
-    space = (of_resources or hasher).write((256 * 1 + LENGTH).to_bytes(8, "little"))
-    lines += [f"enq {process} EX name={name} block=1" for name in names(space, clear)]
-    return "".join(line + "\n" for line in lines).encode()
+def meeting_names():
+    """Names that meet in the index of resources with both keys 0. The index has 64 parts by the lowest bits of a hash,
+    and these names have one part to themselves."""
+    found = (ctypes.c_uint64 * NAMES)()
+    find = ctypes.CDLL(built_library("names/meeting_names.c")).meeting_names
+    find.argtypes = [ctypes.c_uint64, ctypes.c_uint32, ctypes.c_uint32, ctypes.c_void_p, ctypes.c_uint64]
+    find(256 * GROUP + LENGTH, 63, CLEAR, found, NAMES)
+    return [number.to_bytes(8, "little")[:LENGTH].decode() for number in found]
 
 
 @functools.lru_cache(maxsize=None)
-def scripts():
-    """The script of names that were not chosen, and those of names that meet, by what they meet in."""
-    return {"none": script(Fold(), 0),
-            "the hasher of the kit's maps": script(Fold(), CLEAR),
-            "the fixed keys": script(Sip(), CLEAR, SipOfWords())}
+def resources():
+    """The names of resources that were not chosen, and those that were."""
+    return {"none": names(Sip(), 0), "the fixed keys": meeting_names()}
 
 
-def played(command, text, seconds):
+@functools.lru_cache(maxsize=None)
+def processes():
+    """The names of processes that were not chosen, and those that were, by what they meet in. A run that has keys
+    hashes these before a name."""
+    return {"none": names(Sip(), 0), "the hasher of the kit's maps": names(Fold(), CLEAR),
+            "the fixed keys": names(Sip(), CLEAR), "keys of zeros": names(Sip().write(bytes(16)), CLEAR)}
+
+
+def declared(name):
+    return f"declare {name} node=1 group={GROUP} quota=65535 blocks=1"
+
+
+class Names(NamedTuple):
+    """Names of processes or of resources, and the words that run their script. The last step asks for LAST."""
+
+    of: str
+    kind: str
+    words: tuple
+
+    def script(self):
+        if self.of == "processes":
+            found = processes()[self.kind]
+            lines, last = [declared(name) for name in found], found[-1]
+        else:
+            lines = [declared("P"), *(f"enq P EX name={name} block=1" for name in resources()[self.kind])]
+            last = "P"
+        return "".join(line + "\n" for line in [*lines, f"enq {last} EX name={LAST} block=1"]).encode()
+
+    def is_whole(self, printed):
+        """Whether each step was made: the last lock is granted, and there are as many lines as steps."""
+        steps, lock = (NAMES + 1, 1) if self.of == "processes" else (NAMES + 2, NAMES + 1)
+        # (a cluster also prints the answer to the departure, and the length of the journal)
+        lines = steps + 2 * (self.words[0] == "cluster")
+        granted = f"line {steps} held 0 0 0 0 0 1 " if self.words[0] == "watch" else f" NORMAL lock {lock}\n"
+        return printed.count(b"\n") == lines and granted.encode() in printed
+
+
+def ran(command, text, is_whole, seconds, **how):
     """A run of a script, which has to make each step."""
-    run = subprocess.run(command, input=text, capture_output=True, timeout=seconds)
-    if run.returncode != 0 or run.stdout.count(b"\n") != 2 * NAMES or b"NORMAL lock 20000\n" not in run.stdout:
+    run = subprocess.run(command, input=text, capture_output=True, timeout=seconds, **how)
+    if run.returncode != 0 or not is_whole(run.stdout):
         raise OSError(f"status {run.returncode}, {run.stdout[-80:]!r} and {run.stderr[-80:]!r}")
     return run
 
 
-def instructions(program, text):
+def instructions(command, text, is_whole, **how):
     """How many instructions a run takes, by valgrind."""
-    command = ["valgrind", "--tool=cachegrind", "--cache-sim=no", "--cachegrind-out-file=/dev/null", program, "play"]
-    told = played(command, text, COUNTED_SECONDS).stderr.decode()
+    counted = ["valgrind", "--tool=cachegrind", "--cache-sim=no", "--cachegrind-out-file=/dev/null", *command]
+    told = ran(counted, text, is_whole, COUNTED_SECONDS, **how).stderr.decode()
     return int(re.search(r"I\s+refs:\s+([\d,]+)", told)[1].replace(",", ""))
 
 
-def processor_time(program, text):
+def processor_time(command, text, is_whole, **how):
     """The least processor time of five runs."""
     def one():
         before = resource.getrusage(resource.RUSAGE_CHILDREN).ru_utime
-        played([program, "play"], text, SECONDS)
+        ran(command, text, is_whole, SECONDS, **how)
         return resource.getrusage(resource.RUSAGE_CHILDREN).ru_utime - before
 
     return min(one() for _ in range(5))
@@ -180,16 +205,24 @@ COST = instructions if shutil.which("valgrind") else processor_time
 
 
 @functools.lru_cache(maxsize=None)
-def bound(program):
-    """The greatest cost that is allowed."""
-    return FACTOR * COST(program, scripts()["none"])
+def cost(program, chosen, has_zeros=False):
+    """What a run costs, with random keys or with keys of zeros."""
+    how = {"env": {"LD_PRELOAD": INTERPOSERS["zero_random_bytes"]()}} if has_zeros else {}
+    return COST([program, *chosen.words], chosen.script(), chosen.is_whole, **how)
 
 
-def dearer(kind, program):
-    """What is wrong with the cost of a run whose names meet."""
-    cost = COST(program, scripts()[kind])
-    if cost > bound(program):
-        yield f"it takes {cost:,}, and {bound(program):,} at most were wanted"
+def dearer(chosen, program):
+    """What is wrong with the cost of a run whose names meet in what no run uses."""
+    bound, found = FACTOR * cost(program, chosen._replace(kind="none")), cost(program, chosen)
+    if found > bound:
+        yield f"it takes {found:,}, and {bound:,} at most were wanted"
+
+
+def cheap(chosen, program):
+    """What is wrong with the names: where the keys are zeros, those that meet there are dear."""
+    bound, found = FACTOR * cost(program, chosen._replace(kind="none")), cost(program, chosen, True)
+    if found <= bound:
+        yield f"they do not meet: a run with keys of zeros takes {found:,}, and more than {bound:,} was wanted"
 
 
 def without_random_bytes(words, status, program):
@@ -208,9 +241,16 @@ def without_random_bytes(words, status, program):
         yield f"{ended}"
 
 
+COMMANDS = (("play",), ("cluster", "--nodes", "1"), ("watch", "--name", LAST, "--group", str(GROUP)))
+KINDS = {"processes": ("the hasher of the kit's maps", "the fixed keys"), "resources": ("the fixed keys",)}
+ZEROS = {"processes": "keys of zeros", "resources": "the fixed keys"}
+
+
 def tests():
-    met = [Test(f"names that meet in {kind}", partial(dearer, kind))
-           for kind in ("the hasher of the kit's maps", "the fixed keys")]
+    met = [Test(f"{words[0]}: names of {of} that meet in {kind}", partial(dearer, Names(of, kind, words)))
+           for words in COMMANDS for of, kinds in KINDS.items() for kind in kinds]
+    met += [Test(f"{words[0]}: names of {of} that are dear with keys of zeros", partial(cheap, Names(of, kind, words)))
+            for words in COMMANDS for of, kind in ZEROS.items()]
     runs = [("play", ["play"], 3), ("cluster", ["cluster"], 3), ("watch", ["watch", "--name", "A"], 3),
             ("a wrong name", ["watch", "--name="], 2), ("help", ["--help"], 0), ("refused words", ["frob"], 2)]
     return met + [Test(f"{name} without random bytes", partial(without_random_bytes, words, status))

@@ -102,17 +102,18 @@ ROOM = Once(lambda: tempfile.TemporaryDirectory(prefix="vlm tests "))
 PLAIN_ROOM = Once(lambda: tempfile.TemporaryDirectory(prefix="vlm-tests-"))
 
 
-def built_interposer(name):
-    """Builds a library that comes before the C library where LD_PRELOAD names it, and gives its path."""
-    made = Path(PLAIN_ROOM().name) / f"{name}.so"
+def built_library(source):
+    """Builds a shared library of a file of tests, and gives its path."""
+    made = Path(PLAIN_ROOM().name) / f"{Path(source).stem}.so"
     clang = kit_folder() / "toolchain" / "bin" / "clang"
-    source = TESTS / "interpose" / f"{name}.c"
-    subprocess.run([clang, "-shared", "-fPIC", "-nostdlib", "-O1", "-o", made, source], check=True)
+    subprocess.run([clang, "-shared", "-fPIC", "-nostdlib", "-O1", "-o", made, TESTS / source], check=True)
     return str(made)
 
 
-INTERPOSERS = {name: Once(partial(built_interposer, name))
-               for name in ("refuse_allocation", "no_random_bytes", "single_bytes")}
+# Libraries that come before the C library where LD_PRELOAD names them.
+INTERPOSERS = {name: Once(partial(built_library, f"interpose/{name}.c"))
+               for name in ("refuse_allocation", "refuse_thread", "no_random_bytes", "zero_random_bytes",
+                            "single_bytes")}
 
 
 class Case(NamedTuple):

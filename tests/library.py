@@ -15,6 +15,7 @@ import tempfile
 from functools import partial
 from pathlib import Path
 
+import chosen_names
 from harness import PLAY, ROOM, Ended, Test, TOP, difference, kit_folder, run
 
 # The longest run of a test program, and of an installation, which may prove the library first.
@@ -22,6 +23,8 @@ SECONDS, INSTALL_SECONDS = 120, 3_600
 SOURCES = sorted((TOP / "examples" / "c").glob("*.c")) + sorted((TOP / "tests" / "c").glob("*.c"))
 # It plays a script. What it is to print is beside each script, so it has no file `.out` and a folder of its own.
 PLAYER = TOP / "tests" / "c" / "scripts" / "play.c"
+# It takes locks on the names that it reads.
+ASKER = TOP / "tests" / "c" / "keys" / "ask.c"
 COMPILERS = ("gcc", "clang")
 SANITIZERS = ("none", "address,undefined", "thread")
 TOOLS = (*COMPILERS, "g++", "clang++", "valgrind", "pkg-config", "cmake", "man", "cargo", "dot", "chromium",
@@ -35,9 +38,10 @@ VALGRIND = ["valgrind", "-q", "--leak-check=full", "--show-leak-kinds=all", "--e
 HELGRIND = ["valgrind", "-q", "--tool=helgrind", f"--suppressions={TOP}/tests/c/helgrind.supp", "--error-exitcode=9"]
 # The layers for threads and for the threads of a hub, and the functions that some tests put their own in the place of.
 LAYER_SOURCES = sorted((TOP / "bindings" / "c").glob("*.c"))
-WRAPPED = {"refused": ("malloc", "realloc"),
+WRAPPED = {"refused": ("malloc", "realloc", "free"),
            "hub_refused": ("malloc", "realloc"),
-           "threads_refused": ("malloc", "realloc", "calloc", "pthread_create", "eventfd")}
+           "hub_starved": ("malloc", "realloc", "free"),
+           "threads_refused": ("malloc", "realloc", "calloc", "free", "pthread_create", "eventfd")}
 
 
 def missing():
@@ -231,6 +235,24 @@ def plays(compiler, _program):
             yield from wrong or played(player)
 
 
+def hashed_by_keys(call, _program):
+    """What is wrong with names that meet with the library's fixed keys: with the caller's own they cost what others do,
+    and with the fixed ones more."""
+    asker, wrong = compiled(ASKER, next(it for it in COMPILERS if shutil.which(it)), "none")
+    yield from wrong
+    if wrong:
+        return
+
+    def cost(kind, keys):
+        text = "".join(name + "\n" for name in chosen_names.resources()[kind]).encode()
+        return chosen_names.COST([asker, call, keys], text, lambda it: it == b"%d locks\n" % chosen_names.NAMES)
+
+    bound = chosen_names.FACTOR * cost("none", "own")
+    own, fixed = cost("the fixed keys", "own"), cost("the fixed keys", "fixed")
+    if own > bound or fixed <= bound:
+        yield f"own keys cost {own:,} and fixed keys {fixed:,}: the bound between them is {bound:,}"
+
+
 def readme(_program):
     """What is wrong with the lines of C that the README shows: they compile and run."""
     lines = re.search(r"^```c\n(.*?)^```", (TOP / "README.md").read_text(), re.M | re.S)[1]
@@ -399,6 +421,8 @@ def once():
     found += [Test("the names that the libraries show", names_shown), Test("the tests of bindings/python", python)]
     if any(map(shutil.which, COMPILERS)):
         found.append(Test("the lines of C in the README", readme))
+        found += [Test(f"chosen names with keys of the caller by {call}", partial(hashed_by_keys, call))
+                  for call in ("open", "hub")]
         found += [Test("the manual page of the library", manual)] * bool(shutil.which("man"))
     if shutil.which("pkg-config"):
         found.append(Test("the versions of the program and the package", versions))

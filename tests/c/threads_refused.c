@@ -1,28 +1,51 @@
 /* Each allocation, thread and eventfd of the layer for threads refused in turn, and the key for data of threads: the
- * call answers INSFMEM and changes nothing, and is made again. Linked with -Wl,--wrap= of malloc, calloc, realloc,
- * pthread_create and eventfd. */
+ * call answers INSFMEM and changes nothing, and is made again. Then all of them from each on: each call answers
+ * INSFMEM, as often as it is made, or its result, and a close frees all. Linked with -Wl,--wrap= of malloc, calloc,
+ * realloc, free, pthread_create and eventfd. */
 #include "threads_test.h"
 
 #include <errno.h>
 #include <limits.h>
 
-/* Which of them is refused, from 1, and how many were asked for, by the main thread alone. */
-static long refused, asked_for, told;
+/* Which of them is refused, from 1, and whether all after it are, in every thread; how many were asked for, by the main
+ * thread alone; and how many blocks there are. */
+static atomic_long refused, asked_for, blocks;
+static atomic_bool goes_on;
+static long told;
 static _Thread_local bool counts;
 
 void *__real_malloc(size_t size);
 void *__real_calloc(size_t count, size_t size);
 void *__real_realloc(void *block, size_t size);
+void __real_free(void *block);
 int __real_pthread_create(pthread_t *thread, const pthread_attr_t *attributes, void *(*run)(void *), void *given);
 int __real_eventfd(unsigned count, int flags);
 
-static bool is_refused(void) { return counts && ++asked_for == refused; }
+static bool is_refused(void) {
+    if (counts && atomic_fetch_add(&asked_for, 1) + 1 == refused)
+        return true;
+    return goes_on && refused && asked_for >= refused;
+}
 
-void *__wrap_malloc(size_t size) { return is_refused() ? NULL : __real_malloc(size); }
+static void *counted(void *block) {
+    blocks += block != NULL;
+    return block;
+}
 
-void *__wrap_calloc(size_t count, size_t size) { return is_refused() ? NULL : __real_calloc(count, size); }
+void *__wrap_malloc(size_t size) { return is_refused() ? NULL : counted(__real_malloc(size)); }
 
-void *__wrap_realloc(void *block, size_t size) { return is_refused() ? NULL : __real_realloc(block, size); }
+void *__wrap_calloc(size_t count, size_t size) { return is_refused() ? NULL : counted(__real_calloc(count, size)); }
+
+void *__wrap_realloc(void *block, size_t size) {
+    if (is_refused())
+        return NULL;
+    return block ? __real_realloc(block, size) : counted(__real_realloc(block, size));
+}
+
+void __wrap_free(void *block) {
+    blocks -= block != NULL;
+    __real_free(block);
+}
 
 int __wrap_pthread_create(pthread_t *thread, const pthread_attr_t *attributes, void *(*run)(void *), void *given) {
     return is_refused() ? EAGAIN : __real_pthread_create(thread, attributes, run, given);
@@ -77,21 +100,27 @@ static void note(void *context, const vlm_threads_event *event) {
     *(uint32_t *)context += event->status == VLM_NORMAL || event->kind == VLM_BLOCKING;
 }
 
-static vlm_threads *opened_at_last(uint32_t delivery) {
+static uint32_t open_by(uint32_t delivery, vlm_threads **layer) {
     vlm_threads_options options = {.size = sizeof options, .delivery = delivery, .search_milliseconds = 100000};
-    vlm_threads *layer = NULL;
-    uint32_t status = vlm_threads_open(&options, &layer);
+    *layer = NULL;
+    return vlm_threads_open(&options, layer);
+}
+
+static vlm_threads *opened_at_last(uint32_t delivery) {
+    vlm_threads *layer;
+    uint32_t status = open_by(delivery, &layer);
     if (again(status)) {
         HOLD(layer == NULL);
-        status = vlm_threads_open(&options, &layer);
+        status = open_by(delivery, &layer);
     }
     EXPECT(status, VLM_NORMAL);
     return layer;
 }
 
+enum { MANY = 40 };
+
 /* More processes and locks than tables have room for at first, tied ones, and requests that wait and are granted. */
 static void use(vlm_threads *layer) {
-    enum { MANY = 40 };
     uint32_t status, pids[MANY], granted = 0, delivered;
     vlm_threads_declaration declaration = {.size = sizeof declaration, .node = 1, .quota = 9, .requests = 2};
     vlm_threads_request holds = {.size = sizeof holds, .mode = VLM_EX, .blocking = note, .blocking_context = &granted};
@@ -124,6 +153,66 @@ static void live(void) {
     EXPECT(vlm_threads_close(opened_at_last(VLM_THREADS_BY_LAYER)), VLM_NORMAL);
 }
 
+/* A call of a layer that is refused for good, so its second answer is the same. Otherwise it is NORMAL. */
+#define LASTS(call)                                  \
+    do {                                             \
+        struct figures before = figures_of(layer);   \
+        status = (call);                             \
+        if (again(status)) {                         \
+            EXPECT((call), VLM_INSFMEM);             \
+            expect_equal(before, figures_of(layer)); \
+        } else {                                     \
+            EXPECT(status, VLM_NORMAL);              \
+        }                                            \
+    } while (0)
+
+/* The same use with what each call gets: who is not declared asks for nothing. */
+static void use_starved(vlm_threads *layer) {
+    uint32_t status, pids[MANY] = {0}, granted = 0, waiting = 0, delivered;
+    vlm_threads_declaration declaration = {.size = sizeof declaration, .node = 1, .quota = 9, .requests = 2};
+    vlm_threads_request holds = {.size = sizeof holds, .mode = VLM_EX, .blocking = note, .blocking_context = &granted};
+    vlm_threads_request waits = {.size = sizeof waits, .mode = VLM_PR, .completion = note};
+    waits.completion_context = &granted;
+    for (uint32_t i = 0; i < MANY; i++) {
+        declaration.tied = i % 2;
+        LASTS(vlm_threads_declare(layer, &declaration, &pids[i]));
+        HOLD((pids[i] != 0) == (status == VLM_NORMAL));
+    }
+    holds.pid = pids[0];
+    if (pids[0])
+        LASTS(enq(layer, &holds, "A"));
+    for (uint32_t i = 1; i < MANY && holds.lkid; i++) {
+        waits.pid = pids[i];
+        if (pids[i])
+            LASTS(start_enq(layer, &waits, "A"));
+        waiting += pids[i] && status == VLM_NORMAL;
+    }
+    HOLD(counters_of(layer).waiting == waiting);
+    if (holds.lkid)
+        EXPECT(deq(layer, pids[0], holds.lkid, 0), VLM_NORMAL);
+    EXPECT(vlm_threads_dispatch(layer, &delivered), VLM_NORMAL);
+    HOLD(granted == waiting);
+    expect_sums(layer);
+}
+
+/* The life of two layers without all from one on. */
+static void live_starved(void) {
+    vlm_threads *layer;
+    long before = blocks;
+    for (uint32_t delivery = 0; delivery < 2; delivery++) {
+        uint32_t by = delivery ? VLM_THREADS_BY_LAYER : VLM_THREADS_BY_PROGRAM;
+        if (again(open_by(by, &layer))) {
+            EXPECT(open_by(by, &layer), VLM_INSFMEM);
+            HOLD(layer == NULL);
+            continue;
+        }
+        if (!delivery)
+            use_starved(layer);
+        EXPECT(vlm_threads_close(layer), VLM_NORMAL);
+    }
+    HOLD(blocks == before);
+}
+
 /* All keys for data of threads are taken. */
 static void use_without_key(void) {
     static pthread_key_t keys[PTHREAD_KEYS_MAX];
@@ -141,18 +230,27 @@ static void use_without_key(void) {
     EXPECT(vlm_threads_close(layer), VLM_NORMAL);
 }
 
+/* Runs without each of them, or under a tool without some: each tells of it, and where it is refused for good as often
+ * as it likes. */
+static void refuse_each(void (*run)(void)) {
+    refused = asked_for = told = 0;
+    run();
+    HOLD(told == 0 && asked_for > 9);
+    long all = asked_for, step = getenv("VLM_TEST_SHARE") ? 1 + all / 40 : 1;
+    for (long first = 1; first <= all; first += step) {
+        refused = first;
+        asked_for = told = 0;
+        run();
+        HOLD(goes_on ? told >= 1 : told == 1);
+    }
+}
+
 int main(void) {
     use_without_key();
     counts = true;
-    live();
-    long all = asked_for, step = 1;
-    if (getenv("VLM_TEST_SHARE"))
-        step = 1 + all / 40;
-    for (refused = 1; refused <= all; refused += step) {
-        asked_for = told = 0;
-        live();
-        HOLD(told == 1);
-    }
-    printf("each allocation, thread and eventfd refused in turn: %u wrong\n", wrong);
+    refuse_each(live);
+    goes_on = true;
+    refuse_each(live_starved);
+    printf("each allocation, thread and eventfd refused in turn, and all from each on: %u wrong\n", wrong);
     return wrong != 0;
 }
