@@ -373,7 +373,7 @@ checks of vlm_low: 60 proof, 0 tests, 120 edits, in seconds of processor time
 checks of vlm_high: 30 proof, 90 tests, 0 edits, in seconds of processor time
 12 passed, 0 failed
 """
-GATE_ROWS = ("Of commit abc1234, a kit, 4 processors, in minutes. The run ended with `12 passed, 0 failed`.",
+GATE_ROWS = ("Of commit abc1234, a kit, 4 processors, in minutes. The second table has processor time.",
              "| `rt ci` | 10.0 | 21.0 |", "| `./vlm test` | 1.0 | 2.0 |", "| `.ci/run` | 11.0 | 23.0 |",
              "| `vlm_low` | 1.0 | 0.0 | 2.0 | 3.0 |", "| `all` | 1.5 | 1.5 | 2.0 | 5.0 |")
 
