@@ -83,3 +83,6 @@ pub mod TailMarks
 pub mod AtOnce
 pub mod WarnedSince
 pub mod TakenAlone
+pub mod ShortHistories
+pub mod OneLock
+pub mod TwoDeadlocked

@@ -53,3 +53,4 @@ pub mod NoNewCircles
 pub mod TailMarks
 pub mod AtOnce
 pub mod WarnedSince
+pub mod Consequences

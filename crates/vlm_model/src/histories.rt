@@ -149,9 +149,9 @@ pub fn law_a_dequeue_takes_its_lock()
         → TakesItsLock s d choice }
 {}
 
-/// In any state: a CANCEL ends the request of the lock that it names, and a search that of its victim, and no other.
-/// A conversion ends by CANCEL or DEADLOCK, and its lock joins the granted queue: it holds what it held, and is armed
-/// as before. A waiting request ends by ABORT or DEADLOCK, and its lock goes.
+/// In any state: a CANCEL ends the request of the lock that it names and no other, and a search ends its victim's
+/// request and no other. A conversion ends by CANCEL or DEADLOCK, and its lock joins the granted queue: it holds what
+/// it held, and is armed as before. A waiting request ends by ABORT or DEADLOCK, and its lock goes.
 pub fn law_a_cancelled_conversion_leaves_its_lock()
     ensures cancel { (s : State) (d : Dequeue) (choice : Option LockRow)
         → has_flag d.flags deqall ≡ false → has_flag d.flags cancel ≡ true
