@@ -153,7 +153,7 @@ fn lend_port<R, F: FnOnce(&mut Port) -> R + Drop>(held: &mut Held, call: F) -> O
     }
 }
 
-// Kept out of line: inlined, each call would have room for what is held on its stack.
+// Kept out of line: if it were inlined, the stack frame of each call would have room for a `Held`.
 #[inline(never)]
 fn free(_held: Box<Held>) {}
 

@@ -23,6 +23,9 @@
 //! No export has a `requires`. The caller in C answers for pointers and handles; the exports check all else. A call of
 //! a core, a hub or a port on a handle that holds another of them answers as on a closed handle, except a close, which
 //! frees what the handle holds. No export waits: nobody watches a hub of this library.
+//!
+//! `#[inline(always)]` marks what each exported call runs through: so its words are read where C put them, and are not
+//! copied from call to call.
 #![tactic(auto)]
 
 mod arguments;

@@ -4,7 +4,6 @@ pub mod Keeping
 pub mod HandleLists
 pub mod Rings
 pub mod Walks
-pub mod HandleRows
 pub mod IndexParts
 pub mod Bits
 pub mod Levels

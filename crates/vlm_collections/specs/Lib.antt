@@ -3,7 +3,6 @@ pub mod Links
 pub mod Lists
 pub mod Parts
 pub mod Sip
-pub mod Tables
 pub mod Marks
 pub mod Nodes
 pub mod Words

@@ -1,7 +1,7 @@
 //! Collections that the records are kept in. Each makes its room beforehand, and no removal takes memory:
 //!
 //! - `LinkedList`: doubly linked lists that run through the records of a slab.
-//! - `PartedIndex` and `HandleTable`: a record found by its number, with a hash and without one.
+//! - `PartedIndex`: a record found by its number.
 //! - `Marks` and `NodeMarks`: sets of small numbers, and of processes, whose least member is found at once.
 //! - `AstQueue`: a queue with reserved room.
 //!
@@ -35,7 +35,6 @@ mod nodes;
 mod parted;
 mod queues;
 mod sip;
-mod tables;
 
 pub use growth::reserve_slot;
 pub use handles::{At, MaybeAt};
@@ -46,4 +45,3 @@ pub use marks::Marks;
 pub use nodes::NodeMarks;
 pub use parted::PartedIndex;
 pub use queues::AstQueue;
-pub use tables::HandleTable;

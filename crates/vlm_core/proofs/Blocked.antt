@@ -232,7 +232,7 @@ module _ (s : Records) (sound : IsSound s) where
   none_named t are lkid none r queue row has named =
       let x = plain_of r s.resources (subst (IsIn r) are has.exists) in
       let k = lock_on x.0 r queue row x.1.1 has.queued in
-      none k.0.at k.0.row (queued_stored s sound x.0 x.1.0 queue k.0 k.1.0) (ap (λ (y : LockRow). y.lkid) k.1.1 ∙ named)
+      none k.0.at k.0.row (inl (queued_stored s sound x.0 x.1.0 queue k.0 k.1.0)) (ap (λ (y : LockRow). y.lkid) k.1.1 ∙ named)
 
   -- a located lock is there
   pub has_located : (t : State) → t.resources ≡ plain_resources s → (f : LocatedLock) (located : IsLocated f s) → HasLockIn t (plain_resource located.resource) f.queue f.row
@@ -246,7 +246,7 @@ module _ (s : Records) (sound : IsSound s) where
   named_on f located x there queue k among named =
       let own_there = resource_among f.res s.resources located.resource located.found in
       let its_row = queued_stored s sound located.resource own_there f.queue (record { at = f.lock; row = f.row }) located.among in
-      let same : k.at ≡ f.lock = sound.lkids_apart k.at f.lock k.row f.row (queued_stored s sound x there queue k among) its_row named in
+      let same : k.at ≡ f.lock = sound.lkids_apart k.at f.lock k.row f.row (inl (queued_stored s sound x there queue k among)) (inl its_row) named in
       let one : Queued x.at queue ≡ Queued f.res f.queue =
       sound.one_place k.at k.row f.row (Queued x.at queue) (Queued f.res f.queue)
       (subst (IsIn k) (sym (queue_at s sound x there queue)) among)

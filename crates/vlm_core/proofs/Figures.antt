@@ -9,12 +9,13 @@ use Rattle.vlm_words.specs.State.{Resource}
 use Rattle.vlm_model.specs.Quotas.{locks_of}
 use Rattle.vlm_collections.specs.Lists.{IsIn}
 use Rattle.vlm_store.specs.Plain.{plain_resource, plain_resources}
-use Rattle.vlm_store.specs.Records.{FindsProcess, IsProcess, IsSound, Records, StoredLock, StoredResource, owned_among, owned_by, owned_on, queued}
+use Rattle.vlm_store.specs.Records.{FindsProcess, IsProcess, IsSound, Records, StoredLock, StoredResource, owned_among, owned_by, owned_on, queued, NoneIsLoose}
 use Rattle.vlm_store.specs.Total.{lock_total, queued_total}
 use Rattle.vlm_procs.proofs.Quotas.{on_all_same}
 use Rattle.vlm_locks.specs.Rest.{IsAtRest}
 use Rattle.vlm_locks.proofs.Stood.{queued_stored}
 use Rattle.vlm_core.specs.Readers.{all_locks, all_queued}
+use Rattle.vlm_locks.proofs.Rising.{none_loose}
 
 -- all locks
 locks_counted : (rs : List StoredResource) → sum_by (λ r. length r.granted + length r.converting + length r.waiting) rs ≡ all_locks (map plain_resource rs)
@@ -64,16 +65,16 @@ none_on_all pid (r ∷ rs) others =
 pub nobody_owns : (s : Records) → IsSound s → (pid : ℕ) → FindsProcess s pid None → 0 ≡ locks_of pid (plain_resources s)
 nobody_owns s sound pid absent =
     sym (none_on_all pid s.resources (λ r among queue k there same.
-    let owned = sound.owned.owned k.at k.row (queued_stored s sound r among queue k there) in
+    let owned = sound.owned.owned k.at k.row (inl (queued_stored s sound r among queue k there)) in
     absent owned.0 owned.2.0 (owned.2.1 ∙ same)))
     ∙ on_all_same pid s.resources
 
 module _ (s : Records) (rest : IsAtRest s) (told : ℕ) where
-  pub locks_told : told ≡ lock_total s → told ≡ all_locks (plain_resources s)
-  locks_told is = is ∙ locks_counted s.resources
+  pub locks_told : (NoneIsLoose s → told ≡ lock_total s) → told ≡ all_locks (plain_resources s)
+  locks_told is = is (none_loose s rest.rising) ∙ locks_counted s.resources
 
   pub queued_told : told ≡ queued_total s → told ≡ all_queued (plain_resources s)
   queued_told is = is ∙ queued_counted s.resources
 
-  pub own_told : (at pid : ℕ) → IsProcess at pid s → ((other : ℕ) → IsProcess at other s → told ≡ owned_by other s) → told ≡ locks_of pid (plain_resources s)
-  own_told at pid lives owned = owned pid lives ∙ on_all_same pid s.resources
+  pub own_told : (at pid : ℕ) → IsProcess at pid s → (NoneIsLoose s → (other : ℕ) → IsProcess at other s → told ≡ owned_by other s) → told ≡ locks_of pid (plain_resources s)
+  own_told at pid lives owned = owned (none_loose s rest.rising) pid lives ∙ on_all_same pid s.resources

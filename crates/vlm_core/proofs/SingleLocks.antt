@@ -15,8 +15,8 @@ use Rattle.vlm_collections.proofs.Walks.{first_handle-in, handle_after-in}
 use Rattle.vlm_store.specs.declared.Place.{Place}
 use Rattle.vlm_store.specs.declared.Place.TheVariants.{Queued}
 use Rattle.vlm_store.specs.Plain.{plain_resource, plain_resources}
-use Rattle.vlm_store.specs.Records.{AreApart, FindsResource, IsProcess, IsSound, IsStored, OwnLock, Records, StoredLock, StoredProcess, StoredResource, Stores, at_after, first_at, locks_at, own_handles_at, queued, resource_at, rows_of_locks, sublocks_at}
-use Rattle.vlm_store.proofs.Records.{queue_at, resource_is as resource_at-is}
+use Rattle.vlm_store.specs.Records.{AreApart, FindsResource, IsProcess, IsSound, IsStored, OwnLock, Records, StoredLock, StoredProcess, StoredResource, Stores, at_after, first_at, locks_at, own_handles_at, queued, resource_at, rows_of_locks, sublocks_at, FindsLock}
+use Rattle.vlm_store.proofs.Records.{queue_at, resource_is as resource_at-is, in_a_queue}
 use Rattle.vlm_store.proofs.Siblings.{all_of_own, own_found}
 use Rattle.vlm_store.proofs.Walks.{after-among}
 use Rattle.vlm_queue.specs.declared.views.ResourceView.{ResourceView}
@@ -32,6 +32,7 @@ use Rattle.vlm_locks.proofs.Sublocks.{below_of, is_below_it}
 use Rattle.vlm_core.specs.declared.locks.LockView.{LockView}
 use Rattle.vlm_words.specs.declared.resources.Key.{Key}
 use Rattle.vlm_core.specs.Locks.{HasLockIn, IsFirst, IsLaterOwn, IsLaterSublock, IsNextInQueue, IsNextOf, IsResourceOf, IsSublockOf, IsViewOf, LacksLock, ShowsFirst, ShowsLock, lock_view}
+use Rattle.vlm_locks.proofs.Rising.{none_loose}
 
 -- ---- rows and stored locks
 
@@ -59,6 +60,10 @@ rows_split (x ∷ before) rest k = ap (λ rows. x.row ∷ rows) (rows_split befo
 
 abbrev of_place_res : Place → ℕ
 of_place_res (Queued res queue) = res
+
+-- between two steps a lock that the index finds is in a queue
+pub found_stored : (s : Records) → IsAtRest s → (lkid at : ℕ) → FindsLock s lkid (Some at) → IsStored at s
+found_stored s rest lkid at found = (found.0, in_a_queue s (none_loose s rest.rising) at found.0 found.1.0)
 
 abbrev of_place_queue : Place → Queue
 of_place_queue (Queued res queue) = queue
@@ -351,7 +356,7 @@ module _ (s : Records) (sound : IsSound s) (st : State) (is : st.resources ≡ p
     own_all at row stored mine = subst (IsIn at) (sym (its_handles owner pid s sound lives)) (owned_here owner pid s sound lives at row stored mine)
 
     own_each : (at : ℕ) → IsIn at own → (row : LockRow) × (Stores s at row × (row.pid ≡ pid))
-    own_each at there = stored_here owner pid s sound lives at there
+    own_each at there = stored_here owner pid s sound lives rest at there
 
     pub first_own_stored : (n : ℕ) → first_handle own ≡ Some n → IsStored n s
     first_own_stored n is_first = let here = own_each n (first_handle-in own n (sym is_first)) in (here.0, here.1.0)
@@ -365,7 +370,7 @@ module _ (s : Records) (sound : IsSound s) (st : State) (is : st.resources ≡ p
   module _ (rest : IsAtRest s) (lock : ℕ) (row : LockRow) (stored : Stores s lock row) (next : Option ℕ)
       (follows : (process : ℕ) → IsIn lock (own_handles_at process s) → next ≡ handle_after lock (own_handles_at process s)) where
     owned : (p : StoredProcess) × (one : OwnLock) × (IsIn p s.processes × (p.process.pid ≡ row.pid) × IsIn one p.own × (one.at ≡ lock))
-    owned = sound.owned.owned lock row stored
+    owned = sound.owned.owned lock row (inl stored)
 
     abbrev owner : ℕ
     owner = (owned).0.at
@@ -403,11 +408,11 @@ module _ (s : Records) (sound : IsSound s) (st : State) (is : st.resources ≡ p
     below = sublocks_at parent s
 
     below_all : (at : ℕ) (row : LockRow) → Stores s at row → IsSublockOf up.lkid row → IsIn at below
-    below_all at row stored names = is_below_it s sound parent at up row above stored (λ none. not_0 (sym names.1 ∙ none)) names.1
+    below_all at row stored names = is_below_it s sound parent rest at up row above stored (λ none. not_0 (sym names.1 ∙ none)) names.1
 
     below_each : (at : ℕ) → IsIn at below → (row : LockRow) × (Stores s at row × IsSublockOf up.lkid row)
     below_each at there =
-        let found = below_of s sound parent at there in
+        let found = below_of s sound parent rest at there in
         (found.1, (found.2.1, (not_0, found.2.2 ∙ ap (λ (r : LockRow). r.lkid) (one_lock s sound parent found.0 up found.2.0 above))))
 
     below_rises : StandByIdentification s below
@@ -432,7 +437,9 @@ module _ (s : Records) (sound : IsSound s) (st : State) (is : st.resources ≡ p
       (follows : (parent : ℕ) → IsIn lock (sublocks_at parent s) → next ≡ handle_after lock (sublocks_at parent s)) where
     parent_named : (p : StoredProcess) × (one : OwnLock) × (up : LockRow)
         × (IsIn p s.processes × IsIn one p.own × IsIn lock one.sublocks × Stores s one.at up × (up.lkid ≡ row.parent))
-    parent_named = sound.owned.named lock row stored has
+    parent_named =
+        let named = sound.owned.named lock row (inl stored) has in
+        (named.0, named.1, named.2, (named.3.0, named.3.1, named.3.2, in_a_queue s (none_loose s rest.rising) named.1.at named.2 named.3.3, named.3.4))
 
     abbrev its_parent : ℕ
     its_parent = (parent_named).1.at
@@ -447,7 +454,7 @@ module _ (s : Records) (sound : IsSound s) (st : State) (is : st.resources ≡ p
     up_not_0 none = has (sym (parent_named).3.4 ∙ none)
 
     among_below : IsIn lock (sublocks_at its_parent s)
-    among_below = is_below_it s sound its_parent lock its_up row its_parent_stored stored has (sym (parent_named).3.4)
+    among_below = is_below_it s sound its_parent rest lock its_up row its_parent_stored stored has (sym (parent_named).3.4)
 
     after_below : next ≡ handle_after lock (sublocks_at its_parent s)
     after_below = follows its_parent among_below

@@ -87,7 +87,7 @@ module _ (s : Records) (sound : IsSound s) where
       λ other in_other same.
           let found = lock_of other ks in_other in
           let x = found.0 in
-          let handle : x.at ≡ k.at = sound.lkids_apart x.at k.at x.row k.row (stored x (inr found.1.0)) (stored k (inl refl)) (ap (λ (y : LockRow). y.lkid) found.1.1 ∙ same) in
+          let handle : x.at ≡ k.at = sound.lkids_apart x.at k.at x.row k.row (inl (stored x (inr found.1.0))) (inl (stored k (inl refl))) (ap (λ (y : LockRow). y.lkid) found.1.1 ∙ same) in
           apart.0 x.row (subst (λ h. IsIn (record { at = h; row = x.row }) ks) handle found.1.0),
       apart_in ks apart.1 (λ x in_x. stored x (inr in_x)),
     )
@@ -101,7 +101,7 @@ module _ (s : Records) (sound : IsSound s) where
     pub one_queue : (p q : Queue) (a b : StoredLock) (r : StoredResource) → IsIn r s.resources → IsIn a (queued p own) → IsIn b (queued q r) → b.row.lkid ≡ a.row.lkid
         → Queued own.at p ≡ Queued r.at q
     one_queue p q a b r in_r in_a in_b same =
-        let handle : b.at ≡ a.at = sound.lkids_apart b.at a.at b.row a.row (queued_stored s sound r in_r q b in_b) (queued_stored s sound own there p a in_a) same in
+        let handle : b.at ≡ a.at = sound.lkids_apart b.at a.at b.row a.row (inl (queued_stored s sound r in_r q b in_b)) (inl (queued_stored s sound own there p a in_a)) same in
         sound.one_place a.at a.row b.row (Queued own.at p) (Queued r.at q)
         (subst (IsIn a) (sym (queue_at s sound own there p)) in_a)
         (subst (λ h. IsIn (record { at = h; row = b.row }) (locks_at (Queued r.at q) s)) handle (subst (IsIn b) (sym (queue_at s sound r in_r q)) in_b))

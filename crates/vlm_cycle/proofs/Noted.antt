@@ -1,5 +1,5 @@
 -- What a ranking names is there: the locks and the processes to which its walk comes.
-use Rattle.std.proofs.Common.{◌≡◌, ℕ, map, Option, None, Some, IfSome, refl, sym, ◌∙◌, subst}
+use Rattle.std.proofs.Common.{◌≡◌, ℕ, map, Option, None, Some, IfSome, refl, sym, ◌∙◌, subst, inl}
 use Rattle.std.specs.Option.{ForSome}
 use Rattle.std.proofs.lemmas.Option.{none-some, same_Some}
 use Rattle.vlm_words.specs.declared.locks.LockRow.{LockRow}
@@ -11,6 +11,7 @@ use Rattle.vlm_store.specs.Records.{IsProcess, IsSound, IsStored, Records, Store
 use Rattle.vlm_store.proofs.Walks.{at_lock}
 use Rattle.vlm_locks.proofs.RunsDown.{its_handles, owned_here, stored_here}
 use Rattle.vlm_cycle.specs.Notes.{LivesAt}
+use Rattle.vlm_locks.specs.Rest.{IsAtRest}
 
 -- what is named is there where the one is
 pub some_there : (P : ℕ → Type 0) (one : ℕ) → P one → ForSome (Some one) P
@@ -46,21 +47,21 @@ module _ (s : Records) (sound : IsSound s) where
       (there.0, (place, there.1))
 
   -- the first lock of a process is there
-  pub first_own_there : (owner : ℕ) (first : Option ℕ) → LivesAt s owner → first ≡ first_handle (own_handles_at owner s) → ForSome first (λ at. IsStored at s)
-  first_own_there owner first lives is_first at is =
-      let here = stored_here owner lives.0 s sound lives.1 at (first_handle-in (own_handles_at owner s) at (sym is ∙ is_first)) in
+  pub first_own_there : IsAtRest s → (owner : ℕ) (first : Option ℕ) → LivesAt s owner → first ≡ first_handle (own_handles_at owner s) → ForSome first (λ at. IsStored at s)
+  first_own_there rest owner first lives is_first at is =
+      let here = stored_here owner lives.0 s sound lives.1 rest at (first_handle-in (own_handles_at owner s) at (sym is ∙ is_first)) in
       (here.0, here.1.0)
 
   -- so is the one that its process made next
-  pub next_own_there : (lock : ℕ) (next : Option ℕ) → IsStored lock s
+  pub next_own_there : IsAtRest s → (lock : ℕ) (next : Option ℕ) → IsStored lock s
       → ((process : ℕ) → IsIn lock (own_handles_at process s) → next ≡ handle_after lock (own_handles_at process s))
       → ForSome next (λ at. IsStored at s)
-  next_own_there lock next stored follows at is =
+  next_own_there rest lock next stored follows at is =
       let row = stored.0 in
-      let owned = sound.owned.owned lock row stored.1 in
+      let owned = sound.owned.owned lock row (inl stored.1) in
       let owner = owned.0.at in
       let lives : IsProcess owner row.pid s = (owned.0, (owned.2.0, refl, owned.2.1)) in
       let handles = own_handles_at owner s in
       let in_own : IsIn lock handles = subst (IsIn lock) (sym (its_handles owner row.pid s sound lives)) (owned_here owner row.pid s sound lives lock row stored.1 refl) in
-      let here = stored_here owner row.pid s sound lives at (handle_after-in lock handles at (sym is ∙ follows owner in_own)) in
+      let here = stored_here owner row.pid s sound lives rest at (handle_after-in lock handles at (sym is ∙ follows owner in_own)) in
       (here.0, here.1.0)

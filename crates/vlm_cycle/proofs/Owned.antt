@@ -16,6 +16,7 @@ use Rattle.vlm_cycle.specs.Waiting.{IsBehind, OwnsWaitedFor}
 use Rattle.vlm_cycle.proofs.Keeping.{row_stored}
 use Rattle.vlm_cycle.proofs.Marked.{GoesOn, goes_step}
 use Rattle.vlm_collections.proofs.HandleLists.{in_behind}
+use Rattle.vlm_locks.specs.Rest.{IsAtRest}
 
 -- the walk has come to one of these, or to their end
 abbrev pub IsAtOwn : Option ℕ → List ℕ → Type 0
@@ -94,9 +95,9 @@ module _ (s : Records) (sound : IsSound s) where
       ]
 
   -- whoever its locks wait for, the process waits for
-  pub own_behind : (owner pid : ℕ) → IsProcess owner pid s → (other : ℕ) → OwnWaitFor s (own_handles_at owner s) other → IsBehind s pid other
-  own_behind owner pid lives other some =
-      let here = stored_here owner pid s sound lives some.0 some.2.0 in
+  pub own_behind : IsAtRest s → (owner pid : ℕ) → IsProcess owner pid s → (other : ℕ) → OwnWaitFor s (own_handles_at owner s) other → IsBehind s pid other
+  own_behind rest owner pid lives other some =
+      let here = stored_here owner pid s sound lives rest some.0 some.2.0 in
       let same : some.1 ≡ here.0 = one_lock s sound some.0 some.1 here.0 some.2.1 here.1.0 in
       record {
         row = some.1;
@@ -122,7 +123,7 @@ module _ (s : Records) (sound : IsSound s) where
   pub none_behind : (pid : ℕ) → FindsProcess s pid None → (other : ℕ) → IsBehind s pid other → ⊥
   none_behind pid none other behind =
       let stored = row_stored s sound behind.row behind.lock behind.waits in
-      let owned = sound.owned.owned stored.0 behind.row stored.1 in
+      let owned = sound.owned.owned stored.0 behind.row (inl stored.1) in
       none owned.0 owned.2.0 (owned.2.1 ∙ behind.owner)
 
 -- nobody owns one of none

@@ -62,7 +62,7 @@ module _ (s : Records) (sound : IsSound s) where
   owner_living : (row lock : LockRow) → WaitsFor (searched s) row lock → (pid : ℕ) → lock.pid ≡ pid → IsLiving s pid
   owner_living row lock waits pid is =
       let stored = lock_stored s sound row lock waits in
-      let owned = sound.owned.owned stored.0 lock stored.1 in
+      let owned = sound.owned.owned stored.0 lock (inl stored.1) in
       (owned.0, (owned.2.0, owned.2.1 ∙ is))
 
   -- at first those are found that the request waits for

@@ -10,6 +10,7 @@
 
 ghost use Rattle.std.specs.Option.{ForSome};
 ghost use Rattle.vlm_store.specs.Records.{IsStored, Records};
+ghost use Rattle.vlm_locks.specs.Rest.{IsAtRest};
 ghost use Rattle.vlm_cycle.specs.Notes.{AreNotes, IsTarjanNode, LivesAt, IsWalk, IsWanting};
 
 use crate::ranks::{Ranks, TarjanNode};
@@ -58,6 +59,7 @@ fn with_own(store: &Store, note: &TarjanNode, own: Option<LockAt>) -> TarjanNode
 }
 
 fn with_next_own(store: &Store, note: &TarjanNode, own: LockAt) -> TarjanNode
+    requires rest { IsAtRest store.now }
     requires own { IsStored own store.now }
     requires note { IsTarjanNode store.now note.now }
     ensures { IsTarjanNode store.now result }
@@ -66,6 +68,7 @@ fn with_next_own(store: &Store, note: &TarjanNode, own: LockAt) -> TarjanNode
 }
 
 fn with_next_part(store: &Store, note: &TarjanNode, wanting: &AwaitedModes) -> TarjanNode
+    requires rest { IsAtRest store.now }
     requires wanting { IsWanting store.now wanting.now }
     requires note { IsTarjanNode store.now note.now }
     ensures { IsTarjanNode store.now result }
@@ -122,6 +125,7 @@ fn with_next(
 
 // The walk goes down to a process that was not found, if there is room for its note.
 fn go_down(store: &Store, ranks: &mut Ranks, walk: TarjanWalk, process: ProcAt) -> TarjanWalk
+    requires rest { IsAtRest store.now }
     requires process { LivesAt store.now process }
     requires walk { IsWalk store.now walk }
     requires notes { AreNotes store.now ranks.old }
@@ -158,6 +162,7 @@ fn go_along(
     process: ProcAt,
     target: ProcAt,
 ) -> TarjanWalk
+    requires rest { IsAtRest store.now }
     requires target { LivesAt store.now target }
     requires walk { IsWalk store.now walk }
     requires notes { AreNotes store.now ranks.old }
@@ -225,6 +230,7 @@ fn go_back(ranks: &mut Ranks, walk: TarjanWalk, process: ProcAt) -> TarjanWalk
 
 // One step of the walk at a process: to the next lock for which it waits, to its next own lock, or back.
 fn step(store: &Store, ranks: &mut Ranks, walk: TarjanWalk, process: ProcAt) -> TarjanWalk
+    requires rest { IsAtRest store.now }
     requires walk { IsWalk store.now walk }
     requires notes { AreNotes store.now ranks.old }
     ensures walk { IsWalk store.now result }
@@ -252,6 +258,7 @@ fn step(store: &Store, ranks: &mut Ranks, walk: TarjanWalk, process: ProcAt) -> 
 
 // The walk goes to all processes to which a process leads, if that process was not found.
 fn walk_from(store: &Store, ranks: &mut Ranks, walk: TarjanWalk, root: ProcAt) -> TarjanWalk
+    requires rest { IsAtRest store.now }
     requires root { LivesAt store.now root }
     requires walk { IsWalk store.now walk }
     requires notes { AreNotes store.now ranks.old }
@@ -278,7 +285,9 @@ fn walk_from(store: &Store, ranks: &mut Ranks, walk: TarjanWalk, root: ProcAt) -
 /// locks looked at for each of its queued requests.
 // Kept out of line: its walk needs each register.
 #[inline(never)]
-pub(crate) fn rank_processes(store: &Store, ranks: &mut Ranks) {
+pub(crate) fn rank_processes(store: &Store, ranks: &mut Ranks)
+    requires { IsAtRest store.now }
+{
     if store.queued_locks().next().is_none() {
         return;
     }

@@ -25,7 +25,7 @@ use Rattle.vlm_locks.proofs.Replaced.{keyed_still, others_stay, still_there, sto
 use Rattle.vlm_locks.proofs.Moves.{locks_found}
 use Rattle.vlm_locks.proofs.OtherLocks.{added_alone}
 use Rattle.vlm_locks.specs.Rising.{IsAboveEachLock}
-use Rattle.vlm_locks.proofs.Rising.{AllRise, all_rise_with}
+use Rattle.vlm_locks.proofs.Rising.{AllRise, all_rise_with, none_loose}
 use Rattle.vlm_locks.proofs.Staying.{among_last, of_joined}
 use Rattle.vlm_locks.proofs.Stood.{queued_stored}
 
@@ -188,7 +188,7 @@ module _ (s : Records) (sound : IsSound s) (rest : IsAtRest s) (e : NewLock) (ke
     rest_with sound_new fresh same above = record {
       keyed = keyed_still res found.0 left (owned_by e at s) new replaced rest.keyed;
       rising = subst (AllRise new) (sym new_processes)
-          (all_rise_with e.owner e.parent at s new sound e.lkid fresh above
+          (all_rise_with e.owner e.parent at s new sound (none_loose s rest.rising) e.lkid fresh above
           (λ x other stored. elim (lock_cases x other stored) [ inl is ↦ inl (is.0, ap (λ (r : LockRow). r.lkid) is.1 ∙ sym same.lkid) | inr there ↦ inr there ])
           rest.rising);
       sound = sound_new;

@@ -25,15 +25,17 @@ use Rattle.vlm_locks.proofs.RunsDown.{handles_apart, its_handles, owned_here, st
 use Rattle.vlm_locks.proofs.Stood.{one_lock}
 use Rattle.vlm_locks.proofs.Sublocks.{as_many_at_most, below_of, is_below_it, sublocks_apart}
 use Rattle.vlm_records.proofs.Counting.{IsApart-append}
+use Rattle.vlm_store.proofs.Records.{in_a_queue}
+use Rattle.vlm_locks.proofs.Rising.{none_loose}
 
 -- ---- all locks of a process
 
 module _ (owner pid : ℕ) (s : Records) (sound : IsSound s) (lives : IsProcess owner pid s) where
   -- there is room for each
-  pub own_at_most : length (own_handles_at owner s) ≤ lock_total s
-  own_at_most =
+  pub own_at_most : IsAtRest s → length (own_handles_at owner s) ≤ lock_total s
+  own_at_most rest =
       as_many_at_most s (own_handles_at owner s) (handles_apart owner pid s sound lives)
-      (λ at there. let here = stored_here owner pid s sound lives at there in (here.0, here.1.0))
+      (λ at there. let here = stored_here owner pid s sound lives rest at there in (here.0, here.1.0))
 
   -- those that are noted are chosen
   pub own_chosen : IsAtRest s → (notes : List Note) → AreOfLocks notes s → touched_handles notes ≡ own_handles_at owner s → AreChosen All pid s (noted_lkids notes)
@@ -42,7 +44,7 @@ module _ (owner pid : ℕ) (s : Records) (sound : IsSound s) (lives : IsProcess 
     each = λ lkid there.
         let t = note_of lkid notes there in
         let row = locks t.0 t.1.0 in
-        let here = stored_here owner pid s sound lives t.0.at (subst (IsIn t.0.at) noted (handle_among notes t.0 t.1.0)) in
+        let here = stored_here owner pid s sound lives rest t.0.at (subst (IsIn t.0.at) noted (handle_among notes t.0 t.1.0)) in
         (t.0.at, row.0, (row.1.0, row.1.1 ∙ t.1.1, ap (λ (x : LockRow). x.pid) (one_lock s sound t.0.at row.0 here.0 row.1.0 here.1.0) ∙ here.1.1, refl));
     all = λ at row stored mine chosen.
         let t = touch_of at notes
@@ -92,7 +94,7 @@ pub record AreLevels (s : Records) (pid top at_top : ℕ) (was touched : Touches
 pub top_found : (s : Records) → IsSound s → (pid top : ℕ) → IsOwnScope (Below top) pid s → (lock : ℕ) → FindsLock s top (Some lock)
     → (row : LockRow) × (Stores s lock row × (row.lkid ≡ top) × (row.pid ≡ pid))
 top_found s sound pid top own lock found =
-    let handle : own.1 ≡ lock = sound.lkids_apart own.1 lock own.2 found.0 own.3.0 found.1.0 (own.3.1 ∙ sym found.1.1) in
+    let handle : own.1 ≡ lock = sound.lkids_apart own.1 lock own.2 found.0 (inl own.3.0) found.1.0 (own.3.1 ∙ sym found.1.1) in
     (own.2, (subst (λ h. Stores s h own.2) handle own.3.0, own.3.1, own.3.2))
 
 module _ (s : Records) (sound : IsSound s) (rest : IsAtRest s) (pid top : ℕ) (own : IsOwnScope (Below top) pid s) (together : SublocksAreOwn s) (closed : SublocksGoToo (Below top) s) where
@@ -135,7 +137,7 @@ module _ (s : Records) (sound : IsSound s) (rest : IsAtRest s) (pid top : ℕ) (
 
     sublock : (at : ℕ) → IsIn at (sublocks_at h s) → (row : LockRow) × (Stores s at row × (row.parent ≡ up.lkid))
     sublock at there =
-        let below = below_of s sound h at there in
+        let below = below_of s sound h rest at there in
         (below.1, (below.2.1, below.2.2 ∙ ap (λ (x : LockRow). x.lkid) (one_lock s sound h below.0 up below.2.0 chosen.1.0)))
 
     one_parent_more : AreGathered s pid top (parents ++ h ∷ []) (handles ++ sublocks_at h s)
@@ -158,7 +160,7 @@ module _ (s : Records) (sound : IsSound s) (rest : IsAtRest s) (pid top : ℕ) (
           (λ at before behind.
           let below = sublock at behind in
           let under = gathered.under at below.0 before below.1.0 in
-          fresh (subst (λ k. IsIn k parents) (sound.lkids_apart under.0 h under.1 up under.2.1 chosen.1.0 (sym under.2.2 ∙ below.1.1)) under.2.0));
+          fresh (subst (λ k. IsIn k parents) (sound.lkids_apart under.0 h under.1 up (inl under.2.1) (inl chosen.1.0) (sym under.2.2 ∙ below.1.1)) under.2.0));
       under = λ at row there stored. elim (in_either at handles (sublocks_at h s) there) [
         | inl before ↦
             (let under = gathered.under at row before stored in
@@ -172,7 +174,7 @@ module _ (s : Records) (sound : IsSound s) (rest : IsAtRest s) (pid top : ℕ) (
         | inr same ↦
             (let names : row.parent ≡ up.lkid =
             under.2.2 ∙ ap (λ (x : LockRow). x.lkid) (one_lock s sound h under.1 up (subst (λ k. Stores s k under.1) (sym same) under.2.1) chosen.1.0) in
-            in_behind at handles (sublocks_at h s) (is_below_it s sound h at up row chosen.1.0 stored (λ is. not_0 (sym names ∙ is)) names))
+            in_behind at handles (sublocks_at h s) (is_below_it s sound h rest at up row chosen.1.0 stored (λ is. not_0 (sym names ∙ is)) names))
       ];
     }
 
@@ -285,8 +287,8 @@ module _ (s : Records) (sound : IsSound s) (rest : IsAtRest s) (pid top : ℕ) (
             elim (cases_eq some.1.parent 0) [
               | inl root ↦ is ∙ root
               | inr has ↦
-                  (let parent = sound.owned.named some.0 some.1 some.2.0 has in
-                  absurd (omega (arith, some.2.1, parents_come_first s sound rest some.0 parent.1.at some.1 parent.2 some.2.0 parent.3.3 has (sym parent.3.4))))
+                  (let parent = sound.owned.named some.0 some.1 (inl some.2.0) has in
+                  absurd (omega (arith, some.2.1, parents_come_first s sound rest some.0 parent.1.at some.1 parent.2 some.2.0 (in_a_queue s (none_loose s rest.rising) parent.1.at parent.2 parent.3.3) has (sym parent.3.4))))
             ])
       ]
 
@@ -305,10 +307,11 @@ module _ (s : Records) (sound : IsSound s) (rest : IsAtRest s) (pid top : ℕ) (
               (let never : true ≡ false = sym above ∙ ap (is_below levels top (plain_resources s)) (parent ∙ root) ∙ none_below_0 levels in
               cc)
           | inr has ↦
-              (let named = sound.owned.named at row stored has in
+              (let named = sound.owned.named at row (inl stored) has in
+              let up_stored = in_a_queue s (none_loose s rest.rising) named.1.at named.2 named.3.3 in
               let in_handles : IsIn named.1.at handles =
-              each_below handles gathered levels named.1.at named.2 named.3.3 (ap (is_below levels top (plain_resources s)) (named.3.4 ∙ sym parent) ∙ above) in
-              gathered.all at row stored (named.1.at, named.2, (inr in_handles, named.3.3, sym named.3.4)))
+              each_below handles gathered levels named.1.at named.2 up_stored (ap (is_below levels top (plain_resources s)) (named.3.4 ∙ sym parent) ∙ above) in
+              gathered.all at row stored (named.1.at, named.2, (inr in_handles, up_stored, sym named.3.4)))
         ]
       ]
 

@@ -1,5 +1,5 @@
 -- Locks that are given up together: their requests end, and then they go.
-use Rattle.std.proofs.Common.{◌≡◌, ℕ, Bool, true, List, [], map, refl, sym, ap, ◌∙◌, subst, arith}
+use Rattle.std.proofs.Common.{◌≡◌, ℕ, Bool, true, List, [], map, refl, sym, ap, ◌∙◌, subst, arith, inl}
 use Rattle.vlm_words.specs.declared.locks.LockRow.{LockRow}
 use Rattle.vlm_words.specs.declared.resources.Queue.TheVariants.{Granted}
 use Rattle.vlm_collections.specs.Lists.{IsIn}
@@ -32,7 +32,7 @@ module _ (scope : Scope) (pid : ℕ) (old mid : Records) (sound : IsSound old) (
       → (row.pid ≡ pid) × (is_chosen scope (plain_resources old) row.lkid ≡ true)
   listed chosen at row stored there =
       let found = chosen.each row.lkid there in
-      let handle : found.0 ≡ at = sound.lkids_apart found.0 at found.1 row found.2.0 stored found.2.1 in
+      let handle : found.0 ≡ at = sound.lkids_apart found.0 at found.1 row (inl found.2.0) (inl stored) found.2.1 in
       (ap (λ (x : LockRow). x.pid) (one_lock old sound at row found.1 stored (subst (λ h. Stores old h found.1) handle found.2.0)) ∙ found.2.2, found.2.3)
 
   -- the noted locks can go

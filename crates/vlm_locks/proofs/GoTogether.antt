@@ -21,6 +21,8 @@ use Rattle.vlm_locks.proofs.Staying.{among_without}
 use Rattle.vlm_locks.proofs.Stood.{one_lock}
 use Rattle.vlm_locks.proofs.Unowed.{paid_whole, paid_without}
 use Rattle.vlm_collections.proofs.HandleLists.{in_ahead, in_behind, in_either, in_map, none_in}
+use Rattle.vlm_store.proofs.Records.{in_a_queue}
+use Rattle.vlm_locks.proofs.Rising.{none_loose}
 
 -- nothing is noted, in the same room
 abbrev pub no_notes : Touches → Touches
@@ -172,12 +174,15 @@ module _ (invalidates : Bool) (owner pid : ℕ) (old s : Records) (before now : 
             let below = going.sound.owned.below p own sub in_p in_own there in
             let up : LockRow = below.0 in
             let its : LockRow = below.1 in
-            let above : Stores s last.at up = subst (λ h. Stores s h up) same below.2.0 in
+            let none = none_loose s going.rest.rising in
+            let sub_stored : Stores s sub its = in_a_queue s none sub its below.2.1 in
+            let up_stored : Stores s own.at up = in_a_queue s none own.at up below.2.0 in
+            let above : Stores s last.at up = subst (λ h. Stores s h up) same up_stored in
             let is : up.lkid ≡ row.lkid = ap (λ (x : LockRow). x.lkid) (one_lock s going.sound last.at up row above stored) in
-            let older = ((going.rest.rising p in_p).sublocks own in_own).0 sub there up its below.2.0 below.2.1 in
+            let older = ((going.rest.rising p in_p).sublocks own in_own).0 sub there up its up_stored sub_stored in
             let goes : IsIn its.lkid (noted_lkids so_far.front) =
-            so_far.left sub its below.2.1
-            (can_go.closed sub last.at its up (were sub its below.2.1) (were last.at up above) below.2.2
+            so_far.left sub its sub_stored
+            (can_go.closed sub last.at its up (were sub its sub_stored) (were last.at up above) below.2.2
             (subst (λ n. IsIn n (noted_lkids before.noted)) (sym is) listed)) in
             elim (in_either its.lkid (noted_lkids init) (last.number ∷ [])
             (subst (IsIn its.lkid) (ap noted_lkids parted.2.0 ∙ map-append (λ (t : Note). t.number) init (last ∷ [])) goes)) [
@@ -252,7 +257,7 @@ module _ (invalidates : Bool) (owner pid : ℕ) (old s : Records) (before now : 
               | inr later ↦ elim later [
                 | inr none ↦ absurd none
                 | inl here ↦
-                    (let handle : at ≡ f.lock = going.sound.lkids_apart at last.at x row (was_there at x there) stored (sym here ∙ sym named) ∙ sym same in
+                    (let handle : at ≡ f.lock = going.sound.lkids_apart at last.at x row (inl (was_there at x there)) (inl stored) (sym here ∙ sym named) ∙ sym same in
                     absurd (gone s new going.sound turn.sound f turn.located turn.beside turn.own_locks x (subst (λ h. Stores new h x) handle there)))
               ]
             ];

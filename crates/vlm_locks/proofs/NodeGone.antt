@@ -184,7 +184,7 @@ all_ended is_one old s before touched sound so_far none = record {
   where
     none_stored : (at : ℕ) (row : LockRow) → Stores s at row → is_one row.pid ≡ false
     none_stored at row stored =
-        let owned = sound.owned.owned at row stored in
+        let owned = sound.owned.owned at row (inl stored) in
         ap is_one (sym owned.2.1) ∙ none owned.0 owned.2.0
 
     none_out : (ps : List StoredProcess) → ((p : StoredProcess) → IsIn p ps → is_one p.process.pid ≡ false)

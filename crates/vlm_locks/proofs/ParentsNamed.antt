@@ -148,7 +148,7 @@ module _ (s : Records) (sound : IsSound s) where
       own : (r : StoredResource) → IsIn r s.resources → AreItsOwnOn row r
       own r among queue k here same =
           let there : Stores s k.at k.row = queued_stored s sound r among queue k here in
-          one_lock s sound at k.row row (subst (λ h. Stores s h k.row) (sound.lkids_apart k.at at k.row row there stored same) there) stored
+          one_lock s sound at k.row row (subst (λ h. Stores s h k.row) (sound.lkids_apart k.at at k.row row (inl there) (inl stored) same) there) stored
 
       first : IsFirst row (all_rows_of row.lkid (plain_resources s))
       first =
@@ -245,7 +245,7 @@ ParentsComeFirst s = (at other : ℕ) (sub up : LockRow) → Stores s at sub →
 -- between two steps they do
 pub parents_come_first : (s : Records) → IsSound s → IsAtRest s → ParentsComeFirst s
 parents_come_first s sound rest at other sub up stored stored_up has is =
-    let parent = sound.owned.named at sub stored has in
-    let same : parent.1.at ≡ other = sound.lkids_apart parent.1.at other parent.2 up parent.3.3 stored_up (parent.3.4 ∙ is) in
+    let parent = sound.owned.named at sub (inl stored) has in
+    let same : parent.1.at ≡ other = sound.lkids_apart parent.1.at other parent.2 up parent.3.3 (inl stored_up) (parent.3.4 ∙ is) in
     let up_there : Stores s parent.1.at up = subst (λ h. Stores s h up) (sym same) stored_up in
     ((rest.rising parent.0 parent.3.0).sublocks parent.1 parent.3.1).0 at parent.3.2 up sub up_there stored

@@ -10,11 +10,12 @@ use Rattle.vlm_collections.proofs.HandleLists.{IsIn-push, IsIn-without}
 use Rattle.vlm_records.specs.declared.handles.Place.{Place}
 use Rattle.vlm_records.specs.declared.handles.Place.TheVariants.{Queued}
 use Rattle.vlm_store.proofs.Counted.{own_handle}
-use Rattle.vlm_store.specs.Records.{IsNewLock, IsRowOf, IsSound, IsStored, OwnLock, Records, StoredProcess, StoredResource, Stores, but_notices, locks_at, new_own, process_with_lock, process_without_lock, queued, resource_at, with_sublock, without_sublock}
+use Rattle.vlm_store.specs.Records.{IsNewLock, IsRowOf, IsSound, IsStored, OwnLock, Records, StoredProcess, StoredResource, Stores, but_notices, locks_at, new_own, process_with_lock, process_without_lock, queued, resource_at, with_sublock, without_sublock, NoneIsLoose}
 use Rattle.vlm_locks.specs.Staying.{LocksStayAmong}
 use Rattle.vlm_locks.specs.Rising.{IsOlder, HasRisingLocks, IsAboveEachLock, StandByIdentification, handles_of_own}
 use Rattle.vlm_locks.proofs.Staying.{same_back, same_lock}
 use Rattle.vlm_locks.proofs.Stood.{queued_stored, resource_among}
+use Rattle.vlm_store.proofs.Records.{in_a_queue}
 
 -- each process has rising locks
 abbrev pub AllRise : Records → List StoredProcess → Type 0
@@ -112,6 +113,7 @@ same_own (y ∷ old) (x ∷ new) same p among =
 -- a process has rising locks where its locks were those of one that had
 pub rises_still : (old new : Records) (q p : StoredProcess) → WereStored old new → q.own ≡ p.own → HasRisingLocks old q → HasRisingLocks new p
 rises_still old new q p were same rises = record {
+  queued = λ own among. rises.queued own (subst (IsIn own) (sym same) among);
   own = subst (λ owns. StandByIdentification new (handles_of_own owns)) same (stand_still old new (handles_of_own q.own) (λ a b in_a in_b. before_still old new were a b) rises.own);
   sublocks = λ own among. stand_still old new (own.at ∷ own.sublocks) (λ a b in_a in_b. before_still old new were a b) (rises.sublocks own (subst (IsIn own) (sym same) among));
 }
@@ -158,6 +160,7 @@ handles_without lock (x ∷ owns) =
 
 rises_without : (s : Records) (lock : ℕ) (q : StoredProcess) → HasRisingLocks s q → HasRisingLocks s (process_without_lock lock q)
 rises_without s lock q rises = record {
+  queued = λ own among. let was = was_own lock q.own own among in ap (λ (o : OwnLock). o.loose) (sym was.1.1) ∙ rises.queued was.0 was.1.0;
   own = subst (StandByIdentification s) (sym (handles_without lock q.own)) (stand_without s lock (handles_of_own q.own) rises.own);
   sublocks = λ own among.
       let was = was_own lock q.own own among in
@@ -172,16 +175,20 @@ all_rise_without s lock ps rising p among =
     let was = was_process (process_without_lock lock) ps p among in
     subst (HasRisingLocks s) was.1.1 (rises_without s lock was.0 (rising was.0 was.1.0))
 
+-- then each lock is in a queue
+pub none_loose : (s : Records) → AllRise s s.processes → NoneIsLoose s
+none_loose s rising p own among own_among = (rising p among).queued own own_among
+
 -- ---- a lock that is made
 
 -- an identification above all is new
-pub new_above : (lkid : ℕ) (s : Records) → IsAboveEachLock lkid s → IsNewLock lkid s
-new_above lkid s above at row stored same = absurd (omega (arith, above at row stored, same))
+pub new_above : (lkid : ℕ) (s : Records) → NoneIsLoose s → IsAboveEachLock lkid s → IsNewLock lkid s
+new_above lkid s none above at row has same = absurd (omega (arith, above at row (in_a_queue s none at row has), same))
 
 module _ (owner : ℕ) (parent : Option ℕ) (lock : ℕ) where
   -- a lock of a process with the one was there, or is the new one
   had_own : (mine : Bool) (owns : List OwnLock) (own : OwnLock) → IsIn own (map (with_sublock parent lock) owns ++ cond mine (new_own lock) [])
-      → ((o : OwnLock) × (IsIn o owns × (with_sublock parent lock o ≡ own))) ⊎ (record { at = lock; sublocks = [] } ≡ own)
+      → ((o : OwnLock) × (IsIn o owns × (with_sublock parent lock o ≡ own))) ⊎ (record { at = lock; sublocks = []; loose = None } ≡ own)
   had_own true [] own among = elim among [ inl is ↦ inr is | inr none ↦ absurd none ]
   had_own false [] own among = absurd among
   had_own mine (x ∷ owns) own among =
@@ -202,11 +209,19 @@ module _ (owner : ℕ) (parent : Option ℕ) (lock : ℕ) where
       of_test true = refl
       of_test false = refl
 
+  same_loose : (up : Option ℕ) (o : OwnLock) → (with_sublock up lock o).loose ≡ o.loose
+  same_loose None o = refl
+  same_loose (Some handle) o = of_test (o.at == handle)
+    where
+      of_test : (b : Bool) → (cond b (record o { sublocks = o.sublocks ++ lock ∷ [] }) o).loose ≡ o.loose
+      of_test true = refl
+      of_test false = refl
+
   handles_with : (owns : List OwnLock) → handles_of_own (map (with_sublock parent lock) owns) ≡ handles_of_own owns
   handles_with [] = refl
   handles_with (o ∷ owns) = ap (λ at. at ∷ handles_of_own (map (with_sublock parent lock) owns)) (same_at parent o) ∙ ap (λ handles. o.at ∷ handles) (handles_with owns)
 
-  module _ (s new : Records) (sound : IsSound s) (lkid : ℕ) (fresh : ¬ IsStored lock s) (above : IsAboveEachLock lkid s)
+  module _ (s new : Records) (sound : IsSound s) (none : NoneIsLoose s) (lkid : ℕ) (fresh : ¬ IsStored lock s) (above : IsAboveEachLock lkid s)
       (cases : (at : ℕ) (row : LockRow) → Stores new at row → ((at ≡ lock) × (row.lkid ≡ lkid)) ⊎ Stores s at row) where
     -- another lock was stored
     was_stored : (at : ℕ) → IsStored at s → (row : LockRow) → Stores new at row → Stores s at row
@@ -232,6 +247,10 @@ module _ (owner : ℕ) (parent : Option ℕ) (lock : ℕ) where
 
     rises_with : (q : StoredProcess) → IsIn q s.processes → HasRisingLocks s q → HasRisingLocks new (process_with_lock owner parent lock q)
     rises_with q among rises = record {
+      queued = λ own there. elim (had_own (q.at == owner) q.own own there) [
+        | inl was ↦ ap (λ (o : OwnLock). o.loose) (sym was.1.1) ∙ same_loose parent was.0 ∙ rises.queued was.0 was.1.0
+        | inr is ↦ ap (λ (o : OwnLock). o.loose) (sym is)
+      ];
       own = of_owner (q.at == owner);
       sublocks = λ own there. elim (had_own (q.at == owner) q.own own there) [
         | inl was ↦ subst (λ (o : OwnLock). StandByIdentification new (o.at ∷ o.sublocks)) was.1.1 (of_parent parent was.0 was.1.0)
@@ -243,12 +262,12 @@ module _ (owner : ℕ) (parent : Option ℕ) (lock : ℕ) where
         own_stored at there =
             let found = own_handle q.own at there in
             let owned = sound.owned.owns q found.0 among found.1.0 in
-            subst (λ k. IsStored k s) found.1.1 (owned.0, owned.1.0)
+            subst (λ k. IsStored k s) found.1.1 (owned.0, in_a_queue s none found.0.at owned.0 owned.1.0)
 
         below_stored : (o : OwnLock) → IsIn o q.own → (at : ℕ) → IsIn at (o.at ∷ o.sublocks) → IsStored at s
         below_stored o own at there = elim there [
-          | inl is ↦ (let owned = sound.owned.owns q o among own in subst (λ k. IsStored k s) is (owned.0, owned.1.0))
-          | inr later ↦ (let below = sound.owned.below q o at among own later in (below.1, below.2.1))
+          | inl is ↦ (let owned = sound.owned.owns q o among own in subst (λ k. IsStored k s) is (owned.0, in_a_queue s none o.at owned.0 owned.1.0))
+          | inr later ↦ (let below = sound.owned.below q o at among own later in (below.1, in_a_queue s none at below.1 below.2.1))
         ]
 
         of_owner : (mine : Bool) → StandByIdentification new (handles_of_own (map (with_sublock parent lock) q.own ++ cond mine (new_own lock) []))

@@ -27,7 +27,7 @@ use Rattle.vlm_records.specs.declared.handles.Place.TheVariants.{Queued}
 use Rattle.vlm_locks.specs.declared.located_locks.LocatedLock.{LocatedLock}
 use Rattle.vlm_locks.specs.declared.touched.Note.{Note}
 use Rattle.vlm_locks.specs.Standing.{IsLocated}
-use Rattle.vlm_locks.proofs.Rising.{handles_without, same_own, was_process}
+use Rattle.vlm_locks.proofs.Rising.{handles_without, same_own, was_process, none_loose}
 use Rattle.vlm_locks.proofs.Staying.{among_without}
 use Rattle.std.proofs.lemmas.List.Sums.{sum_by-cons}
 use Rattle.vlm_words.specs.State.{Resource}
@@ -44,6 +44,7 @@ use Rattle.vlm_model.proofs.Weights.{weigh}
 use Rattle.vlm_locks.proofs.Found.{resource_alone, resource_at-at}
 use Rattle.vlm_locks.proofs.Sound.{same_process_of}
 use Rattle.std.proofs.lemmas.List.{length-append}
+use Rattle.vlm_store.proofs.Records.{in_a_queue}
 
 -- some locks of the process are gone so far: what is left without all that go is the same as at first
 pub record AreGoing (goes : LockRow → Bool) (invalidates : Bool) (owner pid : ℕ) (old s : Records) (before touched : Touches) : Type 0 where
@@ -172,23 +173,23 @@ module _ (owner pid : ℕ) (s : Records) (sound : IsSound s) (lives : IsProcess 
   -- each of its locks is among its own
   pub owned_here : (at : ℕ) (row : LockRow) → Stores s at row → row.pid ≡ pid → IsIn at (handles_of_own p.own)
   owned_here at row stored mine =
-      let owned = sound.owned.owned at row stored in
+      let owned = sound.owned.owned at row (inl stored) in
       let same : owned.0 ≡ p = only_it owned.0 owned.2.0 (owned.2.1 ∙ mine) in
       subst (λ h. IsIn h (handles_of_own p.own)) owned.2.3 (own_under_handle p.own owned.1 (subst (λ (q : StoredProcess). IsIn owned.1 q.own) same owned.2.2))
 
   -- and stands with its identification
-  pub stored_here : (at : ℕ) → IsIn at (own_handles_at owner s) → (row : LockRow) × (Stores s at row × (row.pid ≡ pid))
-  stored_here at there =
+  pub stored_here : IsAtRest s → (at : ℕ) → IsIn at (own_handles_at owner s) → (row : LockRow) × (Stores s at row × (row.pid ≡ pid))
+  stored_here rest at there =
       let own = own_handle p.own at (subst (IsIn at) its_handles there) in
       let owns = sound.owned.owns p own.0 lives.1.0 own.1.0 in
-      (owns.0, (subst (λ h. Stores s h owns.0) own.1.1 owns.1.0, owns.1.1 ∙ lives.1.2))
+      (owns.0, (subst (λ h. Stores s h owns.0) own.1.1 (in_a_queue s (none_loose s rest.rising) own.0.at owns.0 owns.1.0), owns.1.1 ∙ lives.1.2))
 
   module _ (rest : IsAtRest s) (lock : ℕ) (last : last_handle (own_handles_at owner s) ≡ Some lock) where
     pub last_there : IsIn lock (own_handles_at owner s)
     last_there = last_in (own_handles_at owner s) lock last
 
     pub last_stored : IsStored lock s
-    last_stored = let here = stored_here lock last_there in (here.0, here.1.0)
+    last_stored = let here = stored_here rest lock last_there in (here.0, here.1.0)
 
     -- the last lock that a process made has no sublocks
     pub last_is_childless : SublocksAreOwn s → HasNoSublocks lock s
@@ -205,15 +206,17 @@ module _ (owner pid : ℕ) (s : Records) (sound : IsSound s) (lives : IsProcess 
         none_below : (sub : ℕ) → IsIn sub own.sublocks → ⊥
         none_below sub there =
             let below = sound.owned.below q own sub in_q in_own there in
-            let up_stored : Stores s lock below.0 = subst (λ h. Stores s h below.0) same below.2.0 in
-            let here = stored_here lock last_there in
+            let none = none_loose s rest.rising in
+            let sub_stored : Stores s sub below.1 = in_a_queue s none sub below.1 below.2.1 in
+            let up_stored : Stores s lock below.0 = subst (λ h. Stores s h below.0) same (in_a_queue s none own.at below.0 below.2.0) in
+            let here = stored_here rest lock last_there in
             let up_same : here.0 ≡ below.0 = one_lock s sound lock here.0 below.0 here.1.0 up_stored in
             let mine : below.1.pid ≡ pid =
-            together sub lock below.1 below.0 below.2.1 up_stored below.2.2 ∙ ap (λ (row : LockRow). row.pid) (sym up_same) ∙ here.1.1 in
+            together sub lock below.1 below.0 sub_stored up_stored below.2.2 ∙ ap (λ (row : LockRow). row.pid) (sym up_same) ∙ here.1.1 in
             let after : IsOlder s lock sub = subst (λ h. IsOlder s h sub) same ((rises.sublocks own in_own).0 sub there) in
             let order = before_last s (handles_of_own p.own) lock sub (rest.rising p lives.1.0).own (sym (ap last_handle its_handles) ∙ last)
-            (owned_here sub below.1 below.2.1 mine) in
-            of_order below.0 below.1 sub (after below.0 below.1 up_stored below.2.1) order up_stored below.2.1
+            (owned_here sub below.1 sub_stored mine) in
+            of_order below.0 below.1 sub (after below.0 below.1 up_stored sub_stored) order up_stored sub_stored
 
   -- where the process has no lock, no row is its own
   pub none_is_own : own_handles_at owner s ≡ [] → (at : ℕ) (row : LockRow) → Stores s at row → (row.pid == pid) ≡ false
@@ -280,7 +283,7 @@ module _ (s new : Records) (sound : IsSound s) (sound_new : IsSound new) (f : Lo
   -- the lock is gone
   pub gone : (row : LockRow) → Stores new f.lock row → ⊥
   gone row stored =
-      let owned = sound_new.owned.owned f.lock row stored in
+      let owned = sound_new.owned.owned f.lock row (inl stored) in
       let was = same_own (map (process_without_lock f.lock) s.processes) new.processes own_locks owned.0 owned.2.0 in
       let here : IsIn f.lock (handles_of_own was.0.own) =
       subst (λ owns. IsIn f.lock (handles_of_own owns)) (sym was.1.1) (subst (λ h. IsIn h (handles_of_own owned.0.own)) owned.2.3 (own_under_handle owned.0.own owned.1 owned.2.2)) in
@@ -633,10 +636,10 @@ pub record IsTurn (goes : LockRow → Bool) (invalidates : Bool) (owner : ℕ) (
   pub room : noted.room ≡ touched.room
 
 -- a lock of the process is a row of it
-pub its_row : (owner pid : ℕ) (s : Records) (sound : IsSound s) (lives : IsProcess owner pid s) (f : LocatedLock) → IsLocated f s → IsIn f.lock (own_handles_at owner s)
+pub its_row : (owner pid : ℕ) (s : Records) (sound : IsSound s) (lives : IsProcess owner pid s) → IsAtRest s → (f : LocatedLock) → IsLocated f s → IsIn f.lock (own_handles_at owner s)
     → f.row.pid ≡ pid
-its_row owner pid s sound lives f located there =
-    let here = stored_here owner pid s sound lives f.lock there in
+its_row owner pid s sound lives rest f located there =
+    let here = stored_here owner pid s sound lives rest f.lock there in
     ap (λ (row : LockRow). row.pid) (one_lock s sound f.lock f.row here.0 (stored s f located) here.1.0) ∙ here.1.1
 
 module _ (goes : LockRow → Bool) (invalidates : Bool) (owner pid : ℕ) (old s new : Records) (before touched noted : Touches) (f : LocatedLock) (w : Withdrawal)

@@ -5,7 +5,7 @@ use Rattle.vlm_words.specs.declared.locks.LockRow.{LockRow}
 use Rattle.vlm_collections.specs.Lists.{IsIn}
 use Rattle.vlm_records.specs.declared.handles.Place.{Place}
 use Rattle.vlm_records.specs.declared.handles.Place.TheVariants.{Queued}
-use Rattle.vlm_store.specs.Records.{AreApart, AreOwnApart, AreProcessesApart, AreResourcesApart, IsSound, OwnLock, Records, SameButNotices, StoredProcess, Stores, but_notices, locks_at, queued, resource_at}
+use Rattle.vlm_store.specs.Records.{AreApart, AreOwnApart, AreProcessesApart, AreResourcesApart, IsSound, OwnLock, Records, SameButNotices, StoredProcess, Stores, but_notices, locks_at, queued, resource_at, HasLock, IsLooseRow}
 
 -- processes that are the same but for what tells them of requests
 pub same_process_of : (olds news : List StoredProcess) → map but_notices news ≡ map but_notices olds → (x : StoredProcess) → IsIn x olds
@@ -84,6 +84,24 @@ module _ (s t : Records) (resources : t.resources ≡ s.resources) (processes : 
   is_stored : (at : ℕ) (row : LockRow) → Stores s at row → Stores t at row
   is_stored at row stored = (stored.0, stands_alike at row s t resources stored.0 stored.1)
 
+  was_loose : (at : ℕ) (row : LockRow) → IsLooseRow t at row → IsLooseRow s at row
+  was_loose at row loose =
+      let q = same_process_of t.processes s.processes (sym processes) loose.0 loose.2.0 in
+      (q.0, loose.1, (q.1.0, subst (IsIn loose.1) (sym q.1.3) loose.2.1, loose.2.2, loose.2.3))
+
+  is_loose : (at : ℕ) (row : LockRow) → IsLooseRow s at row → IsLooseRow t at row
+  is_loose at row loose =
+      let q = same_process_of s.processes t.processes processes loose.0 loose.2.0 in
+      (q.0, loose.1, (q.1.0, subst (IsIn loose.1) (sym q.1.3) loose.2.1, loose.2.2, loose.2.3))
+
+  was_lock : (at : ℕ) (row : LockRow) → HasLock t at row → HasLock s at row
+  was_lock at row (inl stored) = inl (was_stored at row stored)
+  was_lock at row (inr loose) = inr (was_loose at row loose)
+
+  is_lock : (at : ℕ) (row : LockRow) → HasLock s at row → HasLock t at row
+  is_lock at row (inl stored) = inl (is_stored at row stored)
+  is_lock at row (inr loose) = inr (is_loose at row loose)
+
   module _ (sound : IsSound s) where
     locks_apart : (place : Place) → AreApart (locks_at place t)
     locks_apart (Queued res queue) = subst (λ rs. AreApart (option_map_or (queued queue) (resource_at res rs) [])) (sym resources) (sound.locks_apart (Queued res queue))
@@ -93,26 +111,27 @@ module _ (s t : Records) (resources : t.resources ≡ s.resources) (processes : 
       resources_apart = subst AreResourcesApart (sym resources) sound.resources_apart;
       locks_apart = locks_apart;
       one_place = λ at a b p q first second. sound.one_place at a b p q (stood at a p first) (stood at b q second);
-      lkids_apart = λ a b x y first second. sound.lkids_apart a b x y (was_stored a x first) (was_stored b y second);
+      lkids_apart = λ a b x y first second. sound.lkids_apart a b x y (was_lock a x first) (was_lock b y second);
       keys_apart = λ a b first second. sound.keys_apart a b (subst (IsIn a) resources first) (subst (IsIn b) resources second);
       processes_apart = notices_apart s.processes t.processes processes sound.processes_apart;
       owned = record {
         owned = λ at row stored.
-            let was = sound.owned.owned at row (was_stored at row stored) in
+            let was = sound.owned.owned at row (was_lock at row stored) in
             let q = same_process_of s.processes t.processes processes was.0 was.2.0 in
             (q.0, was.1, (q.1.0, q.1.2 ∙ was.2.1, subst (IsIn was.1) (sym q.1.3) was.2.2, was.2.3));
         owns = λ p own among its.
             let q = same_process_of t.processes s.processes (sym processes) p among in
             let was = sound.owned.owns q.0 own q.1.0 (subst (IsIn own) (sym q.1.3) its) in
-            (was.0, (is_stored own.at was.0 was.1.0, was.1.1 ∙ q.1.2));
+            (was.0, (is_lock own.at was.0 was.1.0, was.1.1 ∙ q.1.2));
         below = λ p own at among its under.
             let q = same_process_of t.processes s.processes (sym processes) p among in
             let was = sound.owned.below q.0 own at q.1.0 (subst (IsIn own) (sym q.1.3) its) under in
-            (was.0, was.1, (is_stored own.at was.0 was.2.0, is_stored at was.1 was.2.1, was.2.2));
+            (was.0, was.1, (is_lock own.at was.0 was.2.0, is_lock at was.1 was.2.1, was.2.2));
         named = λ at row stored parent.
-            let was = sound.owned.named at row (was_stored at row stored) parent in
+            let was = sound.owned.named at row (was_lock at row stored) parent in
             let q = same_process_of s.processes t.processes processes was.0 was.3.0 in
-            (q.0, was.1, was.2, (q.1.0, subst (IsIn was.1) (sym q.1.3) was.3.1, was.3.2, is_stored was.1.at was.2 was.3.3, was.3.4));
+            (q.0, was.1, was.2, (q.1.0, subst (IsIn was.1) (sym q.1.3) was.3.1, was.3.2, is_lock was.1.at was.2 was.3.3, was.3.4));
+        queued = λ at row other stored loose. sound.owned.queued at row other (was_stored at row stored) (was_loose at other loose);
       };
       own_apart = λ p among.
           let q = same_process_of t.processes s.processes (sym processes) p among in

@@ -103,7 +103,7 @@ module _ (s : Records) (sound : IsSound s) where
             ∙ ap (λ x. record { at = x; row = f.row }) same
 
         by_lkid : k.row.lkid ≡ f.row.lkid → k ≡ lock
-        by_lkid same = by_handle (sound.lkids_apart k.at f.lock k.row f.row (queued_stored r among queue k here) (stored s f located) same)
+        by_lkid same = by_handle (sound.lkids_apart k.at f.lock k.row f.row (inl (queued_stored r among queue k here)) (inl (stored s f located)) same)
 
     -- it stands in no other queue
     pub absent : (r : StoredResource) → IsIn r s.resources → (queue : Queue) → Queued r.at queue ≢ Queued f.res f.queue → IsAbsent f.row.lkid (queued queue r)

@@ -17,6 +17,8 @@ use Rattle.vlm_locks.specs.Rest.{IsAtRest}
 use Rattle.vlm_locks.specs.Rising.{StandByIdentification}
 use Rattle.vlm_locks.proofs.Stood.{in_queue, one_lock}
 use Rattle.vlm_collections.proofs.HandleLists.{IsIn-without_kept, in_ahead, in_behind, in_map}
+use Rattle.vlm_store.proofs.Records.{in_a_queue}
+use Rattle.vlm_locks.proofs.Rising.{none_loose}
 
 -- ---- no more handles than these
 
@@ -121,11 +123,13 @@ one_apart (x ∷ xs) apart o u in_o in_u same = elim in_o [
 
 module _ (s : Records) (sound : IsSound s) where
   -- a process has each of its locks once, and no other process has it
-  one_own : (p q : StoredProcess) (o u : OwnLock) → IsIn p s.processes → IsIn q s.processes → IsIn o p.own → IsIn u q.own → o.at ≡ u.at → o ≡ u
-  one_own p q o u in_p in_q in_o in_u same =
+  one_own : IsAtRest s → (p q : StoredProcess) (o u : OwnLock) → IsIn p s.processes → IsIn q s.processes → IsIn o p.own → IsIn u q.own → o.at ≡ u.at → o ≡ u
+  one_own rest p q o u in_p in_q in_o in_u same =
+      let none = none_loose s rest.rising in
       let first = sound.owned.owns p o in_p in_o in
       let second = sound.owned.owns q u in_q in_u in
-      let row : first.0 ≡ second.0 = one_lock s sound o.at first.0 second.0 first.1.0 (subst (λ h. Stores s h second.0) (sym same) second.1.0) in
+      let row : first.0 ≡ second.0 =
+      one_lock s sound o.at first.0 second.0 (in_a_queue s none o.at first.0 first.1.0) (subst (λ h. Stores s h second.0) (sym same) (in_a_queue s none u.at second.0 second.1.0)) in
       let process : p ≡ q =
       one_process s.processes sound.processes_apart p q in_p in_q (sym first.1.1 ∙ ap (λ (x : LockRow). x.pid) row ∙ second.1.1) in
       one_apart q.own (sound.own_apart q in_q) o u (subst (λ (x : StoredProcess). IsIn o x.own) process in_o) in_u same
@@ -143,25 +147,26 @@ module _ (s : Records) (sound : IsSound s) where
     owns = flat_map (λ (p : StoredProcess). p.own) s.processes
 
     -- a sublock names the lock as its parent
-    pub below_of : (at : ℕ) → IsIn at (sublocks_at h s) → (up : LockRow) × (row : LockRow) × (Stores s h up × Stores s at row × (row.parent ≡ up.lkid))
-    below_of at there =
+    pub below_of : IsAtRest s → (at : ℕ) → IsIn at (sublocks_at h s) → (up : LockRow) × (row : LockRow) × (Stores s h up × Stores s at row × (row.parent ≡ up.lkid))
+    below_of rest at there =
         elim (own_found h owns) [
           | inr none ↦ absurd (subst (IsIn at) (ap (λ o. option_map_or (λ (x : OwnLock). x.sublocks) o []) none.0) there)
           | inl found ↦ (let of = all_of_own found.0 s.processes found.1.1 in
               let below = sound.owned.below of.0 found.0 at of.1.0 of.1.1
               (subst (IsIn at) (ap (λ o. option_map_or (λ (x : OwnLock). x.sublocks) o []) found.1.0) there) in
-              (below.0, below.1, (subst (λ k. Stores s k below.0) found.1.2 below.2.0, below.2.1, below.2.2)))
+              let none = none_loose s rest.rising in
+              (below.0, below.1, (subst (λ k. Stores s k below.0) found.1.2 (in_a_queue s none found.0.at below.0 below.2.0), in_a_queue s none at below.1 below.2.1, below.2.2)))
         ]
 
     -- a lock that names it is a sublock
-    pub is_below_it : (at : ℕ) (up row : LockRow) → Stores s h up → Stores s at row → row.parent ≢ 0 → row.parent ≡ up.lkid → IsIn at (sublocks_at h s)
-    is_below_it at up row above stored has names =
-        let named = sound.owned.named at row stored has in
-        let same : named.1.at ≡ h = sound.lkids_apart named.1.at h named.2 up named.3.3 above (named.3.4 ∙ names) in
+    pub is_below_it : IsAtRest s → (at : ℕ) (up row : LockRow) → Stores s h up → Stores s at row → row.parent ≢ 0 → row.parent ≡ up.lkid → IsIn at (sublocks_at h s)
+    is_below_it rest at up row above stored has names =
+        let named = sound.owned.named at row (inl stored) has in
+        let same : named.1.at ≡ h = sound.lkids_apart named.1.at h named.2 up named.3.3 (inl above) (named.3.4 ∙ names) in
         elim (own_found h owns) [
           | inr none ↦ absurd (none.1 named.1 (own_of_all named.0 named.1 s.processes named.3.0 named.3.1) same)
           | inl found ↦ (let of = all_of_own found.0 s.processes found.1.1 in
-              let is : named.1 ≡ found.0 = one_own named.0 of.0 named.1 found.0 named.3.0 of.1.0 named.3.1 of.1.1 (same ∙ sym found.1.2) in
+              let is : named.1 ≡ found.0 = one_own rest named.0 of.0 named.1 found.0 named.3.0 of.1.0 named.3.1 of.1.1 (same ∙ sym found.1.2) in
               subst (IsIn at) (sym (ap (λ o. option_map_or (λ (x : OwnLock). x.sublocks) o []) found.1.0))
               (subst (λ (o : OwnLock). IsIn at o.sublocks) is named.3.2))
         ]
@@ -173,6 +178,6 @@ module _ (s : Records) (sound : IsSound s) where
           | inr none ↦ subst IsApart (sym (ap (λ o. option_map_or (λ (x : OwnLock). x.sublocks) o []) none.0)) tt
           | inl found ↦ (let of = all_of_own found.0 s.processes found.1.1 in
               let is : sublocks_at h s ≡ found.0.sublocks = ap (λ o. option_map_or (λ (x : OwnLock). x.sublocks) o []) found.1.0 in
-              apart_in_order (sublocks_at h s) (λ at there. let below = below_of at there in (below.1, below.2.1))
+              apart_in_order (sublocks_at h s) (λ at there. let below = below_of rest at there in (below.1, below.2.1))
               (subst (StandByIdentification s) (sym is) ((rest.rising of.0 of.1.0).sublocks found.0 of.1.1).1))
         ]

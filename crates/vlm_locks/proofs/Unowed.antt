@@ -56,7 +56,7 @@ module _ (lkids : List ℕ) (s : Records) (sound : IsSound s) (at : ℕ) (row : 
         | inl same ↦
             rw (eq-eqb k.at at same)
             (eq-eqb k.row.lkid row.lkid (ap (λ (x : LockRow). x.lkid) (one_lock s sound at k.row row (subst (λ h. Stores s h k.row) same there) stored)))
-        | inr differs ↦ rw (ne_eqb k.at at differs) (ne_eqb k.row.lkid row.lkid (λ same. differs (sound.lkids_apart k.at at k.row row there stored same)))
+        | inr differs ↦ rw (ne_eqb k.at at differs) (ne_eqb k.row.lkid row.lkid (λ same. differs (sound.lkids_apart k.at at k.row row (inl there) (inl stored) same)))
       ]
 
       sums : (a b : Bool) (due : ℕ) → cond (a || b) 0 due + cond b (cond a 0 due) 0 ≡ cond a 0 due

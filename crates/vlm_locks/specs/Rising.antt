@@ -1,5 +1,5 @@
 -- The order of the locks of a process, and of the sublocks of a lock.
-use Rattle.std.specs.Prelude.{◌<◌, ⊤, ℕ, List, [], ◌∷◌, map}
+use Rattle.std.specs.Prelude.{◌≡◌, ◌<◌, ⊤, None, ℕ, List, [], ◌∷◌, map}
 use Rattle.vlm_words.specs.declared.locks.LockRow.{LockRow}
 use Rattle.vlm_collections.specs.Lists.{IsIn}
 use Rattle.vlm_store.specs.Records.{OwnLock, Records, StoredProcess, Stores}
@@ -18,8 +18,10 @@ StandByIdentification s (at ∷ rest) = ((later : ℕ) → IsIn later rest → I
 abbrev pub handles_of_own : List OwnLock → List ℕ
 handles_of_own locks = map (λ own. own.at) locks
 
--- the locks of the process are in the order of identifications; each comes before its sublocks, which are in order too
+-- the locks of the process are in queues and in the order of identifications; each comes before its sublocks, which are
+-- in order too
 pub record HasRisingLocks (s : Records) (p : StoredProcess) : Type 0 where
+  pub queued : (own : OwnLock) → IsIn own p.own → own.loose ≡ None
   pub own : StandByIdentification s (handles_of_own p.own)
   pub sublocks : (own : OwnLock) → IsIn own p.own → StandByIdentification s (own.at ∷ own.sublocks)
 

@@ -15,7 +15,7 @@ use Rattle.vlm_model.proofs.Each.{Any-cases, Any-none, each_weaker}
 use Rattle.vlm_collections.specs.Lists.{IsIn}
 use Rattle.vlm_records.specs.declared.handles.Place.TheVariants.{Queued}
 use Rattle.vlm_store.specs.Plain.{plain_resource, plain_resources}
-use Rattle.vlm_store.specs.Records.{HasNoSublocks, IsSound, OwnLock, Records, StoredLock, StoredProcess, StoredResource, Stores, locks_at, queued, rows_of_locks}
+use Rattle.vlm_store.specs.Records.{HasNoSublocks, IsSound, OwnLock, Records, StoredLock, StoredProcess, StoredResource, Stores, locks_at, queued, rows_of_locks, NoneIsLoose}
 use Rattle.vlm_locks.specs.declared.located_locks.LocatedLock.{LocatedLock}
 use Rattle.vlm_locks.specs.Standing.{IsLocated}
 use Rattle.vlm_locks.specs.Withdrawing.{goes}
@@ -23,7 +23,7 @@ use Rattle.vlm_locks.proofs.Stood.{in_queue, one_lock, queued_stored, stands, st
 use Rattle.vlm_machine.specs.Machine.{MachineState, plain_state}
 use Rattle.vlm_machine.proofs.Siting.{each_resource}
 use Rattle.vlm_machine.proofs.ToCome.{counted_all, counted_on}
-use Rattle.vlm_store.proofs.Records.{queue_at}
+use Rattle.vlm_store.proofs.Records.{queue_at, in_a_queue}
 
 -- what holds on a resource stands in its granted or its conversion queue
 pub held_stands : (r : StoredResource) (lkid pid : ℕ) → HoldsOn lkid pid (plain_resource r)
@@ -118,9 +118,9 @@ module _ (s : Records) (sound : IsSound s) (f : LocatedLock) (located : IsLocate
     where
       none_stored : (at : ℕ) (row : LockRow) → Stores s at row → row.parent ≢ f.row.lkid
       none_stored at row there is =
-          let parent = sound.owned.named at row there (λ zero. named (sym is ∙ zero)) in
+          let parent = sound.owned.named at row (inl there) (λ zero. named (sym is ∙ zero)) in
           let same : parent.1.at ≡ f.lock =
-          sound.lkids_apart parent.1.at f.lock parent.2 f.row parent.3.3 (stored s f located) (parent.3.4 ∙ is) in
+          sound.lkids_apart parent.1.at f.lock parent.2 f.row parent.3.3 (inl (stored s f located)) (parent.3.4 ∙ is) in
           subst (IsIn at) (childless parent.0 parent.1 parent.3.0 parent.3.1 same) parent.3.2
 
       none_on : (r : StoredResource) → IsIn r s.resources → (queue : Queue) → has_sublock f.row.lkid (rows_of_locks (queued queue r)) ≡ false
@@ -136,22 +136,22 @@ module _ (s : Records) (sound : IsSound s) (f : LocatedLock) (located : IsLocate
           ∙ of_list rest (λ x there. within x (inr there))
 
   -- a sublock in the list of the lock is a stored lock whose row names it
-  sublock_stored : (p : StoredProcess) (own : OwnLock) (at : ℕ) → IsIn p s.processes → IsIn own p.own → own.at ≡ f.lock → IsIn at own.sublocks
+  sublock_stored : NoneIsLoose s → (p : StoredProcess) (own : OwnLock) (at : ℕ) → IsIn p s.processes → IsIn own p.own → own.at ≡ f.lock → IsIn at own.sublocks
       → (row : LockRow) × (Stores s at row × (row.parent ≡ f.row.lkid))
-  sublock_stored p own at among here same is_in =
+  sublock_stored none p own at among here same is_in =
       let below = sound.owned.below p own at among here is_in in
       let up : below.0 ≡ f.row =
-      one_lock s sound f.lock below.0 f.row (subst (λ x. Stores s x below.0) same below.2.0) (stored s f located) in
-      (below.1, (below.2.1, below.2.2 ∙ ap (λ (x : LockRow). x.lkid) up))
+      one_lock s sound f.lock below.0 f.row (subst (λ x. Stores s x below.0) same (in_a_queue s none own.at below.0 below.2.0)) (stored s f located) in
+      (below.1, (in_a_queue s none at below.1 below.2.1, below.2.2 ∙ ap (λ (x : LockRow). x.lkid) up))
 
   -- where no row of all names the lock as its parent, it has no sublocks
-  no_rows_childless : list_any (has_sublock_on f.row.lkid) (plain_resources s) ≡ false → HasNoSublocks f.lock s
-  no_rows_childless none p own among here same = of_list own.sublocks refl
+  no_rows_childless : NoneIsLoose s → list_any (has_sublock_on f.row.lkid) (plain_resources s) ≡ false → HasNoSublocks f.lock s
+  no_rows_childless queued none p own among here same = of_list own.sublocks refl
     where
       of_list : (sublocks : List ℕ) → own.sublocks ≡ sublocks → sublocks ≡ []
       of_list [] is = refl
       of_list (at ∷ rest) is =
-          let below = sublock_stored p own at among here same (subst (IsIn at) (sym is) (inl refl)) in
+          let below = sublock_stored queued p own at among here same (subst (IsIn at) (sym is) (inl refl)) in
           let in_q = in_queue s at below.0 below.1.0 in
           let some : list_any (has_sublock_on f.row.lkid) (plain_resources s) ≡ true =
           among_all_some f.row.lkid s.resources in_q.resource in_q.there
@@ -160,12 +160,12 @@ module _ (s : Records) (sound : IsSound s) (f : LocatedLock) (located : IsLocate
           cc
 
   -- so a lock that has some is named by a row
-  pub some_in_rows : ¬ HasNoSublocks f.lock s → list_any (has_sublock_on f.row.lkid) (plain_resources s) ≡ true
-  some_in_rows has = of_test (list_any (has_sublock_on f.row.lkid) (plain_resources s)) refl
+  pub some_in_rows : NoneIsLoose s → ¬ HasNoSublocks f.lock s → list_any (has_sublock_on f.row.lkid) (plain_resources s) ≡ true
+  some_in_rows queued has = of_test (list_any (has_sublock_on f.row.lkid) (plain_resources s)) refl
     where
       of_test : (b : Bool) → list_any (has_sublock_on f.row.lkid) (plain_resources s) ≡ b → b ≡ true
       of_test true is = refl
-      of_test false is = absurd (has (no_rows_childless is))
+      of_test false is = absurd (has (no_rows_childless queued is))
 
   -- no lock has the identification 0
   pub not_zero : sum_by (rows_on 0) (plain_resources s) ≡ 0 → f.row.lkid ≢ 0
@@ -186,7 +186,7 @@ module _ (s : Records) (sound : IsSound s) (f : LocatedLock) (located : IsLocate
         | inl here ↦ (let held = held_stands r f.row.lkid pid here.1 in
             let k : StoredLock = held.0 in
             let is_stored : Stores s k.at k.row = queued_stored s sound r (within r (inl refl)) held.1 k held.2.0 in
-            let same : k.at ≡ f.lock = sound.lkids_apart k.at f.lock k.row f.row is_stored (stored s f located) held.2.2 in
+            let same : k.at ≡ f.lock = sound.lkids_apart k.at f.lock k.row f.row (inl is_stored) (inl (stored s f located)) held.2.2 in
             let there : IsIn (record { at = f.lock; row = k.row }) (locks_at (Queued r.at held.1) s) =
             subst (λ x. IsIn (record { at = x; row = k.row }) (locks_at (Queued r.at held.1) s)) same
             (subst (IsIn k) (sym (queue_at s sound r (within r (inl refl)) held.1)) held.2.0) in
@@ -199,15 +199,15 @@ module _ (s : Records) (sound : IsSound s) (f : LocatedLock) (located : IsLocate
       same_queue : (a b : ℕ) (p q : Queue) → Queued a p ≡ Queued b q → p ≡ q
       same_queue a b p q is = cc
 
-  pub waiting_childless : sum_by (rows_on 0) (plain_resources s) ≡ 0
+  pub waiting_childless : NoneIsLoose s → sum_by (rows_on 0) (plain_resources s) ≡ 0
       → AllByRecursion (λ r. AllByRecursion (HasItsParent (plain_resources s) r) (r.granted ++ r.converting ++ r.waiting)) (plain_resources s)
       → f.queue ≡ Waiting → HasNoSublocks f.lock s
-  waiting_childless no_lkid_0 parents waits p own among here same = of_list own.sublocks refl
+  waiting_childless queued no_lkid_0 parents waits p own among here same = of_list own.sublocks refl
     where
       of_list : (sublocks : List ℕ) → own.sublocks ≡ sublocks → sublocks ≡ []
       of_list [] is = refl
       of_list (at ∷ rest) is =
-          let below = sublock_stored p own at among here same (subst (IsIn at) (sym is) (inl refl)) in
+          let below = sublock_stored queued p own at among here same (subst (IsIn at) (sym is) (inl refl)) in
           let row : LockRow = below.0 in
           let in_q = in_queue s at row below.1.0 in
           let its : HasItsParent (plain_resources s) (plain_resource in_q.resource) row =
@@ -232,9 +232,9 @@ by_recursion resources all =
 
 module _ (m : MachineState) (sound : IsSound m.records) (f : LocatedLock) (located : IsLocated f m.records) (cancels : Bool) where
   -- a lock with sublocks is not given up
-  pub sublocks_refused : cancels ≡ false → ¬ HasNoSublocks f.lock m.records → Some Sublocks ≡ sublocks_refusal (plain_state m) cancels f.row.lkid
+  pub sublocks_refused : NoneIsLoose m.records → cancels ≡ false → ¬ HasNoSublocks f.lock m.records → Some Sublocks ≡ sublocks_refusal (plain_state m) cancels f.row.lkid
   unfolding sublocks_refusal
-  sublocks_refused plain has = rw (plain, some_in_rows m.records sound f located has) refl
+  sublocks_refused queued plain has = rw (plain, some_in_rows m.records sound f located queued has) refl
 
   -- one without is
   pub sublocks_pass : sum_by (rows_on 0) (plain_resources m.records) ≡ 0 → HasNoSublocks f.lock m.records

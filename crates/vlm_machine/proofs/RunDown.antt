@@ -60,7 +60,7 @@ module _ (s : Records) (sound : IsSound s) where
       let held = held_stands r lkid pid holds in
       let k : StoredLock = held.0 in
       let is_stored : Stores s k.at k.row = queued_stored s sound r among held.1 k held.2.0 in
-      let same : k.at ≡ at = sound.lkids_apart k.at at k.row up is_stored stored (held.2.2 ∙ names) in
+      let same : k.at ≡ at = sound.lkids_apart k.at at k.row up (inl is_stored) (inl stored) (held.2.2 ∙ names) in
       let is : k.row ≡ up = one_lock s sound at k.row up (subst (λ h. Stores s h k.row) same is_stored) stored in
       sym (ap (λ (row : LockRow). row.pid) is) ∙ held.2.3
 

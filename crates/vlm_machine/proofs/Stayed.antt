@@ -31,7 +31,7 @@ rests_declared s t room at pid d is sound rest =
       keyed = rest.keyed;
       rising = λ p among. elim (among_more s.processes (new_stored_process at pid d) p among) [
         | inl was ↦ rises_still s made p p (were_stored s made refl) refl (rest.rising p was)
-        | inr new ↦ subst (HasRisingLocks made) new (record { own = tt; sublocks = λ own none. absurd none })
+        | inr new ↦ subst (HasRisingLocks made) new (record { queued = λ own none. absurd none; own = tt; sublocks = λ own none. absurd none })
       ];
       sound = subst IsSound is sound;
     })

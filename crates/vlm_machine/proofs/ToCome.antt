@@ -18,7 +18,7 @@ use Rattle.vlm_collections.specs.Lists.{IsIn}
 use Rattle.vlm_records.specs.declared.handles.Place.{Place}
 use Rattle.vlm_records.specs.declared.handles.Place.TheVariants.{Queued}
 use Rattle.vlm_store.specs.Plain.{plain_resource, plain_resources}
-use Rattle.vlm_store.specs.Records.{IsNewLock, IsNewProcess, Records, StoredLock, StoredProcess, StoredResource, locks_at, queued, resource_at, rows_of_locks}
+use Rattle.vlm_store.specs.Records.{IsNewLock, IsNewProcess, Records, StoredLock, StoredProcess, StoredResource, locks_at, queued, resource_at, rows_of_locks, Stores}
 use Rattle.vlm_locks.specs.Rising.{IsAboveEachLock}
 use Rattle.vlm_locks.proofs.Stood.{resource_among}
 use Rattle.vlm_machine.specs.Machine.{MachineState, plain_state}
@@ -59,7 +59,7 @@ counted_all lkid (x ∷ rest) r among =
     ]
 
 -- where no row is counted the identification is new
-new_lock : (s : Records) (lkid : ℕ) → sum_by (rows_on lkid) (plain_resources s) ≡ 0 → IsNewLock lkid s
+new_lock : (s : Records) (lkid : ℕ) → sum_by (rows_on lkid) (plain_resources s) ≡ 0 → (at : ℕ) (row : LockRow) → Stores s at row → ¬ (row.lkid ≡ lkid)
 new_lock s lkid none at row stored same = by_place stored.0 stored.1
   where
     by_place : (place : Place) → IsIn (record { at = at; row = row }) (locks_at place s) → ⊥

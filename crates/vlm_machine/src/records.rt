@@ -46,7 +46,8 @@ impl Model for Machine {
 impl Machine {
     /// A new machine, whose index of names hashes by these keys. It takes no memory.
     pub fn with_keys(alloc: Global, keys: HashKeys) -> Machine
-        ensures { plain_state result ≡ start }
+        ensures start { plain_state result ≡ start }
+        ensures keys { result.records.keys ≡ keys }
     {
         Machine {
             nodes: [Node::new(); NODES],

@@ -5,7 +5,7 @@ ghost use Rattle.std.specs.Option.{option_map_or};
 ghost use Rattle.vlm_model.specs.Quotas.{locks_of, quota_of};
 ghost use Rattle.vlm_words.specs.State.{process_of};
 ghost use Rattle.vlm_store.specs.Plain.{plain_processes, plain_resources};
-ghost use Rattle.vlm_store.specs.Records.{HasProcess, IsProcess};
+ghost use Rattle.vlm_store.specs.Records.{HasProcess, IsProcess, NoneIsLoose};
 
 use vlm_store::{ProcAt, Store};
 
@@ -27,9 +27,10 @@ pub fn has_syslck(store: &Store, at: ProcAt) -> bool
     store.process_record(at).authorization.syslck
 }
 
-/// Whether a process may have one more lock: it has fewer than its quota, counting waiting ones.
+/// Whether a process may have one more lock: it has fewer than its quota, counting waiting ones. No lock may be loose.
 pub fn has_room(store: &Store, at: ProcAt) -> bool
-    requires { HasProcess at store.now }
+    requires there { HasProcess at store.now }
+    requires queued { NoneIsLoose store.now }
     ensures { (pid : ℕ) → IsProcess at pid store.now → result
         ≡ nat_lt (locks_of pid (plain_resources store.now))
         (quota_of (plain_processes store.now) pid) }

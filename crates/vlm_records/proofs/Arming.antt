@@ -29,10 +29,10 @@ use Rattle.vlm_records.specs.declared.resources.Resource.{Resource}
 use Rattle.vlm_records.specs.Armed.{IsArmed, IsLast, StandsLast, armed_granted, armed_handles, armed_links, armed_list, armed_list_handles, armed_list_in, armed_on, armed_rank, floor, granted_on, is_listed, kind_of, list_of, other_list, with_armed_links, with_list}
 use Rattle.vlm_records.specs.Families.{IsFamily}
 use Rattle.vlm_records.specs.Kept.{KeepsPlaces, Rewrites}
-use Rattle.vlm_records.specs.Shown.{IsPlaced, IsTallied, IsThere, SameBut, but_armed, but_counted, but_in_armed, but_kin, but_lists, but_queued, but_queues, but_requeued, but_tally, handles_at, handles_but, list_at, list_in, noted_in, queue_links, row_in, rows, tally_in}
+use Rattle.vlm_records.specs.Shown.{IsPlaced, IsTallied, IsThere, SameBut, but_armed, but_counted, but_in_armed, but_kin, but_lists, but_queued, but_queues, but_requeued, but_tally, handles_at, handles_but, is_loose_in, list_at, list_in, noted_in, queue_links, row_in, rows, tally_in}
 use Rattle.vlm_records.specs.Tallies.{how_many, weight_of}
 use Rattle.vlm_records.proofs.Families.{family-put_here, family-put_others, family-put, family-taken, family-taken_handles}
-use Rattle.vlm_records.proofs.Places.{by_part, there_by_part, kept_handles, kept_placed, place_cases, stands_there, there_through, through}
+use Rattle.vlm_records.proofs.Places.{loose_unlisted, by_part, there_by_part, kept_handles, kept_placed, place_cases, stands_there, there_through, through}
 use Rattle.vlm_records.proofs.OwnLocks.{written_same}
 use Rattle.vlm_records.proofs.Rooms.{room_relinked, room_written}
 
@@ -303,14 +303,21 @@ module _ (which : Armed) where
   pub armed_there : (slot : Option Lock) (res : ℕ) → (armed_on which) slot ≡ Some res → (noted_in slot ≡ Some (Queued res Granted)) × (is_listed which (row_in slot) ≡ true)
   armed_there None res is = absurd (none-some res is)
   armed_there (Some l) res is =
-      elim (cases_Bool (is_listed which l.row)) [
-        | inl is_armed ↦ (ap Some (granted_is l.place res (rw is_armed at is)), is_armed)
-        | inr unarmed ↦ absurd (none-some res (rw unarmed at is))
+      elim (cases_Bool l.loose) [
+        | inl loose ↦ absurd (none-some res (rw loose at is))
+        | inr queued ↦ elim (cases_Bool (is_listed which l.row)) [
+          | inl is_armed ↦ (rw queued (ap Some (granted_is l.place res (rw (queued, is_armed) at is))), is_armed)
+          | inr unarmed ↦ absurd (none-some res (rw (queued, unarmed) at is))
+        ]
       ]
 
   pub there_armed : (slot : Option Lock) (res : ℕ) → noted_in slot ≡ Some (Queued res Granted) → is_listed which (row_in slot) ≡ true → (armed_on which) slot ≡ Some res
   there_armed None res is is_armed = absurd (none-some (Queued res Granted) is)
-  there_armed (Some l) res is is_armed = rw is_armed (ap granted_on (same_Some l.place (Queued res Granted) is))
+  there_armed (Some l) res is is_armed =
+      elim (cases_Bool l.loose) [
+        | inl loose ↦ absurd (none-some (Queued res Granted) (rw loose at is))
+        | inr queued ↦ rw (queued, is_armed) (ap granted_on (same_Some l.place (Queued res Granted) (rw queued at is)))
+      ]
 
   module _ (q : Queues) (out : Option ℕ) (placed : IsPlaced q None) (armed : IsArmed which q out) where
     -- the lists of armed locks are a family: each such lock notes the one in which it stands
@@ -659,7 +666,16 @@ unarmed_unlisted AboveCr row unarmed = rw unarmed refl
 -- so the lock belongs in no list
 pub unarmed_none : (which : Armed) (slot : Option Lock) → (row_in slot).armed ≡ false → armed_on which slot ≡ None
 unarmed_none which None unarmed = refl
-unarmed_none which (Some l) unarmed = rw (unarmed_unlisted which l.row unarmed) refl
+unarmed_none which (Some l) unarmed = rw (unarmed_unlisted which l.row unarmed) (neither l.loose)
+  where
+    neither : (loose : Bool) → cond {A = Option ℕ} loose None None ≡ None
+    neither true = refl
+    neither false = refl
+
+-- a loose lock is in no list of armed locks
+pub loose_unarmed : (which : Armed) (q : Queues) (at : ℕ) → IsPlaced q None → IsArmed which q None → is_loose_in (get q.locks at) ≡ true → (res : ℕ) → ¬ IsIn at (armed_list_handles which q res)
+loose_unarmed which q at placed armed loose res found =
+    loose_unlisted q at placed loose (Queued res Granted) (armed-in which (rows q) at (handles_at q (Queued res Granted)) (subst (IsIn at) (armed.order res) found)).0
 
 -- ---- what stays twice stays
 pub keeps_twice : (a b c : Queues) → KeepsPlaces a b → KeepsPlaces b c → KeepsPlaces a c

@@ -1,5 +1,5 @@
 -- How the counts of a resource follow the locks in its queues.
-use Rattle.std.proofs.Common.{◌≡◌, ◌≢◌, ℕ, ◌+◌, ◌<◌, ◌≤◌, List, [], ◌∷◌, ◌++◌, Bool, true, false, Option, None, Some, refl, sym, ap, ◌∙◌, subst, inl, inr, arith, add-zero, length-append, eq-eqb, ne_eqb}
+use Rattle.std.proofs.Common.{◌≡◌, ◌≢◌, ℕ, ◌+◌, ◌<◌, ◌≤◌, List, [], ◌∷◌, ◌++◌, Bool, true, false, cond, Option, None, Some, IsSome, refl, sym, ap, ◌∙◌, subst, inl, inr, arith, add-zero, length-append, eq-eqb, ne_eqb}
 use Rattle.std.specs.Prelude.{◌==◌, if◌then◌else◌}
 use Rattle.std.proofs.lemmas.Bool.{cases_eq}
 use Rattle.std.proofs.lemmas.Option.{none-some, same_Some}
@@ -20,11 +20,11 @@ use Rattle.vlm_records.specs.declared.queues.Queues.{Queues}
 use Rattle.vlm_records.specs.declared.resources.Resource.{Resource}
 use Rattle.vlm_records.specs.declared.tallies.Tally.{Tally}
 use Rattle.vlm_records.specs.Kept.{Recounts}
-use Rattle.vlm_records.specs.Shown.{IsPlaced, IsTallied, SameBut, but_lists, handles_at, handles_but, list_at, noted, noted_in, queue_links, row_in, rows, share_of, shares, tally_in}
+use Rattle.vlm_records.specs.Shown.{IsPlaced, IsTallied, SameBut, but_lists, handles_at, handles_but, list_at, noted, noted_in, own_share, queue_links, row_in, rows, share_of, shares, tally_in}
 use Rattle.vlm_records.specs.Tallies.{Count, counted_request, how_many, is_mode, one_if, total, weight_of}
 use Rattle.vlm_records.proofs.Totals.{total-length}
 use Rattle.vlm_records.proofs.Families.{family-added, family-removed}
-use Rattle.vlm_records.proofs.Places.{one_place, place_cases, tally_but_lists}
+use Rattle.vlm_records.proofs.Places.{noted_as, noted_is, one_place, place_cases, tally_but_lists}
 
 pub total-without : (weight : LockRow → ℕ) (rows : ℕ → LockRow) (ks : List ℕ) (at : ℕ) → IsApart ks → IsIn at ks → total weight rows (without at ks) + weight (rows at) ≡ total weight rows ks
 total-without weight rows [] at apart found = absurd found
@@ -186,10 +186,10 @@ shares_same q q' weight out res handles same = omega (arith, part Granted, part 
     part queue = part_of out queue same
 
 -- a lock in a queue is counted out, or in
-module _ (q q' : Queues) (at res : ℕ) (queue : Queue) (l : Lock) (placed : IsPlaced q None) (here : get q.locks at ≡ Some l) (is : l.place ≡ Queued res queue)
+module _ (q q' : Queues) (at res : ℕ) (queue : Queue) (l : Lock) (placed : IsPlaced q None) (in_queue : IsSome (noted q at)) (here : get q.locks at ≡ Some l) (is : l.place ≡ Queued res queue)
     (lists : (p : Place) → list_at q' p ≡ list_at q p) (locks : q'.locks ≡ q.locks) (weight : Queue → LockRow → ℕ) where
   notes : noted q at ≡ Some (Queued res queue)
-  notes = ap noted_in here ∙ ap Some is
+  notes = noted_as (get q.locks at) l here in_queue ∙ ap Some is
 
   handles_same : (p : Place) → handles_at q' p ≡ handles_at q p
   handles_same p = ap (handles_of queue_links q'.locks) (lists p) ∙ ap (λ s. handles_of queue_links s (list_at q p)) locks
@@ -274,10 +274,10 @@ module _ (q q' : Queues) (at : ℕ) (slot : Option Lock) (updates : Updates q.lo
   pub added_placed : IsPlaced q None → IsPlaced q' (Some at)
   added_placed placed = family-added queue_links noted_in q.locks (list_at q) None placed q'.locks (list_at q') lists at slot updates unlisted refl
 
-  -- the record is gone
-  pub removed_placed : slot ≡ None → IsPlaced q (Some at) → IsPlaced q' None
+  -- the record is gone, or notes no place
+  pub removed_placed : noted_in slot ≡ None → IsPlaced q (Some at) → IsPlaced q' None
   removed_placed nothing placed =
-      family-removed queue_links noted_in q.locks (list_at q) (Some at) placed q'.locks (list_at q') lists at slot updates unlisted (λ p e. none-some p (sym (ap noted_in nothing) ∙ e)) refl
+      family-removed queue_links noted_in q.locks (list_at q) (Some at) placed q'.locks (list_at q') lists at slot updates unlisted (λ p e. none-some p (sym nothing ∙ e)) refl
 
   module _ (resources : q'.resources ≡ q.resources) where
     part_updated : (weight : Queue → LockRow → ℕ) (r : ℕ) (queue : Queue)
@@ -320,9 +320,22 @@ module _ (q q' : Queues) (at : ℕ) (slot : Option Lock) (updates : Updates q.lo
 
 -- the shares of a resource are those of the other locks, and that of one that is there
 pub own_weighs : (q : Queues) (weight : Queue → LockRow → ℕ) (own : ℕ) (l : Lock) → IsPlaced q None → get q.locks own ≡ Some l → (res : ℕ)
-    → shares q weight None res ≡ shares q weight (Some own) res + share_of weight l.place res l.row
-own_weighs q weight own l placed here res =
-    shares-out q weight own l.place placed (ap noted_in here) res ∙ ap (λ row. shares q weight (Some own) res + share_of weight l.place res row) (ap row_in here)
+    → shares q weight None res ≡ shares q weight (Some own) res + own_share weight res l
+own_weighs q weight own l placed here res = by_flag l.loose refl
+  where
+    by_flag : (loose : Bool) → l.loose ≡ loose → shares q weight None res ≡ shares q weight (Some own) res + cond loose 0 (share_of weight l.place res l.row)
+    by_flag true is =
+        let none : noted q own ≡ None = ap noted_in here ∙ ap (λ b. cond b None (Some l.place)) is in
+        let unlisted : (p : Place) → ¬ IsIn own (handles_at q p) = λ p found. none-some p (sym none ∙ placed.listed p own found) in
+        omega (
+          arith,
+          ap (total (weight Granted) (rows q)) (without_absent own (handles_at q (Queued res Granted)) (unlisted (Queued res Granted))),
+          ap (total (weight Conversion) (rows q)) (without_absent own (handles_at q (Queued res Conversion)) (unlisted (Queued res Conversion))),
+          ap (total (weight Waiting) (rows q)) (without_absent own (handles_at q (Queued res Waiting)) (unlisted (Queued res Waiting))),
+        )
+    by_flag false is =
+        shares-out q weight own l.place placed (ap noted_in here ∙ ap (λ b. cond b None (Some l.place)) is) res
+        ∙ ap (λ row. shares q weight (Some own) res + share_of weight l.place res row) (ap row_in here)
 
 -- the count of one resource changes
 tally_changed : (count : Tally → ℕ) (s : Slab Resource) (res : ℕ) (was now : Resource) (less more : ℕ) → ContainsKey s res → get s res ≡ Some was → count now.tally + less ≡ count was.tally + more → (r : ℕ)
@@ -346,7 +359,7 @@ module _ (q : Queues) (at res : ℕ) (queue : Queue) (l : Lock) (was : Resource)
   pub recounts : (place : Place) → noted q at ≡ Some place → Recounts place (rows q at) now q.resources counted
   recounts place notes =
       let there : ContainsKey q.resources res = rw held refl in
-      let same : Queued res queue ≡ place = same_Some (Queued res queue) place (sym (ap noted_in here ∙ ap Some is) ∙ notes) in
+      let same : Queued res queue ≡ place = sym is ∙ noted_is (get q.locks at) l place here notes in
       subst (λ p. Recounts p (rows q at) now q.resources counted) same
       (subst (λ row. Recounts (Queued res queue) row now q.resources counted) (sym (ap row_in here))
       (record {
@@ -356,21 +369,22 @@ module _ (q : Queues) (at res : ℕ) (queue : Queue) (l : Lock) (was : Resource)
       }))
 
 -- a lock has another row where it stands, and is counted with it
-module _ (q q' : Queues) (at : ℕ) (now : LockRow) (placed : IsPlaced q None) (placed' : IsPlaced q' None) (there : ContainsKey q.locks at)
+module _ (q q' : Queues) (at : ℕ) (now : LockRow) (placed : IsPlaced q None) (placed' : IsPlaced q' None) (in_queue : IsSome (noted q at))
     (handles : (p : Place) → handles_at q' p ≡ handles_at q p) (others : (k : ℕ) → k ≢ at → rows q' k ≡ rows q k) (here : rows q' at ≡ now) (notes : noted q' at ≡ noted q at) where
   pub recounted : ((place : Place) → noted q at ≡ Some place → Recounts place (rows q at) now q.resources q'.resources) → IsTallied q None → IsTallied q' None
   recounted recounts tallied = by_slot (get q.locks at) refl
     where
       by_slot : (slot : Option Lock) → get q.locks at ≡ slot → IsTallied q' None
-      by_slot None is = let no = rw is at there in cc
+      by_slot None is = let no = rw is at in_queue in cc
       by_slot (Some l) is = record {
         counts = λ count r mode.
+            let noted_so : noted q at ≡ Some l.place = noted_as (get q.locks at) l is in_queue in
             omega (
               arith,
-              (recounts l.place (ap noted_in is)).change count mode r,
+              (recounts l.place noted_so).change count mode r,
               tallied.counts count r mode,
-              shares-out q (weight_of count mode) at l.place placed (ap noted_in is) r,
-              shares-out q' (weight_of count mode) at l.place placed' (notes ∙ ap noted_in is) r,
+              shares-out q (weight_of count mode) at l.place placed noted_so r,
+              shares-out q' (weight_of count mode) at l.place placed' (notes ∙ noted_so) r,
               ap (λ row. share_of (weight_of count mode) l.place r row) here,
               shares_same q q' (weight_of count mode) (Some at) r handles (λ k differs. others k (λ e. differs (ap Some e))),
             );

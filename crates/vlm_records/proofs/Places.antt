@@ -1,5 +1,5 @@
 -- What taking a lock off its list, and putting it on one, make of the places.
-use Rattle.std.proofs.Common.{◌≡◌, ◌≢◌, ◌⊎◌, ℕ, [], ◌∷◌, ◌++◌, Option, None, Some, IsSome, is_some, refl, sym, ap, ◌∙◌, subst, inl, inr, List}
+use Rattle.std.proofs.Common.{◌≡◌, ◌≢◌, ◌⊎◌, ℕ, [], ◌∷◌, ◌++◌, Bool, true, false, cond, Option, None, Some, IsSome, is_some, refl, sym, ap, ◌∙◌, subst, inl, inr, List}
 use Rattle.std.proofs.lemmas.Bool.{cases_eq}
 use Rattle.std.proofs.lemmas.Option.{none-some, same_Some}
 use Rattle.std.specs.Option.{option_map}
@@ -19,7 +19,7 @@ use Rattle.vlm_records.specs.declared.queues.Queues.{Queues}
 use Rattle.vlm_records.specs.declared.resources.Resource.{Resource}
 use Rattle.vlm_records.proofs.Families.{family-handles, family-kept, family-put, family-put_here, family-put_others, family-taken, family-taken_handles, one_list}
 use Rattle.vlm_records.specs.Kin.{lasting_part}
-use Rattle.vlm_records.specs.Shown.{IsPlaced, IsThere, SameBut, but_lists, but_place, but_queued, but_row, but_tally, handles_at, list_at, list_in, lkid_of, noted, noted_in, no_list, queue_links, row_in, tally_in, with_queue_links}
+use Rattle.vlm_records.specs.Shown.{IsPlaced, IsThere, SameBut, but_lists, but_place, but_queued, but_row, but_tally, handles_at, is_loose_in, list_at, list_in, lkid_of, noted, noted_in, no_list, queue_links, row_in, tally_in, with_queue_links}
 
 pub queue_cases : (p q : Queue) → (p ≡ q) ⊎ (p ≢ q)
 queue_cases Granted Granted = inl refl
@@ -66,15 +66,47 @@ same_then part a b c first second handle = second handle ∙ first handle
 pub same_eq : {T X : Type 0} (part : T → X) → (a b : Slab T) → b ≡ a → SameBut part a b
 same_eq part a b is handle = ap (λ s. option_map part (get s handle)) is
 
--- a lock that is there notes its place
-pub noted_there : (slot : Option Lock) → IsSome slot → (place : Place) × (noted_in slot ≡ Some place)
-noted_there None there = cc
-noted_there (Some l) there = (l.place, refl)
+-- a lock that is there and is not loose notes its place
+pub noted_there : (slot : Option Lock) → IsSome slot → is_loose_in slot ≡ false → (place : Place) × (noted_in slot ≡ Some place)
+noted_there None there queued = cc
+noted_there (Some l) there queued = (l.place, rw queued refl)
+
+place_or_none : (loose : Bool) (place : Place) → IsSome (cond loose None (Some place)) → cond loose None (Some place) ≡ Some place
+place_or_none true place in_queue = cc
+place_or_none false place in_queue = refl
+
+-- a lock that notes a place notes the place of its record
+pub noted_as : (slot : Option Lock) (l : Lock) → slot ≡ Some l → IsSome (noted_in slot) → noted_in slot ≡ Some l.place
+noted_as slot l here in_queue = ap noted_in here ∙ place_or_none l.loose l.place (rw here at in_queue)
+
+pub noted_is : (slot : Option Lock) (l : Lock) (place : Place) → slot ≡ Some l → noted_in slot ≡ Some place → l.place ≡ place
+noted_is slot l place here notes = same_Some l.place place (sym (noted_as slot l here (rw notes refl)) ∙ notes)
+
+flag_or_none : (loose : Bool) (place : Place) → IsSome {T = Place} (cond loose None (Some place)) → loose ≡ false
+flag_or_none true place in_queue = cc
+flag_or_none false place in_queue = refl
+
+-- a lock that notes a place is not loose
+pub noted_queued : (slot : Option Lock) (l : Lock) → slot ≡ Some l → IsSome (noted_in slot) → l.loose ≡ false
+noted_queued slot l here in_queue = flag_or_none l.loose l.place (rw here at in_queue)
+
+-- a loose lock notes no place
+pub loose_unnoted : (slot : Option Lock) → is_loose_in slot ≡ true → noted_in slot ≡ None
+loose_unnoted None loose = cc
+loose_unnoted (Some l) loose = rw loose refl
 
 -- a lock that notes a place is there
 pub there_noted : (slot : Option Lock) (place : Place) → noted_in slot ≡ Some place → IsSome slot
 there_noted None place is = cc
 there_noted (Some l) place is = refl
+
+pub there_in_queue : (slot : Option Lock) → IsSome (noted_in slot) → IsSome slot
+there_in_queue None in_queue = cc
+there_in_queue (Some l) in_queue = refl
+
+-- a loose lock is in no queue
+pub loose_unlisted : (q : Queues) (at : ℕ) → IsPlaced q None → is_loose_in (get q.locks at) ≡ true → (place : Place) → ¬ IsIn at (handles_at q place)
+loose_unlisted q at placed loose place found = none-some place (sym (loose_unnoted (get q.locks at) loose) ∙ placed.listed place at found)
 
 -- no lock stands in the queues of a resource that is not there
 pub stands_there : (q : Queues) (place : Place) (at : ℕ) → IsIn at (handles_at q place) → IsThere q.resources place
@@ -104,14 +136,8 @@ pub lists_same : (q q' : Queues) → q'.resources ≡ q.resources → (p : Place
 lists_same q q' resources (Queued res queue) = ap (λ s. list_in queue (get s res)) resources
 
 -- what a lock notes stays where only links are written
-noted_by : (new old : Option Lock) → option_map (λ (l : Lock). l.place) new ≡ option_map (λ (l : Lock). l.place) old → noted_in new ≡ noted_in old
-noted_by None None same = refl
-noted_by None (Some l) same = same
-noted_by (Some l) None same = same
-noted_by (Some l) (Some l') same = same
-
 noted_relinked : (old new : Slab Lock) → Relinks with_queue_links old new → (k : ℕ) → noted_in (get new k) ≡ noted_in (get old k)
-noted_relinked old new relinks k = noted_by (get new k) (get old k) (relinked_same with_queue_links (option_map (λ (l : Lock). l.place)) (λ l pair. refl) old new relinks k)
+noted_relinked = relinked_same with_queue_links noted_in (λ l pair. refl)
 
 -- a lock is taken off
 module _ (q q' : Queues) (locks1 : Slab Lock) (list1 : LinkedList InQueue) (at : ℕ) (place : Place) (placed : IsPlaced q None) (is : noted q at ≡ Some place)
@@ -198,9 +224,9 @@ lists_but_tally q q' rest (Queued res queue) = through but_tally (list_in queue)
     list_apart Waiting (Some r) = refl
 
 -- the resource in whose queue a lock stands is there
-pub noted_stands : (q : Queues) (at : ℕ) (l : Lock) (res : ℕ) (queue : Queue) → IsPlaced q None → get q.locks at ≡ Some l → l.place ≡ Queued res queue → ContainsKey q.resources res
-noted_stands q at l res queue placed here is =
-    stands_there q (Queued res queue) at (placed.stands (Queued res queue) at (λ same. none-some at (sym same)) (ap noted_in here ∙ ap Some is))
+pub noted_stands : (q : Queues) (at : ℕ) (l : Lock) (res : ℕ) (queue : Queue) → IsPlaced q None → IsSome (noted q at) → get q.locks at ≡ Some l → l.place ≡ Queued res queue → ContainsKey q.resources res
+noted_stands q at l res queue placed in_queue here is =
+    stands_there q (Queued res queue) at (placed.stands (Queued res queue) at (λ same. none-some at (sym same)) (noted_as (get q.locks at) l here in_queue ∙ ap Some is))
 
 -- the counts stay where lists are written
 pub tally_but_lists : (old new : Slab Resource) → SameBut but_lists old new → (r : ℕ) → tally_in (get new r) ≡ tally_in (get old r)

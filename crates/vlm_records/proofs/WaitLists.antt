@@ -1,5 +1,5 @@
 -- The locks whose requests are queued: what becomes of their list as locks leave it and join it.
-use Rattle.std.proofs.Common.{◌≡◌, ◌≢◌, ◌⊎◌, ℕ, true, false, Option, None, Some, [], ◌∷◌, ◌++◌, refl, sym, ap, ◌∙◌, inl}
+use Rattle.std.proofs.Common.{◌≡◌, ◌≢◌, ◌⊎◌, ℕ, Bool, true, false, cond, Option, None, Some, [], ◌∷◌, ◌++◌, refl, sym, ap, ◌∙◌, inl}
 use Rattle.std.proofs.lemmas.Option.{none-some, same_Some}
 use Rattle.std.specs.Option.{option_map}
 use Rattle.slab.specs.Slab.{Slab, get}
@@ -33,7 +33,11 @@ unqueued_noted (Queued res Waiting) is = cc
 -- the same, of a lock that notes the place
 noted_wait_list : (slot : Option Lock) (place : Place) → noted_in slot ≡ Some place → wait_list_in slot ≡ queued_wait_list place
 noted_wait_list None place notes = absurd (none-some place notes)
-noted_wait_list (Some l) place notes = ap queued_wait_list (same_Some l.place place notes)
+noted_wait_list (Some l) place notes = by_flag l.loose notes
+  where
+    by_flag : (loose : Bool) → cond loose None (Some l.place) ≡ Some place → cond loose None (queued_wait_list l.place) ≡ queued_wait_list place
+    by_flag true is = absurd (none-some place is)
+    by_flag false is = ap queued_wait_list (same_Some l.place place is)
 
 pub queued_here : (slot : Option Lock) (place : Place) → noted_in slot ≡ Some place → is_queued place ≡ true → wait_list_in slot ≡ Some tt
 queued_here slot place notes is = noted_wait_list slot place notes ∙ queued_noted place is

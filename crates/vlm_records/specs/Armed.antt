@@ -82,9 +82,9 @@ granted_on (Queued res Granted) = Some res
 granted_on (Queued res Conversion) = None
 granted_on (Queued res Waiting) = None
 
--- the resource in whose list the lock is: its own, if it is granted and its row is listed
+-- the resource in whose list the lock is: its own, if it is granted, is not loose and has a listed row
 abbrev pub armed_of : Armed → Lock → Option ℕ
-armed_of which l = if is_listed which l.row then granted_on l.place else None
+armed_of which l = if l.loose then None else (if is_listed which l.row then granted_on l.place else None)
 
 -- the same, of the lock in a place of the slab
 abbrev pub armed_on : Armed → Option Lock → Option ℕ

@@ -1,5 +1,5 @@
 -- What the calls that add, move and remove records change.
-use Rattle.std.specs.Prelude.{◌≡◌, ◌≢◌, ◌≤◌, ◌+◌, ℕ, None, Some, [], ◌∷◌, ◌++◌}
+use Rattle.std.specs.Prelude.{◌≡◌, ◌≢◌, ◌≤◌, ◌+◌, ℕ, true, None, Some, [], ◌∷◌, ◌++◌}
 use Rattle.std.specs.Option.{option_map}
 use Rattle.slab.specs.Slab.{Slab, get}
 use Rattle.vlm_collections.specs.declared.link.TheConstants.{LAST_HANDLE}
@@ -12,9 +12,9 @@ use Rattle.vlm_records.specs.declared.processes.Process.{Process}
 use Rattle.vlm_records.specs.declared.queues.Queues.{Queues}
 use Rattle.vlm_records.specs.declared.resources.InOrder.{InOrder}
 use Rattle.vlm_records.specs.Armed.{IsLaidOut}
-use Rattle.vlm_records.specs.Kept.{ComesLast, HandlesStay, Keeps, LeavesElsewhere}
+use Rattle.vlm_records.specs.Kept.{ComesLast, HandlesStay, Keeps, LeavesElsewhere, LooseStay}
 use Rattle.vlm_records.specs.Kin.{IsBelow, IsOwned, below_handles, but_below, but_order, but_own, own_handles, owner_in, parent_in, process_links, with_own_links}
-use Rattle.vlm_records.specs.Shown.{Face, SameBut, but_queued, but_queues, face_of, handles_at, order_links, room_in, rows}
+use Rattle.vlm_records.specs.Shown.{Face, SameBut, but_queued, but_queues, face_of, handles_at, is_loose_in, order_links, room_in, rows}
 use Rattle.vlm_records.specs.WaitList.{wait_list_links}
 
 -- this part of every record except one stays
@@ -34,6 +34,7 @@ pub record Moves (at : ℕ) (now : LockRow) (to : Place) (old new : Queues) : Ty
   pub row : rows new at ≡ now
   pub rows : OtherRowsStay at old new
   pub kept : Keeps but_queued but_queues old new
+  pub loose : LooseStay old new
   pub wait_list : SameBut wait_list_links old.locks new.locks
 
 -- a new lock with this row, process and parent lock is at the end of a queue
@@ -47,6 +48,7 @@ pub record Adds (at : ℕ) (now : LockRow) (made : Lock) (to : Place) (old new :
   pub rows : OtherRowsStay at old new
   pub lock : option_map but_queued (get new.locks at) ≡ Some made
   pub kin : OthersKeep but_queued at old.locks new.locks
+  pub loose : LooseStay old new
   pub wait_list : OthersKeep wait_list_links at old.locks new.locks
   pub rest : SameBut but_queues old.resources new.resources
   pub taken : (room_in new.locks).0 + 1 ≡ (room_in old.locks).0
@@ -59,10 +61,31 @@ pub record Removes (at : ℕ) (old new : Queues) : Type 0 where
   pub gone : get new.locks at ≡ None
   pub rows : OtherRowsStay at old new
   pub kin : OthersKeep but_queued at old.locks new.locks
+  pub loose : LooseStay old new
   pub wait_list : OthersKeep wait_list_links at old.locks new.locks
   pub rest : SameBut but_queues old.resources new.resources
   pub given_back : room_in new.locks ≡ ((room_in old.locks).0 + 1, at)
   pub resources_room : room_in new.resources ≡ room_in old.resources
+
+-- a lock is loose, and keeps its row
+pub record Unlinks (at : ℕ) (old new : Queues) : Type 0 where
+  pub laid_out : IsLaidOut new
+  pub handles : (place : Place) → handles_at new place ≡ without at (handles_at old place)
+  pub rows : (other : ℕ) → rows new other ≡ rows old other
+  pub here : is_loose_in (get new.locks at) ≡ true
+  pub others : (other : ℕ) → other ≢ at → is_loose_in (get new.locks other) ≡ is_loose_in (get old.locks other)
+  pub kept : Keeps but_queued but_queues old new
+  pub wait_list : SameBut wait_list_links old.locks new.locks
+
+-- a loose lock is at the end of a queue, and keeps its row
+pub record PushesBack (at : ℕ) (to : Place) (old new : Queues) : Type 0 where
+  pub laid_out : IsLaidOut new
+  pub here : handles_at new to ≡ handles_at old to ++ at ∷ []
+  pub elsewhere : (other : Place) → other ≢ to → handles_at new other ≡ handles_at old other
+  pub rows : (other : ℕ) → rows new other ≡ rows old other
+  pub others : (other : ℕ) → other ≢ at → is_loose_in (get new.locks other) ≡ is_loose_in (get old.locks other)
+  pub kept : Keeps but_queued but_queues old new
+  pub wait_list : SameBut wait_list_links old.locks new.locks
 
 -- a new resource with this face is the last one in the order of making
 pub record AddsResource (at : ℕ) (made : Face) (listed relisted : LinkedList InOrder) (old new : Queues) : Type 0 where

@@ -9,7 +9,7 @@ use Rattle.vlm_records.specs.declared.handles.Place.{Place}
 use Rattle.vlm_records.specs.declared.locks.Lock.{Lock}
 use Rattle.vlm_records.specs.declared.queues.Queues.{Queues}
 use Rattle.vlm_records.specs.declared.resources.Resource.{Resource}
-use Rattle.vlm_records.specs.Shown.{IsPlaced, IsTallied, SameBut, but_armed, but_counted, but_in_armed, but_requeued, but_tally, handles_at, room_in, rows, share_of, tally_in}
+use Rattle.vlm_records.specs.Shown.{IsPlaced, IsTallied, SameBut, but_armed, but_counted, but_in_armed, but_requeued, but_tally, handles_at, is_loose_in, room_in, rows, share_of, tally_in}
 
 -- these parts of locks and resources stay, and the room stays
 pub record Keeps (of_lock : Lock → Lock) (of_resource : Resource → Resource) (old new : Queues) : Type 0 where
@@ -21,6 +21,10 @@ pub record Keeps (of_lock : Lock → Lock) (of_resource : Resource → Resource)
 -- the handles at each place stay
 abbrev pub HandlesStay : Queues → Queues → Type 0
 HandlesStay old new = (place : Place) → handles_at new place ≡ handles_at old place
+
+-- no lock becomes loose, and none is loose no more
+abbrev pub LooseStay : Queues → Queues → Type 0
+LooseStay old new = (at : ℕ) → is_loose_in (get new.locks at) ≡ is_loose_in (get old.locks at)
 
 -- every queue and every row stays, while a lock leaves or joins the lists of armed locks
 pub record KeepsPlaces (old new : Queues) : Type 0 where

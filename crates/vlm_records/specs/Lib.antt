@@ -9,4 +9,5 @@ pub mod Pending
 pub mod Requests
 pub mod Rows
 pub mod Shown
+pub mod StoredPlaces
 pub mod StatusBlocks

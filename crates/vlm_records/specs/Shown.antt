@@ -57,10 +57,20 @@ abbrev pub row_in : Option Lock → LockRow
 row_in None = no_row
 row_in (Some l) = l.row
 
--- the place that the lock in a place of the slab notes
+-- the place that the lock in a place of the slab notes; a loose lock notes no place
 abbrev pub noted_in : Option Lock → Option Place
 noted_in None = None
-noted_in (Some l) = Some l.place
+noted_in (Some l) = if l.loose then None else Some l.place
+
+-- the lock in a place of the slab is loose
+abbrev pub is_loose_in : Option Lock → Bool
+is_loose_in None = false
+is_loose_in (Some l) = l.loose
+
+-- the row of the lock in a place of the slab, if the lock is loose
+abbrev pub loose_in : Option Lock → Option LockRow
+loose_in None = None
+loose_in (Some l) = if l.loose then Some l.row else None
 
 -- the list of a queue; an empty list without a resource
 abbrev pub list_in : Queue → Option Resource → LinkedList InQueue
@@ -144,9 +154,9 @@ but_in_armed l = record l { in_above_nl = no_links; in_above_cr = no_links }
 abbrev pub but_in_wait_list : Lock → Lock
 but_in_wait_list l = record l { in_wait_list = no_links }
 
--- the lock without its lists on a resource, the wait list, and the changing part of its row
+-- the lock without its queue, its other lists on a resource, the wait list, and the changing part of its row
 abbrev pub but_queued : Lock → Lock
-but_queued l = but_in_wait_list (but_in_armed (but_requeued l))
+but_queued l = but_in_wait_list (but_in_armed (record (but_requeued l) { loose = false }))
 
 -- the lock without its links in the wait list, its process and its parent's sublocks, and without its own sublocks
 abbrev pub but_kin : Lock → Lock
@@ -157,6 +167,7 @@ abbrev pub new_lock : LockRow → ℕ → Option ℕ → Lock
 new_lock row owner parent = record {
   row = named_row row;
   place = no_place;
+  loose = false;
   in_queue = no_links;
   in_above_nl = no_links;
   in_above_cr = no_links;
@@ -226,6 +237,10 @@ handles_fit mode rows granted converting =
 -- what a lock at this place adds to the count of a resource
 abbrev pub share_of : (Queue → LockRow → ℕ) → Place → ℕ → LockRow → ℕ
 share_of weight (Queued at queue) res row = if at == res then weight queue row else 0
+
+-- what a lock adds to the count of a resource; a loose lock adds nothing
+abbrev pub own_share : (Queue → LockRow → ℕ) → ℕ → Lock → ℕ
+own_share weight res l = if l.loose then 0 else share_of weight l.place res l.row
 
 -- a resource without its lists and counts
 pub record Face : Type 0 where

@@ -1,5 +1,5 @@
 -- The wait list: the queued locks of all resources.
-use Rattle.std.specs.Prelude.{Bool, true, false, ℕ, List, Option, None, Some}
+use Rattle.std.specs.Prelude.{Bool, true, false, if◌then◌else◌, ℕ, List, Option, None, Some}
 use Rattle.slab.specs.Slab.{Slab}
 use Rattle.vlm_collections.specs.declared.link.Links.{Links}
 use Rattle.vlm_collections.specs.declared.lists.LinkedList.{LinkedList}
@@ -34,7 +34,7 @@ queued_wait_list (Queued res Waiting) = Some tt
 -- the same for the lock in a place of the slab
 abbrev pub wait_list_in : Option Lock → Option (Unit {0})
 wait_list_in None = None
-wait_list_in (Some l) = queued_wait_list l.place
+wait_list_in (Some l) = if l.loose then None else queued_wait_list l.place
 
 -- the handles in the wait list, in its order
 abbrev pub wait_list_handles : Slab Lock → LinkedList InWaitList → List ℕ

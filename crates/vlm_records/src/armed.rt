@@ -1,11 +1,11 @@
 //! Locks join and leave the lists of armed locks of their resource.
 
-ghost use Rattle.std.specs.Prelude.{◌≤◌, ℕ, None, Option, Some};
+ghost use Rattle.std.specs.Prelude.{◌≤◌, ℕ, IsSome, None, Option, Some};
 ghost use Rattle.slab.specs.Slab.{ContainsKey};
 ghost use Rattle.vlm_records.specs.declared.handles.Armed.{Armed};
 ghost use Rattle.vlm_records.specs.Armed.{IsArmed, IsLaidOut, StandsLast, other_list};
 ghost use Rattle.vlm_records.specs.Kept.{KeepsPlaces};
-ghost use Rattle.vlm_records.specs.Shown.{IsPlaced, IsTallied};
+ghost use Rattle.vlm_records.specs.Shown.{IsPlaced, IsTallied, noted};
 
 use crate::handles::Armed;
 use crate::queues::Queues;
@@ -20,6 +20,7 @@ impl Queues {
         requires tallied { IsTallied self.old None }
         requires armed { IsArmed which self.old None }
         requires present { ContainsKey self.old.locks at }
+        requires in_queue { IsSome (noted self.old at) }
         ensures armed { IsArmed which self.new (Some at) }
         ensures other { (out : Option ℕ) → IsArmed (other_list which) self.old out
             → IsArmed (other_list which) self.new out }
@@ -39,6 +40,7 @@ impl Queues {
         requires tallied { IsTallied self.old None }
         requires armed { IsArmed which self.old (Some at) }
         requires present { ContainsKey self.old.locks at }
+        requires in_queue { IsSome (noted self.old at) }
         requires within { at ≤ LAST_HANDLE }
         requires last { StandsLast self.old at }
         ensures armed { IsArmed which self.new None }
@@ -56,6 +58,7 @@ impl Queues {
     pub(crate) fn leave_armed(&mut self, at: usize)
         requires laid_out { IsLaidOut self.old }
         requires present { ContainsKey self.old.locks at }
+        requires in_queue { IsSome (noted self.old at) }
         ensures armed { (which : Armed) → IsArmed which self.new (Some at) }
         ensures places { KeepsPlaces self.old self.new }
     {
@@ -72,6 +75,7 @@ impl Queues {
         requires tallied { IsTallied self.old None }
         requires armed { (which : Armed) → IsArmed which self.old (Some at) }
         requires present { ContainsKey self.old.locks at }
+        requires in_queue { IsSome (noted self.old at) }
         requires within { at ≤ LAST_HANDLE }
         requires last { StandsLast self.old at }
         ensures armed { (which : Armed) → IsArmed which self.new None }

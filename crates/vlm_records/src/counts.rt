@@ -1,6 +1,6 @@
 //! The counts of a resource's locks by mode.
 
-ghost use Rattle.std.specs.Prelude.{◌≡◌, None, Some};
+ghost use Rattle.std.specs.Prelude.{◌≡◌, IsSome, None, Some};
 ghost use Rattle.std.specs.Option.{ForSome};
 ghost use Rattle.slab.specs.Slab.{ContainsKey};
 ghost use Rattle.vlm_words.specs.declared.modes.Mode.{Mode};
@@ -9,9 +9,9 @@ ghost use Rattle.vlm_records.specs.declared.handles.Place.{Place};
 ghost use Rattle.vlm_records.specs.Tallies.{is_mode, one_if, weight_of};
 ghost use Rattle.vlm_records.specs.Tallies.Count.{of_held};
 ghost use Rattle.vlm_records.specs.Kept.{Recounts, WritesCounts};
-ghost use Rattle.vlm_records.specs.Shown.{IsPlaced, IsTallied, handles_but, handles_fit, noted, rows, share_of};
+ghost use Rattle.vlm_records.specs.Shown.{IsPlaced, IsTallied, handles_but, handles_fit, noted, own_share, rows};
 
-use crate::handles::{LockAt, Place, ResAt};
+use crate::handles::{LockAt, ResAt};
 use crate::locks::Lock;
 use crate::queues::Queues;
 use crate::rows::StoredRow;
@@ -19,17 +19,17 @@ use vlm_words::locks::Request;
 use vlm_words::modes::Mode;
 use vlm_words::resources::Queue;
 
-// The request that the lock holds on this resource; nothing if the lock is on another resource or waits.
-fn held_on(res: ResAt, place: &Place, row: &StoredRow) -> Option<Request>
+// The request that the lock holds on this resource; nothing if the lock is on another resource, waits or is loose.
+fn held_on(res: ResAt, lock: &Lock) -> Option<Request>
     ensures { (mode : Mode) → one_if (is_mode mode result)
-        ≡ share_of (weight_of of_held mode) place.now res row.now }
+        ≡ own_share (weight_of of_held mode) res lock.now }
 {
-    let (at, queue) = place.parts();
-    if at != res {
+    let (at, queue) = lock.place.parts();
+    if lock.loose || at != res {
         return None;
     }
     match queue {
-        Queue::Granted | Queue::Conversion => row.held(),
+        Queue::Granted | Queue::Conversion => lock.row.held(),
         Queue::Waiting => None,
     }
 }
@@ -38,6 +38,7 @@ impl Queues {
     pub(crate) fn count_out(&mut self, at: usize)
         requires placed { IsPlaced self.old None }
         requires present { ContainsKey self.old.locks at }
+        requires in_queue { IsSome (noted self.old at) }
         requires tallied { IsTallied self.old None }
         ensures tallied { IsTallied self.new (Some at) }
         ensures counts { WritesCounts self.old self.new }
@@ -50,6 +51,7 @@ impl Queues {
     pub(crate) fn count_in(&mut self, at: usize)
         requires placed { IsPlaced self.old None }
         requires present { ContainsKey self.old.locks at }
+        requires in_queue { IsSome (noted self.old at) }
         requires tallied { IsTallied self.old (Some at) }
         ensures tallied { IsTallied self.new None }
         ensures counts { WritesCounts self.old self.new }
@@ -62,6 +64,7 @@ impl Queues {
     pub(crate) fn recount(&mut self, at: usize, row: &StoredRow)
         requires placed { IsPlaced self.old None }
         requires present { ContainsKey self.old.locks at }
+        requires in_queue { IsSome (noted self.old at) }
         requires tallied { IsTallied self.old None }
         ensures counts { WritesCounts self.old self.new }
         ensures change { (place : Place) → noted self.old at ≡ Some place
@@ -97,7 +100,7 @@ impl Queues {
             None => tally.fits(mode),
             Some(except) => {
                 let lock = &self.locks[except.slot()];
-                tally.fits_beside(mode, &held_on(res, &lock.place, &lock.row))
+                tally.fits_beside(mode, &held_on(res, lock))
             }
         }
     }

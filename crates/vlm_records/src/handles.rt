@@ -4,6 +4,7 @@ ghost use Rattle.std.specs.Prelude.{◌≡◌};
 ghost use Rattle.vlm_records.specs.Armed.{floor};
 ghost use Rattle.vlm_records.specs.declared.handles.Place.{Place};
 
+use std::marker::Model;
 use vlm_collections::At;
 use vlm_words::resources::Queue;
 
@@ -59,5 +60,45 @@ impl Place {
         ensures { result ≡ is_queued self.now }
     {
         matches!(*self, Place::Queued(_, Queue::Conversion | Queue::Waiting))
+    }
+}
+
+/// A place in eight bytes, as a record keeps it.
+#[derive(Clone, Copy)]
+pub struct StoredPlace {
+    res: ResAt,
+    queue: Queue,
+}
+
+impl Model for StoredPlace {
+    ghost use Rattle.vlm_records.specs.declared.handles.Place.{Place};
+
+    ghost Value = { Place };
+
+    ghost use Rattle.vlm_records.specs.StoredPlaces.{place_parts, place_shown};
+
+    ghost view = { place_shown };
+
+    ghost inverse = { place_parts };
+}
+
+impl StoredPlace {
+    pub fn of(place: Place) -> StoredPlace
+        ensures { result ≡ place }
+    {
+        let (res, queue) = place.parts();
+        StoredPlace { res, queue }
+    }
+
+    pub fn place(&self) -> Place
+        ensures { result ≡ self.now }
+    {
+        Place::Queued(self.res, self.queue)
+    }
+
+    pub fn parts(&self) -> (ResAt, Queue)
+        ensures { self.now ≡ Place.Queued result.0 result.1 }
+    {
+        (self.res, self.queue)
     }
 }

@@ -1,8 +1,8 @@
 //! The record of a lock.
 
-ghost use Rattle.std.specs.Prelude.{◌≡◌, refl};
+ghost use Rattle.std.specs.Prelude.{◌≡◌, false, refl};
 
-use crate::handles::{Armed, LockKind, Place, ProcAt, ResAt};
+use crate::handles::{Armed, LockKind, ProcAt, ResAt, StoredPlace};
 use crate::rows::StoredRow;
 use vlm_collections::{Linked, LinkedList, Links, MaybeAt};
 use vlm_words::resources::Queue;
@@ -23,11 +23,14 @@ pub struct OfProcess;
 /// Marks the lists of the sublocks of a lock, in the order of making.
 pub struct OfParent;
 
-/// The record of a lock, at most 144 bytes. It is in two to five lists, and has a pair of links for each kind of list.
+/// The record of a lock, at most 144 bytes. It is in one to five lists, and has a pair of links for each kind of list.
 #[derive(Clone, Copy)]
 pub struct Lock {
     pub row: StoredRow,
-    pub place: Place,
+    /// Its queue; of a loose lock the queue that it left.
+    pub place: StoredPlace,
+    // whether it is loose: in no queue
+    pub(crate) loose: bool,
     // its neighbours in its queue; each further pair is for another list
     pub(crate) in_queue: Links,
     pub(crate) in_above_nl: Links,
@@ -44,15 +47,21 @@ pub struct Lock {
 impl Lock {
     ghost use Rattle.vlm_records.specs.Armed.{armed_of};
 
+    /// Whether it is loose: in no queue.
+    pub fn is_loose(&self) -> bool
+        ensures { result ≡ self.now.loose }
+    {
+        self.loose
+    }
+
     /// The resource whose list of armed locks it belongs in, if any.
     #[inline(always)]
     pub(crate) fn armed_on(&self, which: Armed) -> Option<ResAt>
+        requires { self.now.loose ≡ false }
         ensures { result ≡ armed_of which self.now }
     {
-        match self.place {
-            Place::Queued(res, Queue::Granted) if which.floor() < self.row.armed_rank() => Some(
-                res,
-            ),
+        match self.place.parts() {
+            (res, Queue::Granted) if which.floor() < self.row.armed_rank() => Some(res),
             _ => None,
         }
     }

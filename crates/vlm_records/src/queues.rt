@@ -1,18 +1,18 @@
 //! The queues of resources, and the moves of locks between them.
 
-ghost use Rattle.std.specs.Prelude.{◌≡◌, ◌≢◌, ◌≤◌, ◌+◌, ℕ, false, None, Some, [], ◌∷◌, ◌++◌};
+ghost use Rattle.std.specs.Prelude.{◌≡◌, ◌≢◌, ◌≤◌, ◌+◌, ℕ, false, None, Some, [], ◌∷◌, ◌++◌, IsSome, true};
 ghost use Rattle.std.specs.Bool.{OnTrue};
 ghost use Rattle.std.specs.Option.{ForSome};
-ghost use Rattle.slab.specs.Slab.{ContainsKey, HasRoomFor};
+ghost use Rattle.slab.specs.Slab.{get, ContainsKey, HasRoomFor};
 ghost use Rattle.vlm_collections.specs.Lists.{Relinks, without};
 ghost use Rattle.vlm_records.specs.declared.handles.Place.{Place};
 ghost use Rattle.vlm_records.specs.Armed.{IsLaidOut, StandsLast, armed_rank};
-ghost use Rattle.vlm_records.specs.Kept.{Keeps, Requeues, Rewrites, WritesLock};
+ghost use Rattle.vlm_records.specs.Kept.{Keeps, LooseStay, Requeues, Rewrites, WritesLock};
 ghost use Rattle.vlm_records.specs.WaitList.{wait_list_links};
-ghost use Rattle.vlm_records.specs.Shown.{IsPlaced, IsTallied, IsThere, SameBut, but_lists, but_place, but_queued, but_queues, but_requeued, but_row, handles_at, list_at, named_row, new_lock, noted, rows, with_queue_links};
-ghost use Rattle.vlm_records.specs.Changes.{Adds, Moves, Removes};
+ghost use Rattle.vlm_records.specs.Shown.{IsPlaced, IsTallied, IsThere, SameBut, but_lists, but_place, but_queued, but_queues, but_requeued, but_row, handles_at, is_loose_in, list_at, named_row, new_lock, noted, rows, with_queue_links};
+ghost use Rattle.vlm_records.specs.Changes.{Adds, Moves, PushesBack, Removes, Unlinks};
 
-use crate::handles::{LockAt, Place, ProcAt};
+use crate::handles::{LockAt, Place, ProcAt, StoredPlace};
 use crate::locks::{InQueue, Lock};
 use crate::resources::Resource;
 use crate::rows::StoredRow;
@@ -20,7 +20,7 @@ use slab::Slab;
 use vlm_collections::{LAST_HANDLE, LinkedList, Links, MaybeAt};
 use vlm_words::resources::Queue;
 
-/// The locks and the resources. Each lock is in one queue of a resource.
+/// The locks and the resources. Each lock is in one queue of a resource, or loose: in no queue.
 #[derive(Drop)]
 pub struct Queues {
     /// All locks, of all processes.
@@ -45,6 +45,7 @@ impl Queues {
     fn take_off(&mut self, at: usize)
         requires placed { IsPlaced self.old None }
         requires present { ContainsKey self.old.locks at }
+        requires in_queue { IsSome (noted self.old at) }
         ensures placed { IsPlaced self.new (Some at) }
         ensures handles { (place : Place) → handles_at self.new place
             ≡ without at (handles_at self.old place) }
@@ -77,6 +78,7 @@ impl Queues {
     fn put_at(&mut self, at: usize, place: Place)
         requires placed { IsPlaced self.old (Some at) }
         requires present { ContainsKey self.old.locks at }
+        requires in_queue { IsSome (noted self.old at) }
         requires within { at ≤ LAST_HANDLE }
         requires there { IsThere self.old.resources place }
         ensures placed { IsPlaced self.new None }
@@ -91,12 +93,13 @@ impl Queues {
     }
 
     fn set_place(&mut self, at: usize, place: Place)
-        requires { ContainsKey self.old.locks at }
+        requires present { ContainsKey self.old.locks at }
+        requires in_queue { IsSome (noted self.old at) }
         ensures here { noted self.new at ≡ Some place }
         ensures rest { SameBut but_place self.old.locks self.new.locks }
         ensures lock { WritesLock at self.old self.new }
     {
-        self.locks[at].place = place;
+        self.locks[at].place = StoredPlace::of(place);
     }
 
     fn write_row(&mut self, at: usize, row: &StoredRow)
@@ -112,9 +115,10 @@ impl Queues {
     fn is_last(&self, at: usize) -> bool
         requires placed { IsPlaced self.now None }
         requires present { ContainsKey self.now.locks at }
+        requires in_queue { IsSome (noted self.now at) }
         ensures { OnTrue result (StandsLast self.now at) }
     {
-        let place = self.locks[at].place;
+        let place = self.locks[at].place.place();
         self.list(place).next(&self.locks, at).is_none()
     }
 
@@ -123,15 +127,16 @@ impl Queues {
     fn stays(&self, at: usize, row: &StoredRow, to: &Place) -> bool
         requires placed { IsPlaced self.now None }
         requires present { ContainsKey self.now.locks at }
+        requires in_queue { IsSome (noted self.now at) }
         ensures noted { OnTrue result (noted self.now at ≡ Some to.now) }
         ensures last { OnTrue result (StandsLast self.now at) }
         ensures armed { OnTrue result (armed_rank (rows self.now at) ≡ armed_rank row.now) }
     {
         let lock = &self.locks[at];
-        let Place::Queued(from, Queue::Granted) = lock.place else {
+        let (from, Queue::Granted) = lock.place.parts() else {
             return false;
         };
-        let Place::Queued(res, Queue::Granted) = *to else {
+        let (res, Queue::Granted) = to.parts() else {
             return false;
         };
         from == res && lock.row.armed_rank() == row.armed_rank() && self.is_last(at)
@@ -142,6 +147,7 @@ impl Queues {
         requires placed { IsPlaced self.old None }
         requires tallied { IsTallied self.old None }
         requires present { ContainsKey self.old.locks at }
+        requires in_queue { IsSome (noted self.old at) }
         requires named { named_row (rows self.old at) ≡ named_row row.now }
         ensures { Rewrites at row.now self.old self.new }
     {
@@ -154,6 +160,7 @@ impl Queues {
         requires placed { IsPlaced self.old None }
         requires tallied { IsTallied self.old None }
         requires present { ContainsKey self.old.locks at }
+        requires in_queue { IsSome (noted self.old at) }
         requires within { at ≤ LAST_HANDLE }
         requires there { IsThere self.old.resources to }
         requires named { named_row (rows self.old at) ≡ named_row row.now }
@@ -170,6 +177,7 @@ impl Queues {
     pub fn move_to(&mut self, at: usize, row: &StoredRow, to: Place)
         requires laid_out { IsLaidOut self.old }
         requires present { ContainsKey self.old.locks at }
+        requires in_queue { IsSome (noted self.old at) }
         requires within { at ≤ LAST_HANDLE }
         requires there { IsThere self.old.resources to }
         requires named { named_row (rows self.old at) ≡ named_row row.now }
@@ -188,11 +196,13 @@ impl Queues {
     pub fn disarm(&mut self, at: usize)
         requires laid_out { IsLaidOut self.old }
         requires present { ContainsKey self.old.locks at }
+        requires in_queue { IsSome (noted self.old at) }
         ensures laid_out { IsLaidOut self.new }
         ensures handles { (place : Place) → handles_at self.new place ≡ handles_at self.old place }
         ensures row { rows self.new at ≡ record (rows self.old at) { armed = false } }
         ensures rows { (other : ℕ) → other ≢ at → rows self.new other ≡ rows self.old other }
         ensures kept { Keeps but_queued but_queues self.old self.new }
+        ensures loose { LooseStay self.old self.new }
         ensures wait_list { SameBut wait_list_links self.old.locks self.new.locks }
     {
         self.leave_armed(at);
@@ -218,7 +228,8 @@ impl Queues {
     {
         let at = self.locks.insert_reserved(Lock {
             row: *row,
-            place: to,
+            place: StoredPlace::of(to),
+            loose: false,
             in_queue: Links::none(),
             in_above_nl: Links::none(),
             in_above_cr: Links::none(),
@@ -239,11 +250,41 @@ impl Queues {
     pub fn remove(&mut self, at: usize)
         requires laid_out { IsLaidOut self.old }
         requires present { ContainsKey self.old.locks at }
+        requires in_queue { IsSome (noted self.old at) }
         ensures { Removes at self.old self.new }
     {
         self.leave_armed(at);
         self.count_out(at);
         self.take_off(at);
         self.locks.remove(at);
+    }
+
+    /// Takes a lock out of its queue, with its record. It is then loose.
+    pub fn unlink(&mut self, at: usize)
+        requires laid_out { IsLaidOut self.old }
+        requires present { ContainsKey self.old.locks at }
+        requires in_queue { IsSome (noted self.old at) }
+        ensures { Unlinks at self.old self.new }
+    {
+        self.leave_armed(at);
+        self.count_out(at);
+        self.take_off(at);
+        self.locks[at].loose = true;
+    }
+
+    /// Puts a loose lock at the end of a queue.
+    pub fn push_back(&mut self, at: usize, to: Place)
+        requires laid_out { IsLaidOut self.old }
+        requires loose { is_loose_in (get self.old.locks at) ≡ true }
+        requires within { at ≤ LAST_HANDLE }
+        requires there { IsThere self.old.resources to }
+        ensures { PushesBack at to self.old self.new }
+    {
+        let lock = &mut self.locks[at];
+        lock.loose = false;
+        lock.place = StoredPlace::of(to);
+        self.push_at(at, &to);
+        self.count_in(at);
+        self.join_armed(at);
     }
 }

@@ -13,10 +13,10 @@ use Rattle.vlm_words.specs.declared.resources.Queue.{Queue}
 use Rattle.vlm_words.specs.declared.resources.Queue.TheVariants.{Granted, Conversion, Waiting}
 use Rattle.vlm_records.specs.declared.handles.Place.{Place}
 use Rattle.vlm_records.specs.declared.handles.Place.TheVariants.{Queued}
-use Rattle.vlm_store.specs.Records.{AreApart, AreOwnApart, AreProcessesApart, AreResourcesApart, IsProcess, IsSound, OwnLock, Records, StoredLock, StoredProcess, StoredResource, Stores, locks_at, own_at, owned_among, owned_by, owned_on, process_at, queued, resource_at}
+use Rattle.vlm_store.specs.Records.{AreApart, AreOwnApart, AreProcessesApart, AreResourcesApart, IsProcess, IsSound, OwnLock, Records, StoredLock, StoredProcess, StoredResource, Stores, locks_at, own_at, owned_among, owned_by, owned_on, process_at, queued, resource_at, NoneIsLoose}
 use Rattle.vlm_store.proofs.Plain.{process_at-stored}
 use Rattle.vlm_records.proofs.Counting.{IsApart-append, IsIn-append}
-use Rattle.vlm_store.proofs.Records.{queue_at}
+use Rattle.vlm_store.proofs.Records.{queue_at, in_a_queue}
 
 -- ---- handles
 
@@ -228,22 +228,22 @@ one_process (x ∷ ps) apart p q here there same =
     ]
 
 -- a process has as many locks of its own as rows name it
-pub count_is : (s : Records) (p : StoredProcess) → IsSound s → IsIn p s.processes → length p.own ≡ owned_by p.process.pid s
-count_is s p sound among =
+pub count_is : (s : Records) (p : StoredProcess) → IsSound s → NoneIsLoose s → IsIn p s.processes → length p.own ≡ owned_by p.process.pid s
+count_is s p sound none among =
     sym (length-map p.own (λ (o : OwnLock). o.at))
     ∙ as_long (own_handles p.own) (handles_by p.process.pid s sound) (own_handles-apart p.own (sound.own_apart p among)) (handles_by-apart p.process.pid s sound)
     (λ k found.
     let own = own_handle p.own k found in
     let stored = sound.owned.owns p own.0 among own.1.0 in
-    stored_handle p.process.pid s sound k stored.0 (subst (λ x. Stores s x stored.0) own.1.1 stored.1.0) stored.1.1)
+    stored_handle p.process.pid s sound k stored.0 (subst (λ x. Stores s x stored.0) own.1.1 (in_a_queue s none own.0.at stored.0 stored.1.0)) stored.1.1)
     (λ k found.
     let stored = handle_stored p.process.pid s sound k found in
-    let owned = sound.owned.owned k stored.0 stored.1.0 in
+    let owned = sound.owned.owned k stored.0 (inl stored.1.0) in
     let same = one_process s.processes sound.processes_apart owned.0 p owned.2.0 among (owned.2.1 ∙ stored.1.1) in
     subst (λ (x : StoredProcess). IsIn k (own_handles x.own)) same (subst (λ x. IsIn x (own_handles owned.0.own)) owned.2.3 (own_under_handle owned.0.own owned.1 owned.2.2)))
     ∙ handles_by-length p.process.pid s sound
 
-pub own_count : (s : Records) (at pid : ℕ) → IsSound s → IsProcess at pid s → length (own_at at s) ≡ owned_by pid s
-own_count s at pid sound is =
+pub own_count : (s : Records) (at pid : ℕ) → IsSound s → NoneIsLoose s → IsProcess at pid s → length (own_at at s) ≡ owned_by pid s
+own_count s at pid sound none is =
     let found = subst (λ x. process_at x s.processes ≡ Some is.0) is.1.1 (process_at-stored is.0 s.processes sound.processes_apart is.1.0) in
-    ap (λ o. length (option_map_or (λ (x : StoredProcess). x.own) o [])) found ∙ count_is s is.0 sound is.1.0 ∙ ap (λ x. owned_by x s) is.1.2
+    ap (λ o. length (option_map_or (λ (x : StoredProcess). x.own) o [])) found ∙ count_is s is.0 sound none is.1.0 ∙ ap (λ x. owned_by x s) is.1.2

@@ -18,11 +18,11 @@ use Rattle.vlm_store.specs.Holdings.{holding, process_face, process_face_in, pro
 use Rattle.vlm_store.specs.Kept.{IsKept}
 use Rattle.vlm_store.specs.Pending.{is_of_nodes, waits_in}
 use Rattle.vlm_store.specs.declared.store.Store.TheInside.{Inside}
-use Rattle.vlm_store.proofs.Indexing.{table_grown, table_same}
+use Rattle.vlm_store.specs.Index.{HandleMap, handle_by}
+use Rattle.vlm_store.proofs.Indexing.{Indexes-same}
 use Rattle.vlm_records.proofs.Families.{family-empty, family-kept}
 use Rattle.vlm_records.proofs.Places.{by_part}
 use Rattle.vlm_records.proofs.Making.{no_list_has}
-use Rattle.vlm_collections.specs.Tables.{Grows}
 use Rattle.vlm_collections.specs.Nodes.{Grows as MarksGrow}
 use Rattle.vlm_store.proofs.Marked.{grown_marked, kept_marked}
 use Rattle.vlm_records.proofs.OwnLocks.{written_same}
@@ -172,9 +172,9 @@ module _ (processes : Slab Process) (at : ℕ) (was now : Process) (here : get p
     written_whole ordered p there = subst (IsIn p) (sym written_handles) (ordered p (was_there p there))
 
 -- there is more room for processes
-module _ (s : Inside) (kept : IsKept s) (processes : Slab Process) (rows : List (List (Option ℕ))) (same : (p : ℕ) → get processes p ≡ get s.processes p)
-    (grows : Grows s.process_index rows) where
-  pub roomier : IsKept (record s { processes = processes; process_index = rows })
+module _ (s : Inside) (kept : IsKept s) (processes : Slab Process) (index : HandleMap) (same : (p : ℕ) → get processes p ≡ get s.processes p)
+    (finds : (number : ℕ) → handle_by index number ≡ handle_by s.process_index number) where
+  pub roomier : IsKept (record s { processes = processes; process_index = index })
   roomier = record {
     placed = kept.placed;
     tallied = kept.tallied;
@@ -189,7 +189,7 @@ module _ (s : Inside) (kept : IsKept s) (processes : Slab Process) (rows : List 
     named = process_named s.processes processes s.queues.locks (λ k l _. ap (option_map pid_of) (same l.owner)) kept.named;
     processes_linked = same-linked process_links s.processes processes s.process_order kept.processes_linked (λ p _. same p);
     processes_ordered = λ p there. rw (same-handles process_links s.processes processes s.process_order kept.processes_linked (λ x _. same x)) (kept.processes_ordered p (rw (same p) at there));
-    processes = table_same rows (pid_at s.processes) (pid_at processes) (λ p. ap (option_map pid_of) (same p)) (table_grown s.process_index rows (pid_at s.processes) grows kept.processes);
+    processes = Indexes-same (handle_by s.process_index) (handle_by index) (pid_at s.processes) (pid_at processes) finds (λ p. ap (option_map pid_of) (same p)) kept.processes;
     marked = kept_marked waits_in s.processes processes s.pending (λ p. ap (option_map pid_of) (same p)) (λ p. ap waits_in (same p)) kept.marked;
     living = kept_marked is_of_nodes s.processes processes s.living (λ p. ap (option_map pid_of) (same p)) (λ p. ap is_of_nodes (same p)) kept.living;
   }

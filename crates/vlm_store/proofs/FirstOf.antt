@@ -63,7 +63,7 @@ module _ (s : Inside) (kept : IsKept s) (tells : Option Process → Bool) (told 
       ]
   first_told node (Some first) is =
       let living = marked.lives first is.0 in
-      let found = finds_process s kept first (Some living.0) (sym (kept.processes.indexes.complete first living.0 living.1)) in
+      let found = finds_process s kept first (Some living.0) (sym (kept.processes.complete first living.0 living.1)) in
       let p = found.0 in
       let pid : p.process.pid ≡ first = found.1.2 in (
         (

@@ -1,12 +1,11 @@
 -- How an index stays sound and complete as records come and go.
-use Rattle.std.proofs.Common.{◌≡◌, ◌≢◌, ◌⊎◌, ℕ, Bool, true, false, List, Option, None, Some, nat_eq, refl, sym, ap, ◌∙◌, subst, inl, inr}
+use Rattle.std.proofs.Common.{◌≡◌, ◌≢◌, ◌⊎◌, ℕ, Bool, true, false, Option, None, Some, nat_eq, refl, sym, ap, ◌∙◌, inl, inr}
 use Rattle.std.specs.Bool.{Decides}
 use Rattle.std.specs.Cmp.{unsigned_Decides}
 use Rattle.std.proofs.lemmas.Bool.{cases_eq}
 use Rattle.std.proofs.lemmas.Option.{none-some, same_Some}
-use Rattle.vlm_collections.specs.Parts.{Parts, Writes as PartsWrites, handle_in}
-use Rattle.vlm_collections.specs.Tables.{Grows, HasRoomFor, Writes, handle_of}
-use Rattle.vlm_store.specs.Index.{Indexes, IsTable}
+use Rattle.vlm_collections.specs.Parts.{Parts, Writes, handle_in}
+use Rattle.vlm_store.specs.Index.{Indexes}
 
 pub Indexes-same : {K : Type 0} (found found' : K → Option ℕ) (label label' : ℕ → Option K) → ((k : K) → found' k ≡ found k) → ((at : ℕ) → label' at ≡ label at) → Indexes found label → Indexes found' label'
 Indexes-same found found' label label' finds labels indexes = record {
@@ -83,49 +82,12 @@ others_apart found found' number others k differs = others k (λ same. true_fals
 
 -- in an index in parts
 module _ (parts parts' : Parts) (number : ℕ) (label label' : ℕ → Option ℕ) (at : ℕ) where
-  pub Indexes-added : PartsWrites number (Some at) parts parts' → label at ≡ None → label' at ≡ Some number → ((other : ℕ) → other ≢ at → label' other ≡ label other) → handle_in parts number ≡ None
+  pub Indexes-added : Writes number (Some at) parts parts' → label at ≡ None → label' at ≡ Some number → ((other : ℕ) → other ≢ at → label' other ≡ label other) → handle_in parts number ≡ None
       → Indexes (handle_in parts) label → Indexes (handle_in parts') label'
   Indexes-added writes was is others =
       found_added nat_eq unsigned_Decides (handle_in parts) (handle_in parts') number label label' at (others_apart (handle_in parts) (handle_in parts') number writes.others) others writes.this was is
 
-  pub Indexes-removed : PartsWrites number None parts parts' → label at ≡ Some number → label' at ≡ None → ((other : ℕ) → other ≢ at → label' other ≡ label other)
+  pub Indexes-removed : Writes number None parts parts' → label at ≡ Some number → label' at ≡ None → ((other : ℕ) → other ≢ at → label' other ≡ label other)
       → Indexes (handle_in parts) label → Indexes (handle_in parts') label'
   Indexes-removed writes was is others =
       found_removed nat_eq unsigned_Decides (handle_in parts) (handle_in parts') number label label' at (others_apart (handle_in parts) (handle_in parts') number writes.others) others writes.this was is
-
--- in a table
-pub table_same : (rows : List (List (Option ℕ))) (label label' : ℕ → Option ℕ) → ((at : ℕ) → label' at ≡ label at) → IsTable rows label → IsTable rows label'
-table_same rows label label' labels kept = record {
-  indexes = Indexes-same (handle_of rows) (handle_of rows) label label' (λ k. refl) labels kept.indexes;
-  room = λ at number is. kept.room at number (sym (labels at) ∙ is);
-}
-
-pub table_grown : (rows rows' : List (List (Option ℕ))) (label : ℕ → Option ℕ) → Grows rows rows' → IsTable rows label → IsTable rows' label
-table_grown rows rows' label grows kept = record {
-  indexes = Indexes-same (handle_of rows) (handle_of rows') label label grows.handles (λ at. refl) kept.indexes;
-  room = λ at number is. grows.room number (kept.room at number is);
-}
-
-module _ (rows rows' : List (List (Option ℕ))) (number at : ℕ) (label label' : ℕ → Option ℕ) (others : (other : ℕ) → other ≢ at → label' other ≡ label other) (kept : IsTable rows label) where
-  rest : (handle : Option ℕ) → Writes number handle rows rows' → (k : ℕ) → nat_eq number k ≡ false → handle_of rows' k ≡ handle_of rows k
-  rest handle writes = others_apart (handle_of rows) (handle_of rows') number writes.others
-
-  pub table_added : Writes number (Some at) rows rows' → label at ≡ None → label' at ≡ Some number → handle_of rows number ≡ None → HasRoomFor rows number → IsTable rows' label'
-  table_added writes was is fresh roomy = record {
-    indexes = found_added nat_eq unsigned_Decides (handle_of rows) (handle_of rows') number label label' at (rest (Some at) writes) others writes.this was is fresh kept.indexes;
-    room = λ other k labelled. elim (cases_eq other at) [
-      | inl same ↦
-          let number_is : number ≡ k = same_Some number k (sym is ∙ ap label' (sym same) ∙ labelled) in
-          writes.room k (subst (HasRoomFor rows) number_is roomy)
-      | inr differs ↦ writes.room k (kept.room other k (sym (others other differs) ∙ labelled))
-    ];
-  }
-
-  pub table_removed : Writes number None rows rows' → label at ≡ Some number → label' at ≡ None → IsTable rows' label'
-  table_removed writes was is = record {
-    indexes = found_removed nat_eq unsigned_Decides (handle_of rows) (handle_of rows') number label label' at (rest None writes) others writes.this was is kept.indexes;
-    room = λ other k labelled. elim (cases_eq other at) [
-      | inl same ↦ absurd (none-some k (sym is ∙ ap label' (sym same) ∙ labelled))
-      | inr differs ↦ writes.room k (kept.room other k (sym (others other differs) ∙ labelled))
-    ];
-  }

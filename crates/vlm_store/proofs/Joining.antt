@@ -12,7 +12,7 @@ use Rattle.vlm_records.specs.declared.processes.Process.{Process}
 use Rattle.vlm_store.specs.declared.store.Store.TheInside.{Inside}
 use Rattle.vlm_store.specs.Kept.{IsKept, processes_shown, records_shown}
 use Rattle.vlm_store.specs.Records.{IsParentOf, IsProcess, process_with_lock}
-use Rattle.vlm_records.specs.Shown.{SameBut, but_kin, but_queued, lkid_of, new_lock}
+use Rattle.vlm_records.specs.Shown.{SameBut, but_kin, but_queued, lkid_of, new_lock, loose_in}
 use Rattle.vlm_records.specs.Kin.{IsBelow, IsNamed, IsOwned, NamesParent, below_in, below_handles, below_links, below_list, but_below, but_own, lasting_part, own_handles, own_links, own_list, owner_in, parent_in, with_own_links}
 use Rattle.vlm_store.specs.Holdings.{holding, processes_of}
 use Rattle.vlm_records.proofs.Families.{family-grown, family-other_handles}
@@ -175,11 +175,13 @@ module _ (s : Inside) (kept : IsKept s) (locks1 locks2 : Slab Lock) (at : ℕ) (
     below34 k = own_below_handles locks2 locks3 relinks3 (Some at) new_below k ∙ new_below_handles k
 
     -- what a caller sees of processes
-    pub joined_processes : processes_of (holding processes3 locks4 s.process_order) ≡ map (process_with_lock owner parent at) (processes_shown s)
-    joined_processes =
+    pub joined_processes : ((k : ℕ) → loose_in (get locks4 k) ≡ loose_in (get s.queues.locks k))
+        → processes_of (holding processes3 locks4 s.process_order) ≡ map (process_with_lock owner parent at) (processes_shown s)
+    joined_processes loose =
         lock_joined (holding s.processes s.queues.locks s.process_order) (holding processes3 locks4 s.process_order) owner parent at (own_faces s.processes processes3 rest3)
         (own_process_handles s.processes processes3 rest3 s.process_order kept.processes_linked)
         (below_own_handles processes3 locks3 locks4 rest4 None owned3 owner ∙ here3 owner new_owner ∙ ap (λ ks. ks ++ at ∷ []) (new_own_handles owner))
         (λ p differs. below_own_handles processes3 locks3 locks4 rest4 None owned3 p ∙ others3 p (λ is. differs (sym (same_Some owner p (sym new_owner ∙ is)))) ∙ new_own_handles p)
         (others4 at (λ is. no_own_parent (sym parent3 ∙ is)) ∙ own_below_handles locks2 locks3 relinks3 (Some at) new_below at ∙ childless)
         (λ k is. here4 k (parent3 ∙ is) ∙ ap (λ ks. ks ++ at ∷ []) (below34 k)) (λ k differs. others4 k (λ is. differs (sym parent3 ∙ is)) ∙ below34 k)
+        loose (loose at ∙ ap loose_in (sym (same1 at) ∙ fresh))

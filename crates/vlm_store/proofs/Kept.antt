@@ -1,5 +1,5 @@
 -- What the store keeps, and what a caller learns of it.
-use Rattle.std.proofs.Common.{◌≡◌, ◌≤◌, ℕ, [], map, arith, Option, None, Some, IfSome, IsSome, Result, Ok, Err, IsOk, OnErr, OnOk, refl, sym, ap, ◌∙◌}
+use Rattle.std.proofs.Common.{◌≡◌, ◌≤◌, ℕ, [], map, arith, Option, None, Some, IfSome, IsSome, Result, Ok, Err, IsOk, OnErr, OnOk, refl, sym, ap, ◌∙◌, false}
 use Rattle.std.proofs.lemmas.Option.{none-some, same_Some}
 use Rattle.std.specs.Option.{option_map}
 use Rattle.slab.specs.Slab.{Slab, get, ContainsKey}
@@ -18,8 +18,8 @@ use Rattle.vlm_records.specs.declared.queues.Queues.{Queues}
 use Rattle.vlm_records.specs.declared.resources.InOrder.{InOrder}
 use Rattle.vlm_records.specs.declared.resources.Resource.{Resource}
 use Rattle.vlm_store.specs.Index.{Indexes}
-use Rattle.vlm_store.specs.Records.{FindsLock, FindsResource, HasPlace, HasResource, StoredResource, Stores, nothing}
-use Rattle.vlm_records.specs.Shown.{IsPlaced, IsTallied, IsThere, SameBut, but_queues, face_in, handles_at, list_at, noted_in, order_links, queue_links, row_in, rows, shares, tally_in}
+use Rattle.vlm_store.specs.Records.{FindsLock, FindsResource, HasPlace, HasResource, StoredResource, Stores, nothing, HasLock}
+use Rattle.vlm_records.specs.Shown.{IsPlaced, IsTallied, IsThere, SameBut, but_queues, face_in, handles_at, list_at, noted_in, order_links, queue_links, row_in, rows, shares, tally_in, is_loose_in}
 use Rattle.vlm_store.specs.Store.{Beside, key_at, lkid_at, records_of, resource_of, tables}
 use Rattle.vlm_store.proofs.Layouts.{HasPlace-seen, IsSeen, Stores-listed, among_resource, listed-Stores, resource_at-found, resource_among}
 use Rattle.vlm_records.specs.Tallies.{how_many, total, weight_of}
@@ -38,9 +38,9 @@ module _ (q : Queues) (order : LinkedList InOrder) (beside : Beside) (placed : I
 
   module _ (linked : IsLinked order_links q.resources order) (ordered : (r : ℕ) → ContainsKey q.resources r → IsIn r (handles_of order_links q.resources order)) where
     -- a lock that is there is seen by a caller
-    pub there_stored : (at : ℕ) → ContainsKey q.locks at → Stores (records_of (tables q order beside)) at (rows q at)
-    there_stored at there =
-        let place = noted_there (get q.locks at) there in
+    pub there_stored : (at : ℕ) → ContainsKey q.locks at → is_loose_in (get q.locks at) ≡ false → Stores (records_of (tables q order beside)) at (rows q at)
+    there_stored at there queued =
+        let place = noted_there (get q.locks at) there queued in
         let stands = placed.stands place.0 at (λ e. none-some at (sym e)) place.1 in
         listed-Stores (tables q order beside) place.0 at (seen place.0 (stands_there q place.0 at stands)) stands
       where
@@ -51,34 +51,37 @@ module _ (q : Queues) (order : LinkedList InOrder) (beside : Beside) (placed : I
     pub place_there : (p : Place) → HasPlace p (records_of (tables q order beside)) → IsThere q.resources p
     place_there (Queued r queue) has = linked.present r (HasPlace-seen (tables q order beside) (Queued r queue) has)
 
-    -- the record of a lock that a caller sees has its identification
-    lkid_seen : (at : ℕ) (row : LockRow) → Stores (records_of (tables q order beside)) at row → lkid_at q at ≡ Some row.lkid
-    lkid_seen at row stored =
-        let there = stored_there at row stored in
-        lkid_of_row (get q.locks at) there.0 ∙ ap (λ (r : LockRow). Some r.lkid) there.2
+    -- a caller sees each lock that is there, in a queue or loose, and no other
+    module _ (has_there : (at : ℕ) (row : LockRow) → HasLock (records_of (tables q order beside)) at row → ContainsKey q.locks at × (rows q at ≡ row))
+        (there_has : (at : ℕ) → ContainsKey q.locks at → HasLock (records_of (tables q order beside)) at (rows q at)) where
+      -- the record of a lock that a caller sees has its identification
+      lkid_seen : (at : ℕ) (row : LockRow) → HasLock (records_of (tables q order beside)) at row → lkid_at q at ≡ Some row.lkid
+      lkid_seen at row has =
+          let there = has_there at row has in
+          lkid_of_row (get q.locks at) there.0 ∙ ap (λ (r : LockRow). Some r.lkid) there.1
 
-    -- no two locks have one identification
-    pub lkids_apart : (found : ℕ → Option ℕ) → Indexes found (lkid_at q) → (a b : ℕ) (x y : LockRow) → Stores (records_of (tables q order beside)) a x → Stores (records_of (tables q order beside)) b y
-        → x.lkid ≡ y.lkid → a ≡ b
-    lkids_apart found indexes a b x y stored_a stored_b same =
-        same_Some a b (sym (indexes.complete x.lkid a (lkid_seen a x stored_a)) ∙ indexes.complete x.lkid b (lkid_seen b y stored_b ∙ ap Some (sym same)))
+      -- no two locks have one identification
+      pub lkids_apart : (found : ℕ → Option ℕ) → Indexes found (lkid_at q) → (a b : ℕ) (x y : LockRow) → HasLock (records_of (tables q order beside)) a x → HasLock (records_of (tables q order beside)) b y
+          → x.lkid ≡ y.lkid → a ≡ b
+      lkids_apart found indexes a b x y has_a has_b same =
+          same_Some a b (sym (indexes.complete x.lkid a (lkid_seen a x has_a)) ∙ indexes.complete x.lkid b (lkid_seen b y has_b ∙ ap Some (sym same)))
 
-    -- the index of locks finds what a caller sees
-    pub finds_lock : (found : ℕ → Option ℕ) → Indexes found (lkid_at q) → (lkid : ℕ) (result : Option ℕ) → result ≡ found lkid → FindsLock (records_of (tables q order beside)) lkid result
-    finds_lock found indexes lkid None is = λ at row stored same.
-        none-some at (is ∙ indexes.complete lkid at (lkid_seen at row stored ∙ ap Some same))
-    finds_lock found indexes lkid (Some at) is =
-        let there = lkid_told (get q.locks at) lkid (indexes.sound lkid at (sym is)) in
-        (rows q at, (there_stored at there.0, there.1))
+      -- the index of locks finds what a caller sees
+      pub finds_lock : (found : ℕ → Option ℕ) → Indexes found (lkid_at q) → (lkid : ℕ) (result : Option ℕ) → result ≡ found lkid → FindsLock (records_of (tables q order beside)) lkid result
+      finds_lock found indexes lkid None is = λ at row has same.
+          none-some at (is ∙ indexes.complete lkid at (lkid_seen at row has ∙ ap Some same))
+      finds_lock found indexes lkid (Some at) is =
+          let there = lkid_told (get q.locks at) lkid (indexes.sound lkid at (sym is)) in
+          (rows q at, (there_has at there.0, there.1))
 
-    pub no_lock : (found : ℕ → Option ℕ) → Indexes found (lkid_at q) → (lkid : ℕ) → FindsLock (records_of (tables q order beside)) lkid None → found lkid ≡ None
-    no_lock found indexes lkid absent = by_answer (found lkid) refl
-      where
-        by_answer : (answer : Option ℕ) → answer ≡ found lkid → answer ≡ None
-        by_answer None is = refl
-        by_answer (Some at) is =
-            let there = finds_lock found indexes lkid (Some at) is in
-            absurd (absent at there.0 there.1.0 there.1.1)
+      pub no_lock : (found : ℕ → Option ℕ) → Indexes found (lkid_at q) → (lkid : ℕ) → FindsLock (records_of (tables q order beside)) lkid None → found lkid ≡ None
+      no_lock found indexes lkid absent = by_answer (found lkid) refl
+        where
+          by_answer : (answer : Option ℕ) → answer ≡ found lkid → answer ≡ None
+          by_answer None is = refl
+          by_answer (Some at) is =
+              let there = finds_lock found indexes lkid (Some at) is in
+              absurd (absent at there.0 there.1.0 there.1.1)
 
     -- and the index of resources
     key_there : (slot : Option Resource) (key : Key) → option_map (λ (r : Resource). r.key) slot ≡ Some key → IsSome slot × ((face_in slot).key ≡ key)

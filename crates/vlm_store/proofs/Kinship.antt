@@ -1,6 +1,6 @@
 -- What of the three families of lists stays as locks move, and as they join and leave their processes and
 -- parents.
-use Rattle.std.proofs.Common.{◌≡◌, ◌≢◌, ◌⊎◌, ℕ, List, Option, None, Some, IsSome, refl, sym, ap, ◌∙◌, subst, inl, inr}
+use Rattle.std.proofs.Common.{◌≡◌, ◌≢◌, ◌⊎◌, ℕ, List, Option, None, Some, IsSome, refl, sym, ap, ◌∙◌, subst, inl, inr, Bool, true, false, cond}
 use Rattle.std.proofs.lemmas.Bool.{cases_eq}
 use Rattle.std.proofs.lemmas.Option.{none-some, same_Some}
 use Rattle.std.specs.Option.{option_map}
@@ -17,7 +17,7 @@ use Rattle.vlm_records.specs.declared.processes.Process.{Process}
 use Rattle.vlm_records.specs.declared.queues.Queues.{Queues}
 use Rattle.vlm_records.specs.declared.resources.InOrder.{InOrder}
 use Rattle.vlm_store.specs.Records.{IsSameLock, StoredProcess}
-use Rattle.vlm_records.specs.Shown.{IsPlaced, IsTallied, SameBut, but_kin, but_queued, handles_at, lkid_of, named_row, noted_in, queue_links, row_in}
+use Rattle.vlm_records.specs.Shown.{IsPlaced, IsTallied, SameBut, but_kin, but_queued, handles_at, lkid_of, named_row, noted_in, queue_links, row_in, is_loose_in, loose_in}
 use Rattle.vlm_records.specs.Kin.{IsBelow, IsNamed, IsOwned, NamesParent, OwnerFits, ParentFits, below_in, below_handles, below_links, below_list, but_below, but_own, lasting_part, own_handles, own_links, own_list, owner_in, parent_in, pid_of, process_links, with_own_links}
 use Rattle.vlm_store.specs.Holdings.{holding, process_face_in, processes_of}
 use Rattle.vlm_store.specs.Store.{Beside, Layout, records_of, tables}
@@ -195,9 +195,55 @@ module _ (processes : Slab Process) (locks locks' : Slab Lock) (same : SameBut b
   queued_lkids = through but_queued (option_map lkid_of) lkid-queued locks locks' same
 
   -- a caller sees the same of processes
-  pub queued_processes : (order : LinkedList InOrder) → IsOwned processes locks None → IsBelow locks None → processes_of (holding processes locks' order) ≡ processes_of (holding processes locks order)
-  queued_processes order owned below =
-      processes_same (holding processes locks order) (holding processes locks' order) (queued_below_handles None below) (λ p. refl) (queued_own_handles None owned) refl
+  pub queued_processes : (order : LinkedList InOrder) → ((k : ℕ) → loose_in (get locks' k) ≡ loose_in (get locks k)) → IsOwned processes locks None → IsBelow locks None → processes_of (holding processes locks' order) ≡ processes_of (holding processes locks order)
+  queued_processes order loose owned below =
+      processes_same (holding processes locks order) (holding processes locks' order) (queued_below_handles None below) loose (λ p. refl) (queued_own_handles None owned) refl
+
+-- ---- loose locks
+
+loose_as : (slot : Option Lock) → loose_in slot ≡ cond (is_loose_in slot) (Some (row_in slot)) None
+loose_as None = refl
+loose_as (Some l) = refl
+
+-- a loose lock stays loose with its row where flags and rows stay
+pub loose_still : (new old : Option Lock) → is_loose_in new ≡ is_loose_in old → (is_loose_in old ≡ true → row_in new ≡ row_in old) → loose_in new ≡ loose_in old
+loose_still new old flags same =
+    loose_as new ∙ ap (λ b. cond b (Some (row_in new)) None) flags ∙ of_flag (is_loose_in old) same ∙ sym (loose_as old)
+  where
+    of_flag : (b : Bool) → (b ≡ true → row_in new ≡ row_in old) → cond b (Some (row_in new)) None ≡ cond b (Some (row_in old)) None
+    of_flag true rows = ap Some (rows refl)
+    of_flag false rows = refl
+
+-- a lock that is in a queue is not loose
+pub queued_loose : (slot : Option Lock) → is_loose_in slot ≡ false → loose_in slot ≡ None
+queued_loose None queued = refl
+queued_loose (Some l) queued = rw queued refl
+
+pub noted_not_loose : (slot : Option Lock) (place : Place) → noted_in slot ≡ Some place → is_loose_in slot ≡ false
+noted_not_loose None place notes = refl
+noted_not_loose (Some l) place notes = of_flag l.loose notes
+  where
+    of_flag : (b : Bool) → cond b None (Some l.place) ≡ Some place → b ≡ false
+    of_flag true is = absurd (none-some place is)
+    of_flag false is = refl
+
+-- a loose lock is there, with its row
+pub loose_told : (slot : Option Lock) (row : LockRow) → loose_in slot ≡ Some row → IsSome slot × (is_loose_in slot ≡ true) × (row_in slot ≡ row)
+loose_told None row is = absurd (none-some row is)
+loose_told (Some l) row is = of_flag l.loose is
+  where
+    of_flag : (b : Bool) → cond b (Some l.row) None ≡ Some row → IsSome {T = Lock} (Some l) × (b ≡ true) × (l.row ≡ row)
+    of_flag true is = (refl, refl, same_Some l.row row is)
+    of_flag false is = absurd (none-some row is)
+
+-- where one lock changes that is not loose
+pub loose_but : (old new : Slab Lock) (at : ℕ) → ((k : ℕ) → is_loose_in (get new k) ≡ is_loose_in (get old k)) → is_loose_in (get old at) ≡ false → ((k : ℕ) → k ≢ at → row_in (get new k) ≡ row_in (get old k))
+    → (k : ℕ) → loose_in (get new k) ≡ loose_in (get old k)
+loose_but old new at flags queued rows k =
+    loose_still (get new k) (get old k) (flags k) (λ loose. rows k (λ same. let clash : true ≡ false = sym loose ∙ ap (λ x. is_loose_in (get old x)) same ∙ queued in absurd (cc)))
+
+pub loose_there : (slot : Option Lock) → is_loose_in slot ≡ true → loose_in slot ≡ Some (row_in slot)
+loose_there slot loose = loose_as slot ∙ ap (λ b. cond b (Some (row_in slot)) None) loose
 
 -- ---- the kin changes
 
@@ -213,6 +259,14 @@ noted-kin : (slot : Option Lock) → noted_in (option_map but_kin slot) ≡ note
 noted-kin None = refl
 noted-kin (Some l) = refl
 
+loose-kin : (slot : Option Lock) → loose_in (option_map but_kin slot) ≡ loose_in slot
+loose-kin None = refl
+loose-kin (Some l) = refl
+
+flag-kin : (slot : Option Lock) → is_loose_in (option_map but_kin slot) ≡ is_loose_in slot
+flag-kin None = refl
+flag-kin (Some l) = refl
+
 row-kin : (slot : Option Lock) → row_in (option_map but_kin slot) ≡ row_in slot
 row-kin None = refl
 row-kin (Some l) = refl
@@ -220,6 +274,12 @@ row-kin (Some l) = refl
 module _ (q : Queues) (locks' : Slab Lock) (same : SameBut but_kin q.locks locks') where
   pub kin_rows : (k : ℕ) → row_in (get locks' k) ≡ row_in (get q.locks k)
   kin_rows = through but_kin row_in row-kin q.locks locks' same
+
+  pub kin_loose : (k : ℕ) → loose_in (get locks' k) ≡ loose_in (get q.locks k)
+  kin_loose = through but_kin loose_in loose-kin q.locks locks' same
+
+  pub kin_flags : (k : ℕ) → is_loose_in (get locks' k) ≡ is_loose_in (get q.locks k)
+  kin_flags = through but_kin is_loose_in flag-kin q.locks locks' same
 
   pub kin_noted : (k : ℕ) → noted_in (get locks' k) ≡ noted_in (get q.locks k)
   kin_noted = through but_kin noted_in noted-kin q.locks locks' same

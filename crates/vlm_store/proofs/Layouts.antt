@@ -12,7 +12,7 @@ use Rattle.vlm_words.specs.declared.resources.Queue.{Queue}
 use Rattle.vlm_words.specs.declared.resources.Queue.TheVariants.{Granted, Conversion, Waiting}
 use Rattle.vlm_records.specs.declared.handles.Place.{Place}
 use Rattle.vlm_records.specs.declared.handles.Place.TheVariants.{Queued}
-use Rattle.vlm_store.specs.Records.{AreOwnApart, StoredProcess, Records, StoredLock, StoredResource, AreApart, AreOwned, AreProcessesApart, AreResourcesApart, HasPlace, HasResource, IsSound, Stores, at_after, disarmed, disarming, first_at, first_resource_at, resource_at_after, is_place, joining, leaving, locks_at, moving, on_resource, queued, resource_at, resource_with, with_lists, without_lock, without_resource}
+use Rattle.vlm_store.specs.Records.{AreOwnApart, StoredProcess, Records, StoredLock, StoredResource, AreApart, AreOwned, AreProcessesApart, AreResourcesApart, HasPlace, HasResource, IsSound, Stores, at_after, disarmed, disarming, first_at, first_resource_at, resource_at_after, is_place, joining, leaving, locks_at, moving, on_resource, queued, resource_at, resource_with, with_lists, without_lock, without_resource, HasLock}
 use Rattle.vlm_store.specs.Store.{Layout, under_handle, records_of, resource_of}
 use Rattle.vlm_records.proofs.Places.{place_cases}
 use Rattle.vlm_store.proofs.Records.{is_place-other, is_place-same}
@@ -252,7 +252,7 @@ resources_apart l (r ∷ rs) apart = (
 
 -- what a caller sees is sound
 pub IsSound-records_of : (l : Layout) → IsApart l.order → ((p : Place) → IsApart (l.handles p)) → ((at : ℕ) (p q : Place) → IsIn at (l.handles p) → IsIn at (l.handles q) → p ≡ q)
-    → ((a b : ℕ) (x y : LockRow) → Stores (records_of l) a x → Stores (records_of l) b y → x.lkid ≡ y.lkid → a ≡ b)
+    → ((a b : ℕ) (x y : LockRow) → HasLock (records_of l) a x → HasLock (records_of l) b y → x.lkid ≡ y.lkid → a ≡ b)
     → ((a b : StoredResource) → IsIn a (records_of l).resources → IsIn b (records_of l).resources → a.key ≡ b.key → a.at ≡ b.at)
     → AreProcessesApart l.processes → AreOwned (records_of l) → ((p : StoredProcess) → IsIn p l.processes → AreOwnApart p.own) → IsSound (records_of l)
 unfolding records_of

@@ -10,7 +10,7 @@ use Rattle.vlm_records.specs.declared.processes.Process.{Process}
 use Rattle.vlm_store.specs.declared.store.Store.TheInside.{Inside}
 use Rattle.vlm_store.specs.Kept.{IsKept, processes_shown}
 use Rattle.vlm_store.specs.Records.{process_without_lock}
-use Rattle.vlm_records.specs.Shown.{SameBut, but_kin, but_queued, lkid_of}
+use Rattle.vlm_records.specs.Shown.{SameBut, but_kin, but_queued, lkid_of, loose_in}
 use Rattle.vlm_records.specs.Kin.{IsBelow, IsNamed, IsOwned, below_in, below_handles, below_links, below_list, but_below, but_own, lasting_part, own_handles, own_links, own_list, owner_in, parent_in, with_own_links}
 use Rattle.vlm_store.specs.Holdings.{holding, processes_of}
 use Rattle.vlm_records.proofs.Families.{family-other_handles, family-shrunk}
@@ -80,8 +80,9 @@ module _ (s : Inside) (kept : IsKept s) (at : ℕ) (childless : below_handles s.
       (λ k noted. subst (IsIn k) childless (kept.below.stands at k (λ e. none-some k (sym e)) noted)) kept.named
 
   -- what a caller sees of processes
-  pub left_processes : processes_of (holding processes2 locks3 s.process_order) ≡ map (process_without_lock at) (processes_shown s)
-  left_processes =
+  pub left_processes : ((k : ℕ) → k ≢ at → loose_in (get locks3 k) ≡ loose_in (get s.queues.locks k))
+      → processes_of (holding processes2 locks3 s.process_order) ≡ map (process_without_lock at) (processes_shown s)
+  left_processes loose =
       lock_left (holding s.processes s.queues.locks s.process_order) (holding processes2 locks3 s.process_order) at (own_faces s.processes processes2 rest2)
       (own_process_handles s.processes processes2 rest2 s.process_order kept.processes_linked)
       (λ p.
@@ -90,3 +91,4 @@ module _ (s : Inside) (kept : IsKept s) (at : ℕ) (childless : below_handles s.
       (λ k _.
       family-other_handles below_links parent_in locks2 (below_list locks2) (Some at) below2 locks3 (below_list locks3) heads at (λ p. below2.gone p at refl) below_nexts below_prevs there3 k
       ∙ below_handles2 k)
+      loose

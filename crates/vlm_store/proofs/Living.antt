@@ -1,32 +1,32 @@
 -- What a caller learns of the processes and their locks.
-use Rattle.std.proofs.Common.{◌≡◌, ◌≤◌, ℕ, zero, suc, true, nat_lt, arith, length, List, [], ◌∷◌, map, Option, None, Some, IfSome, IsSome, refl, sym, ap, ◌∙◌, subst}
+use Rattle.std.proofs.Common.{◌≡◌, ◌≤◌, ℕ, zero, suc, true, nat_lt, arith, length, List, [], ◌∷◌, map, Option, None, Some, IfSome, IsSome, refl, sym, ap, ◌∙◌, subst, false, inl, inr}
 use Rattle.std.proofs.lemmas.Bool.Decides.{nat_tests}
 use Rattle.std.proofs.lemmas.Option.{none-some, same_Some}
 use Rattle.std.specs.Bool.{OnFalse, OnTrue}
 use Rattle.std.specs.Option.{ForSome, option_map, option_map_or}
 use Rattle.slab.specs.Slab.{Slab, get, ContainsKey}
 use Rattle.indexmap.specs.IndexMap.{get as found}
-use Rattle.vlm_collections.specs.Tables.{handle_of}
 use Rattle.vlm_collections.specs.Parts.{handle_in}
-use Rattle.vlm_store.specs.Index.{hash_key}
+use Rattle.vlm_store.specs.Index.{handle_by, hash_key}
 use Rattle.vlm_collections.specs.declared.link.TheConstants.{LAST_HANDLE}
 use Rattle.vlm_collections.specs.Lists.{IsApart, IsIn, handles_of}
 use Rattle.vlm_words.specs.declared.locks.LockRow.{LockRow}
 use Rattle.vlm_records.specs.declared.locks.Lock.{Lock}
 use Rattle.vlm_records.specs.declared.processes.Process.{Process}
 use Rattle.vlm_store.specs.declared.store.Store.TheInside.{Inside}
-use Rattle.vlm_store.specs.Records.{AreOwnApart, AreOwned, AreProcessesApart, FindsProcess, HasNoSublocks, HasProcess, IsParentOf, IsProcess, IsSound, OwnLock, StoredProcess, Stores, own_at, process_at}
+use Rattle.vlm_store.specs.Records.{AreOwnApart, AreOwned, AreProcessesApart, FindsProcess, HasNoSublocks, HasProcess, IsParentOf, IsProcess, IsSound, OwnLock, StoredProcess, Stores, own_at, process_at, HasLock, IsLooseRow, NoneIsLoose}
 use Rattle.vlm_store.specs.Kept.{IsKept, beside_shown, found_in, processes_shown, records_shown}
-use Rattle.vlm_records.specs.Shown.{lkid_of, row_in, rows}
+use Rattle.vlm_records.specs.Shown.{lkid_of, row_in, rows, is_loose_in, loose_in, noted_in}
 use Rattle.vlm_store.specs.Holdings.{Holding, holding, own_of, process_face_in, process_under, processes_of}
 use Rattle.vlm_records.specs.Kin.{NamesParent, OwnerFits, ParentFits, below_handles, own_handles, owner_in, parent_in, pid_at, pid_of, process_links}
 use Rattle.vlm_store.specs.Store.{tables}
 use Rattle.vlm_store.proofs.HashedKeys.{by_keys}
 use Rattle.vlm_store.proofs.Kept.{keys_apart, lkids_apart, stored_there, there_stored}
-use Rattle.vlm_store.proofs.Layouts.{IsSound-records_of}
+use Rattle.vlm_store.proofs.Layouts.{IsSound-records_of, Stores-listed}
 use Rattle.vlm_records.proofs.Places.{lkid_told, one_place}
-use Rattle.vlm_store.proofs.Kinship.{records_processes}
+use Rattle.vlm_store.proofs.Kinship.{records_processes, loose_there, loose_told, noted_not_loose}
 use Rattle.vlm_store.proofs.Members.{AreProcessesApart-processes_of, HasProcess-order, among_own, own_among, process_at-found, process_seen, seen_process}
+use Rattle.std.proofs.lemmas.Bool.{cases_Bool}
 
 -- what the record of a process tells, where it has an identification
 pid_there : (slot : Option Process) (pid : ℕ) → option_map pid_of slot ≡ Some pid → IsSome slot × ((process_face_in slot).plain.pid ≡ pid)
@@ -92,7 +92,7 @@ module _ (s : Inside) (kept : IsKept s) where
   parent_within None row is up named = absurd (none-some up named)
   parent_within (Some parent) row is up named = subst (λ k. k ≤ LAST_HANDLE) (same_Some parent up named) (lock_there parent is.0 is.1.0).1
 
-  pub lock_stored : (at : ℕ) → ContainsKey s.queues.locks at → Stores (records_shown s) at (rows s.queues at)
+  pub lock_stored : (at : ℕ) → ContainsKey s.queues.locks at → is_loose_in (get s.queues.locks at) ≡ false → Stores (records_shown s) at (rows s.queues at)
   lock_stored = there_stored s.queues s.order (beside_shown s) kept.placed kept.linked kept.ordered
 
   -- the process that a lock notes is the one that its row names
@@ -104,38 +104,92 @@ module _ (s : Inside) (kept : IsKept s) where
 
   -- the locks of a process that a caller sees
   pub own_among_shown : (p : StoredProcess) (own : OwnLock) → IsIn p (records_shown s).processes → IsIn own p.own
-      → (IsIn own.at (own_handles s.processes s.queues.locks p.at) × (below_handles s.queues.locks own.at ≡ own.sublocks)) × (p.own ≡ map (own_of held) (own_handles s.processes s.queues.locks p.at))
+      → (IsIn own.at (own_handles s.processes s.queues.locks p.at) × (below_handles s.queues.locks own.at ≡ own.sublocks) × (loose_in (get s.queues.locks own.at) ≡ own.loose)) × (p.own ≡ map (own_of held) (own_handles s.processes s.queues.locks p.at))
   own_among_shown p own among has =
       let is : map (own_of held) (own_handles s.processes s.queues.locks p.at) ≡ p.own = ap (λ (x : StoredProcess). x.own) (shown_among p among).1 in
       (own_among held (own_handles s.processes s.queues.locks p.at) own (subst (IsIn own) (sym is) has), sym is)
 
-  -- a stored lock is among those of the process that its row names
-  is_owned : (at : ℕ) (row : LockRow) → Stores (records_shown s) at row
-      → (p : StoredProcess) × (own : OwnLock) × (IsIn p (records_shown s).processes × (p.process.pid ≡ row.pid) × IsIn own p.own × (own.at ≡ at))
-  is_owned at row stored =
-      let there = lock_there at row stored in
-      let l = there_is (get s.queues.locks at) there.0 in
+  -- a lock that is there is among those of the process that its row names
+  own_there : (at : ℕ) → ContainsKey s.queues.locks at
+      → (p : StoredProcess) × (own : OwnLock) × (IsIn p (records_shown s).processes × (p.process.pid ≡ (rows s.queues at).pid) × IsIn own p.own × (own.at ≡ at) × (own.loose ≡ loose_in (get s.queues.locks at)))
+  own_there at there =
+      let l = there_is (get s.queues.locks at) there in
       let fits = subst (OwnerFits s.processes) l.1 (kept.named.owners at) in
       let owner = pid_there (get s.processes l.0.owner) l.0.row.pid fits in
-      let stands = kept.owned.stands l.0.owner at (λ e. none-some at (sym e)) (ap owner_in l.1) in
-      let row_is : l.0.row ≡ row = sym (ap row_in l.1) ∙ there.2 in (
+      let stands = kept.owned.stands l.0.owner at (λ e. none-some at (sym e)) (ap owner_in l.1) in (
         process_under held l.0.owner,
         own_of held at,
         (
           among_shown l.0.owner (kept.processes_ordered l.0.owner owner.0),
-          owner.1 ∙ ap (λ (r : LockRow). r.pid) row_is,
+          owner.1 ∙ ap (λ (slot : Option Lock). (row_in slot).pid) (sym l.1),
           among_own held (own_handles s.processes s.queues.locks l.0.owner) at stands,
+          refl,
           refl,
         ),
       )
 
+  -- a loose lock that a caller sees is there
+  pub loose_lock_there : (at : ℕ) (row : LockRow) → IsLooseRow (records_shown s) at row
+      → ContainsKey s.queues.locks at × (at ≤ LAST_HANDLE) × (rows s.queues at ≡ row) × (is_loose_in (get s.queues.locks at) ≡ true)
+  loose_lock_there at row is =
+      let own = own_among_shown is.0 is.1 is.2.0 is.2.1 in
+      let told = loose_told (get s.queues.locks is.1.at) row (own.0.2 ∙ is.2.3) in
+      let within = (kept.owned.linked is.0.at).within is.1.at own.0.0 in
+      subst (λ x. ContainsKey s.queues.locks x × (x ≤ LAST_HANDLE) × (rows s.queues x ≡ row) × (is_loose_in (get s.queues.locks x) ≡ true)) is.2.2 (told.0, within, told.2, told.1)
+
+  pub has_there : (at : ℕ) (row : LockRow) → HasLock (records_shown s) at row → ContainsKey s.queues.locks at × (rows s.queues at ≡ row)
+  has_there at row (inl stored) = let there = lock_there at row stored in (there.0, there.2)
+  has_there at row (inr loose) = let there = loose_lock_there at row loose in (there.0, there.2)
+
+  -- a caller sees a loose lock with its row
+  pub loose_seen : (at : ℕ) → ContainsKey s.queues.locks at → is_loose_in (get s.queues.locks at) ≡ true → IsLooseRow (records_shown s) at (rows s.queues at)
+  loose_seen at there loose =
+      let own = own_there at there in
+      (own.0, own.1, (own.2.0, own.2.2, own.2.3, own.2.4 ∙ loose_there (get s.queues.locks at) loose))
+
+  -- a lock that is there is in a queue or loose, as a caller sees it
+  pub there_has : (at : ℕ) → ContainsKey s.queues.locks at → HasLock (records_shown s) at (rows s.queues at)
+  there_has at there =
+      elim (cases_Bool (is_loose_in (get s.queues.locks at))) [
+        | inl loose ↦ inr (loose_seen at there loose)
+        | inr queued ↦ inl (lock_stored at there queued)
+      ]
+
+  -- where each lock is in a queue, no record is loose
+  pub none_loose_there : NoneIsLoose (records_shown s) → (at : ℕ) → ContainsKey s.queues.locks at → is_loose_in (get s.queues.locks at) ≡ false
+  none_loose_there none at there =
+      elim (cases_Bool (is_loose_in (get s.queues.locks at))) [
+        | inl loose ↦
+            let own = own_there at there in
+            absurd (none-some (rows s.queues at) (sym (none own.0 own.1 own.2.0 own.2.2) ∙ own.2.4 ∙ loose_there (get s.queues.locks at) loose))
+        | inr queued ↦ queued
+      ]
+
+  -- a lock in a queue is not loose
+  pub stored_queued : (at : ℕ) (row : LockRow) → Stores (records_shown s) at row → is_loose_in (get s.queues.locks at) ≡ false
+  stored_queued at row stored =
+      let listed = Stores-listed (tables s.queues s.order (beside_shown s)) at row stored in
+      noted_not_loose (get s.queues.locks at) listed.0 (kept.placed.listed listed.0 at listed.1.0)
+
+  pub stored_in_queue : (at : ℕ) (row : LockRow) → Stores (records_shown s) at row → IsSome (noted_in (get s.queues.locks at))
+  stored_in_queue at row stored =
+      let listed = Stores-listed (tables s.queues s.order (beside_shown s)) at row stored in
+      rw (kept.placed.listed listed.0 at listed.1.0) refl
+
+  is_owned : (at : ℕ) (row : LockRow) → HasLock (records_shown s) at row
+      → (p : StoredProcess) × (own : OwnLock) × (IsIn p (records_shown s).processes × (p.process.pid ≡ row.pid) × IsIn own p.own × (own.at ≡ at))
+  is_owned at row has =
+      let there = has_there at row has in
+      let own = own_there at there.0 in
+      (own.0, own.1, (own.2.0, own.2.1 ∙ ap (λ (r : LockRow). r.pid) there.1, own.2.2, own.2.3))
+
   -- a lock whose row names a parent stands below it
-  stands_below : (at : ℕ) (row : LockRow) → Stores (records_shown s) at row → ¬ (row.parent ≡ 0)
+  stands_below : (at : ℕ) (row : LockRow) → HasLock (records_shown s) at row → ¬ (row.parent ≡ 0)
       → (up : ℕ) × (IsIn at (below_handles s.queues.locks up) × ContainsKey s.queues.locks up × ((rows s.queues up).lkid ≡ row.parent))
-  stands_below at row stored has_parent =
-      let there = lock_there at row stored in
+  stands_below at row has has_parent =
+      let there = has_there at row has in
       let l = there_is (get s.queues.locks at) there.0 in
-      let names : l.0.row.parent ≡ row.parent = ap (λ (r : LockRow). r.parent) (sym (ap row_in l.1) ∙ there.2) in
+      let names : l.0.row.parent ≡ row.parent = ap (λ (r : LockRow). r.parent) (sym (ap row_in l.1) ∙ there.1) in
       let fits = subst (ParentFits s.queues.locks) l.1 (kept.named.parents at) in
       let up = named_parent s.queues.locks l.0.parent l.0.row.parent fits (λ none. has_parent (sym names ∙ none)) in (
         up.0,
@@ -158,7 +212,7 @@ module _ (s : Inside) (kept : IsKept s) where
         let plain : (process_face_in (get s.processes p.at)).plain.pid ≡ p.process.pid = ap (λ (x : StoredProcess). x.process.pid) (shown_among p among).1 in (
           rows s.queues own.at,
           (
-            lock_stored own.at there,
+            there_has own.at there,
             ap (λ slot. (row_in slot).pid) noted.1.0 ∙ sym pid.1 ∙ ap (λ x. (process_face_in (get s.processes x)).plain.pid) noted.1.1 ∙ plain,
           ),
         );
@@ -173,14 +227,14 @@ module _ (s : Inside) (kept : IsKept s) where
           rows s.queues own.at,
           rows s.queues at,
           (
-            lock_stored own.at up_there,
-            lock_stored at there,
+            there_has own.at up_there,
+            there_has at there,
             ap (λ slot. (row_in slot).parent) noted.1.0 ∙ sym (lkid_told (get s.queues.locks own.at) noted.0.row.parent names).1,
           ),
         );
-    named = λ at row stored has_parent.
-        let up = stands_below at row stored has_parent in
-        let up_stored = lock_stored up.0 up.1.1 in
+    named = λ at row has has_parent.
+        let up = stands_below at row has has_parent in
+        let up_stored = there_has up.0 up.1.1 in
         let found = is_owned up.0 (rows s.queues up.0) up_stored in
         let seen = own_among_shown found.0 found.1 found.2.0 found.2.2 in (
           found.0,
@@ -190,10 +244,11 @@ module _ (s : Inside) (kept : IsKept s) where
             found.2.0,
             found.2.2,
             subst (IsIn at) (ap (below_handles s.queues.locks) (sym found.2.3) ∙ seen.0.1) up.1.0,
-            subst (λ x. Stores (records_shown s) x (rows s.queues up.0)) (sym found.2.3) up_stored,
+            subst (λ x. HasLock (records_shown s) x (rows s.queues up.0)) (sym found.2.3) up_stored,
             up.1.2,
           ),
         );
+    queued = λ at row other stored loose. let clash : true ≡ false = sym (loose_lock_there at other loose).3 ∙ stored_queued at row stored in absurd (cc);
   }
 
   -- no two of the locks of a process have one handle
@@ -212,7 +267,7 @@ module _ (s : Inside) (kept : IsKept s) where
   -- no lock stands below this one
   pub childless : (at : ℕ) (row : LockRow) → Stores (records_shown s) at row → HasNoSublocks at (records_shown s) → below_handles s.queues.locks at ≡ []
   childless at row stored none =
-      let found = are_owned.owned at row stored in
+      let found = are_owned.owned at row (inl stored) in
       let seen = own_among_shown found.0 found.1 found.2.0 found.2.2 in
       ap (below_handles s.queues.locks) (sym found.2.3) ∙ seen.0.1 ∙ none found.0 found.1 found.2.0 found.2.2 found.2.3
 
@@ -236,36 +291,36 @@ module _ (s : Inside) (kept : IsKept s) where
       let told_a = pid_told (get s.processes a) (kept.processes_linked.present a here) in
       let told_b = pid_told (get s.processes b) (kept.processes_linked.present b there) in
       same_Some a b
-      (sym (kept.processes.indexes.complete (process_face_in (get s.processes a)).plain.pid a told_a) ∙ kept.processes.indexes.complete (process_face_in (get s.processes a)).plain.pid b (told_b ∙ ap Some (sym same))))
+      (sym (kept.processes.complete (process_face_in (get s.processes a)).plain.pid a told_a) ∙ kept.processes.complete (process_face_in (get s.processes a)).plain.pid b (told_b ∙ ap Some (sym same))))
 
   -- what a caller sees is sound
   pub is_sound : IsSound (records_shown s)
   is_sound =
       IsSound-records_of (tables s.queues s.order (beside_shown s)) kept.linked.apart (λ p. (kept.placed.linked p).apart) (one_place s.queues None kept.placed)
-      (lkids_apart s.queues s.order (beside_shown s) kept.placed kept.linked kept.ordered (handle_in s.lock_index) kept.locks)
+      (lkids_apart s.queues s.order (beside_shown s) kept.placed kept.linked kept.ordered has_there there_has (handle_in s.lock_index) kept.locks)
       (keys_apart s.queues s.order (beside_shown s) kept.placed kept.linked kept.ordered (found_in s) (by_keys (hash_key s.keys) s.resource_index s.queues kept.resources)) are_apart are_owned own_apart
 
   -- the index of processes finds what a caller sees
-  pub finds_process : (pid : ℕ) (result : Option ℕ) → result ≡ handle_of s.process_index pid → FindsProcess (records_shown s) pid result
+  pub finds_process : (pid : ℕ) (result : Option ℕ) → result ≡ handle_by s.process_index pid → FindsProcess (records_shown s) pid result
   finds_process pid None is = λ p among same.
       let seen = shown_among p among in
       let there = kept.processes_linked.present p.at seen.0 in
       let told : pid_at s.processes p.at ≡ Some pid = pid_told (get s.processes p.at) there ∙ ap Some (ap (λ (x : StoredProcess). x.process.pid) seen.1 ∙ same) in
-      none-some p.at (is ∙ kept.processes.indexes.complete pid p.at told)
+      none-some p.at (is ∙ kept.processes.complete pid p.at told)
   finds_process pid (Some at) is =
-      let there = pid_there (get s.processes at) pid (kept.processes.indexes.sound pid at (sym is)) in
+      let there = pid_there (get s.processes at) pid (kept.processes.sound pid at (sym is)) in
       (process_under held at, (among_shown at (kept.processes_ordered at there.0), refl, there.1))
 
-  pub found_there : (pid : ℕ) (result : Option ℕ) → result ≡ handle_of s.process_index pid → IfSome result (λ at. HasProcess at (records_shown s))
+  pub found_there : (pid : ℕ) (result : Option ℕ) → result ≡ handle_by s.process_index pid → IfSome result (λ at. HasProcess at (records_shown s))
   found_there pid None is = tt
   found_there pid (Some at) is =
-      let there = pid_there (get s.processes at) pid (kept.processes.indexes.sound pid at (sym is)) in
+      let there = pid_there (get s.processes at) pid (kept.processes.sound pid at (sym is)) in
       rw (ap (process_at at) shown ∙ process_at-found held at (kept.processes_ordered at there.0)) refl
 
-  pub no_process_found : (pid : ℕ) → FindsProcess (records_shown s) pid None → handle_of s.process_index pid ≡ None
-  no_process_found pid absent = by_answer (handle_of s.process_index pid) refl
+  pub no_process_found : (pid : ℕ) → FindsProcess (records_shown s) pid None → handle_by s.process_index pid ≡ None
+  no_process_found pid absent = by_answer (handle_by s.process_index pid) refl
     where
-      by_answer : (answer : Option ℕ) → answer ≡ handle_of s.process_index pid → answer ≡ None
+      by_answer : (answer : Option ℕ) → answer ≡ handle_by s.process_index pid → answer ≡ None
       by_answer None is = refl
       by_answer (Some at) is =
           let there = finds_process pid (Some at) is in
@@ -280,9 +335,3 @@ module _ (s : Inside) (kept : IsKept s) where
         pid_told (get s.processes at) there
             ∙ ap Some (ap (λ x. (process_face_in (get s.processes x)).plain.pid) (sym is.1.1) ∙ ap (λ (x : StoredProcess). x.process.pid) seen.1 ∙ is.1.2),
       )
-
-  -- what is found is a handle that a link leads to
-  pub process_within : (pid at : ℕ) → handle_of s.process_index pid ≡ Some at → at ≤ LAST_HANDLE
-  process_within pid at is =
-      let there = pid_there (get s.processes at) pid (kept.processes.indexes.sound pid at is) in
-      kept.processes_linked.within at (kept.processes_ordered at there.0)

@@ -10,7 +10,7 @@ use Rattle.vlm_collections.specs.Nodes.{Grows, HasRoomFor, Writes, is_marked, is
 use Rattle.vlm_words.specs.declared.asts.Ast.{Ast}
 use Rattle.vlm_records.specs.declared.processes.Process.{Process}
 use Rattle.vlm_records.specs.Kin.{but_order, but_own, pid_at, pid_of}
-use Rattle.vlm_store.specs.Index.{IsTable}
+use Rattle.vlm_store.specs.Index.{Indexes, HandleMap, handle_by}
 use Rattle.vlm_store.specs.Pending.{IsMarked, is_of_nodes, waits_in}
 use Rattle.vlm_records.specs.Pending.{IsToldOf, OtherMarksStay, is_waiting}
 use Rattle.vlm_records.specs.Shown.{SameBut}
@@ -72,8 +72,8 @@ nodes-own None = refl
 nodes-own (Some p) = refl
 
 -- no two processes have one identification
-pub pids_apart : (processes : Slab Process) (rows : List (List (Option ℕ))) → IsTable rows (pid_at processes) → (a b pid : ℕ) → pid_at processes a ≡ Some pid → pid_at processes b ≡ Some pid → a ≡ b
-pids_apart processes rows kept a b pid here there = same_Some a b (sym (kept.indexes.complete pid a here) ∙ kept.indexes.complete pid b there)
+pub pids_apart : (processes : Slab Process) (index : HandleMap) → Indexes (handle_by index) (pid_at processes) → (a b pid : ℕ) → pid_at processes a ≡ Some pid → pid_at processes b ≡ Some pid → a ≡ b
+pids_apart processes index kept a b pid here there = same_Some a b (sym (kept.complete pid a here) ∙ kept.complete pid b there)
 
 -- nothing is there yet, and nothing is marked
 pub empty_marked : (tells : Option Process → Bool) (processes : Slab Process) (marks : List (List Bool)) → ((p : ℕ) → get processes p ≡ None) → ((pid : ℕ) → is_marked marks pid ≡ false) → IsMarked tells processes marks

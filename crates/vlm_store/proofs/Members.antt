@@ -1,5 +1,5 @@
 -- What a caller sees of the processes and their locks, and how it changes as the tables do.
-use Rattle.std.proofs.Common.{◌≡◌, ◌≢◌, ℕ, true, false, cond, List, [], ◌∷◌, ◌++◌, map, filter, not, Option, None, Some, IsSome, slice_get, refl, sym, ap, ◌∙◌, subst, inl, inr, eq-eqb, ne_eqb}
+use Rattle.std.proofs.Common.{◌≡◌, ◌≢◌, ℕ, true, false, cond, List, [], ◌∷◌, ◌++◌, map, filter, not, Option, None, Some, IsSome, slice_get, refl, sym, ap, ◌∙◌, subst, inl, inr, eq-eqb, ne_eqb, ◌⊎◌}
 use Rattle.std.specs.Prelude.{◌==◌, if◌then◌else◌}
 use Rattle.std.proofs.lemmas.Bool.{cases_eq}
 use Rattle.std.specs.Option.{option_map}
@@ -7,8 +7,9 @@ use Rattle.std.proofs.lemmas.Option.{same_Some, slice_get-map}
 use Rattle.vlm_collections.specs.Lists.{IsApart, IsIn, first_handle, handle_after, without}
 use Rattle.vlm_collections.proofs.Images.{IsIn-image, IsIn-told}
 use Rattle.vlm_collections.proofs.HandleLists.{without_head, without_past}
-use Rattle.vlm_store.specs.Records.{AreProcessesApart, OwnLock, StoredProcess, new_own, on_stored, process_after, process_at, process_with_lock, process_without_lock, with_sublock, without_process, without_sublock}
+use Rattle.vlm_store.specs.Records.{AreProcessesApart, OwnLock, StoredProcess, new_own, on_stored, process_after, process_at, process_with_lock, process_without_lock, with_sublock, without_process, without_sublock, process_with_loose, with_loose}
 use Rattle.vlm_store.specs.Holdings.{Holding, faced, own_of, process_under, processes_of}
+use Rattle.vlm_words.specs.declared.locks.LockRow.{LockRow}
 
 -- ---- what is seen
 
@@ -53,8 +54,9 @@ unfolding processes_of
 process_seen h at found = among_process h h.order at found
 
 -- the locks of a process that a caller sees
-pub own_among : (h : Holding) (ks : List ℕ) (own : OwnLock) → IsIn own (map (own_of h) ks) → IsIn own.at ks × (h.below own.at ≡ own.sublocks)
-own_among h ks own found = let of = IsIn-told (own_of h) (λ (x : OwnLock). x.at) (λ k. refl) ks own found in (of.0, ap (λ (x : OwnLock). x.sublocks) of.1)
+pub own_among : (h : Holding) (ks : List ℕ) (own : OwnLock) → IsIn own (map (own_of h) ks)
+    → IsIn own.at ks × (h.below own.at ≡ own.sublocks) × (h.loose own.at ≡ own.loose)
+own_among h ks own found = let of = IsIn-told (own_of h) (λ (x : OwnLock). x.at) (λ k. refl) ks own found in (of.0, ap (λ (x : OwnLock). x.sublocks) of.1, ap (λ (x : OwnLock). x.loose) of.1)
 
 pub among_own : (h : Holding) (ks : List ℕ) (at : ℕ) → IsIn at ks → IsIn (own_of h at) (map (own_of h) ks)
 among_own h = IsIn-image (own_of h)
@@ -76,15 +78,18 @@ AreProcessesApart-processes_of h apart pids = processes_apart h h.order apart pi
 
 -- ---- how it changes
 
-own_map : (old new : Holding) → ((k : ℕ) → new.below k ≡ old.below k) → (ks : List ℕ) → map (own_of new) ks ≡ map (own_of old) ks
-own_map old new below [] = refl
-own_map old new below (k ∷ ks) = ap (λ b. record { at = k; sublocks = b } ∷ map (own_of new) ks) (below k) ∙ ap (λ rest. own_of old k ∷ rest) (own_map old new below ks)
+own_map : (old new : Holding) → ((k : ℕ) → new.below k ≡ old.below k) → ((k : ℕ) → new.loose k ≡ old.loose k) → (ks : List ℕ) → map (own_of new) ks ≡ map (own_of old) ks
+own_map old new below loose [] = refl
+own_map old new below loose (k ∷ ks) =
+    ap (λ b. record { at = k; sublocks = b; loose = new.loose k } ∷ map (own_of new) ks) (below k)
+    ∙ ap (λ x. record { at = k; sublocks = old.below k; loose = x } ∷ map (own_of new) ks) (loose k)
+    ∙ ap (λ rest. own_of old k ∷ rest) (own_map old new below loose ks)
 
-module _ (old new : Holding) (below : (k : ℕ) → new.below k ≡ old.below k) where
+module _ (old new : Holding) (below : (k : ℕ) → new.below k ≡ old.below k) (loose : (k : ℕ) → new.loose k ≡ old.loose k) where
   process_same : (p : ℕ) → new.faces p ≡ old.faces p → new.own p ≡ old.own p → process_under new p ≡ process_under old p
   process_same p faces own =
       ap (λ face. faced p face (map (own_of new) (new.own p))) faces
-      ∙ ap (faced p (old.faces p)) (ap (map (own_of new)) own ∙ own_map old new below (old.own p))
+      ∙ ap (faced p (old.faces p)) (ap (map (own_of new)) own ∙ own_map old new below loose (old.own p))
 
   -- all is the same
   pub processes_same : ((p : ℕ) → new.faces p ≡ old.faces p) → ((p : ℕ) → new.own p ≡ old.own p) → new.order ≡ old.order → processes_of new ≡ processes_of old
@@ -132,7 +137,7 @@ module _ (old new : Holding) (below : (k : ℕ) → new.below k ≡ old.below k)
     where
       written : (p : ℕ) → p ≡ at → process_under new p ≡ change (process_under old p)
       written p same =
-          ap (faced p (new.faces p)) (ap (map (own_of new)) (own p) ∙ own_map old new below (old.own p))
+          ap (faced p (new.faces p)) (ap (map (own_of new)) (own p) ∙ own_map old new below loose (old.own p))
           ∙ subst (λ x. faced x (new.faces x) (map (own_of old) (old.own p)) ≡ change (faced x (old.faces x) (map (own_of old) (old.own p)))) (sym same) (here (map (own_of old) (old.own p)))
 
       each : (ps : List ℕ) → map (process_under new) ps ≡ on_stored at change (map (process_under old) ps)
@@ -156,13 +161,20 @@ append_nothing (x ∷ xs) = ap (λ rest. x ∷ rest) (append_nothing xs)
 -- a lock is made
 module _ (old new : Holding) (owner : ℕ) (parent : Option ℕ) (at : ℕ) (faces : (p : ℕ) → new.faces p ≡ old.faces p) (order : new.order ≡ old.order)
     (own_here : new.own owner ≡ old.own owner ++ at ∷ []) (own_others : (p : ℕ) → p ≢ owner → new.own p ≡ old.own p) (childless : new.below at ≡ [])
-    (below_here : (k : ℕ) → parent ≡ Some k → new.below k ≡ old.below k ++ at ∷ []) (below_others : (k : ℕ) → parent ≢ Some k → new.below k ≡ old.below k) where
+    (below_here : (k : ℕ) → parent ≡ Some k → new.below k ≡ old.below k ++ at ∷ []) (below_others : (k : ℕ) → parent ≢ Some k → new.below k ≡ old.below k)
+    (loose : (k : ℕ) → new.loose k ≡ old.loose k) (queued : new.loose at ≡ None) where
+  abbrev own_with : ℕ → List ℕ → Option LockRow → OwnLock
+  own_with k below row = record { at = k; sublocks = below; loose = row }
+
+  same_loose : (k : ℕ) (below : List ℕ) → own_with k below (new.loose k) ≡ own_with k below (old.loose k)
+  same_loose k below = ap (own_with k below) (loose k)
+
   sublock_of : (k : ℕ) (up : Option ℕ) → parent ≡ up → own_of new k ≡ with_sublock up at (own_of old k)
-  sublock_of k None is = ap (λ b. record { at = k; sublocks = b }) (below_others k (λ e. cc))
+  sublock_of k None is = ap (λ b. record { at = k; sublocks = b; loose = new.loose k }) (below_others k (λ e. cc)) ∙ same_loose k (old.below k)
   sublock_of k (Some up) is =
       elim (cases_eq k up) [
-        | inl same ↦ rw (eq-eqb k up same) (ap (λ b. record { at = k; sublocks = b }) (below_here k (is ∙ ap Some (sym same))))
-        | inr differs ↦ rw (ne_eqb k up differs) (ap (λ b. record { at = k; sublocks = b }) (below_others k (λ e. differs (sym (same_Some up k (sym is ∙ e))))))
+        | inl same ↦ rw (eq-eqb k up same) (ap (λ b. record { at = k; sublocks = b; loose = new.loose k }) (below_here k (is ∙ ap Some (sym same))) ∙ same_loose k (old.below k ++ at ∷ []))
+        | inr differs ↦ rw (ne_eqb k up differs) (ap (λ b. record { at = k; sublocks = b; loose = new.loose k }) (below_others k (λ e. differs (sym (same_Some up k (sym is ∙ e))))) ∙ same_loose k (old.below k))
       ]
 
   each_own : (ks : List ℕ) → map (own_of new) ks ≡ map (with_sublock parent at) (map (own_of old) ks)
@@ -175,7 +187,8 @@ module _ (old new : Holding) (owner : ℕ) (parent : Option ℕ) (at : ℕ) (fac
         | inl same ↦
             rw (eq-eqb p owner same)
             (ap (λ x. map (own_of new) (new.own x)) same ∙ ap (map (own_of new)) own_here ∙ map_append_one new (old.own owner) at
-            ∙ ap (λ b. map (own_of new) (old.own owner) ++ record { at = at; sublocks = b } ∷ []) childless
+            ∙ ap (λ b. map (own_of new) (old.own owner) ++ record { at = at; sublocks = b; loose = new.loose at } ∷ []) childless
+            ∙ ap (λ x. map (own_of new) (old.own owner) ++ record { at = at; sublocks = []; loose = x } ∷ []) queued
             ∙ ap (λ xs. xs ++ new_own at) (each_own (old.own owner))
             ∙ ap (λ x. map (with_sublock parent at) (map (own_of old) (old.own x)) ++ new_own at) (sym same))
         | inr differs ↦ rw (ne_eqb p owner differs) (ap (map (own_of new)) (own_others p differs) ∙ each_own (old.own p) ∙ sym (append_nothing _))
@@ -195,7 +208,7 @@ module _ (old new : Holding) (owner : ℕ) (parent : Option ℕ) (at : ℕ) (fac
 
 -- a lock is gone
 module _ (old new : Holding) (at : ℕ) (faces : (p : ℕ) → new.faces p ≡ old.faces p) (order : new.order ≡ old.order) (own : (p : ℕ) → new.own p ≡ without at (old.own p))
-    (below : (k : ℕ) → k ≢ at → new.below k ≡ without at (old.below k)) where
+    (below : (k : ℕ) → k ≢ at → new.below k ≡ without at (old.below k)) (loose : (k : ℕ) → k ≢ at → new.loose k ≡ old.loose k) where
   each_left : (ks : List ℕ) → map (own_of new) (without at ks) ≡ map (without_sublock at) (filter (λ (o : OwnLock). not (o.at == at)) (map (own_of old) ks))
   each_left [] = refl
   each_left (k ∷ ks) =
@@ -204,7 +217,8 @@ module _ (old new : Holding) (at : ℕ) (faces : (p : ℕ) → new.faces p ≡ o
         | inr differs ↦
             ap (map (own_of new)) (without_past at k ks differs)
             ∙ rw (ne_eqb k at differs)
-            (ap (λ b. record { at = k; sublocks = b } ∷ map (own_of new) (without at ks)) (below k differs) ∙ ap (λ rest. without_sublock at (own_of old k) ∷ rest) (each_left ks))
+            (ap (λ b. record { at = k; sublocks = b; loose = new.loose k } ∷ map (own_of new) (without at ks)) (below k differs)
+            ∙ ap (λ x. record { at = k; sublocks = without at (old.below k); loose = x } ∷ map (own_of new) (without at ks)) (loose k differs) ∙ ap (λ rest. without_sublock at (own_of old k) ∷ rest) (each_left ks))
       ]
 
   pub lock_left : processes_of new ≡ map (process_without_lock at) (processes_of old)
@@ -219,6 +233,33 @@ module _ (old new : Holding) (at : ℕ) (faces : (p : ℕ) → new.faces p ≡ o
       each : (ps : List ℕ) → map (process_under new) ps ≡ map (process_without_lock at) (map (process_under old) ps)
       each [] = refl
       each (p ∷ ps) = ap (λ x. x ∷ map (process_under new) ps) (one p) ∙ ap (λ rest. process_without_lock at (process_under old p) ∷ rest) (each ps)
+
+-- a lock is loose, or is loose no more
+module _ (old new : Holding) (at : ℕ) (row : Option LockRow) (faces : (p : ℕ) → new.faces p ≡ old.faces p) (order : new.order ≡ old.order) (own : (p : ℕ) → new.own p ≡ old.own p)
+    (below : (k : ℕ) → new.below k ≡ old.below k) (here : new.loose at ≡ row) (others : (k : ℕ) → k ≢ at → new.loose k ≡ old.loose k) where
+  each_loose : (ks : List ℕ) → map (own_of new) ks ≡ map (with_loose at row) (map (own_of old) ks)
+  each_loose [] = refl
+  each_loose (k ∷ ks) =
+      ap (λ b. record { at = k; sublocks = b; loose = new.loose k } ∷ map (own_of new) ks) (below k)
+      ∙ ap (λ x. x ∷ map (own_of new) ks) (one_loose (cases_eq k at))
+      ∙ ap (λ rest. with_loose at row (own_of old k) ∷ rest) (each_loose ks)
+    where
+      one_loose : (k ≡ at) ⊎ (k ≢ at) → record { at = k; sublocks = old.below k; loose = new.loose k } ≡ with_loose at row (own_of old k)
+      one_loose (inl same) = rw (eq-eqb k at same) (ap (λ x. record { at = k; sublocks = old.below k; loose = x }) (ap new.loose same ∙ here))
+      one_loose (inr differs) = rw (ne_eqb k at differs) (ap (λ x. record { at = k; sublocks = old.below k; loose = x }) (others k differs))
+
+  pub lock_loosened : processes_of new ≡ map (process_with_loose at row) (processes_of old)
+  unfolding processes_of
+  lock_loosened = ap (map (process_under new)) order ∙ each old.order
+    where
+      one : (p : ℕ) → process_under new p ≡ process_with_loose at row (process_under old p)
+      one p =
+          ap (λ face. faced p face (map (own_of new) (new.own p))) (faces p)
+          ∙ ap (faced p (old.faces p)) (ap (map (own_of new)) (own p) ∙ each_loose (old.own p))
+
+      each : (ps : List ℕ) → map (process_under new) ps ≡ map (process_with_loose at row) (map (process_under old) ps)
+      each [] = refl
+      each (p ∷ ps) = ap (λ x. x ∷ map (process_under new) ps) (one p) ∙ ap (λ rest. process_with_loose at row (process_under old p) ∷ rest) (each ps)
 
 -- the process after another is the one under the handle after its own
 after_under : (h : Holding) (at : ℕ) (ps : List ℕ) → process_after at (map (process_under h) ps) ≡ option_map (λ k. (h.faces k).plain) (handle_after at ps)

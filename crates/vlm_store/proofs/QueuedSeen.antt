@@ -1,5 +1,5 @@
 -- A walk along the locks whose requests are queued: what is left of it, and which locks these are.
-use Rattle.std.proofs.Common.{◌≡◌, ◌≢◌, ℕ, true, List, [], ◌∷◌, Option, None, Some, refl, sym, ap, ◌∙◌, inl, inr, eq-eqb, ne_eqb}
+use Rattle.std.proofs.Common.{◌≡◌, ◌≢◌, ℕ, true, List, [], ◌∷◌, Option, None, Some, refl, sym, ap, ◌∙◌, inl, inr, eq-eqb, ne_eqb, Bool, false, cond}
 use Rattle.std.proofs.lemmas.Bool.{cases_eq}
 use Rattle.std.proofs.lemmas.Option.{none-some, same_Some}
 use Rattle.slab.specs.Slab.{get}
@@ -58,12 +58,16 @@ on_next at (first ∷ rest) apart found =
 
 pub listed_at : (slot : Option Lock) → wait_list_in slot ≡ Some tt → (place : Place) × ((noted_in slot ≡ Some place) × (is_queued place ≡ true))
 listed_at None is = absurd (none-some tt is)
-listed_at (Some l) is = (l.place, (refl, of_place l.place is))
+listed_at (Some l) is = by_flag l.loose is
   where
     of_place : (place : Place) → queued_wait_list place ≡ Some tt → is_queued place ≡ true
     of_place (Queued res Granted) is = absurd (none-some tt is)
     of_place (Queued res Conversion) is = refl
     of_place (Queued res Waiting) is = refl
+
+    by_flag : (b : Bool) → cond b None (queued_wait_list l.place) ≡ Some tt → (place : Place) × ((cond b None (Some l.place) ≡ Some place) × (is_queued place ≡ true))
+    by_flag true is = absurd (none-some tt is)
+    by_flag false is = (l.place, (refl, of_place l.place is))
 
 module _ (s : Inside) (kept : IsKept s) where
   seen : (place : Place) → IsThere s.queues.resources place → IsSeen (tables s.queues s.order (beside_shown s)) place

@@ -1,5 +1,5 @@
 -- As many requests are queued as the wait list has locks.
-use Rattle.std.proofs.Common.{◌≡◌, ◌+◌, ℕ, None, true, List, [], ◌∷◌, map, length, length-append, inl, inr, refl, sym, ap, subst, ◌∙◌, arith}
+use Rattle.std.proofs.Common.{◌≡◌, ◌+◌, ℕ, None, true, List, [], ◌∷◌, map, length, length-append, refl, sym, ap, ◌∙◌, arith}
 use Rattle.std.specs.List.{sum_by}
 use Rattle.std.proofs.lemmas.List.Sums.{sum_by-cons}
 use Rattle.std.proofs.lemmas.List.{length-map}

@@ -9,7 +9,8 @@ use Rattle.vlm_words.specs.declared.resources.Queue.TheVariants.{Granted, Conver
 use Rattle.vlm_collections.specs.Lists.{IsIn}
 use Rattle.vlm_records.specs.declared.handles.Place.{Place}
 use Rattle.vlm_records.specs.declared.handles.Place.TheVariants.{Queued}
-use Rattle.vlm_store.specs.Records.{AreResourcesApart, IsSound, Records, StoredLock, StoredResource, is_place, is_queue, joined_by, joining, locks_at, on_resource, queued, resource_at, resource_with, with_lists, without_lock}
+use Rattle.vlm_store.specs.Records.{AreResourcesApart, IsSound, Records, StoredLock, StoredResource, is_place, is_queue, joined_by, joining, locks_at, on_resource, queued, resource_at, resource_with, with_lists, without_lock, HasLock, NoneIsLoose, Stores}
+use Rattle.std.proofs.lemmas.Option.{none-some}
 
 -- ---- places
 
@@ -104,3 +105,8 @@ module _ (lock : StoredLock) (res : ℕ) (to : Queue) where
   pub joins_queue : (s : Records) → with_lists (joining (Queued res to) lock) s ≡ record s { resources = on_resource res (joined_by to lock) s.resources }
   joins_queue s =
       ap (λ x. record s { resources = x }) (map_on (resource_with (joining (Queued res to) lock)) (λ x. cond (x.at == res) (joined_by to lock x) x) s.resources (λ x _. joins_one x))
+
+-- where no lock is loose, each is in a queue
+pub in_a_queue : (s : Records) → NoneIsLoose s → (at : ℕ) (row : LockRow) → HasLock s at row → Stores s at row
+in_a_queue s none at row (inl stored) = stored
+in_a_queue s none at row (inr loose) = absurd (none-some row (sym (none loose.0 loose.1 loose.2.0 loose.2.1) ∙ loose.2.3))

@@ -1,5 +1,5 @@
 -- A process is rewritten, but for its identification, its locks and its place in the order.
-use Rattle.std.proofs.Common.{◌≡◌, ◌∙◌, ◌+◌, ℕ, Bool, List, [], Some, ap, sym, refl}
+use Rattle.std.proofs.Common.{◌≡◌, ◌∙◌, ◌+◌, ℕ, Bool, List, Some, ap, sym, refl}
 use Rattle.slab.specs.Slab.{get}
 use Rattle.vlm_words.specs.declared.asts.Ast.{Ast}
 use Rattle.vlm_words.specs.State.{Process as PlainProcess}
@@ -14,7 +14,8 @@ use Rattle.vlm_records.specs.Pending.{IsToldOf, OtherMarksStay}
 use Rattle.vlm_store.specs.Records.{OwnLock, StoredProcess, changed_process, on_stored, owed_more}
 use Rattle.vlm_store.specs.Store.{tables}
 use Rattle.vlm_store.proofs.Declaring.{process_named, process_own_handles, process_owned, rewritten, written_face, written_handles, written_linked, written_others, written_owns, written_pids, written_whole}
-use Rattle.vlm_store.proofs.Indexing.{table_same}
+use Rattle.vlm_store.specs.Index.{handle_by, spares_by}
+use Rattle.vlm_store.proofs.Indexing.{Indexes-same}
 use Rattle.vlm_store.proofs.Kinship.{processes_changed}
 use Rattle.vlm_store.proofs.Marked.{kept_marked, nodes_same, pids_apart, waits_same, written_marked}
 use Rattle.vlm_store.proofs.Members.{process_written}
@@ -52,7 +53,7 @@ module _ (s : Inside) (kept : IsKept s) (at : ℕ) (was now : Process) (here : g
         named = process_named s.processes processes s.queues.locks (λ k l _. pids l.owner) kept.named;
         processes_linked = written_linked s.processes at was now here own order pid s.process_order kept.processes_linked;
         processes_ordered = written_whole s.processes at was now here own order pid s.process_order kept.processes_linked kept.processes_ordered;
-        processes = table_same s.process_index (pid_at s.processes) (pid_at processes) pids kept.processes;
+        processes = Indexes-same (handle_by s.process_index) (handle_by s.process_index) (pid_at s.processes) (pid_at processes) (λ _. refl) pids kept.processes;
         marked = marked;
         living = kept_marked is_of_nodes s.processes processes s.living pids (λ p. nodes_same (get processes p) (get s.processes p) (pids p)) kept.living;
       }
@@ -81,13 +82,13 @@ module _ (s : Inside) (kept : IsKept s) (at : ℕ) (was now : Process) (here : g
       λ locks.
       ap (λ face. faced at face locks) (written_face s.processes at was now here own order pid) ∙ is locks ∙ ap (λ slot. change (faced at (process_face_in slot) locks)) (sym here) in
       processes_changed s.queues s.order (beside_shown s) (beside_shown (record s { processes = processes })) (on_stored at change)
-      (process_written (holding s.processes s.queues.locks s.process_order) (holding processes s.queues.locks s.process_order) (λ k. refl) at change shown
+      (process_written (holding s.processes s.queues.locks s.process_order) (holding processes s.queues.locks s.process_order) (λ k. refl) (λ k. refl) at change shown
       (written_others s.processes at was now here own order pid) (process_own_handles s.processes processes s.queues.locks owns)
       (written_handles s.processes at was now here own order pid s.process_order kept.processes_linked)) refl
       ∙ ap (λ r. record (records_shown s) { processes = on_stored at change (records_shown s).processes; room = r })
       (room_shown (λ a b. b ≡ a) (tables s.queues s.order (beside_shown s)) (tables s.queues s.order (beside_shown (record s { processes = processes })))
       (ap (λ p. record (rooms_shown s) { processes = p })
-      (room_of_same s.processes processes [] (room_written s.processes at now (rw here refl)))))
+      (room_of_same s.processes processes (spares_by s.process_index) (room_written s.processes at now (rw here refl)))))
 
 -- the ASTs of the process at a handle are written
 module _ (s : Inside) (kept : IsKept s) (at : ℕ) (was : Process) (asts : Asts) (here : get s.processes at ≡ Some was) where

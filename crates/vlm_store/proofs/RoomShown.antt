@@ -1,7 +1,9 @@
 -- What a caller sees of the room for more records.
-use Rattle.vlm_store.specs.Index.{hash_key}
+use Rattle.vlm_store.specs.Index.{HandleMap, hash_key, spares_by}
+use Rattle.indexmap.specs.IndexMap.{spare}
+use Rattle.std.proofs.lemmas.List.{get_or-replicate}
 use Rattle.vlm_store.proofs.WaitListed.{wait_list_same}
-use Rattle.std.proofs.Common.{◌≡◌, ℕ, ◌+◌, ◌<◌, ◌≤◌, List, [], None, Result, Ok, Err, OnOk, refl, sym, ap, ◌∙◌, subst, arith}
+use Rattle.std.proofs.Common.{◌≡◌, ℕ, ◌%◌, ◌+◌, ◌<◌, ◌≤◌, List, None, Result, Ok, Err, OnOk, refl, sym, ap, ◌∙◌, subst, arith}
 use Rattle.std.specs.Option.{option_map}
 use Rattle.vlm_store.specs.KeyIndexes.{IsSame, spares_in}
 use Rattle.slab.specs.Slab.{Slab, get, HasRoomFor}
@@ -16,7 +18,7 @@ use Rattle.vlm_records.specs.declared.processes.Process.{Process}
 use Rattle.vlm_records.specs.declared.queues.Queues.{Queues}
 use Rattle.vlm_records.specs.declared.resources.Resource.{Resource}
 use Rattle.vlm_store.specs.declared.store.Store.TheInside.{Inside}
-use Rattle.vlm_store.specs.Records.{HasRoom, HasSlot, IsGivenBack, IsNoLess, IsTaken, IsUnchanged, Records, Room, Rooms}
+use Rattle.vlm_store.specs.Records.{HasRoom, HasSlot, IsGivenBack, IsNoLess, IsTaken, IsUnchanged, Records, Room, Rooms, with_lock_room, with_resource_room}
 use Rattle.vlm_records.specs.Armed.{armed_list_in}
 use Rattle.vlm_records.specs.Shown.{but_queued, lkid_of, order_links, room_in, tally_in}
 use Rattle.vlm_records.proofs.Rooms.{room_has, room_handle, room_slot, room_reserved}
@@ -42,6 +44,17 @@ module _ {T : Type 0} where
   room_of_less old new had finds is more finds_more =
       let made = room_reserved old new is more in
       record { slots = made.0; next_handle = made.1; finds = finds_more }
+
+-- the room of a map of handles is room for any number
+pub room_by : (handles : HandleMap) (number : ℕ) → spare_for (spares_by handles) number ≡ spare handles
+unfolding spare_for
+room_by handles number = get_or-replicate 64 (number % 64) (spare handles) 0 (omega arith)
+
+pub spares_kept : (old new : HandleMap) → spare old ≤ spare new → KeepsSpares (spares_by old) (spares_by new)
+spares_kept old new more number = omega (arith, room_by old number, room_by new number, more)
+
+pub spare_used : (old new : HandleMap) → spare old ≤ spare new + 1 → UsesOneSpare (spares_by old) (spares_by new)
+spare_used old new used number = omega (arith, room_by old number, room_by new number, used)
 
 -- no less than itself
 pub no_less : (room : Room) → IsNoLess room room
@@ -83,6 +96,11 @@ module _ (s : Inside) where
     processes = no_less _;
   }
 
+  pub lock_room_only : (locks : Slab Lock) (finds : List ℕ) → locks ≡ record s.queues.locks { capacity = locks.capacity }
+      → (let new = with_locks (record (rooms_shown s) { locks = room_of locks finds }) locks in new ≡ with_lock_room new.room.locks (records_shown s))
+  unfolding records_of
+  lock_room_only locks finds is = ap (with_locks (record (rooms_shown s) { locks = room_of locks finds })) is
+
   pub resource_room_made : (resources : Slab Resource) (finds : List ℕ) → resources ≡ record s.queues.resources { capacity = resources.capacity } → s.queues.resources.capacity ≤ resources.capacity
       → KeepsSpares (spares_in s.resource_index) finds → IsUnchanged (records_shown s) (with_resources (record (rooms_shown s) { resources = room_of resources finds }) resources)
   unfolding records_of
@@ -93,14 +111,19 @@ module _ (s : Inside) where
     processes = no_less _;
   }
 
-  pub process_room_made : (processes : Slab Process) → processes ≡ record s.processes { capacity = processes.capacity } → s.processes.capacity ≤ processes.capacity
-      → IsUnchanged (records_shown s) (with_processes (record (rooms_shown s) { processes = room_of processes [] }) processes)
+  pub resource_room_only : (resources : Slab Resource) (finds : List ℕ) → resources ≡ record s.queues.resources { capacity = resources.capacity }
+      → (let new = with_resources (record (rooms_shown s) { resources = room_of resources finds }) resources in new ≡ with_resource_room new.room.resources (records_shown s))
   unfolding records_of
-  process_room_made processes is more = record {
-    same = ap (with_processes (record (rooms_shown s) { processes = room_of processes [] })) is;
+  resource_room_only resources finds is = ap (with_resources (record (rooms_shown s) { resources = room_of resources finds })) is
+
+  pub process_room_made : (processes : Slab Process) (finds : List ℕ) → processes ≡ record s.processes { capacity = processes.capacity } → s.processes.capacity ≤ processes.capacity → KeepsSpares (spares_by s.process_index) finds
+      → IsUnchanged (records_shown s) (with_processes (record (rooms_shown s) { processes = room_of processes finds }) processes)
+  unfolding records_of
+  process_room_made processes finds is more finds_more = record {
+    same = ap (with_processes (record (rooms_shown s) { processes = room_of processes finds })) is;
     locks = no_less _;
     resources = no_less _;
-    processes = room_of_less s.processes processes [] [] is more (λ number. omega arith);
+    processes = room_of_less s.processes processes (spares_by s.process_index) finds is more finds_more;
   }
 
 -- the room stays where the queues keep it

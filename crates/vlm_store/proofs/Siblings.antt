@@ -9,12 +9,12 @@ use Rattle.vlm_collections.specs.Lists.{IsIn, handles_of}
 use Rattle.vlm_records.specs.declared.locks.Lock.{Lock}
 use Rattle.vlm_records.specs.declared.processes.Process.{Process}
 use Rattle.vlm_store.specs.declared.store.Store.TheInside.{Inside}
-use Rattle.vlm_store.specs.Records.{HasProcess, HasNoParent, IsStored, OwnLock, StoredProcess, own_handles_at, own_of_handle, process_at, sublocks_at}
+use Rattle.vlm_store.specs.Records.{HasProcess, HasNoParent, OwnLock, StoredProcess, own_handles_at, own_of_handle, process_at, sublocks_at, IsLock}
 use Rattle.vlm_store.specs.Kept.{IsKept, records_shown}
 use Rattle.vlm_records.specs.Shown.{rows}
 use Rattle.vlm_store.specs.Holdings.{Holding, own_of}
 use Rattle.vlm_records.specs.Kin.{below_in, below_handles, below_links, own_in, own_handles, own_links, owner_in, parent_in}
-use Rattle.vlm_store.proofs.Living.{are_owned, held, lock_stored, own_among_shown, own_is}
+use Rattle.vlm_store.proofs.Living.{are_owned, held, own_among_shown, own_is, there_has}
 use Rattle.vlm_records.proofs.OwnLocks.{parent_there}
 
 -- ---- the locks of all processes
@@ -114,7 +114,7 @@ module _ (s : Inside) (kept : IsKept s) where
       ap (λ o. option_map_or (λ (x : OwnLock). x.sublocks) o []) is ∙ sym (own_among_shown s kept of.0 own of.1.0 of.1.1).0.1 ∙ ap (below_handles s.queues.locks) same
 
   -- the locks below a lock
-  pub sublocks_is : (at : ℕ) → IsStored at (records_shown s) → sublocks_at at (records_shown s) ≡ below_handles s.queues.locks at
+  pub sublocks_is : (at : ℕ) → IsLock at (records_shown s) → sublocks_at at (records_shown s) ≡ below_handles s.queues.locks at
   sublocks_is at stored =
       let owned = (are_owned s kept).owned at stored.0 stored.1 in
       elim (own_found at (flat_map (λ (q : StoredProcess). q.own) (records_shown s).processes)) [
@@ -143,7 +143,7 @@ module _ (s : Inside) (kept : IsKept s) where
   pub seen_below : (k up : ℕ) → parent_in (get s.queues.locks k) ≡ Some up → ¬ HasNoParent k (records_shown s)
   seen_below k up notes none =
       let there = parent_there s.queues.locks kept.below k up notes in
-      none up (subst (IsIn k) (sym (sublocks_is up (rows s.queues up, lock_stored s kept up there))) (kept.below.stands up k (λ e. none-some k (sym e)) notes))
+      none up (subst (IsIn k) (sym (sublocks_is up (rows s.queues up, there_has s kept up there))) (kept.below.stands up k (λ e. none-some k (sym e)) notes))
 
   -- and one that notes none is seen below none
   pub unseen_below : (k parent : ℕ) → parent_in (get s.queues.locks k) ≡ None → ¬ IsIn k (sublocks_at parent (records_shown s))

@@ -16,7 +16,7 @@ use Rattle.vlm_records.specs.declared.queues.Queues.{Queues}
 use Rattle.vlm_records.specs.declared.resources.InOrder.{InOrder}
 use Rattle.vlm_store.specs.Records.{StoredResource}
 use Rattle.vlm_store.specs.Total.{lock_total}
-use Rattle.vlm_records.specs.Shown.{IsPlaced, handles_at, order_links}
+use Rattle.vlm_records.specs.Shown.{IsPlaced, handles_at, order_links, is_loose_in}
 use Rattle.vlm_store.specs.Store.{Beside, Layout, records_of, resource_of, tables, under_handle}
 use Rattle.std.proofs.lemmas.Option.{none-some}
 use Rattle.vlm_collections.proofs.HandleLists.{in_ahead, in_behind, in_either}
@@ -171,7 +171,7 @@ unfolding records_of
 total_shown l = shown_length l l.order
 
 module _ (q : Queues) (order : LinkedList InOrder) (beside : Beside) (placed : IsPlaced q None) (linked : IsLinked order_links q.resources order)
-    (ordered : (r : ℕ) → ContainsKey q.resources r → IsIn r (handles_of order_links q.resources order)) where
+    (ordered : (r : ℕ) → ContainsKey q.resources r → IsIn r (handles_of order_links q.resources order)) (none_loose : (k : ℕ) → ContainsKey q.locks k → is_loose_in (get q.locks k) ≡ false) where
   abbrev in_order : List ℕ
   in_order = handles_of order_links q.resources order
 
@@ -183,7 +183,7 @@ module _ (q : Queues) (order : LinkedList InOrder) (beside : Beside) (placed : I
 
   all : (k : ℕ) → ContainsKey q.locks k → IsIn k (of_all (handles_at q) in_order)
   all k is =
-      let place = noted_there (get q.locks k) is in
+      let place = noted_there (get q.locks k) is (none_loose k is) in
       of_place place.0 (placed.stands place.0 k (λ e. none-some k (sym e)) place.1)
     where
       of_place : (p : Place) → IsIn k (handles_at q p) → IsIn k (of_all (handles_at q) in_order)

@@ -10,7 +10,7 @@ use Rattle.vlm_words.specs.declared.resources.Queue.TheVariants.{Granted, Conver
 use Rattle.vlm_words.specs.declared.resources.Site.{Site}
 use Rattle.vlm_records.specs.declared.handles.Place.{Place}
 use Rattle.vlm_records.specs.declared.handles.Place.TheVariants.{Queued}
-use Rattle.vlm_store.specs.Records.{HasProcess, HasResource, OwnLock, StoredProcess, Stores, new_own, new_stored_process, process_at, process_with_lock, process_without_lock, with_new_lock, with_sublock, without_process, without_stored_lock, without_sublock, IsSound, IsStored, Records, StoredLock, StoredResource, is_place, joining, leaving, new_stored_resource, resource_at, resource_with, without_lock, without_resource}
+use Rattle.vlm_store.specs.Records.{HasProcess, HasResource, OwnLock, StoredProcess, new_own, new_stored_process, process_at, process_with_lock, process_without_lock, with_new_lock, with_sublock, without_process, without_stored_lock, without_sublock, IsSound, Records, StoredLock, StoredResource, is_place, joining, leaving, new_stored_resource, resource_at, resource_with, without_lock, without_resource, HasLock, IsLock}
 use Rattle.vlm_store.proofs.Records.{queue_without}
 
 without_last : (at : ℕ) (row : LockRow) (locks : List StoredLock) → without_lock at (locks ++ record { at = at; row = row } ∷ []) ≡ without_lock at locks
@@ -48,10 +48,10 @@ process_undone s at pid d absent = ap (λ x. record s { processes = x }) (each s
           | inr differs ↦ rw (ne_eqb p.at at differs) (ap (λ xs. p ∷ xs) (each ps (λ there. absent (rw (ne_eqb p.at at differs) there))))
         ]
 
-module _ (s : Records) (at : ℕ) (sound : IsSound s) (absent : ¬ IsStored at s) where
+module _ (s : Records) (at : ℕ) (sound : IsSound s) (absent : ¬ IsLock at s) where
   resource_same : (r : StoredResource) → IsIn r s.resources → resource_with (leaving at) r ≡ r
   resource_same r among =
-      let stays = queue_without s sound at r among (λ queue row found. absent (row, (Queued r.at queue, found))) in
+      let stays = queue_without s sound at r among (λ queue row found. absent (row, inl (Queued r.at queue, found))) in
       rw (stays Granted, stays Conversion, stays Waiting) refl
 
   -- the locks of a process are as they were
@@ -60,7 +60,7 @@ module _ (s : Records) (at : ℕ) (sound : IsSound s) (absent : ¬ IsStored at s
   own_same p among parent [] within = refl
   own_same p among parent (o ∷ rest) within =
       let stored = sound.owned.owns p o among (within o (inl refl)) in
-      let differs : o.at ≢ at = λ same. absent (stored.0, subst (λ x. Stores s x stored.0) same stored.1.0) in
+      let differs : o.at ≢ at = λ same. absent (stored.0, subst (λ x. HasLock s x stored.0) same stored.1.0) in
       let none : ¬ IsIn at o.sublocks = λ found. let below = sound.owned.below p o at among (within o (inl refl)) found in absent (below.1, below.2.1) in
       rw (at_same parent o, ne_eqb o.at at differs)
       (ap (λ x. x ∷ map (without_sublock at) (filter (λ (o : OwnLock). not (o.at == at)) (map (with_sublock parent at) rest))) (sublocks_same parent o none)
@@ -71,11 +71,11 @@ module _ (s : Records) (at : ℕ) (sound : IsSound s) (absent : ¬ IsStored at s
       at_same (Some up) o = elim (o.at == up) as (λ b. (cond b (record o { sublocks = o.sublocks ++ at ∷ [] }) o).at ≡ o.at) [ true ↦ refl | false ↦ refl ]
 
       sublocks_same : (parent : Option ℕ) (o : OwnLock) → ¬ IsIn at o.sublocks → without_sublock at (with_sublock parent at o) ≡ o
-      sublocks_same None o none = ap (λ x. record { at = o.at; sublocks = x }) (handle_absent at o.sublocks none)
+      sublocks_same None o none = ap (λ x. record { at = o.at; sublocks = x; loose = o.loose }) (handle_absent at o.sublocks none)
       sublocks_same (Some up) o none =
           elim (o.at == up) as (λ b. without_sublock at (cond b (record o { sublocks = o.sublocks ++ at ∷ [] }) o) ≡ o) [
-            | true ↦ ap (λ x. record { at = o.at; sublocks = x }) (handles_last at o.sublocks none)
-            | false ↦ ap (λ x. record { at = o.at; sublocks = x }) (handle_absent at o.sublocks none)
+            | true ↦ ap (λ x. record { at = o.at; sublocks = x; loose = o.loose }) (handles_last at o.sublocks none)
+            | false ↦ ap (λ x. record { at = o.at; sublocks = x; loose = o.loose }) (handle_absent at o.sublocks none)
           ]
 
   process_same : (p : StoredProcess) → IsIn p s.processes → (owner : ℕ) (parent : Option ℕ) → process_without_lock at (process_with_lock owner parent at p) ≡ p

@@ -4,10 +4,12 @@ use Rattle.slab.specs.Slab.{Slab, get}
 use Rattle.vlm_collections.specs.declared.lists.LinkedList.{LinkedList}
 use Rattle.vlm_collections.specs.Lists.{handles_of}
 use Rattle.vlm_words.specs.State.{Process as PlainProcess}
+use Rattle.vlm_words.specs.declared.locks.LockRow.{LockRow}
 use Rattle.vlm_records.specs.declared.locks.Lock.{Lock}
 use Rattle.vlm_records.specs.declared.processes.Process.{Process}
 use Rattle.vlm_records.specs.declared.resources.InOrder.{InOrder}
 use Rattle.vlm_records.specs.Kin.{below_handles, own_handles, plain_process, process_links}
+use Rattle.vlm_records.specs.Shown.{loose_in}
 use Rattle.vlm_store.specs.Records.{OwnLock, StoredProcess}
 
 -- a process without its locks: its record, and how many ASTs are due
@@ -31,16 +33,18 @@ abbrev pub process_face_in : Option Process → ProcessFace
 process_face_in None = no_process
 process_face_in (Some p) = process_face p
 
--- for each handle a process and its locks, for each lock its sublocks, and the processes in the order of making
+-- for each handle a process and its locks, for each lock its sublocks and the row of a loose one, and the processes in
+-- the order of making
 pub record Holding : Type 0 where
   pub faces : ℕ → ProcessFace
   pub own : ℕ → List ℕ
   pub below : ℕ → List ℕ
+  pub loose : ℕ → Option LockRow
   pub order : List ℕ
 
--- a lock of a process, with its sublocks
+-- a lock of a process, with its sublocks, and with its row if it is loose
 abbrev pub own_of : Holding → ℕ → OwnLock
-own_of h at = record { at = at; sublocks = h.below at }
+own_of h at = record { at = at; sublocks = h.below at; loose = h.loose at }
 
 -- a process with its handle and these locks of its own
 abbrev pub faced : ℕ → ProcessFace → List OwnLock → StoredProcess
@@ -60,5 +64,6 @@ holding processes locks order = record {
   faces = λ at. process_face_in (get processes at);
   own = own_handles processes locks;
   below = below_handles locks;
+  loose = λ at. loose_in (get locks at);
   order = handles_of process_links processes order;
 }

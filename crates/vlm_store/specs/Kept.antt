@@ -1,7 +1,7 @@
 -- The store's invariant, and the records that its fields show.
-use Rattle.std.specs.Prelude.{ℕ, List, [], Option, None}
+use Rattle.std.specs.Prelude.{ℕ, List, Option, None}
 use Rattle.slab.specs.Slab.{ContainsKey}
-use Rattle.vlm_store.specs.Index.{hash_key, Indexes, IsTable}
+use Rattle.vlm_store.specs.Index.{hash_key, handle_by, spares_by, Indexes}
 use Rattle.vlm_collections.specs.Parts.{handle_in, spares_of}
 use Rattle.vlm_collections.specs.Lists.{IsIn, IsLinked, handles_of}
 use Rattle.vlm_store.specs.declared.store.Store.TheInside.{Inside}
@@ -27,7 +27,7 @@ abbrev pub rooms_shown : Inside → Rooms
 rooms_shown s = record {
   locks = room_of s.queues.locks (spares_of s.lock_index);
   resources = room_of s.queues.resources (spares_in s.resource_index);
-  processes = room_of s.processes [];
+  processes = room_of s.processes (spares_by s.process_index);
 }
 
 -- the processes, the room and the keys that the fields show
@@ -61,6 +61,6 @@ pub record IsKept (s : Inside) : Type 0 where
   pub processes_linked : IsLinked process_links s.processes s.process_order
   pub processes_ordered : (at : ℕ) → ContainsKey s.processes at
       → IsIn at (handles_of process_links s.processes s.process_order)
-  pub processes : IsTable s.process_index (pid_at s.processes)
+  pub processes : Indexes (handle_by s.process_index) (pid_at s.processes)
   pub marked : IsMarked waits_in s.processes s.pending
   pub living : IsMarked is_of_nodes s.processes s.living

@@ -1,6 +1,6 @@
 -- What the store shows to a caller: resources with their queues of locks, and processes with their own locks, each
 -- with its handle.
-use Rattle.std.specs.Prelude.{◌≡◌, ◌<◌, ◌≤◌, ◌/◌, ℕ, Bool, true, false, not, ◌==◌, ◌&&◌, ◌+◌, ◌-◌, count_by, sum_by, List, [], ◌∷◌, ◌++◌, map, filter, slice_get, find, flat_map, Option, None, Some, IsSome, if◌then◌else◌}
+use Rattle.std.specs.Prelude.{◌≡◌, ◌⊎◌, ◌<◌, ◌≤◌, ◌/◌, ℕ, Bool, true, false, not, ◌==◌, ◌&&◌, ◌+◌, ◌-◌, count_by, sum_by, List, [], ◌∷◌, ◌++◌, map, filter, slice_get, find, flat_map, Option, None, Some, IsSome, if◌then◌else◌}
 use Rattle.std.specs.Option.{option_map, option_map_or}
 use Rattle.vlm_collections.specs.declared.hashers.HashKeys.{HashKeys}
 use Rattle.vlm_words.specs.declared.asts.Ast.{Ast}
@@ -41,10 +41,11 @@ pub record StoredResource : Type 0 where
   pub converting : List StoredLock
   pub waiting : List StoredLock
 
--- a lock of a process, with the handles of its sublocks
+-- a lock of a process, with the handles of its sublocks; a loose lock, which is in no queue, with its row
 pub record OwnLock : Type 0 where
   pub at : ℕ
   pub sublocks : List ℕ
+  pub loose : Option LockRow
 
 -- a process with its handle, the number of its due ASTs, and its locks in the order of making; due are the ASTs that
 -- it may still get, without those that are pending
@@ -55,7 +56,7 @@ pub record StoredProcess : Type 0 where
   pub own : List OwnLock
 
 -- the room for one kind of record: how many more its slab takes without an allocation, the handle of the next one,
--- and how many more each part of its index takes; processes have no such index, see `IsBesideOne`
+-- and how many more each part of its index takes
 pub record Room : Type 0 where
   pub slots : ℕ
   pub next_handle : ℕ
@@ -124,13 +125,34 @@ HasPlace (Queued res queue) s = HasResource res s
 abbrev pub locks_at : Place → Records → List StoredLock
 locks_at (Queued res queue) s = option_map_or (queued queue) (resource_at res s.resources) []
 
--- a lock with this handle and row exists
+-- a lock with this handle and row is in a queue
 abbrev pub Stores : Records → ℕ → LockRow → Type 0
 Stores s at row = (place : Place) × IsIn (record { at = at; row = row }) (locks_at place s)
 
--- a lock with this handle exists
+-- a lock with this handle is in a queue
 abbrev pub IsStored : ℕ → Records → Type 0
 IsStored at s = (row : LockRow) × Stores s at row
+
+-- a lock with this handle and row is loose: its process has it, and it is in no queue
+abbrev pub IsLooseRow : Records → ℕ → LockRow → Type 0
+IsLooseRow s at row = (p : StoredProcess) × (own : OwnLock)
+    × (IsIn p s.processes × IsIn own p.own × (own.at ≡ at) × (own.loose ≡ Some row))
+
+-- a lock with this handle is loose
+abbrev pub IsLoose : ℕ → Records → Type 0
+IsLoose at s = (row : LockRow) × IsLooseRow s at row
+
+-- a lock with this handle and row exists, in a queue or loose
+abbrev pub HasLock : Records → ℕ → LockRow → Type 0
+HasLock s at row = Stores s at row ⊎ IsLooseRow s at row
+
+-- a lock with this handle exists
+abbrev pub IsLock : ℕ → Records → Type 0
+IsLock at s = (row : LockRow) × HasLock s at row
+
+-- each lock is in a queue
+abbrev pub NoneIsLoose : Records → Type 0
+NoneIsLoose s = (p : StoredProcess) (own : OwnLock) → IsIn p s.processes → IsIn own p.own → own.loose ≡ None
 
 -- both rows are of one lock
 pub record IsSameLock (a b : LockRow) : Type 0 where
@@ -144,8 +166,8 @@ IsRowOf at row s = (was : LockRow) × (Stores s at was × IsSameLock was row)
 
 -- the handle of the lock with this identification, or there is no such lock
 abbrev pub FindsLock : Records → ℕ → Option ℕ → Type 0
-FindsLock s lkid None = (at : ℕ) (row : LockRow) → Stores s at row → ¬ (row.lkid ≡ lkid)
-FindsLock s lkid (Some at) = (row : LockRow) × (Stores s at row × (row.lkid ≡ lkid))
+FindsLock s lkid None = (at : ℕ) (row : LockRow) → HasLock s at row → ¬ (row.lkid ≡ lkid)
+FindsLock s lkid (Some at) = (row : LockRow) × (HasLock s at row × (row.lkid ≡ lkid))
 
 -- no lock has this identification
 abbrev pub IsNewLock : ℕ → Records → Type 0
@@ -341,7 +363,7 @@ with_sublock (Some parent) lock own =
 
 -- a new lock of a process, without sublocks
 abbrev pub new_own : ℕ → List OwnLock
-new_own lock = record { at = lock; sublocks = [] } ∷ []
+new_own lock = record { at = lock; sublocks = []; loose = None } ∷ []
 
 -- the process after a lock with this owner and parent lock was made
 abbrev pub process_with_lock : ℕ → Option ℕ → ℕ → StoredProcess → StoredProcess
@@ -371,6 +393,26 @@ abbrev pub without_stored_lock : ℕ → Records → Records
 without_stored_lock at s = record s {
   resources = map (resource_with (leaving at)) s.resources;
   processes = map (process_without_lock at) s.processes;
+}
+
+-- the lock with this handle is loose, with this row, or is loose no more
+abbrev pub with_loose : ℕ → Option LockRow → OwnLock → OwnLock
+with_loose lock row own = if own.at == lock then record own { loose = row } else own
+
+-- the same change of the locks of a process
+abbrev pub process_with_loose : ℕ → Option LockRow → StoredProcess → StoredProcess
+process_with_loose lock row p = record p { own = map (with_loose lock row) p.own }
+
+-- the records after a lock with this row left its queue
+abbrev pub with_lock_unlinked : ℕ → LockRow → Records → Records
+with_lock_unlinked at row s = record (with_lists (leaving at) s) {
+  processes = map (process_with_loose at (Some row)) s.processes;
+}
+
+-- the records after a loose lock with this row joined a queue at its end
+abbrev pub with_lock_pushed : ℕ → LockRow → Place → Records → Records
+with_lock_pushed at row to s = record (with_lists (joining to (record { at = at; row = row })) s) {
+  processes = map (process_with_loose at None) s.processes;
 }
 
 -- the lock has no sublocks
@@ -480,7 +522,7 @@ IsBesideOne pid s = (p : StoredProcess)
 
 -- there is room for one more process, its status blocks excepted
 pub record HasRoomForProcess (pid : ℕ) (s : Records) : Type 0 where
-  pub record_room : HasSlot s.room.processes
+  pub record_room : HasRoom pid s.room.processes
   pub mark : IsBesideOne pid s
 
 -- the room is the same or more
@@ -545,18 +587,19 @@ abbrev pub AreOwnApart : List OwnLock → Type 0
 AreOwnApart = EachTwo (λ (other own : OwnLock). ¬ (other.at ≡ own.at))
 
 -- the locks of a process are those whose rows name it, and the sublocks of a lock are those whose rows name it as
--- their parent
+-- their parent; a loose lock is in no queue
 pub record AreOwned (s : Records) : Type 0 where
-  pub owned : (at : ℕ) (row : LockRow) → Stores s at row
+  pub owned : (at : ℕ) (row : LockRow) → HasLock s at row
       → (p : StoredProcess) × (own : OwnLock) × (IsIn p s.processes × (p.process.pid ≡ row.pid) × IsIn own p.own
       × (own.at ≡ at))
   pub owns : (p : StoredProcess) (own : OwnLock) → IsIn p s.processes → IsIn own p.own
-      → (row : LockRow) × (Stores s own.at row × (row.pid ≡ p.process.pid))
+      → (row : LockRow) × (HasLock s own.at row × (row.pid ≡ p.process.pid))
   pub below : (p : StoredProcess) (own : OwnLock) (at : ℕ) → IsIn p s.processes → IsIn own p.own → IsIn at own.sublocks
-      → (up : LockRow) × (row : LockRow) × (Stores s own.at up × Stores s at row × (row.parent ≡ up.lkid))
-  pub named : (at : ℕ) (row : LockRow) → Stores s at row → ¬ (row.parent ≡ 0)
+      → (up : LockRow) × (row : LockRow) × (HasLock s own.at up × HasLock s at row × (row.parent ≡ up.lkid))
+  pub named : (at : ℕ) (row : LockRow) → HasLock s at row → ¬ (row.parent ≡ 0)
       → (p : StoredProcess) × (own : OwnLock) × (up : LockRow)
-      × (IsIn p s.processes × IsIn own p.own × IsIn at own.sublocks × Stores s own.at up × (up.lkid ≡ row.parent))
+      × (IsIn p s.processes × IsIn own p.own × IsIn at own.sublocks × HasLock s own.at up × (up.lkid ≡ row.parent))
+  pub queued : (at : ℕ) (row other : LockRow) → Stores s at row → ¬ IsLooseRow s at other
 
 -- what holds in any state: each handle is one record, no lock is at two places, identifications and keys are unique,
 -- and the locks of a process are those that name it
@@ -565,7 +608,7 @@ pub record IsSound (s : Records) : Type 0 where
   pub locks_apart : (place : Place) → AreApart (locks_at place s)
   pub one_place : (at : ℕ) (a b : LockRow) (p q : Place) → IsIn (record { at = at; row = a }) (locks_at p s)
       → IsIn (record { at = at; row = b }) (locks_at q s) → p ≡ q
-  pub lkids_apart : (a b : ℕ) (x y : LockRow) → Stores s a x → Stores s b y → x.lkid ≡ y.lkid → a ≡ b
+  pub lkids_apart : (a b : ℕ) (x y : LockRow) → HasLock s a x → HasLock s b y → x.lkid ≡ y.lkid → a ≡ b
   pub keys_apart : (a b : StoredResource) → IsIn a s.resources → IsIn b s.resources → a.key ≡ b.key → a.at ≡ b.at
   pub processes_apart : AreProcessesApart s.processes
   pub owned : AreOwned s

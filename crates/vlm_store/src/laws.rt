@@ -6,12 +6,12 @@ ghost use Rattle.vlm_words.specs.declared.resources.Queue.{Queue};
 ghost use Rattle.vlm_words.specs.declared.resources.Site.{Site};
 ghost use Rattle.vlm_words.specs.declared.steps.Declaration.{Declaration};
 ghost use Rattle.vlm_records.specs.declared.handles.Place.{Place};
-ghost use Rattle.vlm_store.specs.Records.{Records, HasProcess, HasResource, IsSound, IsStored, joined_by, new_stored_resource, new_stored_process, on_resource, process_with_lock, with_new_lock, without_process, without_resource, without_stored_lock};
+ghost use Rattle.vlm_store.specs.Records.{Records, HasProcess, HasResource, IsLock, IsSound, joined_by, new_stored_resource, new_stored_process, on_resource, process_with_lock, with_new_lock, without_process, without_resource, without_stored_lock};
 
 /// A lock, resource or process that is added and removed again leaves the records as they were.
 pub fn law_removal_undoes_an_addition()
     ensures lock { (s : Records) (at : ℕ) (row : LockRow) (owner : ℕ) (parent : Option ℕ) (to : Place)
-        → IsSound s → ¬ IsStored at s
+        → IsSound s → ¬ IsLock at s
         → without_stored_lock at (with_new_lock at row owner parent to s) ≡ s }
     ensures resource { (s : Records) (res serial : ℕ) (site : Site) → ¬ HasResource res s
         → record s {

@@ -14,6 +14,7 @@
 //! owed. Nothing shrinks.
 #![tactic(auto)]
 
+mod additions;
 mod armed;
 mod hashed;
 mod key_index;

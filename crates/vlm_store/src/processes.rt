@@ -8,7 +8,7 @@ ghost use Rattle.vlm_records.specs.Kin.{plain_process};
 ghost use Rattle.vlm_records.specs.StatusBlocks.{requested, with_changed_block, with_status};
 ghost use Rattle.vlm_store.specs.Pending.{IsFirstLiving};
 ghost use Rattle.vlm_store.specs.Plain.{plain_processes};
-ghost use Rattle.vlm_store.specs.Records.{AreSound, FindsProcess, HasNoLocks, HasNoSublocks, HasProcess, HasRoomForProcess, IsGivenBack, IsNewProcess, IsOwed, IsProcess, IsSound, IsStored, IsTaken, IsUnchanged, authorization_of, new_stored_process, on_process, on_stored, owed_less, owed_more, own_at, owned_by, process_after, process_at, with_owed_ast, with_process_room, without_process};
+ghost use Rattle.vlm_store.specs.Records.{AreSound, FindsProcess, HasNoLocks, HasNoSublocks, HasProcess, HasRoomForProcess, IsGivenBack, IsNewProcess, IsOwed, IsProcess, IsSound, IsStored, IsTaken, IsUnchanged, NoneIsLoose, authorization_of, new_stored_process, on_process, on_stored, owed_less, owed_more, own_at, owned_by, process_after, process_at, with_owed_ast, with_process_room, without_process};
 
 use crate::store::Store;
 use std::alloc::AllocError;
@@ -16,6 +16,7 @@ use vlm_collections::reserve_slot;
 use vlm_records::{LockAt, ProcAt, Process, put_in, take_out};
 use vlm_words::asts::Ast;
 use vlm_words::blocks::Block;
+use vlm_words::ids::process_ordinal;
 use vlm_words::steps::Declaration;
 
 impl Store {
@@ -25,8 +26,13 @@ impl Store {
         ensures there { IfSome result (λ at. HasProcess at self.now) }
         ensures sound { IsSound self.now }
     {
-        let slot = self.process_index.get(pid)?;
-        Some(ProcAt::of(slot))
+        // The index keeps the order of making. As long as one node declares and nobody ends, a process stands at its
+        // ordinal less one, and this guess saves the hash.
+        let guess = usize::from(process_ordinal(pid)).wrapping_sub(1);
+        match self.process_index.get_index(guess) {
+            Some((found, at)) if *found == pid => Some(*at),
+            _ => self.process_index.get(&pid).copied(),
+        }
     }
 
     /// The first living process of a node: the least identification. Nodes are 1 to 8.
@@ -65,14 +71,15 @@ impl Store {
         ensures err { OnErr result (IsUnchanged self.old self.new) }
     {
         reserve_slot(&mut self.processes)?;
-        self.process_index.make_room(pid)?;
+        self.process_index.reserve(1)?;
         self.living.make_room(pid)?;
         self.pending.make_room(pid)?;
         let process = Process::new(pid, declaration, blocks);
         let slot = put_in(&mut self.processes, &mut self.process_order, process);
-        self.process_index.put(pid, slot);
+        let at = ProcAt::of(slot);
+        let _ = self.process_index.insert(pid, at);
         self.living.mark(pid);
-        Ok(ProcAt::of(slot))
+        Ok(at)
     }
 
     /// Removes a process that has no locks, with its status blocks and ASTs. The other processes keep their order.
@@ -86,7 +93,7 @@ impl Store {
     {
         let pid = self.processes[at.slot()].pid;
         take_out(&mut self.processes, &mut self.process_order, at.slot());
-        self.process_index.remove(pid);
+        self.process_index.swap_remove(&pid);
         self.living.unmark(pid);
         self.pending.unmark(pid);
     }
@@ -213,7 +220,8 @@ impl Store {
     pub fn lock_count(&self, at: ProcAt) -> usize
         requires { HasProcess at self.now }
         ensures own { result ≡ length (own_at at self.now) }
-        ensures owned { (pid : ℕ) → IsProcess at pid self.now → result ≡ owned_by pid self.now }
+        ensures owned { NoneIsLoose self.now → (pid : ℕ) → IsProcess at pid self.now
+            → result ≡ owned_by pid self.now }
     {
         self.processes[at.slot()].own.len(&self.queues.locks)
     }

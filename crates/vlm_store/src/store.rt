@@ -2,6 +2,7 @@
 
 ghost use Rattle.std.specs.Prelude.{◌≡◌, ◌||◌, [], ◌∷◌, ◌++◌, length, map, IfSome, IsOk, OnOk};
 ghost use Rattle.std.specs.List.{list_any};
+ghost use Rattle.std.specs.Bool.{OnFalse, OnTrue};
 ghost use Rattle.std.specs.Option.{ForSome};
 ghost use Rattle.vlm_words.specs.declared.locks.LockRow.{LockRow};
 ghost use Rattle.vlm_collections.specs.Lists.{IsIn, handle_before};
@@ -9,14 +10,15 @@ ghost use Rattle.vlm_records.specs.declared.handles.Place.{Place};
 ghost use Rattle.vlm_words.specs.Rows.{blocks_request};
 ghost use Rattle.vlm_store.specs.Index.{hash_key};
 ghost use Rattle.vlm_store.specs.Held.{held_counts};
-ghost use Rattle.vlm_store.specs.Records.{AreSound, FindsLock, FindsResource, HasNoSublocks, HasPlace, HasResource, HasRoomForLock, HasRoomForResource, IsGivenBack, IsTaken, IsUnchanged, IsParentOf, IsProcess, at_after, disarming, first_at, first_resource_at, fits_beside, resource_at_after, resource_at, rows_of_locks, IsIdle, IsNewKey, IsNewLock, IsRowOf, IsSound, IsStored, Stores, locks_at, moving, new_stored_resource, nothing, on_resource, queued, with_lists, with_lock_room, with_new_lock, with_resource_room, without_resource, without_stored_lock};
+ghost use Rattle.vlm_store.specs.Records.{AreSound, FindsLock, FindsResource, HasNoSublocks, HasPlace, HasResource, HasRoomForLock, HasRoomForResource, IsGivenBack, IsLock, IsLoose, IsLooseRow, IsTaken, IsUnchanged, IsParentOf, IsProcess, at_after, disarming, first_at, first_resource_at, fits_beside, resource_at_after, resource_at, rows_of_locks, IsIdle, IsNewKey, IsNewLock, IsRowOf, IsSound, IsStored, Stores, locks_at, moving, NoneIsLoose, new_stored_resource, nothing, on_resource, queued, with_lists, with_lock_pushed, with_lock_unlinked, with_lock_room, with_new_lock, with_resource_room, without_resource, without_stored_lock};
 ghost use Rattle.vlm_store.specs.Total.{lock_total};
 
 use crate::key_index::KeyIndex;
+use indexmap::IndexMap;
 use slab::Slab;
 use std::alloc::{AllocError, Global};
 use std::marker::Model;
-use vlm_collections::{HandleTable, HashKeys, LinkedList, NodeMarks, PartedIndex, reserve_slot};
+use vlm_collections::{HashKeys, HashSpread, LinkedList, NodeMarks, PartedIndex, reserve_slot};
 use vlm_records::{
     InOrder, InWaitList, Lock, LockAt, LockKind, Place, ProcAt, Process, Queues, ResAt, Resource,
     StoredRow, join_parent, join_process, join_wait_list, leave_parent, leave_process,
@@ -25,8 +27,8 @@ use vlm_records::{
 use vlm_words::modes::Mode;
 use vlm_words::resources::{Key, Queue, Site, ValueBlock};
 
-/// All records of the machine. A call takes constant time, except those that make room (`reserve_lock`,
-/// `reserve_resource`, `add_process`, `new_status_blocks`, `owe`), and `nth_process`, which walks.
+/// All records of the machine. A call takes constant time, except those that make room (`reserve_lock`, `add_lock`,
+/// `reserve_resource`, `add_resource`, `add_process`, `new_status_blocks`, `owe`), and `nth_process`, which walks.
 pub struct Store {
     // makes status blocks and the room for ASTs; slabs and indexes have a copy
     pub(crate) alloc: Global,
@@ -41,7 +43,7 @@ pub struct Store {
     // the indexes: of locks and of living processes by identification, of resources by key
     lock_index: PartedIndex<LockKind>,
     resource_index: KeyIndex,
-    pub(crate) process_index: HandleTable,
+    pub(crate) process_index: IndexMap<u32, ProcAt, HashSpread>,
     // the keys of the hash for resources; callers choose names, so nobody should foresee their hashes
     keys: HashKeys,
     // for each node, its living processes
@@ -95,6 +97,7 @@ impl Store {
     /// the keys could choose names with equal hashes.
     pub fn with_keys(alloc: Global, keys: HashKeys) -> Store
         ensures empty { result ≡ record (nothing result.keys) { room = result.room } }
+        ensures keys { result.keys ≡ keys }
         ensures sound { IsSound result }
     {
         Store {
@@ -109,7 +112,7 @@ impl Store {
             process_order: LinkedList::new(),
             lock_index: PartedIndex::new(alloc),
             resource_index: KeyIndex::new(alloc),
-            process_index: HandleTable::new(alloc),
+            process_index: IndexMap::with_hasher(alloc, HashSpread::new()),
             keys,
             living: NodeMarks::new(alloc),
             pending: NodeMarks::new(alloc),
@@ -159,8 +162,10 @@ impl Store {
     /// Makes room for one more lock with this identification, if there is no room.
     pub fn reserve_lock(&mut self, lkid: u32) -> Result<(), AllocError>
         ensures unchanged { IsUnchanged self.old self.new }
+        ensures only { self.new ≡ with_lock_room self.new.room.locks self.old }
         ensures room { OnOk result (HasRoomForLock lkid self.new) }
         ensures succeeds { HasRoomForLock lkid self.old → IsOk result }
+        ensures sound { IsSound self.old }
     {
         reserve_slot(&mut self.queues.locks)?;
         self.lock_index.reserve(lkid)
@@ -181,7 +186,7 @@ impl Store {
         requires there { HasPlace to self.old }
         ensures added { self.new ≡ with_lock_room self.new.room.locks
             (with_new_lock result row.now owner parent to self.old) }
-        ensures fresh { ¬ IsStored result self.old }
+        ensures fresh { ¬ IsLock result self.old }
         ensures taken { IsTaken self.old.room.locks self.new.room.locks }
         ensures sound { AreSound self.old self.new }
     {
@@ -192,7 +197,12 @@ impl Store {
             parent,
             ..
         } = self.queues.locks[slot];
-        join_wait_list(&mut self.queues.locks, &mut self.wait_list, slot, &place);
+        join_wait_list(
+            &mut self.queues.locks,
+            &mut self.wait_list,
+            slot,
+            &place.place(),
+        );
         join_process(&mut self.processes, &mut self.queues.locks, slot, owner);
         join_parent(&mut self.queues.locks, slot, parent.get());
         let at = LockAt::of(slot);
@@ -209,7 +219,7 @@ impl Store {
         ensures sound { AreSound self.old self.new }
     {
         let at = lock.slot();
-        let from = self.queues.locks[at].place;
+        let from = self.queues.locks[at].place.place();
         leave_wait_list(&mut self.queues.locks, &mut self.wait_list, at, &from);
         self.queues.move_to(at, row, to);
         join_wait_list(&mut self.queues.locks, &mut self.wait_list, at, &to);
@@ -222,6 +232,41 @@ impl Store {
         ensures sound { AreSound self.old self.new }
     {
         self.queues.disarm(lock.slot());
+    }
+
+    /// Whether a lock is loose: in no queue.
+    pub fn is_loose(&self, lock: LockAt) -> bool
+        requires { IsLock lock self.now }
+        ensures loose { OnTrue result (IsLoose lock self.now) }
+        ensures queued { OnFalse result (IsStored lock self.now) }
+    {
+        self.queues.locks[lock.slot()].is_loose()
+    }
+
+    /// Takes a lock out of its queue. It stays a lock of its process, and is loose: in no queue.
+    pub fn unlink(&mut self, lock: LockAt)
+        requires { IsStored lock self.old }
+        ensures unlinked { (row : LockRow) → Stores self.old lock row
+            → self.new ≡ with_lock_unlinked lock row self.old }
+        ensures sound { AreSound self.old self.new }
+    {
+        let at = lock.slot();
+        let from = self.queues.locks[at].place.place();
+        leave_wait_list(&mut self.queues.locks, &mut self.wait_list, at, &from);
+        self.queues.unlink(at);
+    }
+
+    /// Puts a loose lock at the end of a queue. It keeps its row.
+    pub fn push_back(&mut self, lock: LockAt, to: Place)
+        requires loose { IsLoose lock self.old }
+        requires there { HasPlace to self.old }
+        ensures pushed { (row : LockRow) → IsLooseRow self.old lock row
+            → self.new ≡ with_lock_pushed lock row to self.old }
+        ensures sound { AreSound self.old self.new }
+    {
+        let at = lock.slot();
+        self.queues.push_back(at, to);
+        join_wait_list(&mut self.queues.locks, &mut self.wait_list, at, &to);
     }
 
     /// Removes a lock without sublocks from all its lists. The index may have to grow for the next lock.
@@ -243,7 +288,12 @@ impl Store {
         } = self.queues.locks[at];
         leave_parent(&mut self.queues.locks, at, parent.get());
         leave_process(&mut self.processes, &mut self.queues.locks, at, owner);
-        leave_wait_list(&mut self.queues.locks, &mut self.wait_list, at, &place);
+        leave_wait_list(
+            &mut self.queues.locks,
+            &mut self.wait_list,
+            at,
+            &place.place(),
+        );
         self.queues.remove(at);
         self.lock_index.remove(row.lkid());
     }
@@ -251,8 +301,10 @@ impl Store {
     /// Makes room for one more resource whose key has this hash, if there is no room.
     pub fn reserve_resource(&mut self, hash: u32) -> Result<(), AllocError>
         ensures unchanged { IsUnchanged self.old self.new }
+        ensures only { self.new ≡ with_resource_room self.new.room.resources self.old }
         ensures room { OnOk result (HasRoomForResource hash self.new) }
         ensures succeeds { HasRoomForResource hash self.old → IsOk result }
+        ensures sound { IsSound self.old }
     {
         reserve_slot(&mut self.queues.resources)?;
         self.resource_index.reserve(hash)
@@ -296,7 +348,9 @@ impl Store {
             → IsIn (record { at = lock; row = row }) (locks_at place self.now)
             → result ≡ at_after lock (locks_at place self.now) }
     {
-        let list = self.queues.list(self.queues.locks[lock.slot()].place);
+        let list = self
+            .queues
+            .list(self.queues.locks[lock.slot()].place.place());
         let at = list.next(&self.queues.locks, lock.slot())?;
         Some(LockAt::of(at))
     }
@@ -308,7 +362,9 @@ impl Store {
             → IsIn (record { at = lock; row = row }) (locks_at place self.now)
             → result ≡ handle_before lock (map (λ k. k.at) (locks_at place self.now)) }
     {
-        let list = self.queues.list(self.queues.locks[lock.slot()].place);
+        let list = self
+            .queues
+            .list(self.queues.locks[lock.slot()].place.place());
         let at = list.previous(&self.queues.locks, lock.slot())?;
         Some(LockAt::of(at))
     }
@@ -322,7 +378,7 @@ impl Store {
 
     /// How many locks exist, of all processes.
     pub fn total_locks(&self) -> usize
-        ensures { result ≡ lock_total self.now }
+        ensures { NoneIsLoose self.now → result ≡ lock_total self.now }
     {
         self.queues.locks.len()
     }
@@ -402,7 +458,7 @@ impl Store {
     #[inline(always)]
     pub fn can_hold(&self, res: ResAt, mode: Mode, except: Option<LockAt>) -> bool
         requires there { HasResource res self.now }
-        requires except { ForSome except (λ lock. IsStored lock self.now) }
+        requires except { ForSome except (λ lock. IsLock lock self.now) }
         ensures { IfSome (resource_at res self.now.resources) (λ r. result
             ≡ fits_beside mode except r) }
     {

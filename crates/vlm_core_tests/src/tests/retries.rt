@@ -1,6 +1,8 @@
 //! A resource whose three queues are filled, served and emptied. What wants memory finds, where it was
 //! refused, that nothing has changed, and tries again: so each test passes with any one allocation refused.
 
+mod lists;
+mod loose_locks;
 mod routines;
 
 ghost use Rattle.std.specs.Prelude.{◌≡◌};

@@ -1,7 +1,7 @@
 //! Calls on a store that is as it is between two steps.
 
 ghost use Rattle.std.specs.Prelude.{◌≡◌};
-ghost use Rattle.vlm_store.specs.Records.{HasPlace, HasProcess, HasResource, HasRoomForLock, IsParentOf, IsProcess, IsStored};
+ghost use Rattle.vlm_store.specs.Records.{HasPlace, HasProcess, HasResource, HasRoomForLock, IsLoose, IsParentOf, IsProcess, IsStored};
 
 use std::alloc::AllocError;
 use std::process::Abort;
@@ -42,11 +42,22 @@ pub fn resource(rt: &impl Abort, store: &Store, key: &Key) -> ResAt
         .expect(rt, "the resource is there")
 }
 
-/// The lock, which has to be there.
+/// The lock, which has to be there and in a queue.
 pub fn lock(rt: &impl Abort, store: &Store, lkid: u32) -> LockAt
     ensures { IsStored result store.now }
 {
-    store.lock(lkid).expect(rt, "the lock is there")
+    let lock = store.lock(lkid).expect(rt, "the lock is there");
+    assert!(rt; !store.is_loose(lock), "the lock is in a queue");
+    lock
+}
+
+/// The lock, which has to be there and in no queue.
+pub fn loose_lock(rt: &impl Abort, store: &Store, lkid: u32) -> LockAt
+    ensures { IsLoose result store.now }
+{
+    let lock = store.lock(lkid).expect(rt, "the lock is there");
+    assert!(rt; store.is_loose(lock), "the lock is in no queue");
+    lock
 }
 
 /// Adds a process, unless it lives.
@@ -63,9 +74,7 @@ pub fn declare(store: &mut Store, pid: u32, declaration: &Declaration) -> Result
 
 /// Adds a resource, unless it is there.
 pub fn open(store: &mut Store, serial: u32, key: &Key) -> Result<(), AllocError> {
-    let hash = store.hash_of(key);
-    store.reserve_resource(hash)?;
-    match store.resource(key, hash) {
+    match store.resource(key, store.hash_of(key)) {
         Some(_) => Ok(()),
         None => {
             let site = Site {
@@ -73,7 +82,7 @@ pub fn open(store: &mut Store, serial: u32, key: &Key) -> Result<(), AllocError>
                 domain: Domain::System,
                 level: 0,
             };
-            store.add_resource_reserved(serial, &site, hash);
+            store.add_resource(serial, &site)?;
             Ok(())
         }
     }
@@ -95,10 +104,15 @@ pub fn place(rt: &impl Abort, store: &Store, key: &Key, row: &LockRow) -> Place
 pub fn add(rt: &impl Abort, store: &mut Store, key: &Key, row: LockRow) -> Result<(), AllocError>
     requires { row.parent ≡ 0 }
 {
-    store.reserve_lock(row.lkid)?;
     let to = place(rt, store, key, &row);
-    add_reserved(rt, store, row, Spot { parent: None, to });
-    Ok(())
+    let owner = process(rt, store, row.pid);
+    match store.lock(row.lkid) {
+        Some(_) => Ok(()),
+        None => {
+            store.add_lock(&StoredRow::of(&row), owner, None, to)?;
+            Ok(())
+        }
+    }
 }
 
 /// Adds a lock, unless it is there. There is room for it.

@@ -6,6 +6,15 @@ use Rattle.vlm_cluster.specs.Works.{AreTold, IsBegun, IsWhole, Work, entries_at,
 use Rattle.vlm_cluster.proofs.Results.{after_lend, as_many, begun_at, told_at, whole_at, work_at}
 use Rattle.vlm_cluster.proofs.finish.finish.Goals as goal
 
+pub returns-clause-sound : goal.returns-clause-sound
+returns-clause-sound g c = record {
+  legal = c.report.ensures.legal;
+  numbered = c.report.ensures.numbered;
+  takes = c.report.ensures.takes;
+  enough = rw (← c.close-whole.ensures.every) c.report.ensures.enough;
+  fewer = rw (← c.close-whole.ensures.every, ← c.close-whole.ensures.rings) c.report.ensures.fewer;
+}
+
 pub returns-clause-posted : goal.returns-clause-posted
 returns-clause-posted g c k d below =
     let D = WorkerResult g.row.G.Denot in

@@ -27,7 +27,7 @@ loop-at-init c =
 
 pub located_lock-located-requires-clause-stored : goal.located_lock-located-requires-clause-stored
 located_lock-located-requires-clause-stored c =
-    let here = stored_here c.args.owner c.args.pid c.args.store.now c.first_own-at.ensures.sound c.requires.owner c.in-Some.lock (c.loop-at.invariant.there c.in-Some.lock c.in-Some.is) in
+    let here = stored_here c.args.owner c.args.pid c.args.store.now c.first_own-at.ensures.sound c.requires.owner c.requires.rest c.in-Some.lock (c.loop-at.invariant.there c.in-Some.lock c.in-Some.is) in
     (here.0, here.1.0)
 
 pub loop-at-smaller : goal.loop-at-smaller
@@ -64,5 +64,5 @@ returns c =
     let sound = c.first_own-at.ensures.sound in
     let left = on_from c.loop-at.at hs in
     marks_as (OwnWaitFor s hs) (IsBehind s c.args.pid) c.args.scratch.now c.loop-at.scratch
-    (own_behind s sound c.args.owner c.args.pid c.requires.owner) (behind_own s sound c.args.owner c.args.pid c.requires.owner)
+    (own_behind s sound c.requires.rest c.args.owner c.args.pid c.requires.owner) (behind_own s sound c.args.owner c.args.pid c.requires.owner)
     (c.loop-at.invariant.goes_on c.loop-at.scratch (marks_none (OwnWaitFor s left) c.loop-at.scratch (none_own s left (ap (λ o. on_from o hs) c.in_default.is))))

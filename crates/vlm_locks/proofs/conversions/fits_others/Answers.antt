@@ -1,7 +1,7 @@
-use Rattle.std.proofs.Common.{◌≡◌, IfSome, Some, sym, ap, ◌∙◌, subst}
+use Rattle.std.proofs.Common.{◌≡◌, IfSome, Some, sym, ap, ◌∙◌, subst, inl}
 use Rattle.std.proofs.lemmas.Option.{same_Some}
 use Rattle.vlm_words.specs.Rows.{fits, rows_without}
-use Rattle.vlm_store.specs.Records.{IsStored, StoredResource, fits_beside, rows_of_locks}
+use Rattle.vlm_store.specs.Records.{IsLock, StoredResource, fits_beside, rows_of_locks}
 use Rattle.vlm_locks.proofs.Converted.{fits_are}
 use Rattle.vlm_locks.proofs.Stood.{stored}
 use Rattle.vlm_locks.proofs.conversions.fits_others.Goals as goal
@@ -9,7 +9,7 @@ use Rattle.vlm_locks.proofs.conversions.fits_others.Goals as goal
 pub can_hold-requires-clause-except : goal.can_hold-requires-clause-except
 can_hold-requires-clause-except c own same =
     let f = c.args.located.now in
-    subst (λ k. IsStored k c.args.store.now) (same_Some f.lock own same) (f.row, stored c.args.store.now f c.requires.located)
+    subst (λ k. IsLock k c.args.store.now) (same_Some f.lock own same) (f.row, inl (stored c.args.store.now f c.requires.located))
 
 pub returns : goal.returns
 returns c r found =

@@ -1,4 +1,4 @@
-use Rattle.std.proofs.Common.{◌≡◌, ◌≤◌, ◌<◌, ◌+◌, ◌++◌, List, length, get_or, ap, arith, subst, sym, ◌∙◌}
+use Rattle.std.proofs.Common.{◌≡◌, ◌≤◌, ◌<◌, ◌+◌, ◌++◌, List, length, get_or, ap, arith, subst, sym, ◌∙◌, inl}
 use Rattle.vlm_store.specs.Records.{FindsLock, IsStored, sublocks_at}
 use Rattle.vlm_locks.specs.declared.joint_withdrawals.Scope.TheVariants.{Below}
 use Rattle.vlm_locks.specs.declared.touched.Note.{Note}
@@ -10,7 +10,13 @@ use Rattle.vlm_locks.proofs.noted_locks.note_below.Goals as goal
 -- the top is stored
 pub returns-in_default-clause-chosen : goal.returns-in_default-clause-chosen
 returns-in_default-clause-chosen c =
-    absurd (subst (FindsLock c.args.store.now c.args.top) c.in_default.is c.lock.ensures.found c.requires.top.1 c.requires.top.2 c.requires.top.3.0 c.requires.top.3.1)
+    absurd (subst (FindsLock c.args.store.now c.args.top) c.in_default.is c.lock.ensures.found c.requires.top.1 c.requires.top.2 (inl c.requires.top.3.0) c.requires.top.3.1)
+
+pub note_sublocks-requires-clause-stored : goal.note_sublocks-requires-clause-stored
+note_sublocks-requires-clause-stored c =
+    let found =
+    top_found c.args.store.now c.lock.ensures.sound c.args.pid c.args.top c.requires.top c.in-Some.lock (subst (FindsLock c.args.store.now c.args.top) c.in-Some.is c.lock.ensures.found) in
+    (found.0, found.1.0)
 
 pub note_sublocks-requires-clause-room : goal.note_sublocks-requires-clause-room
 note_sublocks-requires-clause-room c =

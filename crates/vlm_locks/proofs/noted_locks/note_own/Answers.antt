@@ -24,7 +24,7 @@ of_lock-requires c =
     let so_far : AreNoted c.args.store.now (own_handles_at c.args.owner c.args.store.now) c.args.touched.now c.loop-next.touched (Some c.in-Some.lock) =
     subst (AreNoted c.args.store.now (own_handles_at c.args.owner c.args.store.now) c.args.touched.now c.loop-next.touched) c.in-Some.is c.loop-next.invariant in
     let apart = handles_apart c.args.owner c.args.pid c.args.store.now c.first_own-next.ensures.sound c.requires.owner in
-    (let here = stored_here c.args.owner c.args.pid c.args.store.now c.first_own-next.ensures.sound c.requires.owner c.in-Some.lock (lock_in c.args.store.now (own_handles_at c.args.owner c.args.store.now) c.args.touched.now c.loop-next.touched c.in-Some.lock so_far apart) in (here.0, here.1.0))
+    (let here = stored_here c.args.owner c.args.pid c.args.store.now c.first_own-next.ensures.sound c.requires.owner c.requires.rest c.in-Some.lock (lock_in c.args.store.now (own_handles_at c.args.owner c.args.store.now) c.args.touched.now c.loop-next.touched c.in-Some.lock so_far apart) in (here.0, here.1.0))
 
 pub note-requires : goal.note-requires
 note-requires c =
@@ -34,7 +34,7 @@ note-requires c =
     has_room c.args.store.now (own_handles_at c.args.owner c.args.store.now) c.args.touched.now c.loop-next.touched c.in-Some.lock so_far apart (omega (
       arith,
       c.requires.room,
-      own_at_most c.args.owner c.args.pid c.args.store.now c.first_own-next.ensures.sound c.requires.owner,
+      own_at_most c.args.owner c.args.pid c.args.store.now c.first_own-next.ensures.sound c.requires.owner c.requires.rest,
       ap (λ (ts : List Note). length ts) c.requires.none,
     ))
 
@@ -43,7 +43,7 @@ next_own-next-requires c =
     let so_far : AreNoted c.args.store.now (own_handles_at c.args.owner c.args.store.now) c.args.touched.now c.loop-next.touched (Some c.in-Some.lock) =
     subst (AreNoted c.args.store.now (own_handles_at c.args.owner c.args.store.now) c.args.touched.now c.loop-next.touched) c.in-Some.is c.loop-next.invariant in
     let apart = handles_apart c.args.owner c.args.pid c.args.store.now c.first_own-next.ensures.sound c.requires.owner in
-    (let here = stored_here c.args.owner c.args.pid c.args.store.now c.first_own-next.ensures.sound c.requires.owner c.in-Some.lock (lock_in c.args.store.now (own_handles_at c.args.owner c.args.store.now) c.args.touched.now c.loop-next.touched c.in-Some.lock so_far apart) in (here.0, here.1.0))
+    (let here = stored_here c.args.owner c.args.pid c.args.store.now c.first_own-next.ensures.sound c.requires.owner c.requires.rest c.in-Some.lock (lock_in c.args.store.now (own_handles_at c.args.owner c.args.store.now) c.args.touched.now c.loop-next.touched c.in-Some.lock so_far apart) in (here.0, here.1.0))
 
 pub loop-next-smaller : goal.loop-next-smaller
 loop-next-smaller c =
@@ -63,7 +63,7 @@ loop-next-preserved c =
     subst (AreNoted c.args.store.now (own_handles_at c.args.owner c.args.store.now) c.args.touched.now c.loop-next.touched) c.in-Some.is c.loop-next.invariant in
     let apart = handles_apart c.args.owner c.args.pid c.args.store.now c.first_own-next.ensures.sound c.requires.owner in
     let next = next_is c.args.store.now (own_handles_at c.args.owner c.args.store.now) c.args.touched.now c.loop-next.touched c.in-Some.lock so_far apart c.next_own-next.result (c.next_own-next.ensures.next c.args.owner (lock_in c.args.store.now (own_handles_at c.args.owner c.args.store.now) c.args.touched.now c.loop-next.touched c.in-Some.lock so_far apart)) in
-    let row : IsStored c.in-Some.lock c.args.store.now = (let here = stored_here c.args.owner c.args.pid c.args.store.now c.first_own-next.ensures.sound c.requires.owner c.in-Some.lock (lock_in c.args.store.now (own_handles_at c.args.owner c.args.store.now) c.args.touched.now c.loop-next.touched c.in-Some.lock so_far apart) in (here.0, here.1.0)) in
+    let row : IsStored c.in-Some.lock c.args.store.now = (let here = stored_here c.args.owner c.args.pid c.args.store.now c.first_own-next.ensures.sound c.requires.owner c.requires.rest c.in-Some.lock (lock_in c.args.store.now (own_handles_at c.args.owner c.args.store.now) c.args.touched.now c.loop-next.touched c.in-Some.lock so_far apart) in (here.0, here.1.0)) in
     one_more c.args.store.now (own_handles_at c.args.owner c.args.store.now) c.args.touched.now c.loop-next.touched c.in-Some.lock so_far apart c.of_lock.result c.of_lock.ensures.lock row.0 row.1 (c.of_lock.ensures.lkid row.0 row.1) c.note.new.self c.note.ensures.noted c.note.ensures.room
     c.next_own-next.result next
 

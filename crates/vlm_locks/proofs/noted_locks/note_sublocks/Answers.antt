@@ -15,7 +15,7 @@ of_lock-requires c =
     let so_far : AreNoted c.args.store.now (sublocks_at c.args.lock c.args.store.now) c.args.touched.now c.loop-next.touched (Some c.in-Some.sublock) =
     subst (AreNoted c.args.store.now (sublocks_at c.args.lock c.args.store.now) c.args.touched.now c.loop-next.touched) c.in-Some.is c.loop-next.invariant in
     let apart = sublocks_apart c.args.store.now c.first_sublock-next.ensures.sound c.args.lock c.requires.rest in
-    (let below = below_of c.args.store.now c.first_sublock-next.ensures.sound c.args.lock c.in-Some.sublock (lock_in c.args.store.now (sublocks_at c.args.lock c.args.store.now) c.args.touched.now c.loop-next.touched c.in-Some.sublock so_far apart) in (below.1, below.2.1))
+    (let below = below_of c.args.store.now c.first_sublock-next.ensures.sound c.args.lock c.requires.rest c.in-Some.sublock (lock_in c.args.store.now (sublocks_at c.args.lock c.args.store.now) c.args.touched.now c.loop-next.touched c.in-Some.sublock so_far apart) in (below.1, below.2.1))
 
 pub note-requires : goal.note-requires
 note-requires c =
@@ -29,7 +29,7 @@ next_sublock-next-requires c =
     let so_far : AreNoted c.args.store.now (sublocks_at c.args.lock c.args.store.now) c.args.touched.now c.loop-next.touched (Some c.in-Some.sublock) =
     subst (AreNoted c.args.store.now (sublocks_at c.args.lock c.args.store.now) c.args.touched.now c.loop-next.touched) c.in-Some.is c.loop-next.invariant in
     let apart = sublocks_apart c.args.store.now c.first_sublock-next.ensures.sound c.args.lock c.requires.rest in
-    (let below = below_of c.args.store.now c.first_sublock-next.ensures.sound c.args.lock c.in-Some.sublock (lock_in c.args.store.now (sublocks_at c.args.lock c.args.store.now) c.args.touched.now c.loop-next.touched c.in-Some.sublock so_far apart) in (below.1, below.2.1))
+    (let below = below_of c.args.store.now c.first_sublock-next.ensures.sound c.args.lock c.requires.rest c.in-Some.sublock (lock_in c.args.store.now (sublocks_at c.args.lock c.args.store.now) c.args.touched.now c.loop-next.touched c.in-Some.sublock so_far apart) in (below.1, below.2.1))
 
 pub loop-next-smaller : goal.loop-next-smaller
 loop-next-smaller c =
@@ -49,7 +49,7 @@ loop-next-preserved c =
     subst (AreNoted c.args.store.now (sublocks_at c.args.lock c.args.store.now) c.args.touched.now c.loop-next.touched) c.in-Some.is c.loop-next.invariant in
     let apart = sublocks_apart c.args.store.now c.first_sublock-next.ensures.sound c.args.lock c.requires.rest in
     let next = next_is c.args.store.now (sublocks_at c.args.lock c.args.store.now) c.args.touched.now c.loop-next.touched c.in-Some.sublock so_far apart c.next_sublock-next.result (c.next_sublock-next.ensures.after c.args.lock (lock_in c.args.store.now (sublocks_at c.args.lock c.args.store.now) c.args.touched.now c.loop-next.touched c.in-Some.sublock so_far apart)) in
-    let row : IsStored c.in-Some.sublock c.args.store.now = (let below = below_of c.args.store.now c.first_sublock-next.ensures.sound c.args.lock c.in-Some.sublock (lock_in c.args.store.now (sublocks_at c.args.lock c.args.store.now) c.args.touched.now c.loop-next.touched c.in-Some.sublock so_far apart) in (below.1, below.2.1)) in
+    let row : IsStored c.in-Some.sublock c.args.store.now = (let below = below_of c.args.store.now c.first_sublock-next.ensures.sound c.args.lock c.requires.rest c.in-Some.sublock (lock_in c.args.store.now (sublocks_at c.args.lock c.args.store.now) c.args.touched.now c.loop-next.touched c.in-Some.sublock so_far apart) in (below.1, below.2.1)) in
     one_more c.args.store.now (sublocks_at c.args.lock c.args.store.now) c.args.touched.now c.loop-next.touched c.in-Some.sublock so_far apart c.of_lock.result c.of_lock.ensures.lock row.0 row.1 (c.of_lock.ensures.lkid row.0 row.1) c.note.new.self c.note.ensures.noted c.note.ensures.room
     c.next_sublock-next.result next
 

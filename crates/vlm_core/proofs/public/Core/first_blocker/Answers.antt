@@ -7,6 +7,9 @@ use Rattle.vlm_core.specs.declared.public.Core.TheInside.{Inside}
 use Rattle.vlm_core.specs.Blockers.{ShowsFirstBlocker}
 use Rattle.vlm_core.proofs.Blocked.{first_is, none_named, records_in_order}
 use Rattle.vlm_core.proofs.public.Core.first_blocker.Goals as goal
+use Rattle.vlm_store.proofs.Records.{in_a_queue}
+use Rattle.vlm_locks.proofs.Rising.{none_loose}
+use Rattle.vlm_core.proofs.SingleLocks.{found_stored}
 
 -- no lock has the identification
 pub returns-in_err-lock : goal.returns-in_err-lock
@@ -25,6 +28,10 @@ pub returns : goal.returns
 returns c =
     let are = ap (λ (t : State). t.resources) (sym c.self.view_is) ∙ ap (λ (core : Inside). (plain_state core.machine).resources) (sym c.self-inside.view_is) in
     let found = c.in_ok-lock.ensures.found in
+    let is_stored = in_a_queue _ (none_loose _ c.self-inside.invariant.rest.rising) c.in_ok-lock.lock found.0 found.1.0 in
     let f = c.located_lock-waiting.result in
-    let its = sym (ap (λ (x : LockRow). x.lkid) (c.located_lock-waiting.ensures.only found.0 found.1.0)) ∙ found.1.1 in
+    let its = sym (ap (λ (x : LockRow). x.lkid) (c.located_lock-waiting.ensures.only found.0 is_stored)) ∙ found.1.1 in
     first_is _ c.in_ok-lock.ensures.sound c.args.self.now are f c.located_lock-waiting.ensures.located c.args.lkid its c.blocker_view.result c.blocker_view.ensures
+
+pub located_lock-waiting-requires-clause-stored : goal.located_lock-waiting-requires-clause-stored
+located_lock-waiting-requires-clause-stored c = found_stored _ c.self-inside.invariant.rest c.args.lkid c.in_ok-lock.lock c.in_ok-lock.ensures.found

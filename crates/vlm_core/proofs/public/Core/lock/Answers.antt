@@ -1,15 +1,21 @@
-use Rattle.std.proofs.Common.{refl}
+use Rattle.std.proofs.Common.{refl, inl}
 use Rattle.vlm_core.specs.Locks.{IsNamed}
-use Rattle.vlm_core.proofs.SingleLocks.{lacks, shows}
+use Rattle.vlm_core.proofs.SingleLocks.{lacks, shows, found_stored}
 use Rattle.vlm_core.proofs.public.Core.lock.Goals as goal
+use Rattle.vlm_store.proofs.Records.{in_a_queue}
+use Rattle.vlm_locks.proofs.Rising.{none_loose}
 
 pub returns-in_err-lock : goal.returns-in_err-lock
 returns-in_err-lock c =
     rw (← c.self.view_is, ← c.self-inside.view_is, c.from_residual.ensures)
-    (lacks _ c.lock.ensures.sound _ refl (IsNamed c.args.lkid) c.in_err-lock.ensures.found)
+    (lacks _ c.lock.ensures.sound _ refl (IsNamed c.args.lkid) (λ at row stored. c.in_err-lock.ensures.found at row (inl stored)))
 
 pub returns : goal.returns
 returns c =
     let found = c.in_ok-lock.ensures.found in
+    let is_stored = in_a_queue _ (none_loose _ c.self-inside.invariant.rest.rising) c.in_ok-lock.lock found.0 found.1.0 in
     rw (← c.self.view_is, ← c.self-inside.view_is)
-    (shows _ c.lock.ensures.sound _ refl (IsNamed c.args.lkid) c.in_ok-lock.lock found.0 found.1.0 found.1.1 c.lock_view.result c.lock_view.ensures)
+    (shows _ c.lock.ensures.sound _ refl (IsNamed c.args.lkid) c.in_ok-lock.lock found.0 is_stored found.1.1 c.lock_view.result c.lock_view.ensures)
+
+pub lock_view-requires-clause-stored : goal.lock_view-requires-clause-stored
+lock_view-requires-clause-stored c = found_stored _ c.self-inside.invariant.rest c.args.lkid c.in_ok-lock.lock c.in_ok-lock.ensures.found

@@ -8,6 +8,9 @@ use Rattle.vlm_core.specs.declared.public.Core.TheInside.{Inside}
 use Rattle.vlm_core.specs.Blockers.{ShowsNextBlocker}
 use Rattle.vlm_core.proofs.Blocked.{last_on, next_is, none_named, not_together, one_resource, records_in_order, two_resources}
 use Rattle.vlm_core.proofs.public.Core.next_blocker.Goals as goal
+use Rattle.vlm_store.proofs.Records.{in_a_queue}
+use Rattle.vlm_locks.proofs.Rising.{none_loose}
+use Rattle.vlm_core.proofs.SingleLocks.{found_stored}
 
 -- no lock has the identification
 pub returns-in_err-lock : goal.returns-in_err-lock
@@ -29,10 +32,12 @@ pub returns-then-ne : goal.returns-then-ne
 returns-then-ne c =
     let are = ap (λ (t : State). t.resources) (sym c.self.view_is) ∙ ap (λ (core : Inside). (plain_state core.machine).resources) (sym c.self-inside.view_is) in
     let found = c.in_ok-lock.ensures.found in
+    let is_stored = in_a_queue _ (none_loose _ c.self-inside.invariant.rest.rising) c.in_ok-lock.lock found.0 found.1.0 in
     let f = c.located_lock-waiting.result in
-    let its = sym (ap (λ (x : LockRow). x.lkid) (c.located_lock-waiting.ensures.only found.0 found.1.0)) ∙ found.1.1 in
+    let its = sym (ap (λ (x : LockRow). x.lkid) (c.located_lock-waiting.ensures.only found.0 is_stored)) ∙ found.1.1 in
     let found_last = c.in_ok-last.ensures.found in
-    let its_last = sym (ap (λ (x : LockRow). x.lkid) (c.located_lock.ensures.only found_last.0 found_last.1.0)) ∙ found_last.1.1 in
+    let last_stored = in_a_queue _ (none_loose _ c.self-inside.invariant.rest.rising) c.in_ok-last.last found_last.0 found_last.1.0 in
+    let its_last = sym (ap (λ (x : LockRow). x.lkid) (c.located_lock.ensures.only found_last.0 last_stored)) ∙ found_last.1.1 in
     not_together _ c.in_ok-lock.ensures.sound c.args.self.now are f c.located_lock.result c.located_lock-waiting.ensures.located c.located_lock.ensures.located c.args.lkid c.args.after its its_last
     (two_resources _ c.in_ok-lock.ensures.sound c.located_lock.result.res f.res c.if-ne.ensures)
 
@@ -45,8 +50,9 @@ pub blocker_view-requires-clause-from : goal.blocker_view-requires-clause-from
 blocker_view-requires-clause-from c x is =
     let are = ap (λ (t : State). t.resources) (sym c.self.view_is) ∙ ap (λ (core : Inside). (plain_state core.machine).resources) (sym c.self-inside.view_is) in
     let found = c.in_ok-lock.ensures.found in
+    let is_stored = in_a_queue _ (none_loose _ c.self-inside.invariant.rest.rising) c.in_ok-lock.lock found.0 found.1.0 in
     let f = c.located_lock-waiting.result in
-    let its = sym (ap (λ (x : LockRow). x.lkid) (c.located_lock-waiting.ensures.only found.0 found.1.0)) ∙ found.1.1 in
+    let its = sym (ap (λ (x : LockRow). x.lkid) (c.located_lock-waiting.ensures.only found.0 is_stored)) ∙ found.1.1 in
     last_on _ c.in_ok-lock.ensures.sound c.args.self.now are f c.located_lock-waiting.ensures.located c.args.lkid its c.located_lock.result c.located_lock.ensures.located
     (one_resource _ c.in_ok-lock.ensures.sound c.located_lock.result.res f.res c.if-ne.ensures) x (c.located_lock.ensures.lock ∙ same_Some c.in_ok-last.last x is)
 
@@ -55,10 +61,18 @@ pub returns : goal.returns
 returns c =
     let are = ap (λ (t : State). t.resources) (sym c.self.view_is) ∙ ap (λ (core : Inside). (plain_state core.machine).resources) (sym c.self-inside.view_is) in
     let found = c.in_ok-lock.ensures.found in
+    let is_stored = in_a_queue _ (none_loose _ c.self-inside.invariant.rest.rising) c.in_ok-lock.lock found.0 found.1.0 in
     let f = c.located_lock-waiting.result in
-    let its = sym (ap (λ (x : LockRow). x.lkid) (c.located_lock-waiting.ensures.only found.0 found.1.0)) ∙ found.1.1 in
+    let its = sym (ap (λ (x : LockRow). x.lkid) (c.located_lock-waiting.ensures.only found.0 is_stored)) ∙ found.1.1 in
     let found_last = c.in_ok-last.ensures.found in
-    let its_last = sym (ap (λ (x : LockRow). x.lkid) (c.located_lock.ensures.only found_last.0 found_last.1.0)) ∙ found_last.1.1 in
+    let last_stored = in_a_queue _ (none_loose _ c.self-inside.invariant.rest.rising) c.in_ok-last.last found_last.0 found_last.1.0 in
+    let its_last = sym (ap (λ (x : LockRow). x.lkid) (c.located_lock.ensures.only found_last.0 last_stored)) ∙ found_last.1.1 in
     next_is _ c.in_ok-lock.ensures.sound c.args.self.now are f c.located_lock-waiting.ensures.located c.args.lkid its c.located_lock.result c.located_lock.ensures.located
     (one_resource _ c.in_ok-lock.ensures.sound c.located_lock.result.res f.res c.if-ne.ensures) c.in_ok-last.last c.located_lock.ensures.lock c.args.after its_last
     c.blocker_view.result c.blocker_view.ensures
+
+pub located_lock-waiting-requires-clause-stored : goal.located_lock-waiting-requires-clause-stored
+located_lock-waiting-requires-clause-stored c = found_stored _ c.self-inside.invariant.rest c.args.lkid c.in_ok-lock.lock c.in_ok-lock.ensures.found
+
+pub located_lock-requires-clause-stored : goal.located_lock-requires-clause-stored
+located_lock-requires-clause-stored c = found_stored _ c.self-inside.invariant.rest c.args.after c.in_ok-last.last c.in_ok-last.ensures.found

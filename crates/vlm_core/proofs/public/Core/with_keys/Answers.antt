@@ -8,7 +8,7 @@ use Rattle.vlm_core.proofs.public.Core.with_keys.Goals as goal
 -- the start is reached by no step, and no lock is there
 pub invariant_of-result : goal.invariant_of-result
 invariant_of-result c = record {
-  reachable = subst IsReachable (sym c.with_keys.ensures) start_reachable;
-  notes = none_at_start c.with_keys.result c.new.result c.with_keys.ensures c.new.ensures;
-  marks = none_lives_at_start c.with_keys.result c.new-2.result c.with_keys.ensures;
+  reachable = subst IsReachable (sym c.with_keys.ensures.start) start_reachable;
+  notes = none_at_start c.with_keys.result c.new.result c.with_keys.ensures.start c.new.ensures;
+  marks = none_lives_at_start c.with_keys.result c.new-2.result c.with_keys.ensures.start;
 }

@@ -9,6 +9,7 @@ use Rattle.vlm_machine.specs.Machine.{MachineState, plain_state}
 use Rattle.vlm_machine.proofs.Childless.{by_recursion, goes_waiting, waiting_childless}
 use Rattle.vlm_machine.proofs.Wanting.{wants_nothing}
 use Rattle.vlm_machine.proofs.records.Machine.end_victim.Goals as goal
+use Rattle.vlm_locks.proofs.Rising.{none_loose}
 
 -- a victim whose lock goes waits, and a lock that waits has no sublocks
 pub withdraw-requires-clause-childless : goal.withdraw-requires-clause-childless
@@ -19,7 +20,7 @@ withdraw-requires-clause-childless c =
     let stays : c.victim-withdrawal.result.stays ≡ true = ap (λ (w : Withdrawal). w.stays) c.victim-withdrawal.ensures in
     λ takes.
     subst (λ (k : MachineState). HasNoSublocks f.lock k.records) (sym c.self.view_is)
-    (waiting_childless m.records sound f c.requires.located c.requires.between.identifications.none_is_0
+    (waiting_childless m.records sound f c.requires.located (rw (← c.self.view_is) (none_loose c.self.inside.store c.self.invariant.rest.rising)) c.requires.between.identifications.none_is_0
     (by_recursion (plain_resources m.records) c.requires.between.parents)
     (goes_waiting f.queue (sym (ap (λ b. goes b f.queue) stays) ∙ takes)))
 

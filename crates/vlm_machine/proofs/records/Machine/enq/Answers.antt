@@ -20,6 +20,7 @@ use Rattle.vlm_machine.proofs.Made.{made_swept}
 use Rattle.vlm_machine.proofs.Quiet.{all_quiet}
 use Rattle.vlm_machine.proofs.Settling.{settled_but}
 use Rattle.vlm_machine.proofs.records.Machine.enq.Goals as goal
+use Rattle.vlm_locks.proofs.Rising.{none_loose}
 
 pub sweep_entered-requires-clause-settled : goal.sweep_entered-requires-clause-settled
 sweep_entered-requires-clause-settled c =
@@ -63,4 +64,4 @@ returns-in-Ok-enq_change-clause-notes c =
     ap (λ (m : MachineState). total_locks_on (plain_state m).resources) (sym c.self.view_is) in
     room_after c.args.self.now c.sweep_entered.new.self c.make_room_beyond.new.self (Enq c.args.request.now) (Lock c.acceptance.result c.new_lock-new_lock.result.lkid)
     (returns-in-Ok-enq_change-clause-outcome c) c.make_room_beyond.ensures.none
-    (omega (arith, stored, same, c.in-Ok-make_room_beyond.ensures.room, c.total_locks.ensures))
+    (omega (arith, stored, same, c.in-Ok-make_room_beyond.ensures.room, c.total_locks.ensures (none_loose c.self.inside.store c.self.invariant.rest.rising)))

@@ -124,6 +124,7 @@ returns c = record {
       let q4 = c.join_armed.new.self.locks in
       in_armed_is (get q4 k) (get q3 k) (c.join_armed.ensures.places.records.kin k) ∙ ap (λ s. option_map but_queued (get s k)) c.count_in.ensures.counts.locks
       ∙ requeued_is (get q2 k) (get q1 k) (c.push_at.ensures.kept.kin k) ∙ ap (option_map but_queued) (c.insert_reserved-at.ensures.updates.others k differs);
+  loose = search rules;
   wait_list = search rules;
   rest = λ k.
       let q1 = c.args.self.now.resources in

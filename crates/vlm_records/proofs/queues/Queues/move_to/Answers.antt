@@ -25,6 +25,7 @@ returns-then-stays c = record {
     locks_room = c.rewrite.ensures.kept.locks_room;
     resources_room = c.rewrite.ensures.kept.resources_room;
   };
+  loose = search rules;
   wait_list = search rules;
 }
 
@@ -83,5 +84,6 @@ returns-else-stays c = record {
     locks_room = c.join_armed.ensures.places.records.locks_room ∙ c.requeue.ensures.kept.locks_room ∙ c.leave_armed.ensures.places.records.locks_room;
     resources_room = c.join_armed.ensures.places.records.resources_room ∙ c.requeue.ensures.kept.resources_room ∙ c.leave_armed.ensures.places.records.resources_room;
   };
+  loose = search rules;
   wait_list = search rules;
 }

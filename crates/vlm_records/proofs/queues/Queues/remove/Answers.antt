@@ -58,6 +58,7 @@ returns c = record {
   gone = search rules;
   rows = search rules;
   kin = search rules;
+  loose = search rules;
   wait_list = search rules;
   rest = search rules;
   given_back =

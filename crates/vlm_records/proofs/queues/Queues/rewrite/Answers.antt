@@ -23,7 +23,7 @@ returns c =
     subst (λ s. Recounts place (rows q c.args.at) c.args.row.now q.resources s) (sym writes.lock.resources) (c.recount.ensures.change place is) in
     record {
       placed = placed2;
-      tallied = recounted q q2 c.args.at c.args.row.now c.requires.placed placed2 c.requires.present handles2 rows2 writes.here notes2 recounts c.requires.tallied;
+      tallied = recounted q q2 c.args.at c.args.row.now c.requires.placed placed2 c.requires.in_queue handles2 rows2 writes.here notes2 recounts c.requires.tallied;
       handles = handles2;
       row = writes.here;
       rows = rows2;

@@ -3,7 +3,7 @@ use Rattle.std.proofs.lemmas.Option.{none-some}
 use Rattle.vlm_collections.specs.Lists.{IsIn, Lists, handles_of, without}
 use Rattle.vlm_records.specs.declared.handles.Place.TheVariants.{Queued}
 use Rattle.vlm_records.specs.Shown.{noted_in, queue_links, queue_list, with_queue_links}
-use Rattle.vlm_records.proofs.Places.{stands_there, taken-handles, taken-placed}
+use Rattle.vlm_records.proofs.Places.{noted_as, stands_there, taken-handles, taken-placed}
 use Rattle.vlm_records.proofs.Relisted.{list_elsewhere, list_found, list_is, lists_alone, relisted}
 use Rattle.vlm_records.proofs.Rooms.{room_relinked, room_written}
 use Rattle.vlm_records.proofs.queues.Queues.take_off.Goals as goal
@@ -13,7 +13,7 @@ index_mut-requires c =
     let place = c.index.result.now.place in
     let parts = c.parts-res.ensures ∙ ap (λ at. Queued at c.parts-res.result.1) (sym c.slot.ensures) in
     rw parts at (stands_there c.args.self.now place c.args.at
-    (c.requires.placed.stands place c.args.at (λ same. none-some c.args.at (sym same)) (ap noted_in c.index.ensures)))
+    (c.requires.placed.stands place c.args.at (λ same. none-some c.args.at (sym same)) (noted_as _ _ c.index.ensures c.requires.in_queue)))
 
 pub unlink-requires : goal.unlink-requires
 unlink-requires c =
@@ -24,7 +24,7 @@ unlink-requires c =
     (list_found q place c.slot.result c.parts-res.result.1 c.index_mut.result.now parts c.index_mut.ensures.value)
     (record {
       linked = c.requires.placed.linked place;
-      listed = c.requires.placed.stands place c.args.at (λ same. none-some c.args.at (sym same)) (ap noted_in c.index.ensures);
+      listed = c.requires.placed.stands place c.args.at (λ same. none-some c.args.at (sym same)) (noted_as _ _ c.index.ensures c.requires.in_queue);
     })
 
 pub returns-clause-placed : goal.returns-clause-placed
@@ -35,9 +35,9 @@ returns-clause-placed c =
     let now = c.unlink.new in
     let parts = c.parts-res.ensures ∙ ap (λ at. Queued at queue) (sym c.slot.ensures) in
     let there = rw parts at (stands_there q place c.args.at
-    (c.requires.placed.stands place c.args.at (λ same. none-some c.args.at (sym same)) (ap noted_in c.index.ensures))) in
+    (c.requires.placed.stands place c.args.at (λ same. none-some c.args.at (sym same)) (noted_as _ _ c.index.ensures c.requires.in_queue))) in
     let was = list_found q place c.slot.result queue c.index_mut.result.now parts c.index_mut.ensures.value in
-    taken-placed q (relisted q now.locks c.slot.result now.self) now.locks (queue_list queue now.self) c.args.at place c.requires.placed (ap noted_in c.index.ensures)
+    taken-placed q (relisted q now.locks c.slot.result now.self) now.locks (queue_list queue now.self) c.args.at place c.requires.placed (noted_as _ _ c.index.ensures c.requires.in_queue)
     c.unlink.ensures.linked (c.unlink.ensures.handles ∙ ap (λ list. without c.args.at (handles_of queue_links q.locks list)) (sym was))
     (λ other out. c.unlink.ensures.others other (λ found. out (subst (λ list. IsIn other (handles_of queue_links q.locks list)) (sym was) found)))
     c.unlink.ensures.relinks
@@ -52,9 +52,9 @@ returns-clause-handles c =
     let now = c.unlink.new in
     let parts = c.parts-res.ensures ∙ ap (λ at. Queued at queue) (sym c.slot.ensures) in
     let there = rw parts at (stands_there q place c.args.at
-    (c.requires.placed.stands place c.args.at (λ same. none-some c.args.at (sym same)) (ap noted_in c.index.ensures))) in
+    (c.requires.placed.stands place c.args.at (λ same. none-some c.args.at (sym same)) (noted_as _ _ c.index.ensures c.requires.in_queue))) in
     let was = list_found q place c.slot.result queue c.index_mut.result.now parts c.index_mut.ensures.value in
-    taken-handles q (relisted q now.locks c.slot.result now.self) now.locks (queue_list queue now.self) c.args.at place c.requires.placed (ap noted_in c.index.ensures)
+    taken-handles q (relisted q now.locks c.slot.result now.self) now.locks (queue_list queue now.self) c.args.at place c.requires.placed (noted_as _ _ c.index.ensures c.requires.in_queue)
     c.unlink.ensures.linked (c.unlink.ensures.handles ∙ ap (λ list. without c.args.at (handles_of queue_links q.locks list)) (sym was))
     (λ other out. c.unlink.ensures.others other (λ found. out (subst (λ list. IsIn other (handles_of queue_links q.locks list)) (sym was) found)))
     c.unlink.ensures.relinks
@@ -69,7 +69,7 @@ returns-clause-kept c =
     let now = c.unlink.new in
     let parts = c.parts-res.ensures ∙ ap (λ at. Queued at queue) (sym c.slot.ensures) in
     let there = rw parts at (stands_there q place c.args.at
-    (c.requires.placed.stands place c.args.at (λ same. none-some c.args.at (sym same)) (ap noted_in c.index.ensures))) in
+    (c.requires.placed.stands place c.args.at (λ same. none-some c.args.at (sym same)) (noted_as _ _ c.index.ensures c.requires.in_queue))) in
     record {
       kin = search rules;
       rest = lists_alone q now.locks place c.slot.result queue c.index_mut.result.now now.self parts there c.index_mut.ensures.value c.unlink.ensures.rest;

@@ -2,7 +2,7 @@ use Rattle.vlm_collections.specs.Parts.{handle_in, spare_for, spares_of}
 use Rattle.vlm_store.specs.declared.store.Store.TheInside.{Inside}
 use Rattle.slab.specs.Slab.{HasRoomFor, get as slot_of}
 use Rattle.vlm_collections.specs.declared.link.TheConstants.{LAST_HANDLE}
-use Rattle.vlm_store.specs.Index.{hash_key}
+use Rattle.vlm_store.specs.Index.{handle_by, hash_key, spares_by}
 use Rattle.vlm_store.proofs.WaitListed.{wait_list_added, wait_list_below, wait_list_kin, wait_list_own, wait_list_queued, wait_list_same}
 use Rattle.vlm_store.proofs.RoomShown.{room_shown, shown_room, is_taken, rooms_are, room_of_same, has_room}
 use Rattle.std.proofs.Common.{◌≡◌, ◌<◌, ◌≤◌, ◌≢◌, ◌∙◌, ◌++◌, ◌∷◌, [], ℕ, map, None, Some, IsSome, ap, sym, refl, arith, ◌+◌}
@@ -16,19 +16,19 @@ use Rattle.vlm_records.specs.declared.locks.Lock.{Lock}
 use Rattle.vlm_records.specs.Kin.{owner_in, parent_in, pid_at, with_own_links}
 use Rattle.vlm_store.specs.Kept.{records_shown, beside_shown}
 use Rattle.vlm_store.specs.Records.{process_with_lock, HasRoom, IsTaken, joining, with_lists, with_new_lock}
-use Rattle.vlm_records.specs.Shown.{but_in_wait_list, but_kin, but_queued, but_queues, handles_at, list_at, lkid_of, new_lock, queue_links, row_in, rows, noted_in}
+use Rattle.vlm_records.specs.Shown.{but_in_wait_list, but_kin, but_queued, but_queues, handles_at, list_at, lkid_of, new_lock, queue_links, row_in, rows, is_loose_in}
 use Rattle.vlm_store.specs.Store.{lkid_at, records_of, tables}
 use Rattle.vlm_records.proofs.Arming.{armed_kin, armed_reserved}
-use Rattle.vlm_records.proofs.Places.{same_then, there_by_part, there_through, through}
-use Rattle.vlm_store.proofs.Indexing.{Indexes-added, Indexes-same, table_same}
+use Rattle.vlm_records.proofs.Places.{same_then, there_by_part, there_through, through, last_noted, noted_as}
+use Rattle.vlm_store.proofs.Indexing.{Indexes-added, Indexes-same}
 use Rattle.vlm_store.proofs.Joining.{new_lkid, other_lkids, joined_kin, joined_lkids, joined_named, joined_owned, joined_processes, linked_parent_there, new_below, new_owned, owner_was_there}
-use Rattle.vlm_store.proofs.Kept.{faces_same, no_lock, place_there, reserved_handles, reserved_placed, stored_there, reserved_tallied}
+use Rattle.vlm_store.proofs.Kept.{faces_same, no_lock, place_there, reserved_handles, reserved_placed, reserved_tallied}
 use Rattle.vlm_store.specs.Pending.{is_of_nodes, waits_in}
 use Rattle.vlm_store.proofs.Marked.{nodes-own, own_marked, waits-own}
-use Rattle.vlm_store.proofs.Kinship.{kin_handles, kin_placed, kin_rows, kin_tallied, own_below, own_pids, own_process_linked, own_process_whole, owner-queued, parent-queued, records_processes}
+use Rattle.vlm_store.proofs.Kinship.{kin_handles, kin_placed, kin_rows, kin_tallied, own_below, own_pids, own_process_linked, own_process_whole, owner-queued, parent-queued, records_processes, kin_loose, loose_but}
 use Rattle.vlm_store.proofs.Layouts.{joining-under_handle, lists_changed_beside}
 use Rattle.vlm_store.specs.KeyIndexes.{spares_in}
-use Rattle.vlm_store.proofs.Living.{is_sound, parent_within}
+use Rattle.vlm_store.proofs.Living.{is_sound, parent_within, has_there, there_has}
 use Rattle.vlm_store.proofs.store.Store.add_lock_reserved.Goals as goal
 use Rattle.vlm_store.proofs.Order.{keys_same, order_handles, order_linked, order_whole}
 
@@ -51,10 +51,11 @@ join_wait_list-requires-clause-wait_list c =
     let added = c.add-slot.ensures in
     let same : (k : ℕ) → slot_of s.queues.locks k ≡ slot_of s.queues.locks k = λ k. refl in
     wait_list_added (record s.queues { locks = c.self.inside.queues.locks }) c.add-slot.new.self s.wait_list c.add-slot.result c.args.to (reserved_placed s.queues c.self.inside.queues.locks same kept.placed) added.laid_out.placed
-    added.fresh added.wait_list added.here added.elsewhere (wait_list_same s.queues.locks c.self.inside.queues.locks s.wait_list same kept.wait_list)
+    added.fresh added.wait_list added.loose added.here added.elsewhere (wait_list_same s.queues.locks c.self.inside.queues.locks s.wait_list same kept.wait_list)
 
 pub join_wait_list-requires-clause-noted : goal.join_wait_list-requires-clause-noted
-join_wait_list-requires-clause-noted c = ap noted_in c.index.ensures
+join_wait_list-requires-clause-noted c =
+    noted_as _ _ c.index.ensures (rw (last_noted c.add-slot.new.self c.add-slot.result c.args.to _ c.add-slot.ensures.laid_out.placed c.add-slot.ensures.here) refl) ∙ ap Some (sym c.place.ensures)
 
 pub join_process-requires-clause-owner : goal.join_process-requires-clause-owner
 join_process-requires-clause-owner c =
@@ -165,7 +166,7 @@ invariant_of-self c =
     let indexes1 = Indexes-same (handle_in s.lock_index) (handle_in c.self.inside.lock_index) (lkid_at s.queues) (lkid_at (record s.queues { locks = c.self.inside.queues.locks }))
     (λ _. refl) (λ at. ap (option_map lkid_of) (same at)) kept.locks in
     let fresh : handle_in c.self.inside.lock_index c.args.row.now.lkid ≡ None =
-    no_lock s.queues s.order (beside_shown s) kept.placed kept.linked kept.ordered (handle_in s.lock_index) kept.locks c.args.row.now.lkid (rw (← c.self.view_is) at c.requires.new) in
+    no_lock s.queues s.order (beside_shown s) kept.placed kept.linked kept.ordered (has_there s kept) (there_has s kept) (handle_in s.lock_index) kept.locks c.args.row.now.lkid (rw (← c.self.view_is) at c.requires.new) in
     record {
       placed = kin_placed q' c.join_parent.new.locks kin added.laid_out.placed;
       tallied = kin_tallied q' c.join_parent.new.locks kin added.laid_out.placed added.laid_out.tallied;
@@ -182,7 +183,7 @@ invariant_of-self c =
       named = joined_named s kept c.self.inside.queues.locks locks1 at c.args.row.now c.args.owner c.args.parent same added.fresh lock others owner parent c.join_process.new.processes c.join_process.new.locks c.join_parent.new.locks process.owned process.here process.elsewhere process.relinks process.rest below.here below.elsewhere below.rest;
       processes_linked = own_process_linked s.processes c.join_process.new.processes process.rest s.process_order kept.processes_linked;
       processes_ordered = own_process_whole s.processes c.join_process.new.processes process.rest s.process_order kept.processes_linked kept.processes_ordered;
-      processes = table_same s.process_index (pid_at s.processes) (pid_at c.join_process.new.processes) (own_pids s.processes c.join_process.new.processes process.rest) kept.processes;
+      processes = Indexes-same (handle_by s.process_index) (handle_by s.process_index) (pid_at s.processes) (pid_at c.join_process.new.processes) (λ _. refl) (own_pids s.processes c.join_process.new.processes process.rest) kept.processes;
       marked = own_marked waits_in waits-own s.processes c.join_process.new.processes s.pending process.rest kept.marked;
       living = own_marked is_of_nodes nodes-own s.processes c.join_process.new.processes s.living process.rest kept.living;
     }
@@ -221,16 +222,18 @@ returns-clause-added c =
     (handles2 c.args.to ∙ added.here ∙ ap (λ ks. ks ++ at ∷ []) (handles1 c.args.to)) (λ p differs. handles2 p ∙ added.elsewhere p differs ∙ handles1 p))
     (order_handles but_queues (λ r. refl) s.queues.resources q'.resources rest s.order kept.linked) refl
     ∙ ap (λ ps. record (with_lists change (records_of old)) { processes = ps; room = (records_of new).room })
-    (joined_processes s kept c.self.inside.queues.locks locks1 at c.args.row.now c.args.owner c.args.parent same added.fresh lock others owner parent c.join_process.new.processes c.join_process.new.locks c.join_parent.new.locks process.owned process.here process.elsewhere process.relinks process.rest below.here below.elsewhere below.rest ∙ ap (map (process_with_lock c.args.owner c.args.parent at)) (sym (records_processes old)))
+    (joined_processes s kept c.self.inside.queues.locks locks1 at c.args.row.now c.args.owner c.args.parent same added.fresh lock others owner parent c.join_process.new.processes c.join_process.new.locks c.join_parent.new.locks process.owned process.here process.elsewhere process.relinks process.rest below.here below.elsewhere below.rest
+    (λ k. kin_loose q' c.join_parent.new.locks kin k ∙ loose_but s.queues.locks q'.locks at added.loose (ap is_loose_in added.fresh) added.rows k)
+    ∙ ap (map (process_with_lock c.args.owner c.args.parent at)) (sym (records_processes old)))
     ∙ ap (λ r. record (with_new_lock at c.args.row.now c.args.owner c.args.parent c.args.to (records_of old)) { room = r })
     (room_shown (λ a b. b ≡ record a { locks = b.locks }) old new
-    (rooms_are _ _ _ _ _ _ refl (room_of_same s.queues.resources q'.resources (spares_in s.resource_index) added.resources_room) (room_of_same s.processes c.join_process.new.processes [] process.processes_room))))
+    (rooms_are _ _ _ _ _ _ refl (room_of_same s.queues.resources q'.resources (spares_in s.resource_index) added.resources_room) (room_of_same s.processes c.join_process.new.processes (spares_by s.process_index) process.processes_room))))
 
 pub returns-clause-fresh : goal.returns-clause-fresh
 returns-clause-fresh c stored =
     let s = c.self.inside in
     let is = rw (c.of-at.ensures, ← c.self.view_is) at stored in
-    let there = (stored_there s.queues s.order (beside_shown s) c.self.invariant.placed c.add-slot.result is.0 is.1).0 in
+    let there = (has_there s c.self.invariant c.add-slot.result is.0 is.1).0 in
     let vacant : slot_of s.queues.locks c.add-slot.result ≡ None = c.add-slot.ensures.fresh in
     let nothing : IsSome {T = Lock} None = rw vacant at there in
     absurd (cc)

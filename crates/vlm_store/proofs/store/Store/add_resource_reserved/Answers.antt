@@ -1,7 +1,7 @@
 use Rattle.vlm_store.proofs.Living.{is_sound}
 use Rattle.vlm_collections.specs.Parts.{handle_in, spare_for, spares_of}
 use Rattle.vlm_store.specs.declared.store.Store.TheInside.{Inside}
-use Rattle.slab.specs.Slab.{HasRoomFor, get as slot_of}
+use Rattle.slab.specs.Slab.{HasRoomFor, get as slot_of, get}
 use Rattle.vlm_collections.specs.declared.link.TheConstants.{LAST_HANDLE}
 use Rattle.vlm_collections.specs.declared.hashers.HashKeys.{HashKeys}
 use Rattle.vlm_store.specs.Index.{hash_key}
@@ -18,7 +18,7 @@ use Rattle.vlm_store.specs.declared.hashed.HashedKey.{HashedKey}
 use Rattle.vlm_store.specs.HashedKeys.{hashed, hashed_at, hashed_in}
 use Rattle.vlm_store.proofs.HashedKeys.{by_keys, fresh_label, hashed_added, hashed_by_face, hashed_is, last_there}
 use Rattle.vlm_store.specs.Records.{new_stored_resource, HasRoom, IsTaken}
-use Rattle.vlm_records.specs.Shown.{face_in, lkid_of, new_face, order_links, row_in, room_in, but_queued, tally_in}
+use Rattle.vlm_records.specs.Shown.{face_in, lkid_of, new_face, order_links, row_in, room_in, but_queued, tally_in, loose_in}
 use Rattle.vlm_store.specs.Store.{lkid_at, resource_of, tables, records_of}
 use Rattle.vlm_records.specs.Armed.{armed_list_in}
 use Rattle.vlm_records.proofs.Arming.{armed_resources}
@@ -109,7 +109,7 @@ returns-clause-added c =
     (resource_made (tables s.queues s.order (beside_shown s)) l' at (new_stored_resource at c.args.serial c.args.site.now) (λ k. ap (λ l. row_in (slot_of l k)) added.locks) (λ p. added.handles p ∙ lists1 p)
     (λ r differs. face_by_face (slot_of q'.resources r) (slot_of c.self.inside.queues.resources r) (added.faces r differs) ∙ ap face_in (same r))
     (vacant_unlisted order_links s.queues.resources s.order kept.linked at vacant) (added.order ∙ ap (λ ks. ks ++ at ∷ []) handles1) made
-    (queued_processes s.processes s.queues.locks q'.locks (same_eq but_queued s.queues.locks q'.locks added.locks) s.process_order kept.owned kept.below) refl
+    (queued_processes s.processes s.queues.locks q'.locks (same_eq but_queued s.queues.locks q'.locks added.locks) s.process_order (λ k. ap (λ x. loose_in (get x k)) added.locks) kept.owned kept.below) refl
     ∙ ap (λ r. record (records_of old) { resources = (records_of old).resources ++ new_stored_resource at c.args.serial c.args.site.now ∷ []; room = r })
     (room_shown (λ a b. b ≡ record a { resources = b.resources }) old l'
     (rooms_are _ _ _ _ _ _ (room_of_same s.queues.locks q'.locks (spares_of s.lock_index) (ap room_in added.locks)) refl refl)))

@@ -1,7 +1,7 @@
 use Rattle.std.proofs.Common.{◌∙◌, refl}
 use Rattle.vlm_store.specs.Store.{tables}
 use Rattle.vlm_store.proofs.Fitting.{fits_beside-handles}
-use Rattle.vlm_store.proofs.Kept.{stored_there}
+use Rattle.vlm_store.proofs.Living.{has_there}
 use Rattle.vlm_store.proofs.Layouts.{HasResource-order, resource_at-found}
 use Rattle.vlm_store.specs.Kept.{beside_shown}
 use Rattle.vlm_store.proofs.store.Store.can_hold.Goals as goal
@@ -14,8 +14,8 @@ fits-requires-clause-there c =
 pub fits-requires-clause-except : goal.fits-requires-clause-except
 fits-requires-clause-except c lock is =
     let s = c.self.inside in
-    let stored = rw (← c.self.view_is) at (c.requires.except lock is) in
-    (stored_there s.queues s.order (beside_shown s) c.self.invariant.placed lock stored.0 stored.1).0
+    let has = rw (← c.self.view_is) at (c.requires.except lock is) in
+    (has_there s c.self.invariant lock has.0 has.1).0
 
 pub returns : goal.returns
 returns c =

@@ -1,4 +1,4 @@
-use Rattle.std.proofs.Common.{◌∙◌, ap, sym}
+use Rattle.std.proofs.Common.{◌∙◌, ap, sym, inl}
 use Rattle.vlm_collections.specs.Lists.{first_handle}
 use Rattle.vlm_collections.proofs.Walks.{first_handle-in}
 use Rattle.vlm_records.specs.Kin.{below_handles}
@@ -22,14 +22,16 @@ pub returns-clause-first : goal.returns-clause-first
 returns-clause-first c =
     let s = c.self.inside in
     let listed = below_listed s c.self.invariant c.args.lock c.index.result.now (rw c.slot.ensures at c.index.ensures) in
-    let seen = sublocks_is s c.self.invariant c.args.lock (rw (← c.self.view_is) at c.requires) in
+    let stored = rw (← c.self.view_is) at c.requires in
+    let seen = sublocks_is s c.self.invariant c.args.lock (stored.0, inl stored.1) in
     rw (← c.self.view_is, c.of.ensures) (c.in_ok-at.ensures ∙ ap first_handle (listed ∙ sym seen))
 
 pub returns-in_err-at-clause-first : goal.returns-in_err-at-clause-first
 returns-in_err-at-clause-first c =
     let s = c.self.inside in
     let listed = below_listed s c.self.invariant c.args.lock c.index.result.now (rw c.slot.ensures at c.index.ensures) in
-    let seen = sublocks_is s c.self.invariant c.args.lock (rw (← c.self.view_is) at c.requires) in
+    let stored = rw (← c.self.view_is) at c.requires in
+    let seen = sublocks_is s c.self.invariant c.args.lock (stored.0, inl stored.1) in
     rw (← c.self.view_is) (c.from_residual.ensures ∙ c.in_err-at.ensures ∙ ap first_handle (listed ∙ sym seen))
 
 pub returns-clause-sound : goal.returns-clause-sound

@@ -16,4 +16,4 @@ returns-clause-own c =
     (c.len.ensures ∙ ap (λ l. length (handles_of own_links c.self.inside.queues.locks l)) (sym (ap own_in (rw c.slot.ensures at c.index.ensures))) ∙ sym (length-map _ _))
 
 pub returns-clause-owned : goal.returns-clause-owned
-returns-clause-owned c pid is = returns-clause-own c ∙ own_count _ c.args.at pid (subst IsSound c.self.view_is (is_sound c.self.inside c.self.invariant)) is
+returns-clause-owned c none pid is = returns-clause-own c ∙ own_count _ c.args.at pid (subst IsSound c.self.view_is (is_sound c.self.inside c.self.invariant)) none is

@@ -1,14 +1,14 @@
-use Rattle.vlm_store.proofs.Living.{is_sound}
+use Rattle.vlm_store.proofs.Living.{is_sound, stored_in_queue, stored_queued}
 use Rattle.vlm_collections.specs.Parts.{handle_in}
 use Rattle.vlm_store.specs.Index.{hash_key}
 use Rattle.vlm_store.proofs.RoomShown.{queues_room}
-use Rattle.std.proofs.Common.{None, ◌∙◌, ◌++◌, ◌∷◌, [], ap, refl}
+use Rattle.std.proofs.Common.{None, ◌∙◌, ◌++◌, ◌∷◌, [], ap, refl, Some, sym}
 use Rattle.vlm_collections.specs.Lists.{without}
 use Rattle.vlm_store.specs.HashedKeys.{hashed_at}
 use Rattle.vlm_store.proofs.HashedKeys.{labels_same}
 use Rattle.vlm_records.specs.Shown.{but_in_wait_list, but_queued, but_queues, handles_at, named_row, rows}
 use Rattle.vlm_records.proofs.Arming.{armed_kin}
-use Rattle.vlm_records.proofs.Places.{last_noted, same_then, there_through}
+use Rattle.vlm_records.proofs.Places.{last_noted, same_then, there_through, noted_as}
 use Rattle.vlm_store.specs.Store.{lkid_at, tables}
 use Rattle.vlm_store.specs.Records.{moving}
 use Rattle.vlm_store.proofs.Indexing.{Indexes-same}
@@ -16,7 +16,7 @@ use Rattle.vlm_store.proofs.Kept.{faces_same, place_there, stored_there}
 use Rattle.vlm_store.proofs.Layouts.{lists_changed, moving-under_handle}
 use Rattle.vlm_store.proofs.WaitListed.{wait_list_kin, wait_list_moved, wait_list_queued}
 use Rattle.vlm_store.specs.Kept.{beside_shown}
-use Rattle.vlm_store.proofs.Kinship.{kin_handles, kin_placed, kin_rows, kin_tallied, named_same, queued_below, queued_lkids, queued_named, queued_owned, queued_processes}
+use Rattle.vlm_store.proofs.Kinship.{kin_handles, kin_placed, kin_rows, kin_tallied, named_same, queued_below, queued_lkids, queued_named, queued_owned, queued_processes, kin_flags, kin_loose, kin_noted, loose_but}
 use Rattle.vlm_store.proofs.store.Store.move_lock.Goals as goal
 use Rattle.vlm_store.proofs.Order.{keys_same, order_handles, order_linked, order_whole}
 
@@ -57,7 +57,7 @@ join_wait_list-requires-clause-wait_list c =
     let q1 = record s.queues { locks = c.leave_wait_list.new.locks } in
     let moved = c.move_to.ensures in
     wait_list_moved q1 c.move_to.new.self c.leave_wait_list.new.wait_list c.slot-at.result c.args.to (kin_placed s.queues c.leave_wait_list.new.locks (wait_list_kin s.queues.locks c.leave_wait_list.new.locks c.leave_wait_list.ensures.rest) c.self.invariant.placed)
-    moved.laid_out.placed moved.wait_list moved.here moved.elsewhere c.leave_wait_list.ensures.wait_list
+    moved.laid_out.placed moved.wait_list moved.loose moved.here moved.elsewhere c.leave_wait_list.ensures.wait_list
 
 pub join_wait_list-requires-clause-noted : goal.join_wait_list-requires-clause-noted
 join_wait_list-requires-clause-noted c = last_noted c.move_to.new.self c.slot-at.result c.args.to _ c.move_to.ensures.laid_out.placed c.move_to.ensures.here
@@ -127,13 +127,18 @@ returns-clause-moved c =
     let rows3 = kin_rows q2 locks3 kin3 in
     let queued = same_then but_queued s.queues.locks q2.locks locks3 (same_then but_queued s.queues.locks locks1 q2.locks (wait_list_queued s.queues.locks locks1 c.leave_wait_list.ensures.rest) moved.kept.kin)
     (wait_list_queued q2.locks locks3 c.join_wait_list.ensures.rest) in
+    let is = rw (← c.self.view_is) at c.requires.lock in
     rw (← c.self.view_is)
     (lists_changed (tables s.queues s.order (beside_shown s)) (tables q3 s.order (beside_shown (record s { queues = q3; wait_list = c.join_wait_list.new.wait_list }))) (moving c.args.to (record { at = c.args.lock; row = c.args.row.now }))
     (faces_same s.queues.resources q3.resources rest)
     (moving-under_handle (rows s.queues) (rows q3) (handles_at s.queues) (handles_at q3) c.args.lock c.args.row.now c.args.to (rows3 c.args.lock ∙ moved.row) (λ k differs. rows3 k ∙ moved.rows k differs ∙ rows1 k)
     (handles3 c.args.to ∙ moved.here ∙ ap (λ ks. without c.args.lock ks ++ c.args.lock ∷ []) (handles1 c.args.to)) (λ p differs. handles3 p ∙ moved.elsewhere p differs ∙ ap (without c.args.lock) (handles1 p)))
     (order_handles but_queues (λ r. refl) s.queues.resources q3.resources rest s.order kept.linked)
-    (queued_processes s.processes s.queues.locks locks3 queued s.process_order kept.owned kept.below)
+    (queued_processes s.processes s.queues.locks locks3 queued s.process_order
+    (λ k.
+    kin_loose q2 locks3 kin3 k
+    ∙ loose_but locks1 q2.locks c.args.lock moved.loose (kin_flags s.queues locks1 kin1 c.args.lock ∙ stored_queued s kept c.args.lock is.0 is.1.0) moved.rows k
+    ∙ kin_loose s.queues locks1 kin1 k) kept.owned kept.below)
     (queues_room s q3 (c.join_wait_list.ensures.room ∙ c.move_to.ensures.kept.locks_room ∙ c.leave_wait_list.ensures.room) c.move_to.ensures.kept.resources_room) refl)
 
 pub move_to-requires-clause-laid_out : goal.move_to-requires-clause-laid_out
@@ -152,3 +157,15 @@ move_to-requires-clause-laid_out c = record {
 
 pub returns-clause-sound : goal.returns-clause-sound
 returns-clause-sound c = record { before = rw (← c.self.view_is) (is_sound c.self.inside c.self.invariant); after = is_sound _ (invariant_of-self c) }
+
+pub leave_wait_list-requires-clause-noted : goal.leave_wait_list-requires-clause-noted
+leave_wait_list-requires-clause-noted c =
+    let is = rw (← c.self.view_is) at c.requires.lock in
+    noted_as _ _ c.index.ensures (rw c.slot-at.ensures (stored_in_queue c.self.inside c.self.invariant c.args.lock is.0 is.1.0)) ∙ ap Some (sym c.place-from.ensures)
+
+pub move_to-requires-clause-in_queue : goal.move_to-requires-clause-in_queue
+move_to-requires-clause-in_queue c =
+    let s = c.self.inside in
+    let is = rw (← c.self.view_is) at c.requires.lock in
+    let kin = wait_list_kin s.queues.locks c.leave_wait_list.new.locks c.leave_wait_list.ensures.rest in
+    rw (kin_noted s.queues c.leave_wait_list.new.locks kin c.slot-at.result) (rw c.slot-at.ensures (stored_in_queue s c.self.invariant c.args.lock is.0 is.1.0))

@@ -1,8 +1,8 @@
 use Rattle.vlm_collections.specs.Parts.{spares_of}
-use Rattle.vlm_store.specs.Index.{hash_key}
+use Rattle.vlm_store.specs.Index.{handle_by, hash_key, spares_by}
 use Rattle.vlm_store.proofs.WaitListed.{wait_list_below, wait_list_kin, wait_list_own, wait_list_queued, wait_list_removed}
 use Rattle.vlm_store.proofs.RoomShown.{room_shown, is_given_back, rooms_are, room_of_same}
-use Rattle.std.proofs.Common.{◌≡◌, ◌≢◌, ◌∙◌, [], map, None, ap, sym, refl, ◌+◌, ℕ}
+use Rattle.std.proofs.Common.{◌≡◌, ◌≢◌, ◌∙◌, [], map, None, ap, sym, refl, ◌+◌, ℕ, Some}
 use Rattle.std.specs.Option.{option_map}
 use Rattle.slab.specs.Slab.{get as slot_of}
 use Rattle.vlm_collections.specs.Lists.{without}
@@ -11,21 +11,22 @@ use Rattle.vlm_store.proofs.HashedKeys.{labels_same}
 use Rattle.vlm_records.specs.Kin.{below_handles, but_below, owner_in, pid_at}
 use Rattle.vlm_store.specs.Kept.{beside_shown}
 use Rattle.vlm_store.specs.Records.{leaving, process_without_lock, with_lists, IsGivenBack, without_stored_lock}
-use Rattle.vlm_records.specs.Shown.{but_kin, but_queued, but_queues, handles_at, lkid_of, noted_in, rows}
+use Rattle.vlm_records.specs.Shown.{but_kin, but_queued, but_queues, handles_at, lkid_of, rows}
 use Rattle.vlm_store.specs.Store.{lkid_at, records_of, tables}
 use Rattle.vlm_records.proofs.Arming.{armed_kin}
-use Rattle.vlm_store.proofs.Indexing.{Indexes-removed, table_same}
+use Rattle.vlm_store.proofs.Indexing.{Indexes-removed, Indexes-same}
 use Rattle.vlm_store.proofs.Kept.{faces_same}
 use Rattle.vlm_store.specs.Pending.{is_of_nodes, waits_in}
 use Rattle.vlm_store.proofs.Marked.{nodes-own, own_marked, waits-own}
-use Rattle.vlm_store.proofs.Kinship.{below_kin, below_owned, kin_handles, kin_noted, kin_placed, kin_rows, kin_tallied, own_kin, own_pids, own_process_linked, own_process_whole, owner-below, records_processes}
+use Rattle.vlm_store.proofs.Kinship.{below_kin, below_owned, kin_handles, kin_noted, kin_placed, kin_rows, kin_tallied, own_kin, own_pids, own_process_linked, own_process_whole, owner-below, records_processes, kin_loose, loose_still}
 use Rattle.vlm_store.proofs.Layouts.{leaving-under_handle, lists_changed_beside}
 use Rattle.vlm_store.proofs.Leaving.{left_below, left_kin, left_lkids, left_named, left_owned, left_processes}
-use Rattle.vlm_store.proofs.Living.{childless, is_sound, lock_there}
-use Rattle.vlm_records.proofs.Places.{same_then, through}
+use Rattle.vlm_store.proofs.Living.{childless, is_sound, lock_there, stored_in_queue}
+use Rattle.vlm_records.proofs.Places.{same_then, through, noted_as}
 use Rattle.vlm_store.specs.KeyIndexes.{spares_in}
 use Rattle.vlm_store.proofs.store.Store.remove_lock.Goals as goal
 use Rattle.vlm_store.proofs.Order.{keys_same, order_handles, order_linked, order_whole}
+use Rattle.vlm_records.specs.WaitList.{wait_list_in}
 
 pub index-requires : goal.index-requires
 index-requires c =
@@ -40,7 +41,9 @@ pub leave_wait_list-requires-clause-noted : goal.leave_wait_list-requires-clause
 leave_wait_list-requires-clause-noted c =
     let s = c.self.inside in
     let kin = same_then but_kin s.queues.locks c.leave_parent.new.locks c.leave_process.new.locks (below_kin s.processes s.queues.locks c.leave_parent.new.locks c.leave_parent.ensures.rest) (own_kin c.leave_parent.new.locks c.leave_process.new.locks c.leave_process.ensures.relinks) in
-    kin_noted s.queues c.leave_process.new.locks kin c.slot-at.result ∙ ap noted_in c.index.ensures
+    let stored = rw (← c.self.view_is) at c.requires.stored in
+    kin_noted s.queues c.leave_process.new.locks kin c.slot-at.result
+    ∙ noted_as _ _ c.index.ensures (rw c.slot-at.ensures (stored_in_queue s c.self.invariant c.args.lock stored.0 stored.1)) ∙ ap Some (sym c.place.ensures)
 
 pub leave_process-requires-clause-owned : goal.leave_process-requires-clause-owned
 leave_process-requires-clause-owned c =
@@ -72,7 +75,7 @@ invariant_of-self c =
       placed = removed.laid_out.placed;
       tallied = removed.laid_out.tallied;
       armed = removed.laid_out.armed;
-      wait_list = wait_list_removed (record s.queues { locks = c.leave_wait_list.new.locks }) q' c.leave_wait_list.new.wait_list c.args.lock (kin_placed s.queues c.leave_wait_list.new.locks kin kept.placed) removed.laid_out.placed removed.gone removed.wait_list removed.handles wait_listed.wait_list;
+      wait_list = wait_list_removed (record s.queues { locks = c.leave_wait_list.new.locks }) q' c.leave_wait_list.new.wait_list c.args.lock (kin_placed s.queues c.leave_wait_list.new.locks kin kept.placed) removed.laid_out.placed (ap wait_list_in removed.gone) removed.wait_list (λ k differs. removed.loose k) removed.handles wait_listed.wait_list;
       linked = order_linked but_queues (λ r. refl) s.queues.resources q'.resources removed.rest s.order kept.linked;
       ordered = order_whole but_queues (λ r. refl) s.queues.resources q'.resources removed.rest s.order kept.linked kept.ordered;
       locks =
@@ -85,7 +88,7 @@ invariant_of-self c =
       named = left_named s kept c.args.lock none c.leave_parent.new.locks c.leave_process.new.locks q'.locks c.leave_process.new.processes parent.below parent.handles parent.rest process.owned process.handles process.relinks process.rest removed.gone gone_kin;
       processes_linked = own_process_linked s.processes c.leave_process.new.processes process.rest s.process_order kept.processes_linked;
       processes_ordered = own_process_whole s.processes c.leave_process.new.processes process.rest s.process_order kept.processes_linked kept.processes_ordered;
-      processes = table_same s.process_index (pid_at s.processes) (pid_at c.leave_process.new.processes) (own_pids s.processes c.leave_process.new.processes process.rest) kept.processes;
+      processes = Indexes-same (handle_by s.process_index) (handle_by s.process_index) (pid_at s.processes) (pid_at c.leave_process.new.processes) (λ _. refl) (own_pids s.processes c.leave_process.new.processes process.rest) kept.processes;
       marked = own_marked waits_in waits-own s.processes c.leave_process.new.processes s.pending process.rest kept.marked;
       living = own_marked is_of_nodes nodes-own s.processes c.leave_process.new.processes s.living process.rest kept.living;
     }
@@ -116,10 +119,13 @@ returns-clause-removed c =
     (λ p. removed.handles p ∙ ap (without c.args.lock) (kin_handles s.queues q2.locks kin kept.placed p)))
     (order_handles but_queues (λ r. refl) s.queues.resources q'.resources removed.rest s.order kept.linked) refl
     ∙ ap (λ ps. record (with_lists (leaving c.args.lock) (records_of old)) { processes = ps; room = (records_of new).room })
-    (left_processes s kept c.args.lock none c.leave_parent.new.locks c.leave_process.new.locks q'.locks c.leave_process.new.processes parent.below parent.handles parent.rest process.owned process.handles process.relinks process.rest removed.gone gone_kin ∙ ap (map (process_without_lock c.args.lock)) (sym (records_processes old)))
+    (left_processes s kept c.args.lock none c.leave_parent.new.locks c.leave_process.new.locks q'.locks c.leave_process.new.processes parent.below parent.handles parent.rest process.owned process.handles process.relinks process.rest removed.gone gone_kin
+    (λ k differs.
+    loose_still (slot_of q'.locks k) (slot_of q2.locks k) (removed.loose k) (λ loose. removed.rows k differs) ∙ kin_loose s.queues q2.locks kin k)
+    ∙ ap (map (process_without_lock c.args.lock)) (sym (records_processes old)))
     ∙ ap (λ r. record (without_stored_lock c.args.lock (records_of old)) { room = r })
     (room_shown (λ a b. b ≡ record a { locks = b.locks }) old new
-    (rooms_are _ _ _ _ _ _ refl (room_of_same s.queues.resources q'.resources (spares_in s.resource_index) removed.resources_room) (room_of_same s.processes c.leave_process.new.processes [] process.processes_room))))
+    (rooms_are _ _ _ _ _ _ refl (room_of_same s.queues.resources q'.resources (spares_in s.resource_index) removed.resources_room) (room_of_same s.processes c.leave_process.new.processes (spares_by s.process_index) process.processes_room))))
 
 pub returns-clause-given_back : goal.returns-clause-given_back
 returns-clause-given_back c =
@@ -175,3 +181,13 @@ remove-requires-clause-laid_out c = record {
 
 pub returns-clause-sound : goal.returns-clause-sound
 returns-clause-sound c = record { before = rw (← c.self.view_is) (is_sound c.self.inside c.self.invariant); after = is_sound _ (invariant_of-self c) }
+
+pub remove-requires-clause-in_queue : goal.remove-requires-clause-in_queue
+remove-requires-clause-in_queue c =
+    let s = c.self.inside in
+    let stored = rw (← c.self.view_is) at c.requires.stored in
+    let kin =
+    same_then but_kin s.queues.locks c.leave_process.new.locks c.leave_wait_list.new.locks
+    (same_then but_kin s.queues.locks c.leave_parent.new.locks c.leave_process.new.locks (below_kin s.processes s.queues.locks c.leave_parent.new.locks c.leave_parent.ensures.rest) (own_kin c.leave_parent.new.locks c.leave_process.new.locks c.leave_process.ensures.relinks))
+    (wait_list_kin c.leave_process.new.locks c.leave_wait_list.new.locks c.leave_wait_list.ensures.rest) in
+    rw (kin_noted s.queues c.leave_wait_list.new.locks kin c.slot-at.result) (rw c.slot-at.ensures (stored_in_queue s c.self.invariant c.args.lock stored.0 stored.1))

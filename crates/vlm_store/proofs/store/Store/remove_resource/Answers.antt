@@ -6,11 +6,11 @@ use Rattle.vlm_store.specs.Records.{IsGivenBack, without_resource}
 use Rattle.vlm_store.proofs.RoomShown.{room_shown, is_given_back, rooms_are, room_of_same}
 use Rattle.std.proofs.Common.{None, ◌∙◌, ap, sym, refl, ◌≡◌}
 use Rattle.std.specs.Option.{option_map}
-use Rattle.slab.specs.Slab.{get as slot_of}
+use Rattle.slab.specs.Slab.{get as slot_of, get}
 use Rattle.vlm_records.specs.declared.handles.Place.TheVariants.{Queued}
 use Rattle.vlm_store.specs.HashedKeys.{hashed_at, hashed_in}
 use Rattle.vlm_store.proofs.HashedKeys.{hashed_by_face, hashed_removed}
-use Rattle.vlm_records.specs.Shown.{handles_at, lkid_of, order_links, row_in, rows, room_in, but_queued}
+use Rattle.vlm_records.specs.Shown.{handles_at, lkid_of, order_links, row_in, rows, room_in, but_queued, loose_in}
 use Rattle.vlm_store.specs.Store.{under_handle, lkid_at, tables}
 use Rattle.vlm_store.proofs.Indexing.{Indexes-same}
 use Rattle.vlm_store.proofs.Layouts.{HasResource-order, locks_at-seen, resource_removed}
@@ -71,7 +71,7 @@ returns-clause-removed c =
     rw (← c.self.view_is)
     (resource_removed (tables s.queues s.order (beside_shown s)) (tables q' s'.order (beside_shown s')) c.args.res (λ k. ap (λ l. row_in (slot_of l k)) gone.locks) gone.handles
     (λ r differs. face_by_face (slot_of q'.resources r) (slot_of s.queues.resources r) (gone.faces r differs)) gone.order
-    (queued_processes s.processes s.queues.locks q'.locks (same_eq but_queued s.queues.locks q'.locks gone.locks) s.process_order c.self.invariant.owned c.self.invariant.below) refl
+    (queued_processes s.processes s.queues.locks q'.locks (same_eq but_queued s.queues.locks q'.locks gone.locks) s.process_order (λ k. ap (λ x. loose_in (get x k)) gone.locks) c.self.invariant.owned c.self.invariant.below) refl
     ∙ ap (λ r. record (records_shown s) { resources = without_resource c.args.res (records_shown s).resources; room = r })
     (room_shown (λ a b. b ≡ record a { resources = b.resources }) (tables s.queues s.order (beside_shown s)) (tables q' s'.order (beside_shown s'))
     (rooms_are _ _ _ _ _ _ (room_of_same s.queues.locks q'.locks (spares_of s.lock_index) (ap room_in gone.locks)) refl refl)))

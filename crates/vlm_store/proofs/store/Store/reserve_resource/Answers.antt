@@ -4,7 +4,8 @@ use Rattle.vlm_store.specs.KeyIndexes.{spares_in}
 use Rattle.vlm_store.specs.Records.{HasRoom}
 use Rattle.vlm_store.specs.Store.{tables}
 use Rattle.vlm_store.specs.Kept.{beside_shown}
-use Rattle.vlm_store.proofs.RoomShown.{has_reserved, has_room, resource_room_kept, resource_room_made, room_shown, shown_room}
+use Rattle.vlm_store.proofs.RoomShown.{has_reserved, has_room, resource_room_kept, resource_room_made, resource_room_only, room_shown, shown_room}
+use Rattle.vlm_store.proofs.Living.{is_sound}
 use Rattle.vlm_store.proofs.store.Store.reserve_resource.Goals as goal
 
 pub invariant_of-self : goal.invariant_of-self
@@ -22,6 +23,12 @@ pub returns-clause-unchanged : goal.returns-clause-unchanged
 returns-clause-unchanged c =
     rw (← c.self.view_is)
     (resource_room_made c.self.inside c.reserve_slot.new.records (spares_in c.reserve.new.self) c.reserve_slot.ensures.records c.reserve_slot.ensures.capacity c.reserve.ensures.room)
+
+pub returns-in_err-reserve_slot-clause-only : goal.returns-in_err-reserve_slot-clause-only
+returns-in_err-reserve_slot-clause-only c = rw (← c.self.view_is) (resource_room_only c.self.inside c.reserve_slot.new.records (spares_in c.self.inside.resource_index) c.reserve_slot.ensures.records)
+
+pub returns-clause-only : goal.returns-clause-only
+returns-clause-only c = rw (← c.self.view_is) (resource_room_only c.self.inside c.reserve_slot.new.records (spares_in c.reserve.new.self) c.reserve_slot.ensures.records)
 
 -- where there is room none is refused
 pub returns-in_err-reserve_slot-clause-succeeds : goal.returns-in_err-reserve_slot-clause-succeeds
@@ -46,3 +53,9 @@ returns-clause-room c =
     (has_reserved c.reserve.result c.reserve_slot.new.records (spares_in c.reserve.new.self) c.args.hash
     (on_ok_weaker c.reserve.result (λ _. c.in_ok-reserve_slot.ensures.slot) c.reserve.ensures.find)
     (on_ok_weaker c.reserve.result (λ _. c.in_ok-reserve_slot.ensures.handle) c.reserve.ensures.find) c.reserve.ensures.find)
+
+pub returns-in_err-reserve_slot-clause-sound : goal.returns-in_err-reserve_slot-clause-sound
+returns-in_err-reserve_slot-clause-sound c = rw (← c.self.view_is) (is_sound c.self.inside c.self.invariant)
+
+pub returns-clause-sound : goal.returns-clause-sound
+returns-clause-sound c = rw (← c.self.view_is) (is_sound c.self.inside c.self.invariant)

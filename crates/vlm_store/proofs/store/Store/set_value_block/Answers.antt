@@ -5,13 +5,13 @@ use Rattle.vlm_store.proofs.WaitListed.{wait_list_same}
 use Rattle.vlm_store.proofs.RoomShown.{queues_room}
 use Rattle.std.proofs.Common.{None, ap, refl}
 use Rattle.std.specs.Option.{option_map}
-use Rattle.slab.specs.Slab.{get as slot_of}
+use Rattle.slab.specs.Slab.{get as slot_of, get}
 use Rattle.vlm_words.specs.declared.resources.Queue.TheVariants.{Granted, Conversion, Waiting}
 use Rattle.vlm_records.specs.declared.handles.Place.TheVariants.{Queued}
 use Rattle.vlm_store.specs.HashedKeys.{hashed_at}
 use Rattle.vlm_store.proofs.HashedKeys.{labels_same}
 use Rattle.vlm_store.specs.Records.{StoredResource}
-use Rattle.vlm_records.specs.Shown.{but_value_block, face_in, lkid_of, room_in, row_in, but_queued}
+use Rattle.vlm_records.specs.Shown.{but_value_block, face_in, lkid_of, room_in, row_in, but_queued, loose_in}
 use Rattle.vlm_store.specs.Store.{lkid_at, tables}
 use Rattle.vlm_store.proofs.Indexing.{Indexes-same}
 use Rattle.vlm_store.proofs.Layouts.{HasResource-order, resource_written}
@@ -60,7 +60,7 @@ returns-clause-written c =
     (resource_written (tables s.queues s.order (beside_shown s)) (tables q' s.order (beside_shown (record s { queues = q' }))) c.args.res (λ (r : StoredResource). record r { value_block = c.args.value_block }) (λ k. ap (λ l. row_in (slot_of l k)) set.locks) set.handles
     (λ r differs. ap face_in (set.faces r differs)) (order_handles but_value_block (λ r. refl) s.queues.resources q'.resources set.rest s.order c.self.invariant.linked)
     (λ lists. rw (set.face, lists (Queued c.args.res Granted), lists (Queued c.args.res Conversion), lists (Queued c.args.res Waiting)) refl)
-    (queued_processes s.processes s.queues.locks q'.locks (same_eq but_queued s.queues.locks q'.locks set.locks) s.process_order c.self.invariant.owned c.self.invariant.below)
+    (queued_processes s.processes s.queues.locks q'.locks (same_eq but_queued s.queues.locks q'.locks set.locks) s.process_order (λ k. ap (λ x. loose_in (get x k)) set.locks) c.self.invariant.owned c.self.invariant.below)
     (queues_room s q' (ap room_in set.locks) set.resources_room) refl)
 
 pub returns-clause-sound : goal.returns-clause-sound

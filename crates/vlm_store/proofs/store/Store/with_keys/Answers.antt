@@ -1,9 +1,8 @@
 use Rattle.vlm_store.proofs.Living.{is_sound}
-use Rattle.vlm_store.specs.Index.{hash_key}
+use Rattle.vlm_store.specs.Index.{handle_by, hash_key}
 use Rattle.vlm_store.proofs.WaitListed.{empty_wait_list}
-use Rattle.std.proofs.Common.{◌≡◌, ◌∙◌, ℕ, None, refl, sym, ap}
-use Rattle.std.proofs.lemmas.Option.{none-some}
-use Rattle.vlm_collections.specs.Tables.{handle_of}
+use Rattle.std.proofs.Common.{◌≡◌, ℕ, None, nat_eq, refl, ap}
+use Rattle.std.specs.Map.{lookup}
 use Rattle.slab.specs.Slab.{get}
 use Rattle.vlm_records.specs.Shown.{lkid_of}
 use Rattle.std.specs.Option.{option_map}
@@ -19,6 +18,7 @@ use Rattle.vlm_store.proofs.Kept.{Indexes-empty, empty_handles, empty_linked, em
 use Rattle.vlm_store.specs.Pending.{is_of_nodes, waits_in}
 use Rattle.vlm_store.proofs.Marked.{empty_marked}
 use Rattle.vlm_store.proofs.store.Store.with_keys.Goals as goal
+use Rattle.vlm_store.proofs.Kinship.{records_keys}
 
 pub invariant_of-result : goal.invariant_of-result
 invariant_of-result c =
@@ -42,11 +42,8 @@ invariant_of-result c =
       processes_linked = empty_processes_linked c.new-5.result q.locks no_processes no_locks c.new-6.result c.new-6.ensures;
       processes_ordered = empty_processes_ordered c.new-5.result q.locks no_processes no_locks c.new-6.result c.new-6.ensures;
       processes =
-          let none : (p : ℕ) → pid_at c.new-5.result p ≡ None = λ p. ap (option_map pid_of) (no_processes p) in
-          record {
-            indexes = Indexes-empty (handle_of c.new-9.result) (pid_at c.new-5.result) c.new-9.ensures none;
-            room = λ p number is. absurd (none-some number (sym (none p) ∙ is));
-          };
+          Indexes-empty (handle_by c.with_hasher.result) (pid_at c.new-5.result) (λ number. ap (lookup (nat_eq number)) c.with_hasher.ensures.empty)
+          (λ p. ap (option_map pid_of) (no_processes p));
       marked = empty_marked waits_in c.new-5.result c.new-11.result no_processes c.new-11.ensures;
       living = empty_marked is_of_nodes c.new-5.result c.new-10.result no_processes c.new-10.ensures;
     }
@@ -61,3 +58,6 @@ returns-clause-empty c =
 
 pub returns-clause-sound : goal.returns-clause-sound
 returns-clause-sound c = is_sound _ (invariant_of-result c)
+
+pub returns-clause-keys : goal.returns-clause-keys
+returns-clause-keys c = records_keys _
