@@ -62,6 +62,52 @@ def laws(_program):
     yield from (f"docs/LAWS.md names {name}, which is not there" for name in sorted(named - there))
 
 
+def source_of(crate, module):
+    return TOP / "crates" / crate / "src" / f"{module}.rt"
+
+
+def public_source(crate, path):
+    """The file where a crate has the item of this path, or None if it is not public there."""
+    *modules, item = path.split("::")
+    library = source_of(crate, "lib")
+    shown = library.read_text() if library.exists() else source_of(crate, "main").read_text()
+    if modules:
+        public = "pub mod" if library.exists() else "mod"
+        return source_of(crate, "/".join(modules)) if f"{public} {modules[0]};\n" in shown else None
+    for used, names in re.findall(r"^pub use ([\w:]+)::(\w+|\{[^}]*\});", shown, re.M):
+        source, *inner = used.split("::")
+        if item in re.findall(r"\w+", names):
+            if (TOP / "crates" / source).is_dir():
+                return public_source(source, "::".join((*inner, item)))
+            return source_of(crate, used.replace("::", "/"))
+    return None
+
+
+def missing_of(crate, path, members):
+    """The members of a public item that are not there, or the item itself."""
+    file, item = public_source(crate, path), path.rpartition("::")[2]
+    text = file.read_text() if file else ""
+    kind = re.search(rf"^pub (fn|struct|enum|trait|type) {item}\b", text, re.M)
+    if not kind:
+        return [item]
+    sources = "\n".join(other.read_text() for other in file.parent.glob("*.rt"))
+    own = rf"^( *)(?:pub (?:struct|enum|trait)|impl(?:<[^>\n]*>)?) {item}\b[^;{{]*(\{{.*?)^\1\}}"
+    bodies = "\n".join(body for _, body in re.findall(own, sources, re.M | re.S))
+    method = "fn" if kind[1] == "trait" else "pub fn"
+    is_there = rf"^ +(?:{method} {{0}}\b|pub {{0}}:|(?:const )?(?=[A-Z]){{0}}(?:[(,]| =))"
+    return [f"{item}::{name}" for name in members if not re.search(is_there.format(name), bodies, re.M)]
+
+
+def public_names(_program):
+    """Each name of tests/public_names.txt is public where that table says."""
+    rows = [line.split() for line in text_of("tests/public_names.txt").splitlines()]
+    rows = [row for row in rows if row and row[0] != "#"]
+    if len(rows) < 60:
+        yield f"tests/public_names.txt has {len(rows)} rows"
+    for crate, path, *members in rows:
+        yield from (f"{crate}: {name} is not public" for name in missing_of(crate, path, members))
+
+
 def conditions():
     """The conditions by which a step is refused."""
     names = re.findall(r'Cond::\w+ => "([A-Z]+)"', text_of("crates/vlm_words/src/conditions.rt"))
@@ -236,8 +282,8 @@ def functions(_program):
 
 
 def checks():
-    return (functions, short_readme, crate_table, laws, refusals, sizes, help_forms, flags, calls, version, kit,
-            links, files, parts)
+    return (functions, short_readme, crate_table, public_names, laws, refusals, sizes, help_forms, flags, calls,
+            version, kit, links, files, parts)
 
 
 def blocks():
