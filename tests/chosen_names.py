@@ -242,7 +242,8 @@ def without_random_bytes(words, status, program):
 
 
 COMMANDS = (("play",), ("cluster", "--nodes", "1"), ("watch", "--name", LAST, "--group", str(GROUP)))
-KINDS = {"processes": ("the hasher of the kit's maps", "the fixed keys"), "resources": ("the fixed keys",)}
+KINDS = {"processes": ("the hasher of the kit's maps", "the fixed keys", "keys of zeros"),
+         "resources": ("the fixed keys",)}
 ZEROS = {"processes": "keys of zeros", "resources": "the fixed keys"}
 
 
