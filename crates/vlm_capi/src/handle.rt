@@ -157,7 +157,7 @@ fn lend_port<R, F: FnOnce(&mut Port) -> R + Drop>(held: &mut Held, call: F) -> O
 #[inline(never)]
 fn free(_held: Box<Held>) {}
 
-// Its bound proves `Send`: C may use a handle in any thread.
+// Takes only what is `Send`, since C may use a handle in any thread.
 fn sendable<T: Send>(value: T) -> T
     ensures { result ≡ value }
 {
