@@ -386,7 +386,7 @@ pub fn a_dequeue_of_all_takes_no_other_lock()
         → after.granted ≡ row ∷ [] }
 {}
 
-/// A Deq with DEQALL ends no request before that of an earlier lock, and none by CANCEL.
+/// A Deq with DEQALL never ends the request of a later lock first, and never ends one by CANCEL.
 pub fn a_dequeue_of_all_aborts_no_later_lock_first()
     ensures order { (old : State) (d : Dequeue) (choice : Option LockRow) (i j : ℕ)
         (none a b : Ending) → AbortsByRisingIdentification old d choice → i < j
