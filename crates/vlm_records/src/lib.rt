@@ -5,11 +5,14 @@
 //! Three slabs have the records of locks, resources and processes. A handle (`At`) is a place in a slab, in four
 //! bytes. It is valid until its record is removed; after that another record may get it.
 //!
-//! A lock is in one queue of a resource, in the list of its process and, if it has a parent lock, in the sublocks of
-//! that lock. For each list it has a pair of links. The ends of the lists are in the other records. Three more lists
-//! have only some locks: the armed locks of a resource above NL, those above CR, both in the order of the granted
-//! queue, and the wait list, which has the queued locks of all resources. Resources and processes are linked in the
-//! order of making.
+//! A lock is in one queue of a resource, or loose: in no queue, between two calls of its owner. It is in the list of
+//! its process and, if it has a parent lock, in the sublocks of that lock. For each list it has a pair of links. The
+//! ends of the lists are in the other records. Three more lists have only some locks: the armed locks of a resource
+//! above NL, those above CR, both in the order of the granted queue, and the wait list, which has the queued locks of
+//! all resources. Resources and processes are linked in the order of making.
+//!
+//! Memory is read a line of 64 bytes at a time. So the fields that neighbours write and that each step reads stand
+//! first in a record, and those of few steps last.
 //!
 //! A resource counts its locks by mode in a tally: a granted lock as holding, a waiting lock as wanting, and a
 //! converting lock as both. So two questions take constant time: does a mode fit beside all others, and is a held mode

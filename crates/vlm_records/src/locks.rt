@@ -26,22 +26,22 @@ pub struct OfParent;
 /// The record of a lock, at most 144 bytes. It is in one to five lists, and has a pair of links for each kind of list.
 #[derive(Clone, Copy)]
 pub struct Lock {
-    pub row: StoredRow,
+    pub(crate) of_process: Links,
+    pub owner: ProcAt,
     /// Its queue; of a loose lock the queue that it left.
     pub place: StoredPlace,
     // whether it is loose: in no queue
     pub(crate) loose: bool,
-    // its neighbours in its queue; each further pair is for another list
+    // its neighbours in its queue; each other pair is for another list
     pub(crate) in_queue: Links,
+    pub row: StoredRow,
+    pub parent: MaybeAt<LockKind>,
+    /// Its sublocks, the direct ones only.
+    pub sublocks: LinkedList<OfParent>,
+    pub(crate) of_parent: Links,
     pub(crate) in_above_nl: Links,
     pub(crate) in_above_cr: Links,
     pub(crate) in_wait_list: Links,
-    pub owner: ProcAt,
-    pub(crate) of_process: Links,
-    pub parent: MaybeAt<LockKind>,
-    pub(crate) of_parent: Links,
-    /// Its sublocks, the direct ones only.
-    pub sublocks: LinkedList<OfParent>,
 }
 
 impl Lock {

@@ -23,30 +23,30 @@ pub struct InOrder;
 /// The record of a resource, at most 240 bytes.
 #[derive(Clone, Copy)]
 pub struct Resource {
-    /// Its serial: the number of its making, from 1.
-    pub serial: u32,
-    /// The domain of its root.
-    pub domain: Domain,
-    pub key: Key,
-    /// The hash of its key. It is kept, so that a removal need not hash the key again.
-    pub hash: u32,
-    /// 0 for a root, at most 15.
-    pub level: u8,
-    /// Its value block, valid or not.
-    pub value_block: ValueBlock,
+    pub(crate) in_order: Links,
     // the locks that hold a mode and want nothing; a lock whose request is granted or cancelled joins at the end
     pub(crate) granted: LinkedList<InQueue>,
     // the locks that hold a mode and want another, oldest request first
     pub(crate) converting: LinkedList<InQueue>,
     // the locks that hold nothing and want a mode, oldest request first
     pub(crate) waiting: LinkedList<InQueue>,
+    /// Counts of its locks by mode: those that hold each mode, and those that want it.
+    pub tally: Tally,
+    /// 0 for a root, at most 15.
+    pub level: u8,
+    /// The hash of its key. It is kept, so that a removal need not hash the key again.
+    pub hash: u32,
+    /// Its serial: the number of its making, from 1.
+    pub serial: u32,
+    /// The domain of its root.
+    pub domain: Domain,
+    pub key: Key,
     // the granted locks that are armed and hold more than NL, in the order of the granted queue
     pub(crate) armed_above_nl: LinkedList<InAboveNl>,
     // the granted locks that are armed and hold more than CR, in the same order
     pub(crate) armed_above_cr: LinkedList<InAboveCr>,
-    /// Counts of its locks by mode: those that hold each mode, and those that want it.
-    pub tally: Tally,
-    pub(crate) in_order: Links,
+    /// Its value block, valid or not.
+    pub value_block: ValueBlock,
 }
 
 impl Linked<InOrder> for Resource {
