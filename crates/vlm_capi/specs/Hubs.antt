@@ -15,7 +15,7 @@ use Rattle.vlm_journal.specs.Accounts.{GoesOn, made}
 use Rattle.vlm_ports.specs.declared.hub.Turn.{Turn}
 use Rattle.vlm_ports.specs.declared.hub.Turn.TheVariants.{Idle, NoMemory, Served}
 use Rattle.vlm_ports.specs.declared.port.Port.{Port}
-use Rattle.vlm_ports.specs.Hubs.{EachAsksOnce, HubGrew, IsAsWritten, IsNewHub, IsPortOf, KeepsKnown, KnowsAllTheSame, MayIdle, OthersLast, PutsBeforeCut, base, bases, journal, nodes, rings, state, waiting}
+use Rattle.vlm_ports.specs.Hubs.{EachAsksOnce, EachIsDeliveredOnce, HubGrew, IsAsWritten, IsNewHub, IsPortOf, KeepsKnown, KnowsAllTheSame, MayIdle, OthersLast, PutsBeforeCut, base, bases, journal, nodes, rings, state, waiting}
 use Rattle.vlm_ports.specs.Ports.{AreNew}
 use Rattle.vlm_ports.specs.Turns.{IsIdleTurn, IsServedTurn, turn_entries}
 use Rattle.vlm_capi.specs.declared.entries.VlmCut.{VlmCut}
@@ -87,6 +87,7 @@ pub record HasTurned (old : OwnedHub) (turn : Turn) (new : OwnedHub) : Type 0 wh
   pub some : IsServedTurn turn → 0 < turn_entries turn
   pub most : turn_entries turn ≤ 2 * nodes old.hub
   pub once : EachAsksOnce (journal old.hub) (journal new.hub)
+  pub delivers : EachIsDeliveredOnce (journal old.hub) (journal new.hub)
   pub idle : IsIdleTurn turn → MayIdle new.hub
   pub known : KeepsKnown old.hub new.hub
   pub ports : new.ports ≡ old.ports

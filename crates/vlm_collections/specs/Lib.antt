@@ -6,4 +6,5 @@ pub mod Sip
 pub mod Marks
 pub mod Nodes
 pub mod Words
+pub mod AstRings
 pub mod Asts

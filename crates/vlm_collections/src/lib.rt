@@ -24,6 +24,7 @@
 //! is there, and cannot fail. Room that no AST will need is given back (`forgive`).
 #![tactic(auto)]
 
+mod ast_rings;
 mod bit_words;
 mod growth;
 mod handles;

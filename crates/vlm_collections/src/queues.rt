@@ -3,20 +3,20 @@
 ghost use Rattle.std.specs.Prelude.{◌≡◌, ◌≤◌, ◌<◌, ◌+◌, ◌-◌, ◌^◌, ◌++◌, [], ◌∷◌, drop, length, slice_get, IsOk, OnErr, OnOk};
 ghost use Rattle.vlm_collections.specs.Asts.{no_asts};
 
-use circular_buffer::HeapCircularBuffer;
+use crate::ast_rings::AstRings;
 use std::alloc::{AllocError, Global};
 use std::marker::Model;
 use vlm_words::asts::Ast;
 
-// The smallest buffer, so that few requests need a larger one.
+// The smallest ring, so that few requests need a larger one.
 const LEAST: usize = 8;
 
 /// The pending ASTs of a process, and room for its due ASTs.
 #[derive(Drop)]
 pub struct AstQueue {
-    // the pending ASTs, oldest first; no buffer until an AST is owed
-    ring: Option<HeapCircularBuffer<Ast>>,
-    // how many ASTs are due, without the pending ones; the buffer has room for them
+    // the pending ASTs; no rings until an AST is owed
+    rings: Option<AstRings>,
+    // how many ASTs are due, without the pending ones; the rings have room for them
     due: usize,
 }
 
@@ -37,24 +37,17 @@ impl AstQueue {
     pub fn new() -> Self
         ensures { result ≡ no_asts }
     {
-        AstQueue { ring: None, due: 0 }
+        AstQueue {
+            rings: None,
+            due: 0,
+        }
     }
 
     pub fn len(&self) -> usize
         ensures { result ≡ length self.now.pending }
     {
-        match &self.ring {
-            Some(ring) => ring.len(),
-            None => 0,
-        }
-    }
-
-    fn capacity(&self) -> usize
-        ensures capacity { result ≡ length self.now.pending + self.now.due + self.now.free }
-        ensures within { result < 2 ^ 63 }
-    {
-        match &self.ring {
-            Some(ring) => ring.capacity(),
+        match &self.rings {
+            Some(rings) => rings.len(),
             None => 0,
         }
     }
@@ -63,9 +56,13 @@ impl AstQueue {
         ensures free { result ≡ self.now.free }
         ensures within { self.now.due + result < 2 ^ 63 }
     {
-        self.capacity() - self.len() - self.due
+        match &self.rings {
+            Some(rings) => rings.free() - self.due,
+            None => 0,
+        }
     }
 
+    // A further ring has room for all due ASTs, and for twice as many as the last one. So a queue has few rings.
     fn grow(&mut self, alloc: Global, count: usize) -> Result<(), AllocError>
         ensures pending { self.new.pending ≡ self.old.pending }
         ensures due { self.new.due ≡ self.old.due }
@@ -73,20 +70,18 @@ impl AstQueue {
         ensures more { OnOk result (self.old.free ≤ self.new.free) }
         ensures refused { OnErr result (self.new ≡ self.old) }
     {
-        let taken = self.capacity() - self.free();
-        let wanted = taken.checked_add(count).ok_or(AllocError)?;
-        let capacity = wanted.max(self.capacity() * 2).max(LEAST);
-        match &mut self.ring {
-            Some(ring) => ring.resize(capacity),
+        let wanted = self.due.checked_add(count).ok_or(AllocError)?;
+        match &mut self.rings {
+            Some(rings) => rings.open_ring(alloc, wanted.max(rings.capacity() * 2)),
             None => {
-                self.ring = Some(HeapCircularBuffer::with_capacity(alloc, capacity)?);
+                self.rings = Some(AstRings::with_capacity(alloc, wanted.max(LEAST))?);
                 Ok(())
             }
         }
     }
 
-    /// Makes room for this many more ASTs, and counts them as due. If memory is refused, nothing is changed. A full
-    /// buffer at least doubles, so few calls move the ASTs.
+    /// Makes room for this many more ASTs, and counts them as due. If memory is refused, nothing is changed. No AST is
+    /// moved.
     pub fn owe(&mut self, alloc: Global, count: usize) -> Result<(), AllocError>
         ensures due { OnOk result (self.new.due ≡ self.old.due + count) }
         ensures free { OnOk result (self.old.free ≤ self.new.free + count) }
@@ -110,8 +105,8 @@ impl AstQueue {
           due = self.old.due - 1;
         } }
     {
-        if let Some(ring) = &mut self.ring {
-            ring.push_back(ast);
+        if let Some(rings) = &mut self.rings {
+            rings.push_back(ast);
         }
         self.due -= 1;
     }
@@ -130,11 +125,10 @@ impl AstQueue {
         ensures taken { result ≡ slice_get self.old.pending 0 }
         ensures pending { self.new.pending ≡ drop 1 self.old.pending }
         ensures due { self.new.due ≡ self.old.due }
-        ensures free { length self.new.pending + self.new.free
-            ≡ length self.old.pending + self.old.free }
+        ensures free { self.old.free ≤ self.new.free }
     {
-        match &mut self.ring {
-            Some(ring) => ring.pop_front(),
+        match &mut self.rings {
+            Some(rings) => rings.pop_front(),
             None => None,
         }
     }

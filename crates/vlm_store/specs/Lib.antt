@@ -1,5 +1,6 @@
 pub mod Armed
 pub mod HashedKeys
+pub mod OtherKeys
 pub mod KeyIndexes
 pub mod Held
 pub mod Holdings

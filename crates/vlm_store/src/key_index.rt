@@ -6,8 +6,7 @@ ghost use Rattle.vlm_collections.specs.Parts.{KeepsSpares, UsesOneSpare, spare_f
 ghost use Rattle.vlm_store.specs.HashedKeys.{hashed_in};
 ghost use Rattle.vlm_store.specs.KeyIndexes.{Enters, FindsNothing, IsSame, Leaves, found_by, last_of, spares_in};
 
-use crate::hashed::HashedKey;
-use indexmap::IndexMap;
+use crate::other_keys::OtherKeys;
 use slab::Slab;
 use std::alloc::{AllocError, Global};
 use vlm_collections::PartedIndex;
@@ -21,7 +20,7 @@ pub(crate) struct KeyIndex {
     // the resource of each hash; if several have it, the last one made
     last: PartedIndex<ResourceKind>,
     // all other resources, by their keys; nearly always empty
-    others: IndexMap<HashedKey, ResAt>,
+    others: OtherKeys,
 }
 
 // Written out: a drop is then one call in each owner of an index.
@@ -38,7 +37,7 @@ impl KeyIndex {
     {
         KeyIndex {
             last: PartedIndex::new(alloc),
-            others: IndexMap::new(alloc),
+            others: OtherKeys::new(alloc),
         }
     }
 
@@ -50,7 +49,7 @@ impl KeyIndex {
         ensures succeeds { 0 < spare_for (spares_in self.old) hash → IsOk result }
     {
         self.last.reserve(hash)?;
-        self.others.reserve(1)
+        self.others.reserve()
     }
 
     pub fn get(&self, resources: &Slab<Resource>, key: &Key, hash: u32) -> Option<ResAt>
@@ -62,11 +61,7 @@ impl KeyIndex {
                 return Some(at);
             }
         }
-        if self.others.is_empty() {
-            return None;
-        }
-        let found = HashedKey { key: *key, hash };
-        self.others.get(&found).copied()
+        self.others.get(key, hash)
     }
 
     /// Adds a resource. If another resource has the same hash, that one moves to `others`.
@@ -78,8 +73,8 @@ impl KeyIndex {
         ensures taken { UsesOneSpare (spares_in self.old) (spares_in self.new) }
     {
         if let Some(before) = self.last.insert(hash, at) {
-            let Resource { key, hash, .. } = resources[before.slot()];
-            let _ = self.others.insert(HashedKey { key, hash }, before);
+            let Resource { key, hash, .. } = &resources[before.slot()];
+            self.others.insert(key, *hash, before);
         }
     }
 
@@ -87,12 +82,8 @@ impl KeyIndex {
         ensures leaves { Leaves (hashed_in resource.now) self.old self.new }
         ensures room { KeepsSpares (spares_in self.old) (spares_in self.new) }
     {
-        if !self.others.is_empty() {
-            let Resource { key, hash, .. } = *resource;
-            let found = HashedKey { key, hash };
-            if self.others.swap_remove(&found).is_some() {
-                return;
-            }
+        if self.others.remove(&resource.key, resource.hash) {
+            return;
         }
         self.last.remove(resource.hash);
     }

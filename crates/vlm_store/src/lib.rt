@@ -20,6 +20,7 @@ mod hashed;
 mod key_index;
 pub mod laws;
 mod neighbours;
+mod other_keys;
 mod pending_processes;
 mod processes;
 mod store;
