@@ -118,7 +118,7 @@ module _ (s : Records) (sound : IsSound s) where
         cc)
 
     module _ (lock : StoredLock) where
-      not_converting : IsIn lock own.waiting → (x : LockRow) → IsIn x (rows_of_locks own.converting) → x.lkid ≢ lock.row.lkid
+      pub not_converting : IsIn lock own.waiting → (x : LockRow) → IsIn x (rows_of_locks own.converting) → x.lkid ≢ lock.row.lkid
       not_converting among x in_x same =
           let k = lock_of x own.converting in_x in
           let one : Queued own.at Conversion ≡ Queued own.at Waiting =

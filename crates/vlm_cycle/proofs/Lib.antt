@@ -1,7 +1,10 @@
 pub mod Marked
-pub mod Walked
 pub mod Listed
+pub mod Nearest
+pub mod Walked
 pub mod Keeping
+pub mod Ahead
+pub mod Closing
 pub mod Owned
 pub mod Searched
 pub mod Found

@@ -112,3 +112,7 @@ before_stops (x ∷ xs) ys row there = elim (cases_eq x.lkid row.lkid) [
 pub before_passes : (lkid : ℕ) (xs ys : List LockRow) → ((x : LockRow) → IsIn x xs → x.lkid ≢ lkid) → rows_before lkid (xs ++ ys) ≡ rows_before lkid xs ++ rows_before lkid ys
 before_passes lkid [] ys none = refl
 before_passes lkid (x ∷ xs) ys none = rw (ne_eqb x.lkid lkid (none x (inl refl))) (ap (λ zs. x ∷ zs) (before_passes lkid xs ys (λ z there. none z (inr there))))
+
+-- before a lock the row is one of those, and the first
+pub before_step : (lkid : ℕ) (row : LockRow) (rest : List LockRow) → row.lkid ≢ lkid → rows_before lkid (row ∷ rest) ≡ row ∷ rows_before lkid rest
+before_step lkid row rest differs = rw (ne_eqb row.lkid lkid differs) refl

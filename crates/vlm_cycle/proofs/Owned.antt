@@ -1,19 +1,23 @@
--- The locks of a process, and whom their requests wait for.
-use Rattle.std.proofs.Common.{◌≡◌, ◌⊎◌, ◌<◌, ℕ, List, [], ◌∷◌, ◌++◌, length, Option, None, Some, refl, sym, ap, ◌∙◌, subst, inl, inr, arith}
+-- The locks of a process, and what a search looks at for their requests.
+use Rattle.std.proofs.Common.{◌≡◌, ◌⊎◌, ◌<◌, ℕ, List, [], ◌∷◌, ◌++◌, length, Option, None, Some, sym, ap, ◌∙◌, subst, inl, inr, arith}
 use Rattle.std.specs.Option.{ForSome}
 use Rattle.std.proofs.lemmas.List.{append_assoc}
 use Rattle.std.proofs.lemmas.Option.{same_Some}
 use Rattle.vlm_words.specs.declared.locks.LockRow.{LockRow}
 use Rattle.vlm_collections.specs.Lists.{IsApart, IsIn, first_handle, handle_after}
 use Rattle.vlm_collections.proofs.Walks.{handle_after-among}
-use Rattle.vlm_store.specs.Records.{FindsProcess, IsProcess, IsSound, Records, Stores, own_handles_at}
+use Rattle.vlm_records.specs.declared.handles.Place.TheVariants.{Queued}
+use Rattle.vlm_words.specs.declared.resources.Queue.TheVariants.{Granted, Conversion}
+use Rattle.vlm_queue.specs.Walks.{rows_queued}
+use Rattle.vlm_store.specs.Records.{FindsProcess, IsProcess, IsSound, Records, Stores, locks_at, own_handles_at}
 use Rattle.vlm_locks.proofs.Chosen.{absent_before, on_from, on_from_first}
 use Rattle.vlm_locks.proofs.RunsDown.{its_handles, owned_here, stored_here}
-use Rattle.vlm_locks.proofs.Stood.{one_lock}
+use Rattle.vlm_locks.proofs.Stood.{one_lock, stands, stored}
+use Rattle.vlm_locks.specs.declared.located_locks.LocatedLock.{LocatedLock}
+use Rattle.vlm_locks.specs.Standing.{IsLocated}
 use Rattle.vlm_cycle.specs.declared.scratch.Scratch.{Scratch}
 use Rattle.vlm_cycle.specs.Marking.{Marks}
-use Rattle.vlm_cycle.specs.Waiting.{IsBehind, OwnsWaitedFor}
-use Rattle.vlm_cycle.proofs.Keeping.{row_stored}
+use Rattle.vlm_cycle.specs.Covering.{IsNearBehind, OwnsNear, OwnsNearAmong}
 use Rattle.vlm_cycle.proofs.Marked.{GoesOn, goes_step}
 use Rattle.vlm_collections.proofs.HandleLists.{in_behind}
 use Rattle.vlm_locks.specs.Rest.{IsAtRest}
@@ -22,9 +26,9 @@ use Rattle.vlm_locks.specs.Rest.{IsAtRest}
 abbrev pub IsAtOwn : Option ℕ → List ℕ → Type 0
 IsAtOwn at handles = ForSome at (λ lock. IsIn lock handles)
 
--- the process owns a lock for which the request of one of these locks waits
+-- a search looks at a lock of the process for the request of one of these locks
 abbrev pub OwnWaitFor : Records → List ℕ → ℕ → Type 0
-OwnWaitFor s handles pid = (at : ℕ) × (row : LockRow) × (IsIn at handles × Stores s at row × OwnsWaitedFor s row pid)
+OwnWaitFor s handles pid = (f : LocatedLock) × (IsIn f.lock handles × IsLocated f s × OwnsNear s f pid)
 
 -- ---- walks
 
@@ -76,56 +80,71 @@ pub fewer : (lock : ℕ) (rest left : List ℕ) → left ≡ lock ∷ rest → l
 fewer lock rest left is = rw is (omega arith)
 
 module _ (s : Records) (sound : IsSound s) where
+  -- a lock is located in one way
+  one_located : (f g : LocatedLock) → IsLocated f s → IsLocated g s → f.lock ≡ g.lock → (pid : ℕ) → OwnsNear s g pid → OwnsNear s f pid
+  one_located f g is_f is_g same pid near =
+      let stored_f = stored s f is_f in
+      let stored_g = subst (λ h. Stores s h g.row) (sym same) (stored s g is_g) in
+      let row : g.row ≡ f.row = one_lock s sound f.lock g.row f.row stored_g stored_f in
+      let place : Queued g.res g.queue ≡ Queued f.res f.queue =
+      sound.one_place f.lock g.row f.row (Queued g.res g.queue) (Queued f.res f.queue)
+      (subst (λ h. IsIn (record { at = h; row = g.row }) (locks_at (Queued g.res g.queue) s)) (sym same) (stands s g is_g)) (stands s f is_f) in
+      let res : g.res ≡ f.res = cc in
+      let queue : g.queue ≡ f.queue = cc in
+      record {
+        request = near.request;
+        awaits = record {
+          queued = λ granted. near.awaits.queued (queue ∙ granted);
+          wanted = ap (λ (r : LockRow). r.want) (sym row) ∙ near.awaits.wanted;
+          counted = near.awaits.counted;
+        };
+        near = subst (λ (r : LockRow). OwnsNearAmong r.lkid near.request.mode f.queue (rows_queued f.res f.queue s) (rows_queued f.res Granted s) (rows_queued f.res Conversion s) pid) row
+            (subst (λ q. OwnsNearAmong g.row.lkid near.request.mode q (rows_queued f.res q s) (rows_queued f.res Granted s) (rows_queued f.res Conversion s) pid) queue
+            (subst (λ h. OwnsNearAmong g.row.lkid near.request.mode g.queue (rows_queued h g.queue s) (rows_queued h Granted s) (rows_queued h Conversion s) pid) res near.near));
+      }
+
   -- one lock more is looked at
-  pub owns_on : (lock : ℕ) (row : LockRow) → Stores s lock row → (left rest all : List ℕ) (initial now after : Scratch) → left ≡ lock ∷ rest
-      → Marks (OwnsWaitedFor s row) now after → GoesOn (OwnWaitFor s) left all initial now → GoesOn (OwnWaitFor s) rest all initial after
-  owns_on lock row stored left rest all initial now after is marks goes =
-      goes_step (OwnWaitFor s) (OwnsWaitedFor s row) left rest all initial now after
+  pub owns_on : (f : LocatedLock) → IsLocated f s → (lock : ℕ) → f.lock ≡ lock → (left rest all : List ℕ) (initial now after : Scratch) → left ≡ lock ∷ rest
+      → Marks (OwnsNear s f) now after → GoesOn (OwnWaitFor s) left all initial now → GoesOn (OwnWaitFor s) rest all initial after
+  owns_on f located lock its left rest all initial now after is marks goes =
+      goes_step (OwnWaitFor s) (OwnsNear s f) left rest all initial now after
       (λ pid either. subst (λ hs. OwnWaitFor s hs pid) (sym is) (elim either [
-        | inl here ↦ (lock, row, (inl refl, stored, here))
-        | inr later ↦ (later.0, later.1, (inr later.2.0, later.2.1, later.2.2))
+        | inl here ↦ (f, (inl (sym its), located, here))
+        | inr later ↦ (later.0, (inr later.1.0, later.1.1, later.1.2))
       ]))
       (λ pid some. cases pid (subst (λ hs. OwnWaitFor s hs pid) is some))
       marks goes
     where
-      cases : (pid : ℕ) → OwnWaitFor s (lock ∷ rest) pid → OwnsWaitedFor s row pid ⊎ OwnWaitFor s rest pid
-      cases pid some = elim some.2.0 [
-        | inl here ↦ inl (subst (λ r. OwnsWaitedFor s r pid) (one_lock s sound lock some.1 row (subst (λ h. Stores s h some.1) (sym here) some.2.1) stored) some.2.2)
-        | inr later ↦ inr (some.0, some.1, (later, some.2.1, some.2.2))
+      cases : (pid : ℕ) → OwnWaitFor s (lock ∷ rest) pid → OwnsNear s f pid ⊎ OwnWaitFor s rest pid
+      cases pid some = elim some.1.0 [
+        | inl here ↦ inl (one_located f some.0 located some.1.1 (its ∙ here) pid some.1.2)
+        | inr later ↦ inr (some.0, (later, some.1.1, some.1.2))
       ]
 
-  -- whoever its locks wait for, the process waits for
-  pub own_behind : IsAtRest s → (owner pid : ℕ) → IsProcess owner pid s → (other : ℕ) → OwnWaitFor s (own_handles_at owner s) other → IsBehind s pid other
+  -- what is looked at for its locks is looked at for the process
+  pub own_behind : IsAtRest s → (owner pid : ℕ) → IsProcess owner pid s → (other : ℕ) → OwnWaitFor s (own_handles_at owner s) other → IsNearBehind s pid other
   own_behind rest owner pid lives other some =
-      let here = stored_here owner pid s sound lives rest some.0 some.2.0 in
-      let same : some.1 ≡ here.0 = one_lock s sound some.0 some.1 here.0 some.2.1 here.1.0 in
-      record {
-        row = some.1;
-        lock = some.2.2.0;
-        owner = ap (λ (r : LockRow). r.pid) same ∙ here.1.1;
-        holder = some.2.2.1.1;
-        waits = some.2.2.1.0;
-      }
+      let here = stored_here owner pid s sound lives rest some.0.lock some.1.0 in
+      let same : some.0.row ≡ here.0 = one_lock s sound some.0.lock some.0.row here.0 (stored s some.0 some.1.1) here.1.0 in
+      record { from = some.0; located = some.1.1; owner = ap (λ (r : LockRow). r.pid) same ∙ here.1.1; near = some.1.2 }
 
-  pub behind_own : (owner pid : ℕ) → IsProcess owner pid s → (other : ℕ) → IsBehind s pid other → OwnWaitFor s (own_handles_at owner s) other
-  behind_own owner pid lives other behind =
-      let stored = row_stored s sound behind.row behind.lock behind.waits in (
-        stored.0,
-        behind.row,
-        (
-          subst (IsIn stored.0) (sym (its_handles owner pid s sound lives)) (owned_here owner pid s sound lives stored.0 behind.row stored.1 behind.owner),
-          stored.1,
-          (behind.lock, (behind.waits, behind.holder)),
-        ),
-      )
+  pub behind_own : (owner pid : ℕ) → IsProcess owner pid s → (other : ℕ) → IsNearBehind s pid other → OwnWaitFor s (own_handles_at owner s) other
+  behind_own owner pid lives other behind = (
+    behind.from,
+    (
+      subst (IsIn behind.from.lock) (sym (its_handles owner pid s sound lives))
+          (owned_here owner pid s sound lives behind.from.lock behind.from.row (stored s behind.from behind.located) behind.owner),
+      behind.located,
+      behind.near,
+    ),
+  )
 
-  -- one that does not live waits for nobody
-  pub none_behind : (pid : ℕ) → FindsProcess s pid None → (other : ℕ) → IsBehind s pid other → ⊥
+  -- for one that does not live nothing is
+  pub none_behind : (pid : ℕ) → FindsProcess s pid None → (other : ℕ) → IsNearBehind s pid other → ⊥
   none_behind pid none other behind =
-      let stored = row_stored s sound behind.row behind.lock behind.waits in
-      let owned = sound.owned.owned stored.0 behind.row (inl stored.1) in
-      none owned.0 owned.2.0 (owned.2.1 ∙ behind.owner)
+      let owner = behind.located.owner in
+      none owner.0 owner.1.0 (owner.1.2 ∙ behind.owner)
 
 -- nobody owns one of none
 pub none_own : (s : Records) (handles : List ℕ) → handles ≡ [] → (pid : ℕ) → OwnWaitFor s handles pid → ⊥
-none_own s handles none pid some = subst (λ hs. IsIn some.0 hs) none some.2.0
+none_own s handles none pid some = subst (λ hs. IsIn some.0.lock hs) none some.1.0

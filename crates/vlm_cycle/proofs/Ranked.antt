@@ -19,13 +19,13 @@ use Rattle.vlm_queue.proofs.Walking.{passes}
 use Rattle.vlm_locks.proofs.Stood.{one_lock, resource_among}
 use Rattle.vlm_locks.specs.declared.located_locks.LocatedLock.{LocatedLock}
 use Rattle.vlm_locks.specs.Standing.{IsLocated}
+use Rattle.vlm_cycle.proofs.Listed.{before_step}
 use Rattle.vlm_cycle.specs.declared.blocker_ranks.BlockerRanks.{BlockerRanks}
 use Rattle.vlm_cycle.specs.declared.blocker_ranks.HighestRank.{HighestRank}
 use Rattle.vlm_cycle.specs.Ranks.{Ranks}
 use Rattle.vlm_cycle.specs.Ranking.{CountsHeld, CountsHolders, Falls, FallsOn, HasPassed, IsAboveAll, AreBlockerRanksAt, AreBlockerRanksOf, PassesQueue, PassesOne, rank_at, rank_of}
 use Rattle.vlm_cycle.specs.Waiting.{OwnsWaitedFor, OwnsBefore, OwnsBlocker, OwnsHolder, OwnsKeeper, rows_before, searched}
 use Rattle.vlm_cycle.proofs.Keeping.{none_waited, none_wanted, waited_keeps}
-use Rattle.vlm_cycle.proofs.Walked.{before_step}
 use Rattle.vlm_collections.proofs.HandleLists.{in_either}
 
 -- ---- ranks

@@ -8,8 +8,12 @@ use Rattle.vlm_collections.specs.Lists.{IsIn}
 use Rattle.vlm_collections.specs.Nodes.{is_marked}
 use Rattle.vlm_store.specs.Records.{IsSound, Records, StoredProcess}
 use Rattle.vlm_cycle.specs.declared.scratch.Scratch.{Scratch}
+use Rattle.vlm_locks.specs.declared.located_locks.LocatedLock.{LocatedLock}
+use Rattle.vlm_locks.specs.Standing.{IsLocated}
+use Rattle.vlm_cycle.specs.Covering.{IsNearBehind, OwnsNear}
 use Rattle.vlm_cycle.specs.Marking.{IsClear, TakesNext, Marks}
 use Rattle.vlm_cycle.specs.Waiting.{IsBehind, IsRoomy, OwnsWaitedFor, searched}
+use Rattle.vlm_cycle.proofs.Closing.{behind_seen, near_waited, waited_seen}
 use Rattle.vlm_cycle.proofs.Keeping.{lock_stored}
 use Rattle.vlm_cycle.proofs.Marked.{of_mark, roomy_still}
 
@@ -33,11 +37,12 @@ led_back s row led = record {
 abbrev pub IsLiving : Records → ℕ → Type 0
 IsLiving s pid = (p : StoredProcess) × (IsIn p s.processes × (p.process.pid ≡ pid))
 
--- what is found is led to; those that begin are found, and those behind each one that the search need not go to
-pub record IsSearched (s : Records) (row : LockRow) (marks : Scratch) : Type 0 where
-  pub led : (pid : ℕ) → is_marked marks.seen pid ≡ true → IsLedTo s row pid
-  pub begun : (pid : ℕ) → OwnsWaitedFor s row pid → is_marked marks.seen pid ≡ true
-  pub closed : (pid other : ℕ) → is_marked marks.seen pid ≡ true → is_marked marks.todo pid ≡ false → IsBehind s pid other → is_marked marks.seen other ≡ true
+-- what is found is led to; what the search looks at first is found, and what it looks at for each process to which it
+-- need not go
+pub record IsSearched (s : Records) (f : LocatedLock) (marks : Scratch) : Type 0 where
+  pub led : (pid : ℕ) → is_marked marks.seen pid ≡ true → IsLedTo s f.row pid
+  pub begun : (pid : ℕ) → OwnsNear s f pid → is_marked marks.seen pid ≡ true
+  pub closed : (pid other : ℕ) → is_marked marks.seen pid ≡ true → is_marked marks.todo pid ≡ false → IsNearBehind s pid other → is_marked marks.seen other ≡ true
   pub within : (pid : ℕ) → is_marked marks.todo pid ≡ true → is_marked marks.seen pid ≡ true
   pub living : (pid : ℕ) → is_marked marks.seen pid ≡ true → IsLiving s pid
   pub roomy : IsRoomy s marks
@@ -65,11 +70,17 @@ module _ (s : Records) (sound : IsSound s) where
       let owned = sound.owned.owned stored.0 lock (inl stored.1) in
       (owned.0, (owned.2.0, owned.2.1 ∙ is))
 
-  -- at first those are found that the request waits for
-  pub searched_begun : (row : LockRow) (a b : Scratch) → IsClear a → Marks (OwnsWaitedFor s row) a b → IsRoomy s b → IsSearched s row b
-  searched_begun row a b clear marks roomy = record {
+  -- a search looks only at what the process waits for
+  near_behind : (pid other : ℕ) → IsNearBehind s pid other → IsBehind s pid other
+  near_behind pid other behind =
+      let waited = near_waited s behind.from behind.located other behind.near in
+      record { row = behind.from.row; lock = waited.0; owner = behind.owner; holder = waited.1.1; waits = waited.1.0 }
+
+  -- at first those are found that the search looks at
+  pub searched_begun : (f : LocatedLock) → IsLocated f s → (a b : Scratch) → IsClear a → Marks (OwnsNear s f) a b → IsRoomy s b → IsSearched s f b
+  searched_begun f located a b clear marks roomy = record {
     led = λ pid is. elim (marks.others pid (clear.seen pid)) [
-      | inl found ↦ record { first = pid; waits = found.1; others = []; leads = refl }
+      | inl found ↦ record { first = pid; waits = near_waited s f located pid found.1; others = []; leads = refl }
       | inr not ↦ absurd (both_ways (is_marked b.seen pid) is not.0.0)
     ];
     begun = λ pid waits. elim (marks.others pid (clear.seen pid)) [
@@ -85,7 +96,7 @@ module _ (s : Records) (sound : IsSound s) where
       | inr not ↦ absurd (both_ways (is_marked b.todo pid) is (not.0.1 ∙ clear.todo pid))
     ];
     living = λ pid is. elim (marks.others pid (clear.seen pid)) [
-      | inl found ↦ owner_living row found.1.0 found.1.1.0 pid found.1.1.1
+      | inl found ↦ (let waited = near_waited s f located pid found.1 in owner_living f.row waited.0 waited.1.0 pid waited.1.1)
       | inr not ↦ absurd (both_ways (is_marked b.seen pid) is not.0.0)
     ];
     roomy = roomy;
@@ -96,7 +107,7 @@ module _ (s : Records) (sound : IsSound s) where
   lead_more first [] pid other leads behind = (subst (λ p. IsBehind s p other) (sym leads) behind, refl)
   lead_more first (next ∷ others) pid other leads behind = (leads.0, lead_more next others pid other leads.1 behind)
 
-  module _ (row : LockRow) (a b c : Scratch) (pid : ℕ) (so_far : IsSearched s row a) (taken : TakesNext (Some pid) a b) (marks : Marks (IsBehind s pid) b c) where
+  module _ (f : LocatedLock) (a b c : Scratch) (pid : ℕ) (so_far : IsSearched s f a) (taken : TakesNext (Some pid) a b) (marks : Marks (IsNearBehind s pid) b c) where
     same_seen : (other : ℕ) → is_marked b.seen other ≡ is_marked a.seen other
     same_seen other = ap (λ m. is_marked m other) taken.2
 
@@ -106,14 +117,14 @@ module _ (s : Records) (sound : IsSound s) where
     stays : (other : ℕ) → is_marked a.seen other ≡ true → is_marked c.seen other ≡ true
     stays other is = (marks.before other (same_seen other ∙ is)).0
 
-    pub searched_on : IsSearched s row c
+    pub searched_on : IsSearched s f c
     searched_on = record {
       led = λ other is. elim (of_mark (is_marked a.seen other)) [
         | inl was ↦ so_far.led other was
         | inr was ↦ elim (marks.others other (same_seen other ∙ was)) [
           | inl found ↦
               (let led = so_far.led pid it_is_seen in
-              record { first = led.first; waits = led.waits; others = led.others ++ other ∷ []; leads = lead_more led.first led.others pid other led.leads found.1 })
+              record { first = led.first; waits = led.waits; others = led.others ++ other ∷ []; leads = lead_more led.first led.others pid other led.leads (near_behind pid other found.1) })
           | inr not ↦ absurd (both_ways (is_marked c.seen other) is not.0.0)
         ]
       ];
@@ -123,7 +134,7 @@ module _ (s : Records) (sound : IsSound s) where
           | inl was ↦ stays other was
           | inr was ↦ elim (marks.others other (same_seen other ∙ was)) [
             | inl found ↦ found.0.0
-            | inr not ↦ absurd (not.1 (subst (λ q. IsBehind s q other) same behind))
+            | inr not ↦ absurd (not.1 (subst (λ q. IsNearBehind s q other) same behind))
           ]
         ]
         | inr differs ↦ elim (of_mark (is_marked a.seen p)) [
@@ -149,7 +160,7 @@ module _ (s : Records) (sound : IsSound s) where
       living = λ other is. elim (of_mark (is_marked a.seen other)) [
         | inl was ↦ so_far.living other was
         | inr was ↦ elim (marks.others other (same_seen other ∙ was)) [
-          | inl found ↦ owner_living found.1.row found.1.lock found.1.waits other found.1.holder
+          | inl found ↦ (let behind = near_behind pid other found.1 in owner_living behind.row behind.lock behind.waits other behind.holder)
           | inr not ↦ absurd (both_ways (is_marked c.seen other) is not.0.0)
         ]
       ];
@@ -206,12 +217,19 @@ module _ (s : Records) (sound : IsSound s) where
     less_to_go = let lives = so_far.living pid it_is_seen in less_at s.processes lives.0 lives.1.0 lives.1.1
 
   -- where the search has to go to no process, each that is led to is found
-  pub none_left : (row : LockRow) (a : Scratch) → IsSearched s row a → ((pid : ℕ) → is_marked a.todo pid ≡ false) → IsDeadlocked (searched s) row → is_marked a.seen row.pid ≡ true
-  none_left row a so_far none dead = along dead.others dead.lock.pid (so_far.begun dead.lock.pid (dead.lock, (dead.waits, refl))) dead.leads
+  pub none_left : (f : LocatedLock) → IsLocated f s → (a : Scratch) → IsSearched s f a → ((pid : ℕ) → is_marked a.todo pid ≡ false) → IsDeadlocked (searched s) f.row
+      → is_marked a.seen f.row.pid ≡ true
+  none_left f located a so_far none dead = along dead.others dead.lock.pid (waited_seen s sound Seen follows f located so_far.begun dead.lock.pid (dead.lock, (dead.waits, refl))) dead.leads
     where
-      along : (others : List ℕ) (p : ℕ) → is_marked a.seen p ≡ true → LeadsTo (searched s) p others row.pid → is_marked a.seen row.pid ≡ true
+      Seen : ℕ → Type 0
+      Seen pid = is_marked a.seen pid ≡ true
+
+      follows : (g : LocatedLock) → IsLocated g s → Seen g.row.pid → (pid : ℕ) → OwnsNear s g pid → Seen pid
+      follows g is seen pid near = so_far.closed g.row.pid pid seen (none g.row.pid) (record { from = g; located = is; owner = refl; near = near })
+
+      along : (others : List ℕ) (p : ℕ) → is_marked a.seen p ≡ true → LeadsTo (searched s) p others f.row.pid → is_marked a.seen f.row.pid ≡ true
       along [] p is leads = subst (λ q. is_marked a.seen q ≡ true) leads is
-      along (next ∷ others) p is leads = along others next (so_far.closed p next is (none p) leads.0) leads.1
+      along (next ∷ others) p is leads = along others next (behind_seen s sound Seen follows p next is leads.0) leads.1
 
 -- so one whose process is not found is not deadlocked
 pub not_found : (D : Type 0) (b seen : Bool) → b ≡ seen → (D → seen ≡ true) → OnFalse b (D → ⊥)

@@ -6,4 +6,5 @@ pub mod Ranking
 pub mod Notes
 pub mod Ranks
 pub mod Blocking
+pub mod Covering
 pub mod Passing

@@ -6,21 +6,22 @@ ghost use Rattle.vlm_model.specs.Deadlocks.{IsDeadlocked};
 ghost use Rattle.vlm_store.specs.Records.{IsProcess};
 ghost use Rattle.vlm_locks.specs.Rest.{IsAtRest};
 ghost use Rattle.vlm_locks.specs.Standing.{IsLocated};
+ghost use Rattle.vlm_cycle.specs.Covering.{IsNearBehind};
 ghost use Rattle.vlm_cycle.specs.Marking.{KeepsRoom, Marks};
-ghost use Rattle.vlm_cycle.specs.Waiting.{IsBehind, IsRoomy, searched};
+ghost use Rattle.vlm_cycle.specs.Waiting.{IsRoomy, searched};
 
 use crate::blockers::find_waited_for;
 use crate::scratch::Scratch;
 use vlm_locks::{LocatedLock, located_lock};
 use vlm_store::{ProcAt, Store};
 
-// Finds the owners of the locks for which the requests of a process wait. The cost grows with its locks, and with the
-// locks of their resources.
+// Finds owners of the locks for which the requests of a process wait, as `find_waited_for` does. The cost grows with
+// its locks, and with the locks that are looked at for each queued one.
 fn find_behind_own(store: &Store, scratch: &mut Scratch, owner: ProcAt, pid: u32)
     requires rest { IsAtRest store.now }
     requires owner { IsProcess owner pid store.now }
     requires roomy { IsRoomy store.now scratch.old }
-    ensures { Marks (IsBehind store.now pid) scratch.old scratch.new }
+    ensures { Marks (IsNearBehind store.now pid) scratch.old scratch.new }
 {
     let mut at = store.first_own(owner);
     while let Some(lock) = at {
@@ -33,7 +34,7 @@ fn find_behind_own(store: &Store, scratch: &mut Scratch, owner: ProcAt, pid: u32
 fn find_behind(store: &Store, scratch: &mut Scratch, pid: u32)
     requires rest { IsAtRest store.now }
     requires roomy { IsRoomy store.now scratch.old }
-    ensures { Marks (IsBehind store.now pid) scratch.old scratch.new }
+    ensures { Marks (IsNearBehind store.now pid) scratch.old scratch.new }
 {
     if let Some(owner) = store.process(pid) {
         find_behind_own(store, scratch, owner, pid);

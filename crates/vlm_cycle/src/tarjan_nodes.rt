@@ -12,7 +12,10 @@ use vlm_store::{LockAt, ProcAt};
 /// A part of the locks for which a queued request waits.
 #[derive(Clone, Copy)]
 pub(crate) enum BlockerKind {
+    /// The earlier requests of its queue, back to the first that covers those before it.
     Before,
+    /// The requests before that one: does one that covers want the same mode? It waits for the same holders.
+    Alike,
     Granted,
     /// The converting locks: their held modes, and for a waiting request also their requests.
     Converting,

@@ -5,8 +5,9 @@
 //! Tarjan's algorithm finds the strongly connected components. The walk finds each process once. It closes a component
 //! when it comes back from the first process that it found of it. `index` and `low` of a note are Tarjan's;
 //! `tree_parent` links the stack of the walk, and `stack_next` the stack of the processes whose components are not
-//! closed. If the request before a request waits for all before it, the walk follows only that one, so a long queue
-//! costs its length. The ranks are hints: the code that uses them checks them.
+//! closed. The walk looks back to the first earlier request that covers those before it, as a search does (`blockers`).
+//! It leaves the holders out if one that covers wants the same mode. So a long queue costs its length. The ranks are
+//! hints: the code that uses them checks them.
 
 ghost use Rattle.std.specs.Option.{ForSome};
 ghost use Rattle.vlm_store.specs.Records.{IsStored, Records};
@@ -15,7 +16,7 @@ ghost use Rattle.vlm_cycle.specs.Notes.{AreNotes, IsTarjanNode, LivesAt, IsWalk,
 
 use crate::ranks::{Ranks, TarjanNode};
 use crate::tarjan_nodes::BlockerKind;
-use crate::waits::{AwaitedModes, awaited_modes, covers_those_before};
+use crate::waits::{AwaitedModes, awaited_modes, is_covering};
 use vlm_queue::{head, next};
 use vlm_store::{LockAt, ProcAt, Store};
 use vlm_words::resources::Queue;
@@ -75,7 +76,7 @@ fn with_next_part(store: &Store, note: &TarjanNode, wanting: &AwaitedModes) -> T
 {
     let own = wanting.lock;
     let (part, queue) = match note.part {
-        BlockerKind::Before => (BlockerKind::Granted, Queue::Granted),
+        BlockerKind::Before | BlockerKind::Alike => (BlockerKind::Granted, Queue::Granted),
         BlockerKind::Granted => (BlockerKind::Converting, Queue::Conversion),
         BlockerKind::Converting => return with_next_own(store, note, own),
     };
@@ -94,15 +95,36 @@ fn with_next_before(
     requires note { IsTarjanNode store.now note.now }
     ensures { IsTarjanNode store.now result }
 {
-    let own = wanting.lock;
-    let record = store.lock_record(lock);
-    if !covers_those_before(record, ranks.of(record.owner) > 0) {
-        return note.located(Some(own), BlockerKind::Before, store.previous(lock));
+    let own = Some(wanting.lock);
+    let previous = store.previous(lock);
+    if !is_covering(store, ranks, wanting.lock, lock) {
+        return note.located(own, BlockerKind::Before, previous);
     }
-    if wanting.is_like(&record.row) {
-        return note.located(Some(own), BlockerKind::Converting, None);
+    if wanting.is_like(&store.lock_record(lock).row) {
+        return note.located(own, BlockerKind::Converting, None);
     }
-    note.located(Some(own), BlockerKind::Before, None)
+    note.located(own, BlockerKind::Alike, previous)
+}
+
+fn with_next_alike(
+    store: &Store,
+    ranks: &Ranks,
+    note: &TarjanNode,
+    wanting: &AwaitedModes,
+    lock: LockAt,
+) -> TarjanNode
+    requires lock { IsStored lock store.now }
+    requires wanting { IsWanting store.now wanting.now }
+    requires note { IsTarjanNode store.now note.now }
+    ensures { IsTarjanNode store.now result }
+{
+    let own = Some(wanting.lock);
+    if wanting.is_like(&store.lock_record(lock).row)
+        && is_covering(store, ranks, wanting.lock, lock)
+    {
+        return note.located(own, BlockerKind::Converting, None);
+    }
+    note.located(own, BlockerKind::Alike, store.previous(lock))
 }
 
 fn with_next(
@@ -119,6 +141,7 @@ fn with_next(
 {
     match note.part {
         BlockerKind::Before => with_next_before(store, ranks, note, wanting, lock),
+        BlockerKind::Alike => with_next_alike(store, ranks, note, wanting, lock),
         part => note.located(Some(wanting.lock), part, next(store, lock)),
     }
 }

@@ -5,8 +5,9 @@ ghost use Rattle.vlm_store.specs.Records.{IsStored};
 ghost use Rattle.vlm_cycle.specs.Notes.{IsWanting};
 
 use crate::conflicts::{blocks_those_behind, holds_against};
+use crate::ranks::Ranks;
 use crate::tarjan_nodes::BlockerKind;
-use vlm_store::{Lock, LockAt, ResAt, Store, StoredRow};
+use vlm_store::{LockAt, ResAt, Store, StoredRow};
 use vlm_words::flags::EnqFlags;
 use vlm_words::modes::Mode;
 use vlm_words::resources::Queue;
@@ -59,6 +60,7 @@ impl AwaitedModes {
         let blocks = blocks_those_behind(&row.want());
         match part {
             BlockerKind::Before => blocks,
+            BlockerKind::Alike => false,
             BlockerKind::Granted => holds,
             BlockerKind::Converting => holds || (self.is_behind_conversions && blocks),
         }
@@ -73,11 +75,20 @@ impl AwaitedModes {
     }
 }
 
-/// Whether later requests need not look at the locks before this queued lock. Its owner waits for these locks too.
-/// Later requests wait for its owner, or the owner's component is closed.
-pub(crate) fn covers_those_before(record: &Lock, is_closed: bool) -> bool {
-    match awaited_mode(&record.row) {
-        Some(_) => is_closed || blocks_those_behind(&record.row.want()),
+/// Whether later requests, of which `own` is one, need not look at the locks before this queued lock. Its owner waits
+/// for these locks too. Later requests wait for its owner, or it is theirs, or the owner's component is closed.
+pub(crate) fn is_covering(store: &Store, ranks: &Ranks, own: LockAt, lock: LockAt) -> bool
+    requires own { IsStored own store.now }
+    requires lock { IsStored lock store.now }
+{
+    let record = store.lock_record(lock);
+    match record.row.want() {
+        Some(request) => {
+            let blocks = !request.flags.has(EnqFlags::NODLCKBLK)
+                || record.owner == store.lock_record(own).owner
+                || ranks.of(record.owner) > 0;
+            blocks && !request.flags.has(EnqFlags::NODLCKWT)
+        }
         None => false,
     }
 }

@@ -1,6 +1,6 @@
 use Rattle.std.proofs.Common.{subst}
 use Rattle.vlm_store.specs.Records.{FindsProcess}
-use Rattle.vlm_cycle.specs.Waiting.{IsBehind}
+use Rattle.vlm_cycle.specs.Covering.{IsNearBehind}
 use Rattle.vlm_cycle.proofs.Marked.{marks_none}
 use Rattle.vlm_cycle.proofs.Owned.{none_behind}
 use Rattle.vlm_cycle.proofs.deadlocks.find_behind.Goals as goal
@@ -9,5 +9,5 @@ use Rattle.vlm_cycle.proofs.deadlocks.find_behind.Goals as goal
 pub returns-in_default : goal.returns-in_default
 returns-in_default c =
     let s = c.args.store.now in
-    marks_none (IsBehind s c.args.pid) c.args.scratch.now
+    marks_none (IsNearBehind s c.args.pid) c.args.scratch.now
     (none_behind s c.process.ensures.sound c.args.pid (subst (FindsProcess s c.args.pid) c.in_default.is c.process.ensures.found))

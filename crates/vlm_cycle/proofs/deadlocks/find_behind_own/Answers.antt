@@ -4,7 +4,7 @@ use Rattle.vlm_locks.proofs.Chosen.{on_from}
 use Rattle.vlm_locks.proofs.Found.{process_there}
 use Rattle.vlm_locks.proofs.RunsDown.{handles_apart, stored_here}
 use Rattle.vlm_cycle.specs.Marking.{Marks}
-use Rattle.vlm_cycle.specs.Waiting.{IsBehind}
+use Rattle.vlm_cycle.specs.Covering.{IsNearBehind}
 use Rattle.vlm_cycle.proofs.Marked.{marks_as, marks_none, roomy_still}
 use Rattle.vlm_cycle.proofs.Owned.{IsAtOwn, OwnWaitFor, begun, behind_own, fewer, none_own, own_behind, owns_on, passed}
 use Rattle.vlm_cycle.proofs.deadlocks.find_behind_own.Goals as goal
@@ -51,7 +51,7 @@ loop-at-preserved c =
       there = subst (λ o. IsAtOwn o hs) (sym next) one.there;
       roomy = roomy_still s c.loop-at.scratch c.find_waited_for.new.scratch c.find_waited_for.ensures.room c.loop-at.invariant.roomy;
       goes_on =
-          owns_on s c.first_own-at.ensures.sound c.in-Some.lock c.located_lock-located.result.row c.located_lock-located.ensures.row
+          owns_on s c.first_own-at.ensures.sound c.located_lock-located.result c.located_lock-located.ensures.located c.in-Some.lock c.located_lock-located.ensures.lock
           (on_from c.loop-at.at hs) (on_from c.next_own-at.result hs) hs c.args.scratch.now c.loop-at.scratch c.find_waited_for.new.scratch
           (ap (λ o. on_from o hs) c.in-Some.is ∙ one.left ∙ ap (λ o. c.in-Some.lock ∷ on_from o hs) (sym next))
           c.find_waited_for.ensures c.loop-at.invariant.goes_on;
@@ -63,6 +63,6 @@ returns c =
     let hs = own_handles_at c.args.owner s in
     let sound = c.first_own-at.ensures.sound in
     let left = on_from c.loop-at.at hs in
-    marks_as (OwnWaitFor s hs) (IsBehind s c.args.pid) c.args.scratch.now c.loop-at.scratch
+    marks_as (OwnWaitFor s hs) (IsNearBehind s c.args.pid) c.args.scratch.now c.loop-at.scratch
     (own_behind s sound c.requires.rest c.args.owner c.args.pid c.requires.owner) (behind_own s sound c.args.owner c.args.pid c.requires.owner)
     (c.loop-at.invariant.goes_on c.loop-at.scratch (marks_none (OwnWaitFor s left) c.loop-at.scratch (none_own s left (ap (λ o. on_from o hs) c.in_default.is))))

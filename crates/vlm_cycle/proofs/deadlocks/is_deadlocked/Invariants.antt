@@ -4,7 +4,7 @@ use Rattle.vlm_cycle.proofs.Searched.{IsSearched, to_go}
 use Rattle.vlm_cycle.proofs.deadlocks.is_deadlocked.Given as goal
 
 abbrev pub invariant-loop-pid : goal.invariant-loop-pid
-invariant-loop-pid l = IsSearched l.store l.waiting.row l.scratch × KeepsRoom l.initial.scratch l.scratch × (l.scratch.ranks ≡ l.initial.scratch.ranks)
+invariant-loop-pid l = IsSearched l.store l.waiting l.scratch × KeepsRoom l.initial.scratch l.scratch × (l.scratch.ranks ≡ l.initial.scratch.ranks)
 
 -- each turn takes a process that the search has to go to, and each process is found once
 abbrev pub decreases-loop-pid : goal.decreases-loop-pid
