@@ -1,4 +1,4 @@
-"""Waits for the ends of requests. Each function is called by who has the manager's mutex, which a wait gives away."""
+"""Waits for the ends of requests. Who calls a function of this file has the manager's mutex. A wait gives it away."""
 
 from contextlib import contextmanager, suppress
 from typing import TYPE_CHECKING, Callable, Iterator, Optional, TypeVar
@@ -34,20 +34,18 @@ def told(process: "Process", reader: Callable[[], _T]) -> _T:
         raise
 
 
-def awaited(process: "Process", lock: int, block: int, longest: Optional[float]) -> StatusBlock:
+def awaited(process: "Process", lock: int, block: int, is_conversion: bool, longest: Optional[float]) -> StatusBlock:
     """The status block of a request, after its grant. A request that waits too long, or whose wait is interrupted, is
-    cancelled. The status is read once more after the time, so a late grant counts as granted."""
-    def read() -> StatusBlock:
-        return told(process, lambda: process.status_block(block))
-
+    cancelled. The status is read after the time, so a late grant counts as granted."""
     try:
-        if not process.manager._changed.wait_for(lambda: read().status is not None, longest):
+        process.manager._wakes.wait_for_end(process.pid, block, lock, is_conversion, longest)
+        ended = told(process, lambda: process.status_block(block))
+        if ended.status is None:
             raise TimedOut(f"lock {lock} was not granted in {longest} seconds")
     except BaseException:
         with suppress(VlmError):
             process.cancel(lock)
         raise
-    ended = read()
     if ended.status not in _GRANTS:
         raise error_of(ended.status or Condition.BADPARAM)
     return ended

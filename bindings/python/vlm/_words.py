@@ -1,7 +1,6 @@
 """The words of the steps that a caller describes."""
 
 import os
-from ctypes import c_uint8
 from typing import Optional
 
 from . import _library as raw
@@ -9,8 +8,8 @@ from ._arguments import lock_named, mark, part, word
 from .errors import BadParam
 from .values import DequeueFlags, Which
 
-_VALUE = c_uint8 * 16
-_TAIL = c_uint8 * 48
+# How many bytes a value part and a tail have.
+_VALUE, _TAIL = 16, 48
 
 
 def options(keys: Optional[bytes]) -> raw.Sized:
@@ -29,8 +28,11 @@ def declaration(node: int, group: int, quota: int, blocks: int, syslck: bool) ->
 
 
 def setting(pid: int, block: int, value: bytes, tail: Optional[bytes]) -> raw.Sized:
-    return raw.Setting(pid=pid, block=word(block, "the status block"), has_tail=mark(tail is not None),
-                       value=_VALUE(*part(value, 16, "the value")), tail=_TAIL(*part(tail, 48, "the tail")))
+    words = raw.Setting(pid=pid, block=word(block, "the status block"))
+    words.value[:] = part(value, _VALUE, "the value")
+    if tail is not None:
+        words.has_tail, words.tail[:] = 1, part(tail, _TAIL, "the tail")
+    return words
 
 
 def request(pid: int, which: Optional[Which], **numbers: int) -> raw.Sized:
@@ -42,6 +44,9 @@ def request(pid: int, which: Optional[Which], **numbers: int) -> raw.Sized:
 
 def dequeue(pid: int, lock: Which, flags: DequeueFlags, value: Optional[bytes], tail: Optional[bytes]) -> raw.Sized:
     number, lock_block = lock_named(lock)
-    return raw.Dequeue(pid=pid, flags=word(flags, "flags"), lock=number, lock_block=lock_block,
-                       has_value=mark(value is not None), has_tail=mark(tail is not None),
-                       value=_VALUE(*part(value, 16, "the value")), tail=_TAIL(*part(tail, 48, "the tail")))
+    words = raw.Dequeue(pid=pid, flags=word(flags, "flags"), lock=number, lock_block=lock_block)
+    if value is not None:
+        words.has_value, words.value[:] = 1, part(value, _VALUE, "the value")
+    if tail is not None:
+        words.has_tail, words.tail[:] = 1, part(tail, _TAIL, "the tail")
+    return words

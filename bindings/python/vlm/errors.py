@@ -117,6 +117,9 @@ class Departed(VlmError, condition=Condition.DEPARTED):
     """The node has departed."""
 
 
+_SUCCESSES = {it.value: it for it in (Condition.NORMAL, Condition.SYNCH)}
+
+
 def error_of(condition: Condition) -> VlmError:
     """The exception of a condition that is not a success."""
     return VlmError.by_condition[condition]()
@@ -124,7 +127,7 @@ def error_of(condition: Condition) -> VlmError:
 
 def checked(status: int) -> Condition:
     """The condition of an answer. Raises its exception if it is a refusal."""
-    condition = Condition(status)
-    if condition not in (Condition.NORMAL, Condition.SYNCH):
-        raise error_of(condition)
+    condition = _SUCCESSES.get(status)
+    if condition is None:
+        raise error_of(Condition(status))
     return condition

@@ -61,10 +61,10 @@ class Held:
         """Asks for another mode and waits for the grant. If it fails, the lock holds what it held. The blocking routine
         takes the place of the old one."""
         process, longest = self.process, seconds(timeout)
-        with process.manager._changed, free_block(process) as block:
+        with process.manager._mutex, free_block(process) as block:
             flags = self._flags_to(mode, block, flags)
             process.convert(self.lock, mode, block, flags, blocking=blocking, param=param)
-            granted = awaited(process, self.lock, block, longest)
+            granted = awaited(process, self.lock, block, True, longest)
             if self._is_read_by(mode):
                 self._granted, self._flags = granted, flags
             elif flags & Flags.VALBLK:

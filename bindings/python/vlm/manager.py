@@ -10,9 +10,10 @@ from . import _library as raw
 from . import _words
 from ._arguments import mark, name_bytes, word
 from ._routines import Routines
+from ._wakes import Wakes
 from .errors import checked
 from .process import Process, ast_of
-from .values import Ast, Condition, LockView, Mode, Name, ProcessView, Queue, Resource
+from .values import Ast, Condition, LockView, Mode, Name, ProcessView, Queue, Resource, Which
 
 
 class LockManager:
@@ -24,19 +25,20 @@ class LockManager:
     def __init__(self, keys: Optional[bytes] = None) -> None:
         """Opens a lock manager. 16 bytes of keys hash its names; without them they are random."""
         self._handle = raw.Handle()
-        # Who has it may make a call. It is notified after each step that may end a request or queue an AST.
-        self._changed = threading.Condition()
+        # Who has it may make a call.
+        self._mutex = threading.RLock()
+        self._wakes = Wakes(self._handle, self._mutex)
         self._routines = Routines()
-        self._step("vlm_open", _words.options(keys))
+        self._quiet_step("vlm_open", _words.options(keys))
         self._closing = weakref.finalize(self, raw.LIBRARY.vlm_close, self._handle)
         # At the end of the program a thread may still be in a call, so nothing is freed then.
         self._closing.atexit = False
 
     def close(self) -> None:
         """Frees the lock manager. A second call does nothing. After it steps raise BadParam, and lists are empty."""
-        with self._changed:
+        with self._mutex:
             self._closing()
-            self._changed.notify_all()
+            self._wakes.after_step()
 
     @property
     def is_closed(self) -> bool:
@@ -51,22 +53,37 @@ class LockManager:
         self.close()
 
     def _call(self, name: str, *arguments: Any) -> int:
-        with self._changed:
+        with self._mutex:
             answer: int = getattr(raw.LIBRARY, name)(self._handle, *arguments)
             return answer
 
     def _step(self, name: str, *arguments: Any) -> Condition:
-        """Makes a call that changes something, and wakes those who wait."""
-        with self._changed:
+        """Makes a call that may end any request, and wakes those whose waits are over."""
+        with self._mutex:
             condition = checked(self._call(name, *arguments))
-            self._changed.notify_all()
+            self._wakes.after_step()
+            return condition
+
+    def _step_at(self, which: Which, name: str, *arguments: Any) -> Condition:
+        """The same for a step at a lock."""
+        with self._mutex:
+            place = self._wakes.place_of(which)
+            condition = checked(self._call(name, *arguments))
+            self._wakes.after_step_at(which, place)
+            return condition
+
+    def _quiet_step(self, name: str, *arguments: Any) -> Condition:
+        """The same for a step that ends no request which was there before."""
+        with self._mutex:
+            condition = checked(self._call(name, *arguments))
+            self._wakes.after_quiet_step()
             return condition
 
     def declare(self, node: int = 1, *, group: int = 0, quota: int = 65_535, blocks: int = 16,
                 syslck: bool = False) -> Process:
         """Declares a process of a node from 1 to 8: how many locks it may have, and how many status blocks it has."""
         words, pid = _words.declaration(node, group, quota, blocks, syslck), c_uint32()
-        self._step("vlm_declare", words, pid)
+        self._quiet_step("vlm_declare", words, pid)
         return Process(self, pid.value, blocks)
 
     def leave(self, node: int) -> None:
@@ -107,17 +124,17 @@ class LockManager:
 
     def forget(self, routine: Callable[[Ast], object]) -> None:
         """Frees a callable that no lock and no pending AST names any more. All are kept until then."""
-        with self._changed:
+        with self._mutex:
             self._routines.forget(routine)
 
     def processes(self) -> Iterator[ProcessView]:
         """The living processes, as they are at the call."""
-        with self._changed:
+        with self._mutex:
             return iter(list(self._walk_processes()))
 
     def resources(self) -> Iterator[Resource]:
         """The resources, by rising serial, as they are at the call."""
-        with self._changed:
+        with self._mutex:
             return iter([_resource(words) for words in self._walk_resources()])
 
     def lock_count(self) -> int:
@@ -195,7 +212,7 @@ class LockManager:
             goes_on = following is not None and self._goes_on(following, *also, words.lkid, words)
 
     def _walk_locks(self, first: str, following: str, *arguments: Any, also: Sequence[int] = ()) -> Iterator[LockView]:
-        with self._changed:
+        with self._mutex:
             return iter(list(self._locks(first, following, *arguments, also=also)))
 
 

@@ -34,20 +34,20 @@ class Process:
         block tells when the request ends. The routine `completion` is for its end, and `blocking` for when the lock is
         in the way of another request."""
         text, lkid = name_bytes(name), c_uint32()
-        with self.manager._changed:
+        with self.manager._mutex:
             words = self._request(parent, mode=mode, flags=flags, block=block, completion=completion, blocking=blocking,
                                   param=param)
-            condition = self.manager._step("vlm_enq", words, text, len(text), lkid)
+            condition = self.manager._quiet_step("vlm_enq", words, text, len(text), lkid)
         return Accepted(lkid.value, condition is Condition.SYNCH)
 
     def convert(self, lock: Which, mode: Mode, block: int, flags: Flags = Flags.NONE, *,
                 completion: Optional[Routine] = None, blocking: Optional[Routine] = None, param: int = 0) -> Accepted:
         """Asks for another mode of a granted lock ($ENQ with CONVERT). Its routines take the place of the old ones."""
         lkid = c_uint32()
-        with self.manager._changed:
+        with self.manager._mutex:
             words = self._request(lock, mode=mode, flags=flags, block=block, completion=completion, blocking=blocking,
                                   param=param)
-            condition = self.manager._step("vlm_convert", words, lkid)
+            condition = self.manager._step_at(lock, "vlm_convert", words, lkid)
         return Accepted(lkid.value, condition is Condition.SYNCH)
 
     def _request(self, which: Optional[Which], *, completion: Optional[Routine], blocking: Optional[Routine],
@@ -62,7 +62,11 @@ class Process:
             tail: Optional[bytes] = None) -> None:
         """Gives a lock up, or several with DEQALL, or cancels its request ($DEQ). A lock that holds PW or EX writes the
         value into the value block; shorter ones are filled up with zeros."""
-        self.manager._step("vlm_deq", _words.dequeue(self.pid, lock, flags, value, tail))
+        words = _words.dequeue(self.pid, lock, flags, value, tail)
+        if words.flags & DequeueFlags.DEQALL:
+            self.manager._step("vlm_deq", words)
+        else:
+            self.manager._step_at(lock, "vlm_deq", words)
 
     def cancel(self, lock: Which) -> None:
         """Cancels the queued request of a lock. A lock that was converting holds what it held."""
@@ -70,7 +74,7 @@ class Process:
 
     def set_value(self, block: int, value: bytes, tail: Optional[bytes] = None) -> None:
         """Sets the value part of a status block, and its tail if one is given."""
-        self.manager._step("vlm_set_value", _words.setting(self.pid, block, value, tail))
+        self.manager._quiet_step("vlm_set_value", _words.setting(self.pid, block, value, tail))
 
     def take(self) -> Optional[Ast]:
         """Takes the oldest pending AST, if there is one."""
@@ -97,8 +101,9 @@ class Process:
 
     def wait_for_ast(self, timeout: Optional[float] = None) -> bool:
         """Waits until an AST is pending, at most for these seconds. Returns whether one is."""
-        with self.manager._changed:
-            return self.manager._changed.wait_for(lambda: told(self, self.pending) > 0, seconds(timeout))
+        with self.manager._mutex:
+            self.manager._wakes.wait_for_ast(self.pid, seconds(timeout))
+            return told(self, self.pending) > 0
 
     def lock(self, name: Name, mode: Mode, timeout: Optional[float] = None, value: Optional[bytes] = None, *,
              flags: Flags = Flags.NONE, parent: Optional[Which] = None, blocking: Optional[Routine] = None,
@@ -111,10 +116,10 @@ class Process:
         declare as many as threads may wait at once, and use none of these yourself."""
         longest, given = seconds(timeout), None if value is None else part(value, 16, "the value")
         flags = flags | Flags.VALBLK
-        with self.manager._changed, free_block(self) as block:
+        with self.manager._mutex, free_block(self) as block:
             lkid = self.enq(name, mode, block, flags, parent=parent, blocking=blocking, param=param).lock
             try:
-                held = Held(self, lkid, mode, awaited(self, lkid, block, longest), flags)
+                held = Held(self, lkid, mode, awaited(self, lkid, block, False, longest), flags)
                 if given is not None:
                     held.write(given)
                 return held

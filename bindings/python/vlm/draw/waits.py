@@ -36,7 +36,7 @@ def blockers_of(manager: LockManager, lock: int, most: int = maxsize) -> List[in
     words = raw.Lock()
     found: List[int] = []
     handle, place, following = byref(manager._handle), byref(words), raw.LIBRARY.vlm_next_blocker
-    with manager._changed:
+    with manager._mutex:
         status = raw.LIBRARY.vlm_first_blocker(handle, lock, place)
         while status == Condition.NORMAL and words.lkid and len(found) < most:
             found.append(words.lkid)
