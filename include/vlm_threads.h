@@ -1,7 +1,7 @@
 /* The lock manager for programs with threads: a layer over vlm.h that waits, wakes, calls back and counts.
  *
- * The steps are vlm.h's, and proved. The layer itself is plain C11 over pthreads and Linux's eventfd. It is tested, and
- * not proved.
+ * The steps are vlm.h's, and proved. The layer itself is plain C11 over pthreads and Linux's eventfd and futex. It is
+ * tested, and not proved.
  *
  *     vlm_threads_options options = {.size = sizeof options, .search_milliseconds = 100};
  *     vlm_threads *layer;
@@ -90,8 +90,8 @@ uint32_t vlm_threads_open(const vlm_threads_options *options, vlm_threads **laye
  * process. Pending events are dropped, and no routine begins any more. NORMAL. */
 uint32_t vlm_threads_stop(vlm_threads *layer);
 
-/* Stops the layer, waits until each call that sleeps and the routine that runs have returned, ends the layer's threads,
- * and frees everything. The answer is NORMAL, also with a null layer.
+/* Stops the layer, waits until each call that sleeps or searches and the routine that runs have returned, ends the
+ * layer's threads, and frees everything. The answer is NORMAL, also with a null layer.
  * BADPARAM: a routine of the layer calls it; nothing happens. */
 uint32_t vlm_threads_close(vlm_threads *layer);
 
@@ -249,8 +249,9 @@ uint32_t vlm_threads_settle(vlm_threads *layer);
 /* Deadlocks. */
 
 /* Searches until no request is deadlocked. *victims is how many requests ended by DEADLOCK, the latest first. The
- * layer's own thread does the same each search_milliseconds, if a request waits. A search keeps the mutex, and costs
- * more the more requests wait (docs/PERFORMANCE.md).
+ * layer's own thread does the same each search_milliseconds, if a request waits. The search for a victim keeps the
+ * mutex, and costs more the more requests wait (docs/PERFORMANCE.md). After each victim the mutex is let go: the victim
+ * is told, and the threads that wait for the mutex have it before the next search.
  * DEPARTED: all nodes have departed. */
 uint32_t vlm_threads_search(vlm_threads *layer, uint32_t *victims);
 

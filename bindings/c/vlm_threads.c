@@ -1,7 +1,6 @@
 /* The layer for threads, vlm_threads.h: opening and closing, searches and counters. Not proved. */
 #include "vlm_threads_parts.h"
 
-#include <errno.h>
 #include <signal.h>
 #include <stdlib.h>
 #include <string.h>
@@ -18,6 +17,7 @@ static uint32_t living_node(const vlm_threads *layer) {
     return node;
 }
 
+/* Searches until there is no victim. Between two searches others have the mutex, and the victim wakes. */
 static uint32_t search(vlm_threads *layer, uint32_t *victims) {
     uint32_t victim = 0;
     for (*victims = 0;; ++*victims) {
@@ -28,36 +28,39 @@ static uint32_t search(vlm_threads *layer, uint32_t *victims) {
         if (!victim)
             return VLM_NORMAL;
         vlmt_take_asts(layer);
+        vlmt_let_others(layer);
     }
 }
 
 static void *watch(void *given) {
     vlm_threads *layer = given;
     uint32_t victims;
-    pthread_mutex_lock(&layer->mutex);
+    vlmt_lock(layer);
     while (!layer->is_closing) {
         struct timespec next = after(now(), layer->search_milliseconds);
-        while (!layer->is_closing && pthread_cond_timedwait(&layer->watched, &layer->mutex, &next) != ETIMEDOUT) {
+        while (!layer->is_closing && vlmt_sleep(layer, &layer->watched, &next)) {
         }
         if (!layer->is_closing && layer->counters.waiting)
             search(layer, &victims);
     }
-    pthread_mutex_unlock(&layer->mutex);
+    vlmt_unlock(layer);
     return NULL;
 }
 
 uint32_t vlm_threads_search(vlm_threads *layer, uint32_t *victims) {
-    pthread_mutex_lock(&layer->mutex);
+    vlmt_lock(layer);
+    int before = vlmt_begin_sleep(layer);
     uint32_t status = search(layer, victims);
-    pthread_mutex_unlock(&layer->mutex);
+    vlmt_end_sleep(layer, before);
+    vlmt_unlock(layer);
     return status;
 }
 
 uint32_t vlm_threads_look(vlm_threads *layer, vlm_threads_reader reader, void *context) {
     int before = cancels_off();
-    pthread_mutex_lock(&layer->mutex);
+    vlmt_lock(layer);
     reader(context, &layer->handle);
-    pthread_mutex_unlock(&layer->mutex);
+    vlmt_unlock(layer);
     cancels_back(before);
     return VLM_NORMAL;
 }
@@ -74,14 +77,11 @@ static bool is_started(pthread_t *thread, void *(*run)(void *), vlm_threads *lay
     return !failed;
 }
 
-/* (On Linux these never fail.) */
 static void make_primitives(vlm_threads *layer) {
-    pthread_mutex_init(&layer->mutex, NULL);
-    pthread_condattr_init(&layer->monotonic);
-    pthread_condattr_setclock(&layer->monotonic, CLOCK_MONOTONIC);
-    pthread_cond_init(&layer->pending, NULL);
-    pthread_cond_init(&layer->watched, &layer->monotonic);
-    pthread_cond_init(&layer->calm, NULL);
+    vlmt_make_mutex(&layer->mutex);
+    vlmt_make_condition(&layer->pending);
+    vlmt_make_condition(&layer->watched);
+    vlmt_make_condition(&layer->calm);
 }
 
 static bool has_manager(vlm_threads *layer, const vlm_threads_options *options) {
@@ -136,9 +136,9 @@ static void stop(vlm_threads *layer) {
 }
 
 uint32_t vlm_threads_stop(vlm_threads *layer) {
-    pthread_mutex_lock(&layer->mutex);
+    vlmt_lock(layer);
     stop(layer);
-    pthread_mutex_unlock(&layer->mutex);
+    vlmt_unlock(layer);
     return VLM_NORMAL;
 }
 
@@ -170,22 +170,21 @@ static void free_primitives(vlm_threads *layer) {
         pthread_key_delete(layer->key);
     if (layer->descriptor >= 0)
         close(layer->descriptor);
-    pthread_cond_destroy(&layer->pending);
-    pthread_cond_destroy(&layer->watched);
-    pthread_cond_destroy(&layer->calm);
-    pthread_condattr_destroy(&layer->monotonic);
-    pthread_mutex_destroy(&layer->mutex);
+    vlmt_free_condition(&layer->pending);
+    vlmt_free_condition(&layer->watched);
+    vlmt_free_condition(&layer->calm);
+    vlmt_free_mutex(&layer->mutex);
 }
 
 /* Stops the layer, and waits until no routine runs and no call sleeps. */
 static void empty(vlm_threads *layer) {
     stop(layer);
     layer->is_closing = true;
-    pthread_cond_signal(&layer->pending);
-    pthread_cond_signal(&layer->watched);
+    vlmt_wake(layer, &layer->pending);
+    vlmt_wake(layer, &layer->watched);
     vlmt_settle(layer);
     while (layer->sleepers)
-        pthread_cond_wait(&layer->calm, &layer->mutex);
+        vlmt_sleep(layer, &layer->calm, NULL);
 }
 
 static void free_layer(vlm_threads *layer) {
@@ -200,11 +199,11 @@ uint32_t vlm_threads_close(vlm_threads *layer) {
     if (!layer)
         return VLM_NORMAL;
     int before = cancels_off();
-    pthread_mutex_lock(&layer->mutex);
+    vlmt_lock(layer);
     bool is_allowed = !vlmt_is_in_routine(layer);
     if (is_allowed)
         empty(layer);
-    pthread_mutex_unlock(&layer->mutex);
+    vlmt_unlock(layer);
     if (is_allowed)
         free_layer(layer);
     cancels_back(before);
@@ -216,12 +215,12 @@ uint32_t vlm_threads_close(vlm_threads *layer) {
 uint32_t vlm_threads_read_counters(vlm_threads *layer, vlm_threads_counters *counters) {
     if (counters->size != sizeof *counters)
         return VLM_BADPARAM;
-    pthread_mutex_lock(&layer->mutex);
+    vlmt_lock(layer);
     *counters = layer->counters;
     counters->size = sizeof *counters;
     counters->processes = layer->processes.count;
     counters->locks = layer->locks.count;
-    pthread_mutex_unlock(&layer->mutex);
+    vlmt_unlock(layer);
     return VLM_NORMAL;
 }
 

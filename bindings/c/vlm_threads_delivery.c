@@ -38,13 +38,13 @@ static uint32_t deliver(vlm_threads *layer) {
     for (layer->due = layer->last; layer->due; delivered++) {
         struct call call = next_call(layer);
         layer->is_calling = true;
-        pthread_mutex_unlock(&layer->mutex);
+        vlmt_unlock(layer);
         call.routine(call.context, &call.event);
-        pthread_mutex_lock(&layer->mutex);
+        vlmt_lock(layer);
         layer->is_calling = false;
         layer->called++;
         if (layer->settling)
-            pthread_cond_broadcast(&layer->calm);
+            vlmt_wake_all(&layer->calm);
     }
     layer->is_delivering = false;
     return delivered;
@@ -62,7 +62,7 @@ int vlmt_begin_sleep(vlm_threads *layer) {
 void vlmt_end_sleep(vlm_threads *layer, int before) {
     layer->sleepers--;
     if (layer->is_closing)
-        pthread_cond_broadcast(&layer->calm);
+        vlmt_wake_all(&layer->calm);
     cancels_back(before);
 }
 
@@ -70,19 +70,19 @@ void vlmt_settle(vlm_threads *layer) {
     uint64_t called = layer->called;
     layer->settling++;
     while (layer->is_calling && layer->called == called)
-        pthread_cond_wait(&layer->calm, &layer->mutex);
+        vlmt_sleep(layer, &layer->calm, NULL);
     layer->settling--;
 }
 
 void *vlmt_dispatch(void *given) {
     vlm_threads *layer = given;
-    pthread_mutex_lock(&layer->mutex);
+    vlmt_lock(layer);
     while (!layer->is_closing) {
         if (!layer->first)
-            pthread_cond_wait(&layer->pending, &layer->mutex);
+            vlmt_sleep(layer, &layer->pending, NULL);
         deliver(layer);
     }
-    pthread_mutex_unlock(&layer->mutex);
+    vlmt_unlock(layer);
     return NULL;
 }
 
@@ -96,24 +96,24 @@ uint32_t vlm_threads_dispatch(vlm_threads *layer, uint32_t *delivered) {
     if (layer->descriptor < 0)
         return VLM_BADPARAM;
     int before = cancels_off();
-    pthread_mutex_lock(&layer->mutex);
+    vlmt_lock(layer);
     if (!layer->is_delivering)
         *delivered = deliver(layer);
     if (*delivered && layer->first)
         vlmt_set_readable(layer, true); /* (a poll with EPOLLET sees writes only) */
-    pthread_mutex_unlock(&layer->mutex);
+    vlmt_unlock(layer);
     cancels_back(before);
     return VLM_NORMAL;
 }
 
 uint32_t vlm_threads_settle(vlm_threads *layer) {
-    pthread_mutex_lock(&layer->mutex);
+    vlmt_lock(layer);
     bool is_allowed = !vlmt_is_in_routine(layer);
     if (is_allowed) {
         int before = vlmt_begin_sleep(layer);
         vlmt_settle(layer);
         vlmt_end_sleep(layer, before);
     }
-    pthread_mutex_unlock(&layer->mutex);
+    vlmt_unlock(layer);
     return is_allowed ? VLM_NORMAL : VLM_BADPARAM;
 }

@@ -27,7 +27,7 @@ void vlmt_queue_event(vlm_threads *layer, struct event *event) {
     if (layer->descriptor >= 0)
         vlmt_set_readable(layer, true);
     else
-        pthread_cond_signal(&layer->pending);
+        vlmt_wake(layer, &layer->pending);
 }
 
 void vlmt_unqueue_event(vlm_threads *layer, struct event *event) {
@@ -120,7 +120,7 @@ void vlmt_tell(vlm_threads *layer, struct request *request) {
     request->waiter = NULL;
     vlmt_write_words(request, waiter->words);
     waiter->status = request->status;
-    pthread_cond_signal(&waiter->ended);
+    vlmt_wake(layer, &waiter->ended);
 }
 
 static void count_time(vlm_threads *layer, const struct request *request) {

@@ -12,9 +12,10 @@
  * vlm_threads_delivery.c   calls of routines
  * vlm_threads_ends.c       the ASTs of the core, the ends of requests, the queue of events
  * vlm_threads_records.c    tables, and the room that a call makes before its step
+ * vlm_threads_lock.c       the mutex, and how threads sleep without it
  * vlm_threads_print.c      counters as text
  *
- * Every function that is declared here wants the mutex held.
+ * Every function that is declared here wants the mutex held, except vlmt_lock.
  */
 #ifndef VLM_THREADS_PARTS_H
 #define VLM_THREADS_PARTS_H
@@ -24,11 +25,38 @@
 #include "vlm_threads.h"
 
 #include <pthread.h>
+#include <stdatomic.h>
 #include <time.h>
 
-enum { NODES = 8, MOST_BLOCKS = 255, SHORT_VALUE = 16, WHOLE_VALUE = 64 };
+enum { NODES = 8, MOST_BLOCKS = 255, SHORT_VALUE = 16, WHOLE_VALUE = 64, CACHE_LINE = 64 };
 
 static const uint64_t NANOSECONDS = 1000000000;
+
+/* What threads sleep on, without the mutex, until something has come. */
+struct condition {
+#ifdef VLM_THREADS_PLAIN_MUTEX
+    pthread_cond_t plain;
+#else
+    atomic_uint count; /* of wakes */
+    uint32_t sleepers; /* threads that sleep on it, or are on their way to the mutex */
+#endif
+};
+
+/* The layer's mutex. Threads that want it look at the first two words, so these are on a cache line of their own. */
+struct mutex {
+#ifdef VLM_THREADS_PLAIN_MUTEX
+    pthread_mutex_t plain;
+#endif
+    uint8_t before[CACHE_LINE];
+    atomic_uint state;
+    atomic_uint taken; /* how often it was taken */
+    uint8_t after[CACHE_LINE - 2 * sizeof(atomic_uint)];
+    /* Threads that want the mutex and have looked for a while, on two sides. Those who come join one side. A giver, who
+     * lets others have the mutex, has them join the other side, and waits until the first is empty. */
+    atomic_uint waiting[2];
+    atomic_uint joined; /* the side that is joined */
+    uint32_t givers;
+};
 
 /* What a table finds by its number: the first member of a process and of a lock. */
 struct entry {
@@ -36,11 +64,14 @@ struct entry {
     struct entry *next;
 };
 
-/* Chains of entries. There are at least as many chains as entries. */
+/* Chains of entries. There are at least as many chains as entries. The table grows by one chain at a time, which takes
+ * over a part of one other (linear hashing), so no call moves more than one chain. */
 struct table {
     struct entry **chains;
-    uint32_t bits; /* there are 2^bits chains */
-    uint32_t count;
+    uint32_t room;  /* for this many chains */
+    uint32_t used;  /* how many chains there are */
+    uint32_t half;  /* a power of two, with half < used <= 2 * half */
+    uint32_t count; /* how many entries */
 };
 
 struct event {
@@ -52,7 +83,7 @@ struct event {
 
 /* A thread that waits for the end of a request. It is on that thread's stack. */
 struct waiter {
-    pthread_cond_t ended;
+    struct condition ended;
     vlm_threads_request *words;
     struct request *request; /* null if the thread does not wait */
     uint32_t status;         /* 0 until the request has ended */
@@ -106,11 +137,11 @@ struct bond {
 };
 
 struct vlm_threads {
-    pthread_mutex_t mutex;
-    pthread_condattr_t monotonic;
-    pthread_cond_t pending; /* the dispatcher sleeps: an event is pending, or it is to end */
-    pthread_cond_t watched; /* the watchdog sleeps: it is to end */
-    pthread_cond_t calm;    /* a close or a settle sleeps: a routine or a sleep has ended */
+    struct mutex mutex;
+    struct condition pending; /* the dispatcher sleeps: an event is pending, or it is to end */
+    struct condition watched; /* the watchdog sleeps: it is to end */
+    struct condition *woken;  /* a thread is to be woken that sleeps on it, after the mutex is let go; or null */
+    struct condition calm;    /* a close or a settle sleeps: a routine or a sleep has ended */
     vlm handle;
     uint32_t departed; /* bit n: node n has departed */
 
@@ -139,6 +170,23 @@ struct vlm_threads {
     uint32_t sleepers; /* threads that sleep in a call other than a close */
     vlm_threads_counters counters;
 };
+
+/* vlm_threads_lock.c: the mutex. */
+void vlmt_make_mutex(struct mutex *mutex);
+void vlmt_free_mutex(struct mutex *mutex);
+void vlmt_lock(vlm_threads *layer);
+void vlmt_unlock(vlm_threads *layer);
+
+/* Lets the mutex go, and takes it again when each thread that was waiting for it has had it. */
+void vlmt_let_others(vlm_threads *layer);
+
+/* Conditions. A thread sleeps without the mutex until it is woken, or for nothing, or until a moment of the monotonic
+ * clock, if `end` is not null: then the answer is false. */
+void vlmt_make_condition(struct condition *condition);
+void vlmt_free_condition(struct condition *condition);
+bool vlmt_sleep(vlm_threads *layer, struct condition *condition, const struct timespec *end);
+void vlmt_wake(vlm_threads *layer, struct condition *condition);
+void vlmt_wake_all(struct condition *condition);
 
 /* vlm_threads_records.c: an entry of a table, or null. */
 struct entry *vlmt_found(const struct table *table, uint32_t id);

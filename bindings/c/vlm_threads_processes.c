@@ -57,16 +57,16 @@ static uint32_t run_down(vlm_threads *layer, uint32_t pid) {
 }
 
 uint32_t vlm_threads_rundown(vlm_threads *layer, uint32_t pid) {
-    pthread_mutex_lock(&layer->mutex);
+    vlmt_lock(layer);
     uint32_t status = run_down(layer, pid);
-    pthread_mutex_unlock(&layer->mutex);
+    vlmt_unlock(layer);
     return status;
 }
 
 /* Forgets the processes of a node, or of all nodes with 0. The upper half of a process's number is its node. */
 void vlmt_forget_node(vlm_threads *layer, uint32_t node) {
     drop_events(layer, node << 16, node ? UINT32_MAX << 16 : 0);
-    for (size_t chain = 0; chain < (size_t)1 << layer->processes.bits; chain++)
+    for (uint32_t chain = 0; chain < layer->processes.used; chain++)
         for (struct entry *entry = layer->processes.chains[chain], *next; entry; entry = next) {
             next = entry->next;
             if (!node || entry->id >> 16 == node)
@@ -75,14 +75,14 @@ void vlmt_forget_node(vlm_threads *layer, uint32_t node) {
 }
 
 uint32_t vlm_threads_leave(vlm_threads *layer, uint32_t node) {
-    pthread_mutex_lock(&layer->mutex);
+    vlmt_lock(layer);
     uint32_t status = vlm_leave(&layer->handle, node);
     if (status == VLM_NORMAL) {
         layer->departed |= UINT32_C(1) << node;
         vlmt_forget_node(layer, node);
         vlmt_take_asts(layer);
     }
-    pthread_mutex_unlock(&layer->mutex);
+    vlmt_unlock(layer);
     return status;
 }
 
@@ -90,13 +90,13 @@ uint32_t vlm_threads_leave(vlm_threads *layer, uint32_t node) {
 static void thread_ended(void *given) {
     struct bond *bond = given;
     vlm_threads *layer = bond->layer;
-    pthread_mutex_lock(&layer->mutex);
+    vlmt_lock(layer);
     while (bond->processes)
         run_down(layer, bond->processes->entry.id);
     *bond->link = bond->next;
     if (bond->next)
         bond->next->link = bond->link;
-    pthread_mutex_unlock(&layer->mutex);
+    vlmt_unlock(layer);
     free(bond);
 }
 
@@ -166,8 +166,8 @@ uint32_t vlm_threads_declare(vlm_threads *layer, const vlm_threads_declaration *
     if (declaration->size != sizeof *declaration || !all_zero(declaration->reserved, sizeof declaration->reserved)
         || declaration->requests < 1 || declaration->requests > MOST_BLOCKS || declaration->tied > 1)
         return VLM_BADPARAM;
-    pthread_mutex_lock(&layer->mutex);
+    vlmt_lock(layer);
     uint32_t status = declare(layer, declaration, pid);
-    pthread_mutex_unlock(&layer->mutex);
+    vlmt_unlock(layer);
     return status;
 }

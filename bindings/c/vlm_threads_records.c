@@ -5,26 +5,33 @@
 
 /* Tables. */
 
-static struct entry **chain_of(const struct table *table, uint32_t id) {
-    return &table->chains[(id * UINT32_C(2654435769)) >> (32 - table->bits)];
+/* The number of the chain of an entry. While some chains are new, entries of the others go by one bit less. */
+static uint32_t chain_of(const struct table *table, uint32_t id) {
+    uint32_t hash = id * UINT32_C(2654435769);
+    hash ^= hash >> 16;
+    uint32_t chain = hash & (2 * table->half - 1);
+    return chain < table->used ? chain : chain - table->half;
 }
 
 struct entry *vlmt_found(const struct table *table, uint32_t id) {
-    struct entry *entry = *chain_of(table, id);
+    struct entry *entry = table->chains[chain_of(table, id)];
     while (entry && entry->id != id)
         entry = entry->next;
     return entry;
 }
 
-void vlmt_put(struct table *table, struct entry *entry) {
-    struct entry **chain = chain_of(table, entry->id);
+static void push(struct entry **chain, struct entry *entry) {
     entry->next = *chain;
     *chain = entry;
+}
+
+void vlmt_put(struct table *table, struct entry *entry) {
+    push(&table->chains[chain_of(table, entry->id)], entry);
     table->count++;
 }
 
 void vlmt_take_out(struct table *table, struct entry *entry) {
-    struct entry **link = chain_of(table, entry->id);
+    struct entry **link = &table->chains[chain_of(table, entry->id)];
     while (*link != entry)
         link = &(*link)->next;
     *link = entry->next;
@@ -32,29 +39,45 @@ void vlmt_take_out(struct table *table, struct entry *entry) {
 }
 
 bool vlmt_table_is_made(struct table *table, uint32_t bits) {
-    table->chains = calloc((size_t)1 << bits, sizeof *table->chains);
-    table->bits = bits;
+    table->room = table->used = UINT32_C(1) << bits;
+    table->half = table->used / 2;
+    table->chains = calloc(table->room, sizeof *table->chains);
     return table->chains;
 }
 
-/* Makes twice as many chains. */
-static bool table_has_grown(struct table *table) {
-    struct table grown = {0};
-    if (!vlmt_table_is_made(&grown, table->bits + 1))
+/* Whether there is room for one more chain. Moving many chains costs little: the system moves their pages. */
+static bool has_room_for_chain(struct table *table) {
+    if (table->used < table->room)
+        return true;
+    struct entry **moved = realloc(table->chains, 2 * sizeof *moved * table->room);
+    if (!moved)
         return false;
-    for (size_t chain = 0; chain < (size_t)1 << table->bits; chain++)
-        for (struct entry *entry = table->chains[chain], *next; entry; entry = next) {
-            next = entry->next;
-            vlmt_put(&grown, entry);
-        }
-    free(table->chains);
-    *table = grown;
+    table->chains = moved;
+    table->room *= 2;
     return true;
 }
 
-bool vlmt_table_has_room(struct table *table) {
-    return table->count < UINT32_C(1) << table->bits || table_has_grown(table);
+/* Makes one more chain, and moves the entries that belong there from the one chain that has them. */
+static bool table_has_grown(struct table *table) {
+    if (!has_room_for_chain(table))
+        return false;
+    if (table->used == 2 * table->half)
+        table->half = table->used;
+    uint32_t made = table->used++;
+    struct entry **link = &table->chains[made - table->half];
+    table->chains[made] = NULL;
+    for (struct entry *entry = *link; entry; entry = *link) {
+        if (chain_of(table, entry->id) == made) {
+            *link = entry->next;
+            push(&table->chains[made], entry);
+        } else {
+            link = &entry->next;
+        }
+    }
+    return true;
 }
+
+bool vlmt_table_has_room(struct table *table) { return table->count < table->used || table_has_grown(table); }
 
 /* Room. */
 

@@ -1,7 +1,6 @@
 /* Requests and dequeues. */
 #include "vlm_threads_parts.h"
 
-#include <errno.h>
 #include <string.h>
 
 /* Requests. */
@@ -111,7 +110,7 @@ static void join_queue(vlm_threads *layer, struct request *request, struct waite
         return;
     request->waiter = waiter;
     waiter->request = request;
-    pthread_cond_init(&waiter->ended, &layer->monotonic);
+    vlmt_make_condition(&waiter->ended);
 }
 
 /* Makes the step and does all that follows from it, except the wait. */
@@ -157,8 +156,8 @@ static void sleep_until_ended(vlm_threads *layer, struct waiter *waiter) {
     struct timespec deadline = after(waiter->request->since, milliseconds);
     while (!waiter->status) {
         if (!milliseconds) {
-            pthread_cond_wait(&waiter->ended, &layer->mutex);
-        } else if (pthread_cond_timedwait(&waiter->ended, &layer->mutex, &deadline) == ETIMEDOUT && !waiter->status) {
+            vlmt_sleep(layer, &waiter->ended, NULL);
+        } else if (!vlmt_sleep(layer, &waiter->ended, &deadline) && !waiter->status) {
             milliseconds = 0;
             cancel_late(layer, waiter->request);
         }
@@ -169,7 +168,7 @@ static void sleep_until_ended(vlm_threads *layer, struct waiter *waiter) {
 static uint32_t awaited(vlm_threads *layer, struct waiter *waiter) {
     int before = vlmt_begin_sleep(layer);
     sleep_until_ended(layer, waiter);
-    pthread_cond_destroy(&waiter->ended);
+    vlmt_free_condition(&waiter->ended);
     vlmt_end_sleep(layer, before);
     return is_grant(waiter->status) ? VLM_NORMAL : waiter->status;
 }
@@ -184,7 +183,7 @@ static uint32_t ask(vlm_threads *layer, const struct asked *asked) {
     struct waiter waiter = {.words = words};
     if (words->size == sizeof *words)
         words->lkid = words->status = 0;
-    pthread_mutex_lock(&layer->mutex);
+    vlmt_lock(layer);
     layer->counters.requests++;
     bool is_right = words->size == sizeof *words && is_right_request(asked);
     uint32_t status = is_right ? make_request(layer, asked, &waiter) : VLM_BADPARAM;
@@ -195,7 +194,7 @@ static uint32_t ask(vlm_threads *layer, const struct asked *asked) {
         if (status != VLM_NORMAL && !has_lock(asked, status))
             words->lkid = 0;
     }
-    pthread_mutex_unlock(&layer->mutex);
+    vlmt_unlock(layer);
     return status;
 }
 
@@ -260,8 +259,8 @@ static uint32_t give_up(vlm_threads *layer, const vlm_threads_dequeue *words) {
 uint32_t vlm_threads_deq(vlm_threads *layer, const vlm_threads_dequeue *dequeue) {
     if (dequeue->size != sizeof *dequeue || !all_zero(dequeue->reserved, sizeof dequeue->reserved))
         return VLM_BADPARAM;
-    pthread_mutex_lock(&layer->mutex);
+    vlmt_lock(layer);
     uint32_t status = give_up(layer, dequeue);
-    pthread_mutex_unlock(&layer->mutex);
+    vlmt_unlock(layer);
     return status;
 }
