@@ -4,6 +4,7 @@ build, which proves nothing. What they are compared with is compiled. Berkeley D
 import importlib.machinery
 import importlib.util
 import shutil
+import sys
 import tempfile
 from functools import partial
 from pathlib import Path
@@ -21,6 +22,7 @@ WORDS = {"lists": ("lists", 2, 4, 2), "loads": ("pairs", 4, 10), "long": ("steps
 
 def measuring():
     """The program bench/run, which has no suffix, as a module."""
+    sys.path.insert(0, str(BENCH))
     loader = importlib.machinery.SourceFileLoader("bench_run", str(BENCH / "run"))
     made = importlib.util.module_from_spec(importlib.util.spec_from_loader("bench_run", loader))
     loader.exec_module(made)

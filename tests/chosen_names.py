@@ -14,7 +14,7 @@ import tempfile
 from functools import partial
 from typing import NamedTuple
 
-from harness import Ended, INTERPOSERS, SECONDS, Test, built_library, difference
+from harness import Ended, INTERPOSERS, Once, SECONDS, Test, built_library, difference
 
 NAMES = 20_000
 # A run whose names meet costs at most this many times as much as another.
@@ -133,13 +133,13 @@ def meeting_names():
     return [number.to_bytes(8, "little")[:LENGTH].decode() for number in found]
 
 
-@functools.lru_cache(maxsize=None)
+@Once
 def resources():
     """The names of resources that were not chosen, and those that were."""
     return {"none": names(Sip(), 0), "the fixed keys": meeting_names()}
 
 
-@functools.lru_cache(maxsize=None)
+@Once
 def processes():
     """The names of processes that were not chosen, and those that were, by what they meet in. A run that has keys
     hashes these before a name."""

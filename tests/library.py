@@ -144,10 +144,10 @@ def package():
     return [f"-I{prefix()}/include", prefix() / "lib" / "libvlm.a"]
 
 
-def options(sanitizer):
+def options(tool):
     # (valgrind reads what clang tells a debugger by DWARF 4, and not by 5)
     words = ["-std=c11", "-O1", "-gdwarf-4", *STRICT, "-pthread"]
-    return words if sanitizer == "none" else [*words, f"-fsanitize={sanitizer}", "-fno-sanitize-recover=all"]
+    return words if tool in ("none", "helgrind") else [*words, f"-fsanitize={tool}", "-fno-sanitize-recover=all"]
 
 
 @functools.lru_cache(maxsize=None)
@@ -177,12 +177,12 @@ def is_for_helgrind(source):
     return uses_layer(source) and not source.stem.startswith("hub")
 
 
-def layer(source, sanitizer):
-    """The words by which a program has the layers of bindings/c. A sanitizer is to see into it; else it comes with the
-    library, if that has it."""
-    if not uses_layer(source) or (sanitizer == "none" and (prefix() / "include" / "vlm_threads.h").exists()):
+def layer(source, tool):
+    """The words by which a program has the layers of bindings/c. A sanitizer is to see into it, and helgrind is to see
+    mutexes that it knows; else it comes with the library, if that has it."""
+    if not uses_layer(source) or (tool == "none" and (prefix() / "include" / "vlm_threads.h").exists()):
         return []
-    return [f"-I{TOP}/include", *LAYER_SOURCES]
+    return [*["-DVLM_THREADS_PLAIN_MUTEX"] * (tool == "helgrind"), f"-I{TOP}/include", *LAYER_SOURCES]
 
 
 def shortened(share):
@@ -190,11 +190,12 @@ def shortened(share):
     return ["env", f"VLM_TEST_SHARE={share}"]
 
 
-def compiled(source, compiler, sanitizer):
-    """A program over the library, and what is wrong with making it."""
-    built = room() / f"{source.stem} {compiler} {sanitizer}"
+def compiled(source, compiler, tool):
+    """A program over the library for a sanitizer, for helgrind or for none, and what is wrong with making it. It has a
+    folder of its own: two tests may make the same program side by side."""
+    built = Path(tempfile.mkdtemp(dir=room())) / source.stem
     wrapped = [f"-Wl,--wrap={name}" for name in WRAPPED.get(source.stem, ())]
-    words = [*options(sanitizer), *wrapped, source, *layer(source, sanitizer), *package()]
+    words = [*options(tool), *wrapped, source, *layer(source, tool), *package()]
     return built, list(ran(compiler, *words, "-o", built))
 
 
@@ -208,7 +209,8 @@ def over_library(source, compiler, sanitizer, _program):
     if sanitizer == "none" and shutil.which("valgrind"):
         yield from printed(source, *shortened(200), *VALGRIND, built)
         if is_for_helgrind(source):
-            yield from printed(source, *shortened(200), *HELGRIND, built)
+            built, wrong = compiled(source, compiler, "helgrind")
+            yield from wrong or printed(source, *shortened(200), *HELGRIND, built)
 
 
 def worked_scripts():
