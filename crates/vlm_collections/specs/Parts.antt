@@ -1,5 +1,5 @@
 -- Indexes in parts: what they find, and how much room they have.
-use Rattle.std.specs.Prelude.{◌≡◌, ◌+◌, ◌≤◌, ◌%◌, ℕ, nat_eq, slice_get, slice_index_or, map, List, Option, None}
+use Rattle.std.specs.Prelude.{◌≡◌, ◌+◌, ◌≤◌, ◌/◌, ◌%◌, ℕ, nat_eq, slice_get, slice_index_or, map, List, Option, None}
 use Rattle.std.specs.Option.{option_map_or}
 use Rattle.indexmap.specs.IndexMap.{IndexMap, get, spare}
 use Rattle.vlm_collections.specs.declared.hashers.HashSpread.{HashSpread}
@@ -8,9 +8,13 @@ use Rattle.vlm_collections.specs.declared.hashers.HashSpread.{HashSpread}
 abbrev pub Parts : Type 0
 Parts = List (IndexMap ℕ ℕ HashSpread)
 
+-- numbers in order share a part, 1,024 of them, and the parts take turns
+abbrev pub part_of : ℕ → ℕ
+part_of number = number / 1024 % 64
+
 -- the handle of a number, if it has one, in its part
 unfoldable pub handle_in : Parts → ℕ → Option ℕ
-handle_in parts number = option_map_or (λ part. get nat_eq part number) (slice_get parts (number % 64)) None
+handle_in parts number = option_map_or (λ part. get nat_eq part number) (slice_get parts (part_of number)) None
 
 -- how many more numbers each part takes without an allocation
 abbrev pub spares_of : Parts → List ℕ
@@ -18,7 +22,7 @@ spares_of parts = map spare parts
 
 -- how many more numbers the part of this number takes
 unfoldable pub spare_for : List ℕ → ℕ → ℕ
-spare_for spares number = slice_index_or spares (number % 64) 0
+spare_for spares number = slice_index_or spares (part_of number) 0
 
 -- no part has less room
 abbrev pub KeepsSpares : List ℕ → List ℕ → Type 0

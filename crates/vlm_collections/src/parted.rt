@@ -13,11 +13,22 @@ use std::marker::Model;
 
 const PARTS: usize = 64;
 
-/// Finds handles by number. It has 64 parts, and the low bits of a number choose its part. A full part grows alone,
-/// so a growth moves about a 64th of the index, in a 64th of the time.
+// How many numbers that follow each other share a part.
+const RUN: usize = 1_024;
+
+// How many numbers a part has at least to be grown early, and for how many more. It gets about a run of random numbers
+// from one look to the next.
+const LARGE: usize = 2_048;
+
+const EARLY: usize = 1_200;
+
+/// Finds handles by number. It has 64 parts. A full part grows alone, so a growth moves about a 64th of the index, in a
+/// 64th of the time. 1,024 numbers that follow each other share a part, so that parts grow far from each other if
+/// numbers come in order. If they come at random, all parts are full at nearly the same time: then call
+/// [`PartedIndex::grow_early`] now and then.
 #[derive(Drop)]
 pub struct PartedIndex<Kind> {
-    // part k has the numbers with remainder k modulo 64
+    // part k has the numbers whose run has remainder k modulo 64
     parts: [IndexMap<u32, At<Kind>, HashSpread>; PARTS],
 }
 
@@ -55,7 +66,9 @@ impl<Kind> PartedIndex<Kind> {
     pub fn get(&self, number: u32) -> Option<At<Kind>>
         ensures { result ≡ handle_in self.now number }
     {
-        self.parts[number as usize % PARTS].get(&number).copied()
+        self.parts[number as usize / RUN % PARTS]
+            .get(&number)
+            .copied()
     }
 
     /// Makes room for one more number in the part of this number.
@@ -66,7 +79,20 @@ impl<Kind> PartedIndex<Kind> {
         ensures find { OnOk result (0 < spare_for (spares_of self.new) number) }
         ensures succeeds { 0 < spare_for (spares_of self.old) number → IsOk result }
     {
-        self.parts[number as usize % PARTS].reserve(1)
+        self.parts[number as usize / RUN % PARTS].reserve(1)
+    }
+
+    /// Looks at the part of this number, and makes room in it if it is large and nearly full. If memory is refused,
+    /// nothing changes. A caller whose numbers come at random counts its inserts, and calls this with each 1,024th
+    /// count: so it looks at the parts by turns, and at most one large part grows in a row of 1,024 inserts.
+    #[inline(never)]
+    pub fn grow_early(&mut self, number: u32)
+        ensures same { FindsSame self.old self.new }
+        ensures room { KeepsSpares (spares_of self.old) (spares_of self.new) }
+    {
+        if self.parts[number as usize / RUN % PARTS].len() >= LARGE {
+            let _ = self.parts[number as usize / RUN % PARTS].reserve(EARLY);
+        }
     }
 
     #[inline(always)]
@@ -76,7 +102,7 @@ impl<Kind> PartedIndex<Kind> {
         ensures writes { Writes number (Some at) self.old self.new }
         ensures taken { UsesOneSpare (spares_of self.old) (spares_of self.new) }
     {
-        self.parts[number as usize % PARTS]
+        self.parts[number as usize / RUN % PARTS]
             .insert(number, at)
             .unwrap()
     }
@@ -86,6 +112,6 @@ impl<Kind> PartedIndex<Kind> {
         ensures writes { Writes number None self.old self.new }
         ensures room { KeepsSpares (spares_of self.old) (spares_of self.new) }
     {
-        self.parts[number as usize % PARTS].swap_remove(&number);
+        self.parts[number as usize / RUN % PARTS].swap_remove(&number);
     }
 }

@@ -3,11 +3,11 @@ use Rattle.vlm_store.specs.Index.{HandleMap, hash_key, spares_by}
 use Rattle.indexmap.specs.IndexMap.{spare}
 use Rattle.std.proofs.lemmas.List.{get_or-replicate}
 use Rattle.vlm_store.proofs.WaitListed.{wait_list_same}
-use Rattle.std.proofs.Common.{◌≡◌, ℕ, ◌%◌, ◌+◌, ◌<◌, ◌≤◌, List, None, Result, Ok, Err, OnOk, refl, sym, ap, ◌∙◌, subst, arith}
+use Rattle.std.proofs.Common.{◌≡◌, ℕ, ◌+◌, ◌<◌, ◌≤◌, List, None, Result, Ok, Err, OnOk, refl, sym, ap, ◌∙◌, subst, arith}
 use Rattle.std.specs.Option.{option_map}
 use Rattle.vlm_store.specs.KeyIndexes.{IsSame, spares_in}
 use Rattle.slab.specs.Slab.{Slab, get, HasRoomFor}
-use Rattle.vlm_collections.specs.Parts.{FindsSame, KeepsSpares, Parts, UsesOneSpare, handle_in, spare_for, spares_of}
+use Rattle.vlm_collections.specs.Parts.{FindsSame, KeepsSpares, Parts, UsesOneSpare, handle_in, part_of, spare_for, spares_of}
 use Rattle.vlm_collections.specs.declared.link.TheConstants.{LAST_HANDLE}
 use Rattle.vlm_collections.proofs.Rings.{same-handles, same-linked}
 use Rattle.vlm_store.specs.declared.key_index.KeyIndex.{KeyIndex}
@@ -48,7 +48,7 @@ module _ {T : Type 0} where
 -- the room of a map of handles is room for any number
 pub room_by : (handles : HandleMap) (number : ℕ) → spare_for (spares_by handles) number ≡ spare handles
 unfolding spare_for
-room_by handles number = get_or-replicate 64 (number % 64) (spare handles) 0 (omega arith)
+room_by handles number = get_or-replicate 64 (part_of number) (spare handles) 0 (omega arith)
 
 pub spares_kept : (old new : HandleMap) → spare old ≤ spare new → KeepsSpares (spares_by old) (spares_by new)
 spares_kept old new more number = omega (arith, room_by old number, room_by new number, more)

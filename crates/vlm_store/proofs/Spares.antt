@@ -1,7 +1,7 @@
 -- The room in the index of resources.
-use Rattle.std.proofs.Common.{◌≡◌, ◌≤◌, ◌+◌, ◌%◌, ℕ, zero, suc, List, [], ◌∷◌, map, min, slice_index_or, refl, arith}
+use Rattle.std.proofs.Common.{◌≡◌, ◌≤◌, ◌+◌, ℕ, zero, suc, List, [], ◌∷◌, map, min, slice_index_or, refl, arith}
 use Rattle.indexmap.specs.IndexMap.{spare}
-use Rattle.vlm_collections.specs.Parts.{KeepsSpares, UsesOneSpare, spare_for, spares_of}
+use Rattle.vlm_collections.specs.Parts.{KeepsSpares, UsesOneSpare, part_of, spare_for, spares_of}
 use Rattle.vlm_store.specs.declared.key_index.KeyIndex.{KeyIndex}
 use Rattle.vlm_store.specs.KeyIndexes.{spares_in}
 
@@ -13,7 +13,7 @@ least_at n (spare ∷ spares) (suc k) = least_at n spares k
 -- the index takes so many more as both its maps do
 pub spare_is : (x : KeyIndex) (hash : ℕ) → spare_for (spares_in x) hash ≡ min (spare x.others) (spare_for (spares_of x.last) hash)
 unfolding spare_for
-spare_is x hash = least_at (spare x.others) (spares_of x.last) (hash % 64)
+spare_is x hash = least_at (spare x.others) (spares_of x.last) (part_of hash)
 
 -- both keep their room
 pub both_kept : (old new : KeyIndex) → spare old.others ≤ spare new.others → KeepsSpares (spares_of old.last) (spares_of new.last) → KeepsSpares (spares_in old) (spares_in new)

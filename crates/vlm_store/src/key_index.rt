@@ -2,7 +2,7 @@
 
 ghost use Rattle.std.specs.Prelude.{◌≡◌, ◌+◌, ◌<◌, ℕ, Some, IsOk, OnOk};
 ghost use Rattle.slab.specs.Slab.{ContainsKey};
-ghost use Rattle.vlm_collections.specs.Parts.{KeepsSpares, UsesOneSpare, spare_for};
+ghost use Rattle.vlm_collections.specs.Parts.{FindsSame, KeepsSpares, UsesOneSpare, spare_for, spares_of};
 ghost use Rattle.vlm_store.specs.HashedKeys.{hashed_in};
 ghost use Rattle.vlm_store.specs.KeyIndexes.{Enters, FindsNothing, IsSame, Leaves, found_by, last_of, spares_in};
 
@@ -21,12 +21,21 @@ pub(crate) struct KeyIndex {
     last: PartedIndex<ResourceKind>,
     // all other resources, by their keys; nearly always empty
     others: OtherKeys,
+    // how often room was made for a resource
+    reserves: u32,
 }
+
+// How many resources are added between two looks at a part of the index.
+const BETWEEN_LOOKS: u32 = 1_024;
 
 // Written out: a drop is then one call in each owner of an index.
 impl Drop for KeyIndex {
     fn drop(self) {
-        let KeyIndex { last: _, others: _ } = self;
+        let KeyIndex {
+            last: _,
+            others: _,
+            reserves: _,
+        } = self;
     }
 }
 
@@ -38,6 +47,7 @@ impl KeyIndex {
         KeyIndex {
             last: PartedIndex::new(alloc),
             others: OtherKeys::new(alloc),
+            reserves: 0,
         }
     }
 
@@ -48,8 +58,22 @@ impl KeyIndex {
         ensures find { OnOk result (0 < spare_for (spares_in self.new) hash) }
         ensures succeeds { 0 < spare_for (spares_in self.old) hash → IsOk result }
     {
+        self.look_ahead();
         self.last.reserve(hash)?;
         self.others.reserve()
+    }
+
+    // Counts the calls. One of 1,024 looks at a part of the index, each at the next part.
+    #[inline(always)]
+    fn look_ahead(&mut self)
+        ensures last { FindsSame self.old.last self.new.last }
+        ensures room { KeepsSpares (spares_of self.old.last) (spares_of self.new.last) }
+        ensures others { self.new.others ≡ self.old.others }
+    {
+        self.reserves = self.reserves.wrapping_add(1);
+        if self.reserves % BETWEEN_LOOKS == 0 {
+            self.last.grow_early(self.reserves);
+        }
     }
 
     pub fn get(&self, resources: &Slab<Resource>, key: &Key, hash: u32) -> Option<ResAt>

@@ -1,9 +1,9 @@
 //! An index of the few resources that have the same hash as a newer resource.
 
-ghost use Rattle.std.specs.Prelude.{◌≡◌, ◌≤◌, ◌<◌, ◌+◌, ℕ, None, Some, IsSome, IsOk, OnOk};
-ghost use Rattle.std.specs.Bool.{OnFalse, OnTrue};
-ghost use Rattle.indexmap.specs.IndexMap.{IsUnchanged, Updates, get, spare};
+ghost use Rattle.std.specs.Prelude.{◌≡◌, ◌≤◌, ◌+◌, None, Some};
+ghost use Rattle.indexmap.specs.IndexMap.{Updates, get, spare};
 ghost use Rattle.vlm_store.specs.HashedKeys.{is_same_hashed};
+ghost use Rattle.vlm_store.specs.OtherKeys.{HasRoomMade, TakesOut};
 
 use crate::hashed::HashedKey;
 use indexmap::IndexMap;
@@ -23,6 +23,8 @@ pub(crate) struct OtherKeys {
     resources: IndexMap<HashedKey, ResAt, HashSpread>,
     // whether a resource here may have a hash with this remainder
     may_have: [bool; REMAINDERS],
+    // whether there is room for one more resource; if not, there may still be room
+    has_room: bool,
 }
 
 impl Model for OtherKeys {
@@ -51,18 +53,28 @@ impl OtherKeys {
         OtherKeys {
             resources: IndexMap::with_hasher(alloc, HashSpread::new()),
             may_have: [false; REMAINDERS],
+            has_room: false,
         }
     }
 
     /// Makes room for one more resource, if there is no room.
     #[inline(always)]
     pub fn reserve(&mut self) -> Result<(), AllocError>
-        ensures same { (k : HashedKey) → get is_same_hashed self.new k ≡ get is_same_hashed self.old k }
-        ensures room { spare self.old ≤ spare self.new }
-        ensures find { OnOk result (1 ≤ spare self.new) }
-        ensures succeeds { 1 ≤ spare self.old → IsOk result }
+        ensures { HasRoomMade self.old self.new result }
     {
-        self.resources.reserve(1)
+        if self.has_room {
+            return Ok(());
+        }
+        self.make_room()
+    }
+
+    #[inline(never)]
+    fn make_room(&mut self) -> Result<(), AllocError>
+        ensures { HasRoomMade self.old self.new result }
+    {
+        self.resources.reserve(1)?;
+        self.has_room = true;
+        Ok(())
     }
 
     #[inline(always)]
@@ -91,19 +103,14 @@ impl OtherKeys {
         ensures spare { spare self.old ≤ spare self.new + 1 }
     {
         self.may_have[hash as usize % REMAINDERS] = true;
+        self.has_room = false;
         let _ = self.resources.insert(HashedKey { key: *key, hash }, at);
     }
 
     /// Whether the resource with this key was here. It is not here any more.
     #[inline(always)]
     pub fn remove(&mut self, key: &Key, hash: u32) -> bool
-        ensures here { OnTrue result (IsSome (get is_same_hashed self.old (record { key = key.now; hash = hash }))) }
-        ensures absent { OnFalse result (get is_same_hashed self.old (record { key = key.now; hash = hash }) ≡ None) }
-        ensures updates { OnTrue result (Updates is_same_hashed self.old self.new
-            (record { key = key.now; hash = hash }) None) }
-        ensures same { OnFalse result ((k : HashedKey) → get is_same_hashed self.new k
-            ≡ get is_same_hashed self.old k) }
-        ensures room { spare self.old ≤ spare self.new }
+        ensures { TakesOut (record { key = key.now; hash = hash }) self.old self.new result }
     {
         if !self.may_have[hash as usize % REMAINDERS] {
             return false;
@@ -113,13 +120,7 @@ impl OtherKeys {
 
     #[inline(never)]
     fn take_out(&mut self, key: &Key, hash: u32) -> bool
-        ensures here { OnTrue result (IsSome (get is_same_hashed self.old (record { key = key.now; hash = hash }))) }
-        ensures absent { OnFalse result (get is_same_hashed self.old (record { key = key.now; hash = hash }) ≡ None) }
-        ensures updates { OnTrue result (Updates is_same_hashed self.old self.new
-            (record { key = key.now; hash = hash }) None) }
-        ensures same { OnFalse result ((k : HashedKey) → get is_same_hashed self.new k
-            ≡ get is_same_hashed self.old k) }
-        ensures room { spare self.old ≤ spare self.new }
+        ensures { TakesOut (record { key = key.now; hash = hash }) self.old self.new result }
     {
         let found = HashedKey { key: *key, hash };
         let was_here = self.resources.swap_remove(&found).is_some();

@@ -1,5 +1,6 @@
-use Rattle.std.proofs.Common.{◌≡◌, ◌%◌, ◌∙◌, IfOk, Some, arith, nat_eq, slice_index_or, subst, sym}
+use Rattle.std.proofs.Common.{◌≡◌, ◌∙◌, IfOk, Some, arith, nat_eq, slice_index_or, subst, sym}
 use Rattle.indexmap.specs.IndexMap.{get}
+use Rattle.vlm_collections.specs.Parts.{part_of}
 use Rattle.vlm_collections.proofs.IndexParts.{ensured_ok, found_here, part_written, spare_here, spare_used}
 use Rattle.vlm_collections.proofs.parted.PartedIndex.insert.Goals as goal
 
@@ -11,7 +12,7 @@ unwrap-requires g c =
 
 pub returns-clause-before : goal.returns-clause-before
 returns-clause-before g c =
-    let old = subst (λ r. IfOk r (λ was. was ≡ get nat_eq (slice_index_or c.self.inside.parts (c.args.number % 64) c.index-self-number.result) c.args.number)) c.unwrap.ensures c.insert.ensures.old in
+    let old = subst (λ r. IfOk r (λ was. was ≡ get nat_eq (slice_index_or c.self.inside.parts (part_of c.args.number) c.index-self-number.result) c.args.number)) c.unwrap.ensures c.insert.ensures.old in
     rw (← c.self.view_is) (old ∙ sym (found_here c.self.inside.parts c.args.number c.index-self-number.result c.self.invariant))
 
 pub returns-clause-writes : goal.returns-clause-writes
