@@ -18,10 +18,10 @@
  * - with a mark (has_keys, syslck, has_ast, has_bast, has_value, has_tail) that is neither 0 nor 1, or a mode that does
  *   not exist;
  * - with a node, group, quota, number of status blocks, status block or flags above what the core's field holds;
- * - with both `lock` and `lock_block` of a struct;
+ * - with a `lock_kind` other than VLM_BY_ID and VLM_BY_BLOCK, or a status block above 255 in `lock`;
  * - on a handle with no lock manager.
- * Status blocks are numbered from 1: block 0 does not exist, and lock_block 0 names no block. *pid, *lkid and *victim
- * are written by each call that has them, with 0 where there is nothing to tell.
+ * Status blocks are numbered from 1: block 0 does not exist. *pid, *lkid and *victim are written by each call that has
+ * them, with 0 where there is nothing to tell.
  *
  * The ASTs of a process come in the order in which they are queued. A step queues the completions of a resource before
  * the blocking ASTs of its granted locks. So a process learns of a grant before it learns that the granted lock blocks
@@ -80,6 +80,9 @@ enum {
 
 /* Modes. */
 enum { VLM_NL = 0, VLM_CR = 1, VLM_CW = 2, VLM_PR = 3, VLM_PW = 4, VLM_EX = 5, VLM_NO_MODE = 255 };
+
+/* How `lock` names a lock: by its identification, or by the status block in which the lock stands. */
+enum { VLM_BY_ID = 0, VLM_BY_BLOCK = 1 };
 
 /* Queues of a resource. */
 enum { VLM_GRANTED = 0, VLM_CONVERSION = 1, VLM_WAITING = 2 };
@@ -156,10 +159,10 @@ typedef struct vlm_request {
     uint32_t pid;
     uint32_t mode;
     uint32_t flags;
-    uint32_t block;      /* the caller's status block */
-    uint32_t lock;       /* vlm_enq: the parent lock, or 0; vlm_convert: the lock */
-    uint32_t lock_block; /* not 0, and lock is 0: the status block in which that lock stands */
-    uint32_t has_ast;    /* 1 where ast names a completion routine */
+    uint32_t block;     /* the caller's status block */
+    uint32_t lock;      /* vlm_enq: the parent lock, or 0; vlm_convert: the lock */
+    uint32_t lock_kind; /* VLM_BY_ID, or VLM_BY_BLOCK where `lock` is the status block in which that lock stands */
+    uint32_t has_ast;   /* 1 where ast names a completion routine */
     uint32_t ast;
     uint32_t has_bast; /* 1 where bast names a blocking routine */
     uint32_t bast;
@@ -172,9 +175,9 @@ typedef struct vlm_dequeue {
     uint32_t pid;
     uint32_t flags;
     uint32_t lock;
-    uint32_t lock_block; /* not 0, and lock is 0: the status block in which the lock stands */
-    uint32_t has_value;  /* 1 where the value block is written */
-    uint32_t has_tail;   /* 1 where the tail is written with it */
+    uint32_t lock_kind; /* VLM_BY_ID, or VLM_BY_BLOCK where `lock` is the status block in which the lock stands */
+    uint32_t has_value; /* 1 where the value block is written */
+    uint32_t has_tail;  /* 1 where the tail is written with it */
     uint8_t value[16];
     uint8_t tail[48];
     uint32_t reserved[9];
@@ -252,6 +255,59 @@ typedef struct vlm_ast {
     uint32_t reserved[3];
 } vlm_ast;
 
+/* What a line of a script asks for: docs/SCRIPT.md has the lines. */
+enum {
+    VLM_LINE_EMPTY = 0, /* no word, or a comment */
+    VLM_LINE_DECLARE = 1,
+    VLM_LINE_SET = 2,
+    VLM_LINE_ENQ = 3,
+    VLM_LINE_CVT = 4,
+    VLM_LINE_DEQ = 5,
+    VLM_LINE_END = 6,
+    VLM_LINE_LEAVE = 7,
+    VLM_LINE_SEARCH = 8,
+    VLM_LINE_AST = 9,
+    VLM_LINE_BLOCK = 10,
+    VLM_LINE_TAIL = 11,
+    VLM_LINE_SHOW = 12,
+    VLM_LINE_TAILS = 13
+};
+
+/* Faults of a line. A program that keeps the names of a script's processes finds the last two itself. */
+enum {
+    VLM_FAULT_TOO_LONG = 1,
+    VLM_FAULT_UNKNOWN_COMMAND = 2,
+    VLM_FAULT_WRONG_WORD = 3,
+    VLM_FAULT_NUMBER_OUT_OF_RANGE = 4,
+    VLM_FAULT_UNKNOWN_NAME = 5,
+    VLM_FAULT_NAME_USED = 6
+};
+
+/* A line of a script. Its kind says which of the other members count. The steps have pid 0: the program writes in the
+ * process of the name. Members that do not count are 0. */
+typedef struct vlm_line {
+    uint32_t size;
+    uint32_t kind;
+    uint32_t fault;        /* 0, or the fault of the line, whose kind then is VLM_LINE_EMPTY */
+    uint32_t number;       /* the node of a leave or search, or the status block of a block or tail */
+    uint32_t name_len;     /* 1 to 15, or 0 where a line names no process */
+    uint32_t resource_len; /* of an enq, 0 where the word is no name: vlm_enq then answers VLM_IVBUFLEN */
+    uint8_t name[16];      /* the process, with zeros behind it */
+    uint8_t resource[32];  /* with zeros behind it */
+    vlm_declaration declaration;
+    vlm_setting setting;
+    vlm_request request; /* of an enq or cvt */
+    vlm_dequeue dequeue;
+    uint32_t reserved[2];
+} vlm_line;
+
+/* A printed line with its line feed. No line has more than 168 bytes. */
+typedef struct vlm_text {
+    uint32_t size;
+    uint32_t len;
+    uint8_t bytes[248]; /* with zeros behind the line */
+} vlm_text;
+
 VLM_ASSERT(sizeof(struct vlm_options) == 64);
 VLM_ASSERT_AT(struct vlm_options, size, 0);
 VLM_ASSERT_AT(struct vlm_options, version, 4);
@@ -284,7 +340,7 @@ VLM_ASSERT_AT(struct vlm_request, mode, 8);
 VLM_ASSERT_AT(struct vlm_request, flags, 12);
 VLM_ASSERT_AT(struct vlm_request, block, 16);
 VLM_ASSERT_AT(struct vlm_request, lock, 20);
-VLM_ASSERT_AT(struct vlm_request, lock_block, 24);
+VLM_ASSERT_AT(struct vlm_request, lock_kind, 24);
 VLM_ASSERT_AT(struct vlm_request, has_ast, 28);
 VLM_ASSERT_AT(struct vlm_request, ast, 32);
 VLM_ASSERT_AT(struct vlm_request, has_bast, 36);
@@ -297,7 +353,7 @@ VLM_ASSERT_AT(struct vlm_dequeue, size, 0);
 VLM_ASSERT_AT(struct vlm_dequeue, pid, 4);
 VLM_ASSERT_AT(struct vlm_dequeue, flags, 8);
 VLM_ASSERT_AT(struct vlm_dequeue, lock, 12);
-VLM_ASSERT_AT(struct vlm_dequeue, lock_block, 16);
+VLM_ASSERT_AT(struct vlm_dequeue, lock_kind, 16);
 VLM_ASSERT_AT(struct vlm_dequeue, has_value, 20);
 VLM_ASSERT_AT(struct vlm_dequeue, has_tail, 24);
 VLM_ASSERT_AT(struct vlm_dequeue, value, 28);
@@ -365,6 +421,26 @@ VLM_ASSERT_AT(struct vlm_ast, routine, 8);
 VLM_ASSERT_AT(struct vlm_ast, param, 12);
 VLM_ASSERT_AT(struct vlm_ast, lkid, 16);
 VLM_ASSERT_AT(struct vlm_ast, reserved, 20);
+
+VLM_ASSERT(sizeof(struct vlm_line) == 464);
+VLM_ASSERT_AT(struct vlm_line, size, 0);
+VLM_ASSERT_AT(struct vlm_line, kind, 4);
+VLM_ASSERT_AT(struct vlm_line, fault, 8);
+VLM_ASSERT_AT(struct vlm_line, number, 12);
+VLM_ASSERT_AT(struct vlm_line, name_len, 16);
+VLM_ASSERT_AT(struct vlm_line, resource_len, 20);
+VLM_ASSERT_AT(struct vlm_line, name, 24);
+VLM_ASSERT_AT(struct vlm_line, resource, 40);
+VLM_ASSERT_AT(struct vlm_line, declaration, 72);
+VLM_ASSERT_AT(struct vlm_line, setting, 104);
+VLM_ASSERT_AT(struct vlm_line, request, 200);
+VLM_ASSERT_AT(struct vlm_line, dequeue, 328);
+VLM_ASSERT_AT(struct vlm_line, reserved, 456);
+
+VLM_ASSERT(sizeof(struct vlm_text) == 256);
+VLM_ASSERT_AT(struct vlm_text, size, 0);
+VLM_ASSERT_AT(struct vlm_text, len, 4);
+VLM_ASSERT_AT(struct vlm_text, bytes, 8);
 
 /* The version of the library, in the form of VLM_VERSION. */
 uint32_t vlm_version(void);
@@ -474,6 +550,35 @@ uint32_t vlm_first_sublock(vlm *handle, uint32_t lkid, vlm_lock *lock);
 uint32_t vlm_next_sublock(vlm *handle, uint32_t lkid, vlm_lock *lock);
 uint32_t vlm_first_blocker(vlm *handle, uint32_t lkid, vlm_lock *lock);
 uint32_t vlm_next_blocker(vlm *handle, uint32_t lkid, uint32_t blocker, vlm_lock *lock);
+
+/* The lines of a script, read and printed as `vlm play` does. The proof holds each of these calls to the definitions
+ * that the program is held to. None takes memory. NORMAL; or BADPARAM, and nothing is written, where a struct has
+ * another size or its members are those of no line.
+ *
+ * vlm_read_line reads `len` bytes, a line without its line feed. NORMAL also for a line with a fault: `fault` says
+ * which one comes first. So a program plays a line:
+ *
+ *     vlm_line line = {.size = sizeof line};
+ *     vlm_text text = {.size = sizeof text};
+ *     vlm_read_line(bytes, len, &line);
+ *     if (line.fault == 0 && line.kind == VLM_LINE_DEQ) {
+ *         line.dequeue.pid = process_of(line.name);
+ *         vlm_print_answer(&line, vlm_deq(&handle, &line.dequeue), 0, &text);
+ *     }
+ *
+ * vlm_print_answer prints what a step was answered: its condition value, and the pid, lkid or victim that its call
+ * wrote, or 0. vlm_print_ast prints what vlm_take was answered, under the name of the line. vlm_print_block and
+ * vlm_print_tail print a status block of a process, with the number of the line, or that the process has none.
+ * vlm_print_resource and vlm_print_resource_tail print the resource that the struct names, as for vlm_find: its own
+ * line, or its tail's. vlm_print_lock prints a lock that one of the readings above has read. */
+uint32_t vlm_read_line(const uint8_t *bytes, size_t len, vlm_line *line);
+uint32_t vlm_print_answer(const vlm_line *line, uint32_t status, uint32_t number, vlm_text *text);
+uint32_t vlm_print_ast(const vlm_line *line, uint32_t status, const vlm_ast *ast, vlm_text *text);
+uint32_t vlm_print_block(vlm *handle, uint32_t pid, const vlm_line *line, vlm_text *text);
+uint32_t vlm_print_tail(vlm *handle, uint32_t pid, const vlm_line *line, vlm_text *text);
+uint32_t vlm_print_resource(vlm *handle, const struct vlm_resource *resource, vlm_text *text);
+uint32_t vlm_print_resource_tail(vlm *handle, const struct vlm_resource *resource, vlm_text *text);
+uint32_t vlm_print_lock(const vlm_lock *lock, vlm_text *text);
 
 /* The name of a condition value as the manual has it, of this library's own the plain one; null for a number that is
  * none. */

@@ -124,8 +124,8 @@ def names(hasher, clear):
 
 
 def meeting_names():
-    """Names that meet in the index of resources with both keys 0. Six bits of a hash choose one of the index's 64 parts,
-    and these names have one part to themselves."""
+    """Names that meet in the index of resources with both keys 0. Six bits of a hash choose one of the index's 64
+    parts, and these names have one part to themselves."""
     found = (ctypes.c_uint64 * NAMES)()
     find = ctypes.CDLL(built_library("names/meeting_names.c")).meeting_names
     find.argtypes = [ctypes.c_uint64, ctypes.c_uint32, ctypes.c_uint32, ctypes.c_void_p, ctypes.c_uint64]

@@ -291,12 +291,12 @@ static void wrong_requests(vlm_port *port) {
     WITH(request, flags, 65536, ENQ);
     WITH(request, flags, 65536, CONVERT);
     WITH(request, block, 256, ENQ);
-    WITH(request, lock_block, 256, CONVERT);
+    WITH(request, lock_kind, 2, CONVERT);
     WITH(request, has_ast, 2, ENQ);
     WITH(request, has_bast, 2, CONVERT);
-    request.lock = 1;
-    WITH(request, lock_block, 1, ENQ);
-    WITH(request, lock_block, 1, CONVERT);
+    request.lock = 256;
+    WITH(request, lock_kind, VLM_BY_BLOCK, ENQ);
+    WITH(request, lock_kind, VLM_BY_BLOCK, CONVERT);
 }
 
 /* Wrong words of each post, at the port of node 2. */
@@ -328,11 +328,11 @@ static void wrong_posts(vlm_port *port) {
     WITH(setting, has_tail, 2, SET);
     WITH(dequeue, size, 127, DEQ);
     WITH(dequeue, flags, 65536, DEQ);
-    WITH(dequeue, lock_block, 256, DEQ);
+    WITH(dequeue, lock_kind, 2, DEQ);
     WITH(dequeue, has_value, 2, DEQ);
     WITH(dequeue, has_tail, 2, DEQ);
-    dequeue.lock = 1;
-    WITH(dequeue, lock_block, 1, DEQ);
+    dequeue.lock = 256;
+    WITH(dequeue, lock_kind, VLM_BY_BLOCK, DEQ);
 }
 
 /* Structs to be written of another size: nothing is written. */

@@ -71,7 +71,8 @@ static vlm_request any_request(struct worker *worker) {
     vlm_request request = request_of(any_process(worker), below(worker, 6));
     request.flags = flags[below(worker, 8)];
     request.block = below(worker, BLOCKS + 1);
-    request.lock_block = below(worker, 3) ? 0 : below(worker, BLOCKS + 1);
+    request.lock = below(worker, 3) ? 0 : below(worker, BLOCKS + 1);
+    request.lock_kind = request.lock == 0 ? VLM_BY_ID : VLM_BY_BLOCK;
     request.has_ast = below(worker, 2);
     request.has_bast = below(worker, 2);
     request.ast = below(worker, 10);
@@ -90,7 +91,8 @@ static uint32_t enq(struct worker *worker) {
 static uint32_t convert(struct worker *worker) {
     vlm_request request = any_request(worker);
     request.flags &= VLM_VALBLK | VLM_NOQUEUE;
-    request.lock_block = 1 + below(worker, BLOCKS);
+    request.lock = 1 + below(worker, BLOCKS);
+    request.lock_kind = VLM_BY_BLOCK;
     return vlm_port_convert(&worker->port, &request);
 }
 
@@ -98,7 +100,8 @@ static uint32_t deq(struct worker *worker) {
     static const uint32_t flags[] = {0, 0, 0, 0, VLM_DEQ_CANCEL, VLM_INVVALBLK, VLM_DEQALL};
     vlm_dequeue dequeue = dequeue_of(any_process(worker), 0);
     dequeue.flags = flags[below(worker, 7)];
-    dequeue.lock_block = 1 + below(worker, BLOCKS);
+    dequeue.lock = 1 + below(worker, BLOCKS);
+    dequeue.lock_kind = VLM_BY_BLOCK;
     dequeue.has_value = below(worker, 2);
     dequeue.value[0] = (uint8_t)below(worker, 256);
     return vlm_port_deq(&worker->port, &dequeue);

@@ -82,8 +82,7 @@ class Arguments(unittest.TestCase):
                     call()
             with self.assertRaisesRegex(ValueError, "^the value has 17 bytes: it has 16 at most$"):
                 process.deq(1, value=bytes(17))
-            with self.assertRaisesRegex(ValueError, "^status blocks are numbered from 1$"):
-                process.deq(InBlock(0))
+            self.assertRaises(AccVio, process.deq, InBlock(0))
             self.assertRaises(AccVio, process.deq, InBlock(2))
 
     def test_resources_that_are_gone(self):

@@ -98,8 +98,11 @@ class Reading(unittest.TestCase):
             read_line(b"#" + 255 * b" ")
 
     def test_names_may_be_any_bytes(self):
-        name = bytes(set(range(256)) - set(b" \t\r\n"))[:200]
-        self.assertEqual(read_line(b"enq P EX block=1 name=" + name), Line("P", Enq(Mode.EX, name, 1)))
+        known = bytes(set(range(256)) - set(b" \t\r\n"))
+        for at in range(0, len(known), 31):
+            name = known[at:at + 31]
+            self.assertEqual(read_line(b"enq P EX block=1 name=" + name), Line("P", Enq(Mode.EX, name, 1)))
+        self.assertEqual(read_line(b"enq P EX block=1 name=" + 32 * b"A"), Line("P", Enq(Mode.EX, b"", 1)))
 
     def test_lines_end_at_line_feeds(self):
         self.assertEqual(lines_of(b""), [])

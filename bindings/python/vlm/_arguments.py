@@ -33,11 +33,9 @@ def part(value: Optional[bytes], size: int, what: str) -> bytes:
 
 
 def lock_named(which: Optional[Which]) -> Tuple[int, int]:
-    """The words `lock` and `lock_block` that name a lock, or both 0 for no lock."""
+    """The words `lock` and `lock_kind` that name a lock, or both 0 for no lock."""
     if isinstance(which, InBlock):
-        if word(which.block, "the status block") == 0:
-            raise ValueError("status blocks are numbered from 1")
-        return 0, word(which.block, "the status block")
+        return word(which.block, "the status block"), 1
     return (0 if which is None else word(which, "the lock")), 0
 
 

@@ -51,9 +51,9 @@ VERSION = 0x000100
 Options = _struct("Options", 64, *_words("version has_keys"), ("keys", c_uint8 * 16), _reserved(9))
 Declaration = _struct("Declaration", 32, *_words("node group syslck quota blocks"), _reserved(2))
 Setting = _struct("Setting", 96, *_words("pid block has_tail"), _VALUE, _TAIL, _reserved(4))
-Request = _struct("Request", 128, *_words("pid mode flags block lock lock_block has_ast ast has_bast bast param"),
+Request = _struct("Request", 128, *_words("pid mode flags block lock lock_kind has_ast ast has_bast bast param"),
                   _reserved(20))
-Dequeue = _struct("Dequeue", 128, *_words("pid flags lock lock_block has_value has_tail"), _VALUE, _TAIL, _reserved(9))
+Dequeue = _struct("Dequeue", 128, *_words("pid flags lock lock_kind has_value has_tail"), _VALUE, _TAIL, _reserved(9))
 Lksb = _struct("Lksb", 80, *_words("status lkid reserved"), _VALUE, _TAIL)
 Process = _struct("Process", 64, *_words("pid node group syslck quota"), ("blocks", c_uint64), ("pending", c_uint64),
                   ("locks", c_uint64), _reserved(4))
@@ -65,6 +65,9 @@ Item = _struct("Item", 64, *_words("kind status number pid"), _reserved(3), ("as
 Entry = _struct("Entry", 512, *_words("sender step pid node status number name_len"), ("ast", Ast),
                 ("name", c_uint8 * 32), ("declaration", Declaration), ("setting", Setting), ("request", Request),
                 ("dequeue", Dequeue), _reserved(8))
+Line = _struct("Line", 464, *_words("kind fault number name_len resource_len"), ("name", c_uint8 * 16),
+               ("resource", c_uint8 * 32), ("declaration", Declaration), ("setting", Setting), ("request", Request),
+               ("dequeue", Dequeue), _reserved(2))
 Cut = _struct("Cut", 32, *_words("entry_size"), ("base", c_uint64), ("count", c_uint64), _reserved(2))
 # What a post answers that found no free place.
 FULL = 256
@@ -144,6 +147,8 @@ def _declared(library: ctypes.CDLL) -> ctypes.CDLL:
         call = getattr(library, name)
         call.argtypes = [POINTER(Handle), *arguments]
         call.restype = _ANSWERS.get(name, c_uint32)
+    # (it has no handle)
+    library.vlm_read_line.argtypes = [c_char_p, c_size_t, POINTER(Line)]
     return library
 
 

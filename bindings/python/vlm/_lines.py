@@ -1,11 +1,11 @@
-"""The lines of a script, and how they are read: docs/SCRIPT.md of the repository has the language and its faults."""
+"""The lines of a script: docs/SCRIPT.md of the repository has the language and its faults. The library reads them."""
 
-import re
-from dataclasses import MISSING, dataclass, field, fields
+from ctypes import byref
+from dataclasses import dataclass
 from enum import Enum
-from functools import cached_property
-from typing import Any, Callable, Dict, FrozenSet, Iterable, Iterator, List, Mapping, NoReturn, Optional, Type, Union
+from typing import Any, Callable, Dict, List, Optional, Tuple, Union
 
+from . import _library as raw
 from .values import DequeueFlags, Flags, InBlock, Mode, Which
 
 # The longest script and the longest line, in bytes. A line feed is no part of its line.
@@ -164,145 +164,69 @@ def lines_of(script: bytes) -> List[bytes]:
 
 
 def read_line(line: bytes) -> Optional[Line]:
-    """Reads a line. None is a blank line or a comment. Raises LineFault with the first fault, except those of names."""
-    if len(line) > LONGEST_LINE:
-        _fail(Fault.TOO_LONG)
-    # Each byte becomes the character of its number, so no byte is lost.
-    words = re.findall(r"[^ \t\r]+", line.decode("latin-1"))
-    if not words or words[0].startswith("#"):
+    """Reads a line. None is a blank line or a comment. Raises LineFault with the first fault, except those of names. A
+    resource's name of no bytes or of more than 31 is read as one of no bytes, which `enq` refuses."""
+    words = raw.Line()
+    raw.LIBRARY.vlm_read_line(line, len(line), byref(words))
+    if words.fault:
+        raise LineFault(_FAULTS[words.fault])
+    if words.kind == 0:
         return None
-    if words[0] not in _FORMS:
-        _fail(Fault.UNKNOWN_COMMAND)
-    return _FORMS[words[0]].read(words[1:])
+    name = bytes(words.name[:words.name_len]).decode("ascii") or None
+    return Line(name, _READERS[words.kind](words))
 
 
-def _fail(fault: Fault) -> NoReturn:
-    raise LineFault(fault)
+# The faults that a line alone can have, by their numbers.
+_FAULTS = dict(enumerate((Fault.TOO_LONG, Fault.UNKNOWN_COMMAND, Fault.WRONG_WORD, Fault.NUMBER_OUT_OF_RANGE), 1))
 
 
-_Reader = Callable[[str], Any]
+def _which(words: raw.Sized) -> Which:
+    return InBlock(words.lock) if words.lock_kind else int(words.lock)
 
 
-def _name(word: str) -> str:
-    return word if re.fullmatch(r"[A-Za-z][A-Za-z0-9_]{0,14}", word) else _fail(Fault.WRONG_WORD)
+def _given(mark: int, value: Any) -> Any:
+    """The value, or None where the line has none."""
+    if not mark:
+        return None
+    return value if isinstance(value, int) else bytes(value)
 
 
-def _number(limit: int) -> _Reader:
-    """Reads a number of at most ten digits, up to a limit."""
-    def read(word: str) -> int:
-        if not re.fullmatch(r"[0-9]+", word):
-            _fail(Fault.WRONG_WORD)
-        if len(word) > 10 or int(word) > limit:
-            _fail(Fault.NUMBER_OUT_OF_RANGE)
-        return int(word)
-
-    return read
+def _routines(request: raw.Sized) -> Tuple[Optional[int], Optional[int], int, Flags]:
+    """The last fields of a request."""
+    return (_given(request.has_ast, request.ast), _given(request.has_bast, request.bast), request.param,
+            Flags(request.flags))
 
 
-_byte, _short, _long = _number(255), _number(65_535), _number(4_294_967_295)
+def _declare(words: raw.Sized) -> Declare:
+    told = words.declaration
+    return Declare(told.node, told.group, told.quota, told.blocks, bool(told.syslck))
 
 
-def _lock(word: str) -> Which:
-    return InBlock(_byte(word[1:])) if word.startswith("@") else _long(word)
+def _set_value(words: raw.Sized) -> SetValue:
+    told = words.setting
+    return SetValue(told.block, bytes(told.value), _given(told.has_tail, told.tail))
 
 
-def _mode(word: str) -> Mode:
-    return Mode[word] if word in Mode.__members__ else _fail(Fault.WRONG_WORD)
+def _enq(words: raw.Sized) -> Enq:
+    told = words.request
+    return Enq(Mode(told.mode), bytes(words.resource[:words.resource_len]), told.block, _which(told), *_routines(told))
 
 
-def _hex(digits: str) -> bytes:
-    """The bytes of hexadecimal digits. `bytes.fromhex` alone would skip blanks."""
-    if not re.fullmatch(r"(?:[0-9A-Fa-f]{2})*", digits):
-        _fail(Fault.WRONG_WORD)
-    return bytes.fromhex(digits)
+def _convert(words: raw.Sized) -> Convert:
+    told = words.request
+    return Convert(_which(told), Mode(told.mode), told.block, *_routines(told))
 
 
-def _resource(word: str) -> bytes:
-    return _hex(word[2:]) if word.startswith("x:") else word.encode("latin-1")
+def _deq(words: raw.Sized) -> Deq:
+    told = words.dequeue
+    return Deq(_which(told), _given(told.has_value, told.value), _given(told.has_tail, told.tail),
+               DequeueFlags(told.flags))
 
 
-def _bytes(size: int) -> _Reader:
-    """Reads exactly this many bytes."""
-    return lambda word: _hex(word) if len(word) == 2 * size else _fail(Fault.WRONG_WORD)
-
-
-@dataclass(frozen=True)
-class _Form:
-    """The form of a command: what reads each of its words."""
-
-    does: Type[Any]
-    has_name: bool = True
-    # The words in fixed places after the name, and the keyed ones, each with its reader.
-    places: Mapping[str, _Reader] = field(default_factory=dict)
-    keys: Mapping[str, _Reader] = field(default_factory=dict)
-    # The words without a key, each with what it stands for. Where a command has `bits=`, they are its flags.
-    marks: Mapping[str, Any] = field(default_factory=dict)
-
-    @cached_property
-    def _needed(self) -> FrozenSet[str]:
-        """The fields that have no default: the words that a line must have."""
-        return frozenset(it.name for it in fields(self.does) if it.default is MISSING)
-
-    def read(self, words: List[str]) -> Line:
-        """Reads the words after the command, from left to right."""
-        rest = iter(words)
-        name = _name(_next(rest)) if self.has_name else None
-        given = {key: reader(_next(rest)) for key, reader in self.places.items()}
-        for word in rest:
-            self._add(word, given)
-        if "bits" in self.keys:
-            given["flags"] = self._flags(given)
-        if not given.keys() >= self._needed:
-            _fail(Fault.WRONG_WORD)
-        return Line(name, self.does(**given))
-
-    def _add(self, word: str, given: Dict[str, Any]) -> None:
-        """Adds a keyed word or a mark, each at most once."""
-        key, equals, value = word.partition("=")
-        if key in given:
-            _fail(Fault.WRONG_WORD)
-        if equals and key in self.keys:
-            given[key] = self.keys[key](value)
-        elif word in self.marks:
-            given[word] = self.marks[word]
-        else:
-            _fail(Fault.WRONG_WORD)
-
-    def _flags(self, given: Dict[str, Any]) -> Union[Flags, DequeueFlags]:
-        """Takes the flags out of what is given, those of the words and those of the number together."""
-        flags: Union[Flags, DequeueFlags] = type(next(iter(self.marks.values())))(given.pop("bits", 0))
-        for word in self.marks.keys() & given.keys():
-            flags |= given.pop(word)
-        return flags
-
-
-def _next(words: Iterator[str]) -> str:
-    word = next(words, None)
-    return word or _fail(Fault.WRONG_WORD)
-
-
-def _words_of(flags: Iterable[Union[Flags, DequeueFlags]]) -> Dict[str, Any]:
-    """The word of each flag."""
-    return {flag.name.lower(): flag for flag in flags if flag.name and flag}
-
-
-_ROUTINES = {"ast": _long, "bast": _long, "param": _long}
-_REQUEST = {"block": _byte, **_ROUTINES, "bits": _short}
-_VALUE = {"value": _bytes(16), "tail": _bytes(48)}
-_FORMS = {
-    "declare": _Form(Declare, keys={"node": _byte, "group": _short, "quota": _short, "blocks": _byte},
-                     marks={"syslck": True}),
-    "enq": _Form(Enq, places={"mode": _mode}, keys={"name": _resource, "parent": _lock, **_REQUEST},
-                 marks=_words_of(Flags)),
-    "cvt": _Form(Convert, places={"lock": _lock, "mode": _mode}, keys=_REQUEST, marks=_words_of(Flags)),
-    "deq": _Form(Deq, places={"lock": _lock}, keys={**_VALUE, "bits": _short}, marks=_words_of(DequeueFlags)),
-    "set": _Form(SetValue, keys={"block": _byte, **_VALUE}),
-    "end": _Form(Rundown),
-    "leave": _Form(Leave, has_name=False, keys={"node": _byte}),
-    "search": _Form(Search, has_name=False, keys={"node": _byte}),
-    "ast": _Form(Take),
-    "block": _Form(ShowBlock, places={"number": _byte}),
-    "tail": _Form(ShowTail, places={"number": _byte}),
-    "show": _Form(Show, has_name=False),
-    "tails": _Form(ShowTails, has_name=False),
+# What reads the struct of a line, by the kind of the line.
+_READERS: Dict[int, Callable[[raw.Sized], Union[Step, View]]] = {
+    1: _declare, 2: _set_value, 3: _enq, 4: _convert, 5: _deq, 6: lambda _: Rundown(),
+    7: lambda words: Leave(words.number), 8: lambda words: Search(words.number), 9: lambda _: Take(),
+    10: lambda words: ShowBlock(words.number), 11: lambda words: ShowTail(words.number), 12: lambda _: Show(),
+    13: lambda _: ShowTails(),
 }

@@ -37,14 +37,14 @@ def setting(pid: int, block: int, value: bytes, tail: Optional[bytes]) -> raw.Si
 
 def request(pid: int, which: Optional[Which], **numbers: int) -> raw.Sized:
     """The words of a request without routines."""
-    lock, lock_block = lock_named(which)
+    lock, lock_kind = lock_named(which)
     words = {name: word(number, name) for name, number in numbers.items()}
-    return raw.Request(pid=pid, lock=lock, lock_block=lock_block, **words)
+    return raw.Request(pid=pid, lock=lock, lock_kind=lock_kind, **words)
 
 
 def dequeue(pid: int, lock: Which, flags: DequeueFlags, value: Optional[bytes], tail: Optional[bytes]) -> raw.Sized:
-    number, lock_block = lock_named(lock)
-    words = raw.Dequeue(pid=pid, flags=word(flags, "flags"), lock=number, lock_block=lock_block)
+    number, lock_kind = lock_named(lock)
+    words = raw.Dequeue(pid=pid, flags=word(flags, "flags"), lock=number, lock_kind=lock_kind)
     if value is not None:
         words.has_value, words.value[:] = 1, part(value, _VALUE, "the value")
     if tail is not None:

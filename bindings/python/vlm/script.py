@@ -1,5 +1,5 @@
 """Reads and runs the lines of a script, and prints what `vlm play` prints: docs/SCRIPT.md of the repository has the
-language. Nothing of it is proved.
+language. The library's proved `vlm_read_line` reads a line; nothing else of this is proved.
 
     with LockManager() as manager:
         for text in play(manager, script):
@@ -10,7 +10,7 @@ process, and `make` makes its step for the process of an identification. `plain`
 JSON can hold, and `step_of` turns it back. Managers that make the same steps in the same order give the same answers.
 """
 
-from dataclasses import dataclass, fields, replace
+from dataclasses import dataclass, fields
 from typing import Any, Callable, Dict, Iterator, List, Optional, Tuple, Union
 
 from ._lines import (LONGEST_LINE, LONGEST_SCRIPT, STEPS, Convert, Declare, Deq, Enq, Fault, Leave, Line, LineFault,
@@ -18,7 +18,7 @@ from ._lines import (LONGEST_LINE, LONGEST_SCRIPT, STEPS, Convert, Declare, Deq,
                      read_line)
 from ._texts import (ast_text, block_text, lock_text, mode_text, name_text, resource_text, show_lines, tail_text,
                      tails_lines)
-from .errors import AccVio, BadParam, IvLockId, VlmError
+from .errors import BadParam, VlmError
 from .manager import LockManager
 from .process import Process
 from .values import (Accepted, Ast, Condition, DequeueFlags, Flags, InBlock, LockView, Mode, Queue, Resource,
@@ -29,9 +29,6 @@ __all__ = ["LONGEST_LINE", "LONGEST_SCRIPT", "Convert", "Declare", "Deq", "Enq",
            "ShowTail", "ShowTails", "Step", "Take", "View", "answer_text", "ast_text", "block_text", "lines_of",
            "lock_text", "make", "makes_step", "mode_text", "name_text", "plain", "play", "printed", "read_line",
            "resource_text", "show_lines", "shown", "step_of", "tail_text", "tails_lines"]
-
-# The lock `@0`. No call of the library can name the status block 0.
-_IN_NO_BLOCK = InBlock(0)
 
 
 @dataclass(frozen=True)
@@ -144,16 +141,11 @@ def _declare(process: Process, step: Declare) -> Outcome:
 
 
 def _enq(process: Process, step: Enq) -> Outcome:
-    if step.parent == _IN_NO_BLOCK:
-        # ACCVIO for the request's own status block has the same place in the order of refusals.
-        step = replace(step, parent=0, block=0)
     return _accepted(process.enq(step.name, step.mode, step.block, step.flags, parent=step.parent or None,
                                  completion=step.ast, blocking=step.bast, param=step.param))
 
 
 def _convert(process: Process, step: Convert) -> Outcome:
-    if step.lock == _IN_NO_BLOCK:
-        step = replace(step, lock=0, block=0)
     return _accepted(process.convert(step.lock, step.mode, step.block, step.flags, completion=step.ast,
                                      blocking=step.bast, param=step.param))
 
@@ -163,20 +155,8 @@ def _accepted(request: Accepted) -> Outcome:
 
 
 def _deq(process: Process, step: Deq) -> Outcome:
-    if step.lock != _IN_NO_BLOCK:
-        process.deq(step.lock, step.flags, value=step.value, tail=step.tail)
-        return Outcome(Condition.NORMAL)
-    try:
-        # In the order of refusals, IVLOCKID for a lock that does not exist comes right after ACCVIO.
-        process.deq(_no_lock(process.manager), step.flags, value=step.value, tail=step.tail)
-    except IvLockId:
-        raise AccVio from None
-    raise AssertionError("a lock that does not exist was given up")
-
-
-def _no_lock(manager: LockManager) -> int:
-    """An identification that no lock has."""
-    return next(number for number in range((1 << 32) - 1, 0, -1) if manager.find_lock(number) is None)
+    process.deq(step.lock, step.flags, value=step.value, tail=step.tail)
+    return Outcome(Condition.NORMAL)
 
 
 def _set_value(process: Process, step: SetValue) -> Outcome:

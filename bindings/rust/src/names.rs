@@ -65,15 +65,16 @@ pub(crate) fn lock_named(lock: Option<Which>) -> (u32, u32) {
     match lock {
         None => (0, 0),
         Some(Which::Lock(lock)) => (lock.0, 0),
-        Some(Which::Block(number)) => (0, u32::from(number.get())),
+        Some(Which::Block(number)) => (u32::from(number.get()), 1),
     }
 }
 
 /// The lock that these two words name.
-pub(crate) fn which_of(lock: u32, lock_block: u32) -> Option<Which> {
-    match NonZeroU8::new(lock_block as u8) {
-        _ if lock != 0 => Some(Which::Lock(LockId(lock))),
-        number => number.map(Which::Block),
+pub(crate) fn which_of(lock: u32, lock_kind: u32) -> Option<Which> {
+    match (lock_kind, lock) {
+        (0, 0) => None,
+        (0, lkid) => Some(Which::Lock(LockId(lkid))),
+        _ => NonZeroU8::new(lock as u8).map(Which::Block),
     }
 }
 

@@ -49,11 +49,11 @@ structs! {
         reserved: [u32; 4] = [0; 4],
     }
     Request 128 {
-        pid: u32 = 0, mode: u32 = 0, flags: u32 = 0, block: u32 = 0, lock: u32 = 0, lock_block: u32 = 0,
+        pid: u32 = 0, mode: u32 = 0, flags: u32 = 0, block: u32 = 0, lock: u32 = 0, lock_kind: u32 = 0,
         has_ast: u32 = 0, ast: u32 = 0, has_bast: u32 = 0, bast: u32 = 0, param: u32 = 0, reserved: [u32; 20] = [0; 20],
     }
     Dequeue 128 {
-        pid: u32 = 0, flags: u32 = 0, lock: u32 = 0, lock_block: u32 = 0, has_value: u32 = 0, has_tail: u32 = 0,
+        pid: u32 = 0, flags: u32 = 0, lock: u32 = 0, lock_kind: u32 = 0, has_value: u32 = 0, has_tail: u32 = 0,
         value: [u8; 16] = [0; 16], tail: [u8; 48] = [0; 48], reserved: [u32; 9] = [0; 9],
     }
     Lksb 80 { status: u32 = 0, lkid: u32 = 0, reserved: u32 = 0, value: [u8; 16] = [0; 16], tail: [u8; 48] = [0; 48] }

@@ -116,14 +116,14 @@ impl Request {
 
     /// The words of the request, which names this lock.
     pub(crate) fn words(&self, lock: Option<Which>) -> raw::Request {
-        let (lock, lock_block) = lock_named(lock);
+        let (lock, lock_kind) = lock_named(lock);
         raw::Request {
             pid: self.process.0,
             mode: self.mode as u32,
             flags: u32::from(self.flags.0),
             block: u32::from(self.block),
             lock,
-            lock_block,
+            lock_kind,
             has_ast: bit(self.completion.is_some()),
             ast: self.completion.unwrap_or(0),
             has_bast: bit(self.blocking.is_some()),
@@ -140,7 +140,7 @@ impl Request {
             mode: mode_of(words.mode)?,
             block: words.block as u8,
             flags: EnqFlags(words.flags as u16),
-            parent: which_of(words.lock, words.lock_block),
+            parent: which_of(words.lock, words.lock_kind),
             completion: (words.has_ast == 1).then_some(words.ast),
             blocking: (words.has_bast == 1).then_some(words.bast),
             param: words.param,
@@ -196,12 +196,12 @@ impl Dequeue {
     }
 
     pub(crate) fn words(&self) -> raw::Dequeue {
-        let (lock, lock_block) = lock_named(self.lock);
+        let (lock, lock_kind) = lock_named(self.lock);
         raw::Dequeue {
             pid: self.process.0,
             flags: u32::from(self.flags.0),
             lock,
-            lock_block,
+            lock_kind,
             has_value: bit(self.value.is_some()),
             has_tail: bit(self.tail.is_some()),
             value: self.value.unwrap_or([0; 16]),
@@ -213,7 +213,7 @@ impl Dequeue {
     pub(crate) fn of(words: &raw::Dequeue) -> Dequeue {
         Dequeue {
             process: ProcessId(words.pid),
-            lock: which_of(words.lock, words.lock_block),
+            lock: which_of(words.lock, words.lock_kind),
             flags: DeqFlags(words.flags as u16),
             value: (words.has_value == 1).then_some(words.value),
             tail: (words.has_tail == 1).then_some(words.tail),

@@ -1,4 +1,3 @@
-mod Lengths
 mod LooseValues
 mod Values
 mod Serving

@@ -1,12 +1,12 @@
 -- What C gets of the journal.
-use Rattle.std.specs.Prelude.{ℕ, List, [], ◌++◌, drop, length, map, Some, replicate, if◌then◌else◌}
+use Rattle.std.specs.Prelude.{ℕ, List, [], ◌++◌, drop, length, map, Some, replicate}
 use Rattle.vlm_words.specs.declared.steps.Step.{Step}
 use Rattle.vlm_words.specs.declared.steps.Step.TheVariants.{Convert, Declare, Deq, Enq, Leave, Rundown, Search, SetValue, Take}
 use Rattle.vlm_words.specs.declared.steps.Answer.{Answer}
 use Rattle.vlm_words.specs.declared.steps.Answer.TheVariants.{Taken}
-use Rattle.vlm_words.specs.Names.{is_name}
 use Rattle.vlm_words.specs.Padding.{padded}
 use Rattle.vlm_journal.specs.declared.entries.Entry.{Entry}
+use Rattle.vlm_capi.specs.ScriptLines.{name_or_none}
 use Rattle.vlm_capi.specs.declared.arguments.VlmDeclaration.{VlmDeclaration}
 use Rattle.vlm_capi.specs.declared.arguments.VlmDequeue.{VlmDequeue}
 use Rattle.vlm_capi.specs.declared.arguments.VlmRequest.{VlmRequest}
@@ -46,7 +46,7 @@ ast_in answer = no_ast
 
 -- the name of a new request, or no bytes if it is no name
 abbrev pub name_in : Step → List ℕ
-name_in (Enq r) = if is_name r.name then r.name else []
+name_in (Enq r) = name_or_none r.name
 name_in step = []
 
 abbrev pub declaration_in : Step → VlmDeclaration

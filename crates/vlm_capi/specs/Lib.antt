@@ -11,3 +11,5 @@ pub mod Items
 pub mod Posts
 pub mod Entries
 pub mod Hubs
+pub mod ScriptLines
+pub mod Printed

@@ -54,6 +54,11 @@ lksb_of block = record {
   tail = block.tail;
 }
 
+-- the status block of this number or that there is none; nothing without a core
+unfoldable pub block_there : Option State → ℕ → ℕ → Option (Option Block)
+block_there None pid number = None
+block_there (Some s) pid number = if nat_le number 255 then Some (status_block_at s.processes pid number) else None
+
 -- the status block of this number
 unfoldable pub block_shown : Option State → ℕ → ℕ → Option Block
 block_shown None pid number = None

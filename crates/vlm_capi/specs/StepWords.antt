@@ -22,10 +22,10 @@ abbrev pub given_or : {A : Type 0} → Option A → A → A
 given_or (Some x) other = x
 given_or None other = other
 
--- the identification of a lock, and the status block that names it
+-- how a lock is named: its number, and 0 for an identification or 1 for a status block
 abbrev pub named_lock : Which → ℕ × ℕ
 named_lock (Id lkid) = (lkid, 0)
-named_lock (Block block) = (0, block)
+named_lock (Block block) = (block, 1)
 
 abbrev pub bit : Bool → ℕ
 bit true = 1
@@ -61,7 +61,7 @@ request_words r = record {
   flags = r.flags;
   block = r.block;
   lock = (named_lock r.parent).0;
-  lock_block = (named_lock r.parent).1;
+  lock_kind = (named_lock r.parent).1;
   has_ast = mark r.ast;
   ast = given_or r.ast 0;
   has_bast = mark r.bast;
@@ -78,7 +78,7 @@ conversion_words c = record {
   flags = c.flags;
   block = c.block;
   lock = (named_lock c.lock).0;
-  lock_block = (named_lock c.lock).1;
+  lock_kind = (named_lock c.lock).1;
   has_ast = mark c.ast;
   ast = given_or c.ast 0;
   has_bast = mark c.bast;
@@ -93,7 +93,7 @@ dequeue_words d = record {
   pid = d.pid;
   flags = d.flags;
   lock = (named_lock d.lock).0;
-  lock_block = (named_lock d.lock).1;
+  lock_kind = (named_lock d.lock).1;
   has_value = mark d.value;
   has_tail = mark d.tail;
   value = given_or d.value (replicate 16 0);
@@ -125,7 +125,7 @@ no_request = record {
   flags = 0;
   block = 0;
   lock = 0;
-  lock_block = 0;
+  lock_kind = 0;
   has_ast = 0;
   ast = 0;
   has_bast = 0;
@@ -140,7 +140,7 @@ no_dequeue = record {
   pid = 0;
   flags = 0;
   lock = 0;
-  lock_block = 0;
+  lock_kind = 0;
   has_value = 0;
   has_tail = 0;
   value = replicate 16 0;

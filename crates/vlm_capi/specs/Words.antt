@@ -39,11 +39,11 @@ mode_number (Some Pw) = 4
 mode_number (Some Ex) = 5
 mode_number None = 255
 
--- with block 0 the identification names the lock; otherwise the block does, and the identification is 0
+-- the lock of this number: of kind 0 an identification, of kind 1 a status block
 unfoldable pub which_of : ℕ → ℕ → Option Which
-which_of lock block =
-    if block == 0 then Some (Id lock)
-    else (if (lock == 0) && nat_lt block 256 then Some (Block block) else None)
+which_of lock kind =
+    if kind == 0 then Some (Id lock)
+    else (if (kind == 1) && nat_lt lock 256 then Some (Block lock) else None)
 
 -- every byte passes; the core checks that it is a node
 abbrev pub node_of : ℕ → Option ℕ
@@ -106,7 +106,7 @@ request_with w name (Some mode) None = None
 request_with w name None parent = None
 
 unfoldable pub request_of : VlmRequest → List ℕ → Option NewRequest
-request_of w name = if is_request w then request_with w name (mode_of w.mode) (which_of w.lock w.lock_block) else None
+request_of w name = if is_request w then request_with w name (mode_of w.mode) (which_of w.lock w.lock_kind) else None
 
 -- a conversion needs a mode and a lock
 abbrev pub conversion_with : VlmRequest → Option Mode → Option Which → Option Conversion
@@ -124,7 +124,7 @@ conversion_with w (Some mode) None = None
 conversion_with w None lock = None
 
 unfoldable pub conversion_of : VlmRequest → Option Conversion
-conversion_of w = if is_request w then conversion_with w (mode_of w.mode) (which_of w.lock w.lock_block) else None
+conversion_of w = if is_request w then conversion_with w (mode_of w.mode) (which_of w.lock w.lock_kind) else None
 
 -- a dequeue needs a lock
 abbrev pub dequeue_with : VlmDequeue → Option Which → Option Dequeue
@@ -140,4 +140,4 @@ dequeue_with w None = None
 unfoldable pub dequeue_of : VlmDequeue → Option Dequeue
 dequeue_of w =
     if (w.size == 128) && is_blank w.reserved && nat_le w.flags 65535 && nat_le w.has_value 1 && nat_le w.has_tail 1
-    then dequeue_with w (which_of w.lock w.lock_block) else None
+    then dequeue_with w (which_of w.lock w.lock_kind) else None

@@ -88,8 +88,8 @@ pub struct VlmRequest {
     pub block: u32,
     /// The parent lock of a new request, or 0 for a root. The lock of a conversion.
     pub lock: u32,
-    /// If not 0, the status block that holds that lock's identification. `lock` is 0 then.
-    pub lock_block: u32,
+    /// 0 if `lock` is an identification, 1 if it is the status block that holds the identification.
+    pub lock_kind: u32,
     /// 1 if `ast` names a completion routine, or 0.
     pub has_ast: u32,
     pub ast: u32,
@@ -108,7 +108,7 @@ pub struct VlmDequeue {
     pub pid: u32,
     pub flags: u32,
     pub lock: u32,
-    pub lock_block: u32,
+    pub lock_kind: u32,
     /// 1 to write the value block, or 0.
     pub has_value: u32,
     /// 1 to write its tail too, or 0.
@@ -119,15 +119,13 @@ pub struct VlmDequeue {
 }
 
 #[tactic(auto, unfolding(crate::specs::Words::which_of))]
-fn which_of(lock: u32, block: u32) -> Option<Which>
-    ensures { result ≡ which_of lock block }
+fn which_of(lock: u32, kind: u32) -> Option<Which>
+    ensures { result ≡ which_of lock kind }
 {
-    if block == 0 {
-        Some(Which::Id(lock))
-    } else if lock == 0 && block < 256 {
-        Some(Which::Block(block as u8))
-    } else {
-        None
+    match kind {
+        0 => Some(Which::Id(lock)),
+        1 if lock < 256 => Some(Which::Block(lock as u8)),
+        _ => None,
     }
 }
 
@@ -224,7 +222,7 @@ pub(crate) fn request_of(words: &VlmRequest, name: &[u8]) -> Option<NewRequest>
         return None;
     }
     let mode = mode_of(words.mode)?;
-    let parent = which_of(words.lock, words.lock_block)?;
+    let parent = which_of(words.lock, words.lock_kind)?;
     Some(NewRequest {
         pid: words.pid,
         mode,
@@ -247,7 +245,7 @@ pub(crate) fn conversion_of(words: &VlmRequest) -> Option<Conversion>
         return None;
     }
     let mode = mode_of(words.mode)?;
-    let lock = which_of(words.lock, words.lock_block)?;
+    let lock = which_of(words.lock, words.lock_kind)?;
     Some(Conversion {
         pid: words.pid,
         lock,
@@ -271,7 +269,7 @@ pub(crate) fn dequeue_of(words: &VlmDequeue) -> Option<Dequeue>
     if words.flags > 65_535 || words.has_value > 1 || words.has_tail > 1 {
         return None;
     }
-    let lock = which_of(words.lock, words.lock_block)?;
+    let lock = which_of(words.lock, words.lock_kind)?;
     Some(Dequeue {
         pid: words.pid,
         lock,

@@ -3,9 +3,10 @@
 ghost use Rattle.std.specs.Prelude.{◌≡◌, ◌==◌, Some, false};
 ghost use Rattle.vlm_capi.specs.Keys.{key_of};
 ghost use Rattle.vlm_capi.specs.Lending.{core_of};
-ghost use Rattle.vlm_capi.specs.Shown.{Tells, block_shown, count_shown, found_shown, lock_count_shown, next_process_shown, next_resource_shown, pending_shown, process_count_shown, process_shown, queued_count_shown, resource_shown, row_shown_at};
+ghost use Rattle.vlm_capi.specs.Shown.{Tells, block_shown, block_there, count_shown, found_shown, lock_count_shown, next_process_shown, next_resource_shown, pending_shown, process_count_shown, process_shown, queued_count_shown, resource_shown, row_shown_at};
 
 use crate::handle::Handle;
+use crate::numbers::node_of;
 use crate::resource_keys::{key_of, queue_of};
 use crate::shown::VlmResource;
 use vlm_core::{Core, ProcessView, ResourceView, RowView};
@@ -64,6 +65,16 @@ impl Handle {
             self.old.slot.held self.new.slot.held }
     {
         self.with_core(|core| core.resource_count()).unwrap_or(0)
+    }
+
+    /// The status block of this number, or that there is none. `None` without a core.
+    #[tactic(auto, unfolding(crate::specs::Shown::block_there))]
+    pub(crate) fn status_block(&mut self, pid: u32, number: u32) -> Option<Option<Block>>
+        ensures { Tells (block_there (core_of self.old.slot.held) pid number) result
+            self.old.slot.held self.new.slot.held }
+    {
+        let number = node_of(number)?;
+        self.with_core(|core| core.block(pid, number))
     }
 
     pub(crate) fn lock_count(&mut self) -> usize

@@ -5,7 +5,7 @@ ghost use Rattle.vlm_capi.specs.Entries.{ast_in, declaration_in, dequeue_in, ent
 ghost use Rattle.vlm_words.specs.Padding.{padded};
 
 use crate::arguments::{VlmDeclaration, VlmDequeue, VlmRequest, VlmSetting};
-use crate::padding::name_cells;
+use crate::padding::given_name_cells;
 use crate::replies::{VlmAst, answer_number, answer_status, ast_of, no_ast};
 use crate::step_words::{
     conversion_words, declaration_words, dequeue_words, no_declaration, no_dequeue, no_request,
@@ -114,7 +114,7 @@ fn name_in(step: &Step) -> ([u8; 32], u32)
     ensures len { result.1 ≡ length (name_in step.now) }
 {
     match step {
-        Step::Enq(request) if request.name.is_name() => name_cells(request.name.checked()),
+        Step::Enq(request) => given_name_cells(request.name),
         _ => ([0; 32], 0),
     }
 }

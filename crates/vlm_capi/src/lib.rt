@@ -18,7 +18,9 @@
 //! | `shown` | the structs that readers copy out |
 //! | `items`, `entries` | the structs that C gets of an item and of an entry of the journal |
 //! | `copies` | values that a call copies out to C |
-//! | `padding` | the name of a resource in an array of a fixed length |
+//! | `text_exports` | the calls of include/vlm.h that read and print the lines of a script |
+//! | `script_lines`, `printed` | the structs of a line that was read, and of one that was printed |
+//! | `padding` | names and printed lines in arrays of a fixed length |
 //!
 //! No export has a `requires`. The caller in C answers for pointers and handles; the exports check all else. A call of
 //! a core, a hub or a port on a handle that holds another of them answers as on a closed handle, except a close, which
@@ -45,8 +47,11 @@ mod owned_hubs;
 mod padding;
 mod port_exports;
 mod posts;
+mod printed;
 mod replies;
 mod resource_keys;
+mod script_lines;
 mod shown;
 mod slot;
 mod step_words;
+mod text_exports;

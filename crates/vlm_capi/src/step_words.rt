@@ -29,13 +29,13 @@ fn given_or<T: Copy>(value: Option<T>, other: T) -> T
     }
 }
 
-// The identification of a lock, or 0, and the status block that names it, or 0.
+// How a lock is named: its number, and 0 for an identification or 1 for a status block.
 fn named_lock(lock: Which) -> (u32, u32)
     ensures { result ≡ named_lock lock }
 {
     match lock {
         Which::Id(lkid) => (lkid, 0),
-        Which::Block(block) => (0, u32::from(block)),
+        Which::Block(block) => (u32::from(block), 1),
     }
 }
 
@@ -73,7 +73,7 @@ pub(crate) fn setting_words(setting: ValueSetting) -> VlmSetting
 pub(crate) fn request_words(request: NewRequest) -> VlmRequest
     ensures { result ≡ request_words request }
 {
-    let (lock, lock_block) = named_lock(request.parent);
+    let (lock, lock_kind) = named_lock(request.parent);
     VlmRequest {
         size: REQUEST_SIZE,
         pid: request.pid,
@@ -81,7 +81,7 @@ pub(crate) fn request_words(request: NewRequest) -> VlmRequest
         flags: u32::from(request.flags),
         block: u32::from(request.block),
         lock,
-        lock_block,
+        lock_kind,
         has_ast: mark(request.ast),
         ast: given_or(request.ast, 0),
         has_bast: mark(request.bast),
@@ -94,7 +94,7 @@ pub(crate) fn request_words(request: NewRequest) -> VlmRequest
 pub(crate) fn conversion_words(conversion: Conversion) -> VlmRequest
     ensures { result ≡ conversion_words conversion }
 {
-    let (lock, lock_block) = named_lock(conversion.lock);
+    let (lock, lock_kind) = named_lock(conversion.lock);
     VlmRequest {
         size: REQUEST_SIZE,
         pid: conversion.pid,
@@ -102,7 +102,7 @@ pub(crate) fn conversion_words(conversion: Conversion) -> VlmRequest
         flags: u32::from(conversion.flags),
         block: u32::from(conversion.block),
         lock,
-        lock_block,
+        lock_kind,
         has_ast: mark(conversion.ast),
         ast: given_or(conversion.ast, 0),
         has_bast: mark(conversion.bast),
@@ -115,7 +115,7 @@ pub(crate) fn conversion_words(conversion: Conversion) -> VlmRequest
 pub(crate) fn dequeue_words(dequeue: Dequeue) -> VlmDequeue
     ensures { result ≡ dequeue_words dequeue }
 {
-    let (lock, lock_block) = named_lock(dequeue.lock);
+    let (lock, lock_kind) = named_lock(dequeue.lock);
     let value = given_or(dequeue.value, [0; 16]);
     let tail = given_or(dequeue.tail, [0; 48]);
     VlmDequeue {
@@ -123,7 +123,7 @@ pub(crate) fn dequeue_words(dequeue: Dequeue) -> VlmDequeue
         pid: dequeue.pid,
         flags: u32::from(dequeue.flags),
         lock,
-        lock_block,
+        lock_kind,
         has_value: mark(dequeue.value),
         has_tail: mark(dequeue.tail),
         value,
@@ -170,7 +170,7 @@ pub(crate) fn no_request() -> VlmRequest
         flags: 0,
         block: 0,
         lock: 0,
-        lock_block: 0,
+        lock_kind: 0,
         has_ast: 0,
         ast: 0,
         has_bast: 0,
@@ -188,7 +188,7 @@ pub(crate) fn no_dequeue() -> VlmDequeue
         pid: 0,
         flags: 0,
         lock: 0,
-        lock_block: 0,
+        lock_kind: 0,
         has_value: 0,
         has_tail: 0,
         value: [0; 16],

@@ -1,3 +1,4 @@
 pub mod Hexadecimal
 pub mod Pieces
 pub mod Lengths
+pub mod Digits

@@ -1,4 +1,5 @@
-//! Reads one line of a script: its command, its words, and the first fault.
+//! Reads one line of a script: its command, its words, and the first fault. Prints one line: an answer, an AST, a status
+//! block, a resource or a lock.
 //!
 //! It knows no machine and no process, and takes no memory.
 #![tactic(auto)]
@@ -12,6 +13,7 @@ mod lines;
 mod locks;
 mod names;
 mod numbers;
+mod printed;
 mod values;
 mod words;
 
@@ -19,3 +21,7 @@ pub use commands::read_line;
 pub use faults::LineFault;
 pub use lines::{Line, NO_PROCESS, ProcessName};
 pub use names::read_res;
+pub use printed::{
+    PrintedLine, answer_line, answer_text, ast_text, no_resources_line, node_line, resource_line,
+    row_line, status_block_line, status_tail_line, tail_line, validity,
+};

@@ -8,7 +8,8 @@ use Rattle.vlm_words.specs.State.{Resource}
 use Rattle.vlm_queue.specs.declared.views.ResourceView.{ResourceView}
 use Rattle.vlm_queue.specs.Views.{resource_view, row_view, rows_in}
 use Rattle.vlm_script.specs.declared.show.Part.{Part}
-use Rattle.vlm_script.specs.Texts.{no_resources_line, part_text, parts_text, queue_lines, resource_line, resource_text, row_line}
+use Rattle.vlm_lines.specs.Texts.{no_resources_line, resource_line, row_line}
+use Rattle.vlm_script.specs.Texts.{part_text, parts_text, queue_lines, resource_text}
 
 -- a row is printed, and the others are left
 pub row_printed : (queue : Queue) (row : LockRow) (rows left : List LockRow) (a b : List ℕ) → left ≡ row ∷ rows → b ≡ a ++ row_line queue (row_view row)

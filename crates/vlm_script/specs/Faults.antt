@@ -1,7 +1,7 @@
 -- The texts of the faults that end a script's run.
 use Rattle.std.specs.Prelude.{ℕ, List, ◌++◌, codes, decimal}
 use Rattle.vlm_lines.specs.Faults.{fault_text}
-use Rattle.vlm_script.specs.Texts.{line_feed}
+use Rattle.vlm_lines.specs.Texts.{line_feed}
 use Rattle.vlm_script.specs.declared.faults.PlayFault.{PlayFault}
 use Rattle.vlm_script.specs.declared.faults.PlayFault.TheVariants.{Line, Memory, Read, Write, Long}
 

@@ -14,7 +14,8 @@ use Rattle.vlm_words.specs.State.{State, start}
 use Rattle.vlm_model.specs.StatusBlocks.{status_block_at}
 use Rattle.vlm_model.specs.Stepped.{Outcome}
 use Rattle.vlm_lines.specs.Lines.{is_text, line_read, lines_of, unnamed_process}
-use Rattle.vlm_script.specs.Texts.{answer_line, node_line, resources_text, status_block_line, status_tail_line, tails_text}
+use Rattle.vlm_lines.specs.Texts.{answer_line, node_line, status_block_line, status_tail_line}
+use Rattle.vlm_script.specs.Texts.{resources_text, tails_text}
 
 -- a name of the script, and its process
 pub record Binding : Type 0 where

@@ -5,13 +5,15 @@ ghost use Rattle.vlm_script.specs.Scripts.{of_process, opening};
 ghost use Rattle.vlm_script.specs.Sessions.{RunsStep, IsRun, IsPrinted, StopsBytes, StopsLine, StopsName};
 
 use crate::bindings::{Bindings, bind_reserved, is_bound, process_of};
-use crate::printed::{answer_line, node_line, status_block_line, status_tail_line};
 use crate::show::{Part, show};
 use crate::stops::Stop;
 use std::alloc::Global;
 use std::marker::Model;
 use vlm_core::{Core, HashKeys};
-use vlm_lines::{Line, LineFault, NO_PROCESS, ProcessName, read_line};
+use vlm_lines::{
+    Line, LineFault, NO_PROCESS, ProcessName, answer_line, node_line, read_line, status_block_line,
+    status_tail_line,
+};
 use vlm_words::steps::{Answer, Conversion, Declaration, Dequeue, NewRequest, Step, ValueSetting};
 
 #[derive(Drop)]
@@ -104,7 +106,7 @@ impl Session {
         if let Answer::Process(pid) = answer {
             bind_reserved(&mut self.names, name, pid);
         }
-        answer_line(out, name.bytes(), answer)?;
+        out.extend_from_slice(&answer_line(name.bytes(), answer))?;
         Ok(())
     }
 
@@ -116,7 +118,7 @@ impl Session {
     {
         let pid = process_of(&self.names, &name)?;
         let answer = self.core.make_step(&of_process(pid, step));
-        answer_line(out, name.bytes(), answer)?;
+        out.extend_from_slice(&answer_line(name.bytes(), answer))?;
         Ok(())
     }
 
@@ -126,7 +128,7 @@ impl Session {
             (λ stop. StopsLine self.old.names (Line.Leave node) stop) }
     {
         let answer = self.core.step(Step::Leave(node));
-        node_line(out, node, answer)?;
+        out.extend_from_slice(&node_line(node, answer))?;
         Ok(())
     }
 
@@ -136,7 +138,7 @@ impl Session {
             (λ stop. StopsLine self.old.names (Line.Search node) stop) }
     {
         let answer = self.core.step(Step::Search(node));
-        answer_line(out, b"search", answer)?;
+        out.extend_from_slice(&answer_line(b"search", answer))?;
         Ok(())
     }
 
@@ -152,7 +154,7 @@ impl Session {
     {
         let pid = process_of(&self.names, &name)?;
         let block = self.core.block(pid, number);
-        status_block_line(out, name.bytes(), number, block)?;
+        out.extend_from_slice(&status_block_line(name.bytes(), number, block))?;
         Ok(())
     }
 
@@ -163,7 +165,7 @@ impl Session {
     {
         let pid = process_of(&self.names, &name)?;
         let block = self.core.block(pid, number);
-        status_tail_line(out, name.bytes(), number, block)?;
+        out.extend_from_slice(&status_tail_line(name.bytes(), number, block))?;
         Ok(())
     }
 }

@@ -3,13 +3,12 @@
 ghost use Rattle.std.specs.Prelude.{◌≡◌, ◌++◌, IfSome, OnOk, flat_map};
 ghost use Rattle.vlm_queue.specs.Views.{resource_view};
 ghost use Rattle.vlm_queue.specs.Walks.{HasResource, plain_resource_at, rows_queued};
-ghost use Rattle.vlm_script.specs.Texts.{part_text, parts_text, queue_lines, resource_line, resource_text, row_line, tail_line};
+ghost use Rattle.vlm_lines.specs.Texts.{no_resources_line, resource_line, row_line, tail_line};
+ghost use Rattle.vlm_script.specs.Texts.{part_text, parts_text, queue_lines, resource_text};
 
-use crate::printed::{
-    converting_line, granted_line, no_resources, resource_line, tail_line, waiting_line,
-};
 use std::alloc::AllocError;
-use vlm_core::{Core, RowView};
+use vlm_core::{Core, ResourceView, RowView};
+use vlm_lines::{no_resources_line, resource_line, row_line, tail_line};
 use vlm_queue::{ResAt, Store, first_resource, head, next, next_resource, resource_view, row_view};
 use vlm_words::resources::Queue;
 
@@ -25,7 +24,7 @@ pub(crate) fn show(core: &Core, part: Part, out: &mut Vec<u8>) -> Result<(), All
         ≡ out.old.items ++ parts_text part core.now.resources) }
 {
     if core.resource_count() == 0 {
-        no_resources(out)
+        show_no_resources(out)
     } else {
         show_resources(core, part, out)
     }
@@ -60,7 +59,7 @@ fn show_resource(store: &Store, res: ResAt, out: &mut Vec<u8>) -> Result<(), All
     ensures { OnOk result (IfSome (plain_resource_at res store.now)
         (λ r. out.new.items ≡ out.old.items ++ resource_text r)) }
 {
-    resource_line(out, &resource_view(store, res))?;
+    show_own_line(&resource_view(store, res), out)?;
     show_queue(store, res, Queue::Granted, out)?;
     show_queue(store, res, Queue::Conversion, out)?;
     show_queue(store, res, Queue::Waiting, out)?;
@@ -80,14 +79,22 @@ fn show_queue(store: &Store, res: ResAt, queue: Queue, out: &mut Vec<u8>) -> Res
     Ok(())
 }
 
+fn show_no_resources(out: &mut Vec<u8>) -> Result<(), AllocError>
+    ensures { OnOk result (out.new.items ≡ out.old.items ++ no_resources_line) }
+{
+    out.extend_from_slice(no_resources_line())
+}
+
+fn show_own_line(view: &ResourceView, out: &mut Vec<u8>) -> Result<(), AllocError>
+    ensures { OnOk result (out.new.items ≡ out.old.items ++ resource_line view.now) }
+{
+    out.extend_from_slice(&resource_line(view))
+}
+
 fn show_row(queue: Queue, row: &RowView, out: &mut Vec<u8>) -> Result<(), AllocError>
     ensures { OnOk result (out.new.items ≡ out.old.items ++ row_line queue row.now) }
 {
-    match queue {
-        Queue::Granted => granted_line(out, row),
-        Queue::Conversion => converting_line(out, row),
-        Queue::Waiting => waiting_line(out, row),
-    }
+    out.extend_from_slice(&row_line(queue, row))
 }
 
 fn show_tail(store: &Store, res: ResAt, out: &mut Vec<u8>) -> Result<(), AllocError>
@@ -95,5 +102,5 @@ fn show_tail(store: &Store, res: ResAt, out: &mut Vec<u8>) -> Result<(), AllocEr
     ensures { OnOk result (IfSome (plain_resource_at res store.now)
         (λ r. out.new.items ≡ out.old.items ++ tail_line (resource_view r))) }
 {
-    tail_line(out, &resource_view(store, res))
+    out.extend_from_slice(&tail_line(&resource_view(store, res)))
 }

@@ -3,9 +3,9 @@
 ghost use Rattle.std.specs.Prelude.{◌≡◌, ◌++◌, OnOk};
 ghost use Rattle.vlm_script.specs.Texts.{answer_item_line, ast_item_line, item_text, journal_line};
 
-use super::answers::{answer_text, ast_text};
 use super::texts::{decimal, decimal_usize, text};
 use std::alloc::AllocError;
+use vlm_lines::{answer_text, ast_text};
 use vlm_words::asts::Ast;
 use vlm_words::steps::Answer;
 
@@ -21,7 +21,7 @@ pub fn answer_item_line(
     ensures { OnOk result (out.new.items ≡ out.old.items ++ answer_item_line node number answer) }
 {
     item_text(out, node, number)?;
-    answer_text(out, answer)?;
+    text(out, &answer_text(answer))?;
     text(out, b"\n")
 }
 
@@ -38,7 +38,7 @@ pub fn ast_item_line(
     ensures { OnOk result (out.new.items ≡ out.old.items ++ ast_item_line node number pid ast) }
 {
     item_text(out, node, number)?;
-    ast_text(out, ast)?;
+    text(out, &ast_text(ast))?;
     text(out, b" process ")?;
     decimal(out, pid)?;
     text(out, b"\n")

@@ -3,9 +3,9 @@
 ghost use Rattle.std.specs.Prelude.{◌≡◌, ◌++◌, OnOk};
 ghost use Rattle.vlm_script.specs.Texts.{counts_text, watch_line};
 
-use super::resources::validity;
 use super::texts::{decimal, decimal_usize, hexadecimal, text};
 use std::alloc::AllocError;
+use vlm_lines::validity;
 
 /// The printed part of a watched resource.
 #[derive(Clone, Copy)]

@@ -1,7 +1,7 @@
 //! Prints texts, numbers and bytes.
 
 ghost use Rattle.std.specs.Prelude.{◌≡◌, ◌++◌, decimal, OnOk};
-ghost use Rattle.vlm_script.specs.Texts.{hex_text};
+ghost use Rattle.vlm_lines.specs.Texts.{hex_text};
 
 use itoa::Buffer;
 use std::alloc::AllocError;

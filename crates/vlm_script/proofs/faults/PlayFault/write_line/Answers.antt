@@ -1,4 +1,4 @@
-use Rattle.vlm_script.specs.Texts.{line_feed}
+use Rattle.vlm_lines.specs.Texts.{line_feed}
 use Rattle.vlm_script.specs.Faults.{play_fault_text}
 use Rattle.vlm_script.proofs.Written.{part_after, on_err_map}
 use Rattle.vlm_script.proofs.faults.PlayFault.write_line.Goals as goal

@@ -1,6 +1,6 @@
 use Rattle.std.proofs.Common.{arith}
 use Rattle.std.proofs.lemmas.Grind.{common_steps}
-use Rattle.vlm_script.proofs.Hexadecimal.{hex_text-encode}
+use Rattle.vlm_lines.proofs.Digits.{hex_text-encode}
 use Rattle.vlm_script.proofs.printed.texts.hexadecimal.Goals as goal
 
 pub returns : goal.returns

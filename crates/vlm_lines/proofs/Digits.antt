@@ -2,7 +2,7 @@
 use Rattle.std.proofs.Common.{◌≡◌, ℕ, zero, suc, ◌/◌, ◌%◌, ◌<◌, ◌==◌, Bool, true, ◌&&◌, List, [], ◌∷◌, slice_index, inl, inr, refl, ap, arith}
 use Rattle.std.proofs.lemmas.Bool.{and_parts, cases_lt, eqb-true}
 use Rattle.hex.specs.Hex.{IsBytes, encode_with, lower_digits}
-use Rattle.vlm_script.specs.Texts.{hex_digit, hex_text}
+use Rattle.vlm_lines.specs.Texts.{hex_digit, hex_text}
 
 -- the first n digits are the same
 abbrev all_same : ℕ → Bool

@@ -1,0 +1,203 @@
+//! The lines that C has printed.
+
+ghost use Rattle.std.specs.Prelude.{◌≡◌};
+ghost use Rattle.std.specs.Option.{option_map};
+ghost use Rattle.vlm_capi.specs.Printed.{answer_printed, answer_told, ast_told, ast_with, block_printed, condition_of, row_told, tail_printed, taken_printed, taken_told, text_of, told_printed};
+
+use crate::numbers::{mode_of, node_of};
+use crate::padding::line_cells;
+use crate::replies::VlmAst;
+use crate::script_lines::VlmLine;
+use crate::shown::VlmLock;
+use std::mem::size_of;
+use vlm_lines::{PrintedLine, answer_line, node_line, status_block_line, status_tail_line};
+use vlm_queue::RowView;
+use vlm_words::asts::{Ast, AstKind};
+use vlm_words::blocks::Block;
+use vlm_words::conditions::Cond;
+use vlm_words::steps::Answer;
+
+/// The `size` that C writes into the struct.
+pub(crate) const TEXT_SIZE: u32 = 256;
+
+const _: () = prove!(size_of::<VlmText>() == 256);
+
+/// A printed line, with its line feed.
+#[repr(C)]
+#[derive(Clone, Copy)]
+pub struct VlmText {
+    pub size: u32,
+    pub len: u32,
+    /// `len` bytes, then zeros.
+    pub bytes: [u8; 248],
+}
+
+pub(crate) fn text_of(line: &PrintedLine) -> VlmText
+    ensures { result ≡ text_of line.now.items }
+{
+    let (bytes, len) = line_cells(line);
+    VlmText {
+        size: TEXT_SIZE,
+        len,
+        bytes,
+    }
+}
+
+#[tactic(auto, unfolding(crate::specs::Printed::condition_of))]
+fn condition_of(number: u32) -> Option<Cond>
+    ensures { result ≡ condition_of number }
+{
+    let cond = match number {
+        1 => Cond::Normal,
+        2 => Cond::Synch,
+        3 => Cond::Notqueued,
+        4 => Cond::Abort,
+        5 => Cond::Cancel,
+        6 => Cond::Deadlock,
+        7 => Cond::Valnotvalid,
+        8 => Cond::Cancelgrant,
+        9 => Cond::Sublocks,
+        10 => Cond::Ivlockid,
+        11 => Cond::Cvtungrant,
+        12 => Cond::Parnotgrant,
+        13 => Cond::Exdepth,
+        14 => Cond::Exenqlm,
+        15 => Cond::Nolockid,
+        16 => Cond::Insfmem,
+        17 => Cond::Ivbuflen,
+        18 => Cond::Badparam,
+        19 => Cond::Unsupported,
+        20 => Cond::Nosyslck,
+        21 => Cond::Accvio,
+        22 => Cond::Nonexpr,
+        23 => Cond::Departed,
+        24 => Cond::Widenotvalid,
+        _ => return None,
+    };
+    Some(cond)
+}
+
+#[tactic(auto, unfolding(crate::specs::Printed::answer_told))]
+fn answer_told(kind: u32, cond: Cond, number: u32) -> Answer
+    ensures { result ≡ answer_told kind cond number }
+{
+    if number == 0 {
+        if kind == 8 && cond.number() == 1 {
+            return Answer::Victim(None);
+        }
+        return Answer::Plain(cond);
+    }
+    match kind {
+        1 => Answer::Process(number),
+        8 => Answer::Victim(Some(number)),
+        _ => Answer::Lock(cond, number),
+    }
+}
+
+fn ast_with(kind: AstKind, ast: &VlmAst) -> Ast
+    ensures { result ≡ ast_with kind ast.now }
+{
+    Ast {
+        kind,
+        routine: ast.routine,
+        param: ast.param,
+        lkid: ast.lkid,
+    }
+}
+
+#[tactic(auto, unfolding(crate::specs::Printed::ast_told))]
+fn ast_told(ast: &VlmAst) -> Option<Ast>
+    ensures { result ≡ ast_told ast.now }
+{
+    match ast.kind {
+        1 => Some(ast_with(AstKind::Completion, ast)),
+        2 => Some(ast_with(AstKind::Blocking, ast)),
+        _ => None,
+    }
+}
+
+#[tactic(auto, unfolding(crate::specs::Printed::taken_told))]
+fn taken_told(cond: Cond, ast: &VlmAst) -> Answer
+    ensures { result ≡ taken_told cond ast.now }
+{
+    if cond.number() == 1 {
+        Answer::Taken(ast_told(ast))
+    } else {
+        Answer::Plain(cond)
+    }
+}
+
+#[tactic(auto, unfolding(crate::specs::Printed::answer_printed))]
+fn answer_printed(line: &VlmLine, answer: Answer) -> Option<PrintedLine>
+    ensures { option_map (λ text. text.items) result ≡ answer_printed line.now answer }
+{
+    match line.kind {
+        7 => Some(node_line(node_of(line.number)?, answer)),
+        8 => Some(answer_line(b"search", answer)),
+        _ if line.name_len > 15 => None,
+        _ => Some(answer_line(&line.name[..line.name_len as usize], answer)),
+    }
+}
+
+/// The line of an answer to a line of a script.
+pub(crate) fn told_printed(line: &VlmLine, status: u32, number: u32) -> Option<PrintedLine>
+    ensures { option_map (λ text. text.items) result ≡ told_printed line.now (condition_of status) number }
+{
+    let cond = condition_of(status)?;
+    answer_printed(line, answer_told(line.kind, cond, number))
+}
+
+/// The line of a taken AST.
+pub(crate) fn taken_printed(line: &VlmLine, status: u32, ast: &VlmAst) -> Option<PrintedLine>
+    ensures { option_map (λ text. text.items) result ≡ taken_printed line.now (condition_of status) ast.now }
+{
+    let cond = condition_of(status)?;
+    if line.name_len > 15 {
+        return None;
+    }
+    Some(answer_line(&line.name[..line.name_len as usize], taken_told(cond, ast)))
+}
+
+/// The line of a status block; `None` without a core.
+pub(crate) fn block_printed(
+    line: &VlmLine,
+    number: Option<u8>,
+    shown: Option<Option<Block>>,
+) -> Option<PrintedLine>
+    ensures { option_map (λ text. text.items) result ≡ block_printed line.now number shown }
+{
+    let number = number?;
+    let block = shown?;
+    if line.name_len > 15 {
+        return None;
+    }
+    Some(status_block_line(&line.name[..line.name_len as usize], number, block))
+}
+
+/// The line of the tail of a status block; `None` without a core.
+pub(crate) fn tail_printed(
+    line: &VlmLine,
+    number: Option<u8>,
+    shown: Option<Option<Block>>,
+) -> Option<PrintedLine>
+    ensures { option_map (λ text. text.items) result ≡ tail_printed line.now number shown }
+{
+    let number = number?;
+    let block = shown?;
+    if line.name_len > 15 {
+        return None;
+    }
+    Some(status_tail_line(&line.name[..line.name_len as usize], number, block))
+}
+
+/// The lock of a struct.
+pub(crate) fn row_told(lock: &VlmLock) -> RowView
+    ensures { result ≡ row_told lock.now }
+{
+    RowView {
+        lkid: lock.lkid,
+        pid: lock.pid,
+        held: mode_of(lock.held),
+        want: mode_of(lock.want),
+    }
+}

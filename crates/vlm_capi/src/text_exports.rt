@@ -1,0 +1,173 @@
+//! The calls that read and print the lines of a script. include/vlm.h describes them for their callers.
+//!
+//! None of them takes memory. Each answers BADPARAM and writes nothing if a struct has another size, or if its members
+//! are those of no line.
+
+ghost use Rattle.std.specs.Prelude.{◌≡◌, ◌==◌, ◌&&◌, Some};
+ghost use Rattle.std.specs.Option.{option_map};
+ghost use Rattle.vlm_lines.specs.Lines.{line_read};
+ghost use Rattle.vlm_lines.specs.Texts.{resource_line, row_line, tail_line};
+ghost use Rattle.vlm_capi.specs.Copies.{Told, sized};
+ghost use Rattle.vlm_capi.specs.Keys.{key_of, queue_of};
+ghost use Rattle.vlm_capi.specs.Lending.{core_of};
+ghost use Rattle.vlm_capi.specs.Printed.{block_printed, condition_of, row_told, tail_printed, taken_printed, text_of, told_printed};
+ghost use Rattle.vlm_capi.specs.ScriptLines.{read_words};
+ghost use Rattle.vlm_capi.specs.Shown.{block_there, found_shown};
+ghost use Rattle.vlm_capi.specs.Words.{node_of};
+
+use crate::copies::{copy_out, sized};
+use crate::handle::Handle;
+use crate::numbers::node_of;
+use crate::printed::{
+    TEXT_SIZE, VlmText, block_printed, row_told, tail_printed, taken_printed, text_of, told_printed,
+};
+use crate::replies::{AST_SIZE, VlmAst};
+use crate::resource_keys::queue_of;
+use crate::script_lines::{LINE_SIZE, VlmLine, read_words};
+use crate::shown::{LOCK_SIZE, RESOURCE_SIZE, VlmLock, VlmResource};
+use vlm_lines::{read_line, resource_line, row_line, tail_line};
+
+/// Reads a line of a script, without its line feed.
+#[unsafe(no_mangle)]
+pub extern "C" fn vlm_read_line(bytes: &[u8], line: &mut VlmLine) -> u32
+    ensures { Told (sized (line.old.size == 464) (Some (read_words (line_read bytes.now)))) line.old line.new result }
+{
+    let read = Some(read_words(read_line(bytes)));
+    copy_out(sized(line.size == LINE_SIZE, read), line)
+}
+
+/// Prints the answer to a line of a script.
+#[unsafe(no_mangle)]
+pub extern "C" fn vlm_print_answer(
+    line: &VlmLine,
+    status: u32,
+    number: u32,
+    text: &mut VlmText,
+) -> u32
+    ensures { Told (sized ((line.now.size == 464) && (text.old.size == 256))
+        (option_map text_of (told_printed line.now (condition_of status) number))) text.old text.new result }
+{
+    let printed = told_printed(line, status, number).map(|printed| text_of(&printed));
+    copy_out(
+        sized(line.size == LINE_SIZE && text.size == TEXT_SIZE, printed),
+        text,
+    )
+}
+
+/// Prints what a Take was answered, or an AST that was taken for the process of a line.
+#[unsafe(no_mangle)]
+pub extern "C" fn vlm_print_ast(
+    line: &VlmLine,
+    status: u32,
+    ast: &VlmAst,
+    text: &mut VlmText,
+) -> u32
+    ensures { Told (sized ((line.now.size == 464) && (ast.now.size == 32) && (text.old.size == 256))
+        (option_map text_of (taken_printed line.now (condition_of status) ast.now))) text.old text.new result }
+{
+    let fits = line.size == LINE_SIZE && ast.size == AST_SIZE && text.size == TEXT_SIZE;
+    let printed = taken_printed(line, status, ast).map(|printed| text_of(&printed));
+    copy_out(sized(fits, printed), text)
+}
+
+/// Prints the status block of a process that a line names.
+#[unsafe(no_mangle)]
+pub extern "C" fn vlm_print_block(
+    handle: &mut Handle,
+    pid: u32,
+    line: &VlmLine,
+    text: &mut VlmText,
+) -> u32
+    ensures told { Told (sized ((line.now.size == 464) && (text.old.size == 256))
+        (option_map text_of (block_printed line.now (node_of line.now.number)
+        (block_there (core_of handle.old.slot.held) pid line.now.number)))) text.old text.new result }
+    ensures same { handle.new.slot.held ≡ handle.old.slot.held }
+{
+    let shown = handle.status_block(pid, line.number);
+    let printed = block_printed(line, node_of(line.number), shown).map(|printed| text_of(&printed));
+    copy_out(
+        sized(line.size == LINE_SIZE && text.size == TEXT_SIZE, printed),
+        text,
+    )
+}
+
+/// Prints the tail of a status block of a process that a line names.
+#[unsafe(no_mangle)]
+pub extern "C" fn vlm_print_tail(
+    handle: &mut Handle,
+    pid: u32,
+    line: &VlmLine,
+    text: &mut VlmText,
+) -> u32
+    ensures told { Told (sized ((line.now.size == 464) && (text.old.size == 256))
+        (option_map text_of (tail_printed line.now (node_of line.now.number)
+        (block_there (core_of handle.old.slot.held) pid line.now.number)))) text.old text.new result }
+    ensures same { handle.new.slot.held ≡ handle.old.slot.held }
+{
+    let shown = handle.status_block(pid, line.number);
+    let printed = tail_printed(line, node_of(line.number), shown).map(|printed| text_of(&printed));
+    copy_out(
+        sized(line.size == LINE_SIZE && text.size == TEXT_SIZE, printed),
+        text,
+    )
+}
+
+/// Prints the resource that parent, domain and name of the struct name, without its queues.
+#[unsafe(no_mangle)]
+pub extern "C" fn vlm_print_resource(
+    handle: &mut Handle,
+    resource: &VlmResource,
+    text: &mut VlmText,
+) -> u32
+    ensures told { Told (sized ((resource.now.size == 144) && (text.old.size == 256))
+        (option_map (λ view. text_of (resource_line view))
+        (found_shown (core_of handle.old.slot.held) (key_of resource.now)))) text.old text.new result }
+    ensures same { handle.new.slot.held ≡ handle.old.slot.held }
+{
+    let printed = handle
+        .find(resource)
+        .map(|view| text_of(&resource_line(&view)));
+    copy_out(
+        sized(
+            resource.size == RESOURCE_SIZE && text.size == TEXT_SIZE,
+            printed,
+        ),
+        text,
+    )
+}
+
+/// Prints the tail of the value block of the resource that parent, domain and name of the struct name.
+#[unsafe(no_mangle)]
+pub extern "C" fn vlm_print_resource_tail(
+    handle: &mut Handle,
+    resource: &VlmResource,
+    text: &mut VlmText,
+) -> u32
+    ensures told { Told (sized ((resource.now.size == 144) && (text.old.size == 256))
+        (option_map (λ view. text_of (tail_line view))
+        (found_shown (core_of handle.old.slot.held) (key_of resource.now)))) text.old text.new result }
+    ensures same { handle.new.slot.held ≡ handle.old.slot.held }
+{
+    let printed = handle.find(resource).map(|view| text_of(&tail_line(&view)));
+    copy_out(
+        sized(
+            resource.size == RESOURCE_SIZE && text.size == TEXT_SIZE,
+            printed,
+        ),
+        text,
+    )
+}
+
+/// Prints a lock in its queue.
+#[unsafe(no_mangle)]
+pub extern "C" fn vlm_print_lock(lock: &VlmLock, text: &mut VlmText) -> u32
+    ensures { Told (sized ((lock.now.size == 64) && (text.old.size == 256))
+        (option_map (λ queue. text_of (row_line queue (row_told lock.now))) (queue_of lock.now.queue)))
+        text.old text.new result }
+{
+    let printed = queue_of(lock.queue).map(|queue| text_of(&row_line(queue, &row_told(lock))));
+    copy_out(
+        sized(lock.size == LOCK_SIZE && text.size == TEXT_SIZE, printed),
+        text,
+    )
+}
