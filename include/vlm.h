@@ -27,7 +27,8 @@
  * the blocking ASTs of its granted locks. So a process learns of a grant before it learns that the granted lock blocks
  * somebody, and a converting lock gets no blocking AST. A cache protocol over blocking ASTs needs no more.
  *
- * vlm_open compares the version of this header with that of the library, and refuses another one.
+ * vlm_open compares the version of this header with that of the library. It refuses one of another first or second
+ * number. So a program goes on with each library whose version differs in the last number alone.
  *
  * Where strangers choose the names of resources, give vlm_open 16 bytes of keys that nobody can foresee. Without keys
  * it hashes by fixed ones, and then names can be chosen that meet in the index.
@@ -47,8 +48,8 @@ extern "C" {
 #endif
 #define VLM_ASSERT_AT(type, member, offset) VLM_ASSERT(offsetof(type, member) == (offset))
 
-/* The version of this header, 0.1.0: one byte for each of its numbers. */
-#define VLM_VERSION 0x000100
+/* The version of this header, 0.2.0: one byte for each of its numbers. */
+#define VLM_VERSION 0x000200
 
 /* Condition values. The numbers, DEPARTED and WIDENOTVALID are this library's own. */
 enum {
@@ -89,6 +90,17 @@ enum { VLM_GRANTED = 0, VLM_CONVERSION = 1, VLM_WAITING = 2 };
 
 /* Kinds of AST. */
 enum { VLM_NO_AST = 0, VLM_COMPLETION = 1, VLM_BLOCKING = 2 };
+
+/* Limits. */
+enum {
+    VLM_MAX_NODES = 8,     /* nodes are numbered from 1 */
+    VLM_MAX_GROUP = 65535, /* a UIC group */
+    VLM_MAX_QUOTA = 65535, /* locks of a process */
+    VLM_MAX_BLOCKS = 255,  /* status blocks of a process */
+    VLM_MAX_NAME = 31,     /* bytes of a resource's name */
+    VLM_VALUE_BYTES = 16,  /* of a value block, without its tail */
+    VLM_TAIL_BYTES = 48    /* of the tail */
+};
 
 /* Flags of vlm_enq and vlm_convert. */
 enum {
@@ -192,8 +204,7 @@ typedef struct vlm_lksb {
     uint8_t tail[48];
 } vlm_lksb;
 
-/* A function of the library has this name too, so C++ and C say `struct vlm_process`. */
-struct vlm_process {
+typedef struct vlm_process {
     uint32_t size;
     uint32_t pid;
     uint32_t node;
@@ -204,10 +215,9 @@ struct vlm_process {
     uint64_t pending; /* how many ASTs are pending for it */
     uint64_t locks;   /* how many locks it has, waiting ones included */
     uint32_t reserved[4];
-};
+} vlm_process;
 
-/* A function of the library has this name too, so C++ and C say `struct vlm_resource`. */
-struct vlm_resource {
+typedef struct vlm_resource {
     uint32_t size;
     uint32_t serial;    /* from 1, in order of making */
     uint32_t parent;    /* the serial of the parent resource, or 0 */
@@ -220,17 +230,7 @@ struct vlm_resource {
     uint8_t value[16];
     uint8_t tail[48];
     uint32_t reserved[4];
-};
-
-/* A function of the library has this name too, so C++ and C say `struct vlm_row`. */
-struct vlm_row {
-    uint32_t size;
-    uint32_t lkid;
-    uint32_t pid;
-    uint32_t held; /* a mode, or VLM_NO_MODE */
-    uint32_t want; /* a mode, or VLM_NO_MODE */
-    uint32_t reserved[3];
-};
+} vlm_resource;
 
 /* A lock with its place, as the system service $GETLKI tells of it. */
 typedef struct vlm_lock {
@@ -394,14 +394,6 @@ VLM_ASSERT_AT(struct vlm_resource, value, 64);
 VLM_ASSERT_AT(struct vlm_resource, tail, 80);
 VLM_ASSERT_AT(struct vlm_resource, reserved, 128);
 
-VLM_ASSERT(sizeof(struct vlm_row) == 32);
-VLM_ASSERT_AT(struct vlm_row, size, 0);
-VLM_ASSERT_AT(struct vlm_row, lkid, 4);
-VLM_ASSERT_AT(struct vlm_row, pid, 8);
-VLM_ASSERT_AT(struct vlm_row, held, 12);
-VLM_ASSERT_AT(struct vlm_row, want, 16);
-VLM_ASSERT_AT(struct vlm_row, reserved, 20);
-
 VLM_ASSERT(sizeof(struct vlm_lock) == 64);
 VLM_ASSERT_AT(struct vlm_lock, size, 0);
 VLM_ASSERT_AT(struct vlm_lock, lkid, 4);
@@ -495,17 +487,13 @@ uint32_t vlm_leave(vlm *handle, uint32_t node);
  * DEPARTED. */
 uint32_t vlm_search(vlm *handle, uint32_t node, uint32_t *victim);
 
-/* The readings: they change nothing. NORMAL, or BADPARAM and nothing is written. Places are numbered from 0, and a call
- * that names one takes time that grows with it: walk by the calls below. */
+/* The readings: they change nothing, and take constant time. NORMAL, or BADPARAM and nothing is written. */
 uint32_t vlm_block(vlm *handle, uint32_t pid, uint32_t block, vlm_lksb *lksb);
 uint32_t vlm_pending(vlm *handle, uint32_t pid, size_t *count);
-size_t vlm_process_count(vlm *handle); /* 0 also on a handle with no lock manager */
-uint32_t vlm_process(vlm *handle, size_t place, struct vlm_process *process);
+size_t vlm_process_count(vlm *handle);  /* 0 also on a handle with no lock manager */
 size_t vlm_resource_count(vlm *handle); /* 0 also on a handle with no lock manager */
 size_t vlm_lock_count(vlm *handle);     /* waiting locks included; 0 also on a handle with no lock manager */
 size_t vlm_queued_count(vlm *handle);   /* the queued requests; 0 also on a handle with no lock manager */
-uint32_t vlm_resource(vlm *handle, size_t place, struct vlm_resource *resource);
-uint32_t vlm_row(vlm *handle, size_t resource, uint32_t queue, size_t place, struct vlm_row *row);
 
 /* The readings that walk and look up, each in constant time. NORMAL, or BADPARAM and nothing is written: there is no
  * such process or resource, or not any more.
@@ -514,15 +502,15 @@ uint32_t vlm_row(vlm *handle, size_t resource, uint32_t queue, size_t place, str
  * the resource that was made after the one in *resource, or the first one where its serial is 0. After the last one
  * they write a struct with pid 0 or serial 0. So a walk is
  *
- *     struct vlm_resource resource = {.size = sizeof resource};
+ *     vlm_resource resource = {.size = sizeof resource};
  *     while (vlm_next_resource(&handle, &resource) == VLM_NORMAL && resource.serial != 0) ...
  *
  * vlm_find reads the resource of a name. The caller sets name and name_len, 1 to 31, and either parent, the serial of
  * the parent resource, or parent 0 with is_system or group. These members name the resource for vlm_next_resource
  * too. */
-uint32_t vlm_next_process(vlm *handle, uint32_t pid, struct vlm_process *process);
-uint32_t vlm_next_resource(vlm *handle, struct vlm_resource *resource);
-uint32_t vlm_find(vlm *handle, struct vlm_resource *resource);
+uint32_t vlm_next_process(vlm *handle, uint32_t pid, vlm_process *process);
+uint32_t vlm_next_resource(vlm *handle, vlm_resource *resource);
+uint32_t vlm_find(vlm *handle, vlm_resource *resource);
 
 /* The readings of single locks. Each takes constant time, except where it says more. NORMAL, or BADPARAM and nothing is
  * written: there is no such lock, process, resource or queue, or not any more. Lock, process, resource and queue are
@@ -541,8 +529,8 @@ uint32_t vlm_find(vlm *handle, struct vlm_resource *resource);
  * ones first, then converting, then waiting ones, each in queue order. NODLCKWT and NODLCKBLK count. A granted lock has
  * none. A call passes over the locks of the resource that are in nobody's way, and takes time for each. */
 uint32_t vlm_find_lock(vlm *handle, uint32_t lkid, vlm_lock *lock);
-uint32_t vlm_lock_resource(vlm *handle, uint32_t lkid, struct vlm_resource *resource);
-uint32_t vlm_first_row(vlm *handle, const struct vlm_resource *resource, uint32_t queue, vlm_lock *lock);
+uint32_t vlm_lock_resource(vlm *handle, uint32_t lkid, vlm_resource *resource);
+uint32_t vlm_first_row(vlm *handle, const vlm_resource *resource, uint32_t queue, vlm_lock *lock);
 uint32_t vlm_next_row(vlm *handle, uint32_t lkid, vlm_lock *lock);
 uint32_t vlm_first_own(vlm *handle, uint32_t pid, vlm_lock *lock);
 uint32_t vlm_next_own(vlm *handle, uint32_t lkid, vlm_lock *lock);
@@ -576,8 +564,8 @@ uint32_t vlm_print_answer(const vlm_line *line, uint32_t status, uint32_t number
 uint32_t vlm_print_ast(const vlm_line *line, uint32_t status, const vlm_ast *ast, vlm_text *text);
 uint32_t vlm_print_block(vlm *handle, uint32_t pid, const vlm_line *line, vlm_text *text);
 uint32_t vlm_print_tail(vlm *handle, uint32_t pid, const vlm_line *line, vlm_text *text);
-uint32_t vlm_print_resource(vlm *handle, const struct vlm_resource *resource, vlm_text *text);
-uint32_t vlm_print_resource_tail(vlm *handle, const struct vlm_resource *resource, vlm_text *text);
+uint32_t vlm_print_resource(vlm *handle, const vlm_resource *resource, vlm_text *text);
+uint32_t vlm_print_resource_tail(vlm *handle, const vlm_resource *resource, vlm_text *text);
 uint32_t vlm_print_lock(const vlm_lock *lock, vlm_text *text);
 
 /* The name of a condition value as the manual has it, of this library's own the plain one; null for a number that is

@@ -259,8 +259,8 @@ uint32_t vlm_threads_search(vlm_threads *layer, uint32_t *victims);
 
 typedef void (*vlm_threads_reader)(void *context, vlm *handle);
 
-/* Calls the reader with the handle of the lock manager, for vlm_next_process, vlm_next_resource, vlm_find, vlm_row and
- * the other readings of vlm.h. It keeps the mutex: no other call works meanwhile. NORMAL. */
+/* Calls the reader with the handle of the lock manager, for vlm_next_process, vlm_next_resource, vlm_find,
+ * vlm_first_row and the other readings of vlm.h. It keeps the mutex: no other call works meanwhile. NORMAL. */
 uint32_t vlm_threads_look(vlm_threads *layer, vlm_threads_reader reader, void *context);
 
 /* Counters. Times are of the monotonic clock. */

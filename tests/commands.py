@@ -25,7 +25,7 @@ class Words(NamedTuple):
 
 HELP = [
     Words("help", ["vlm", "--help"], 0, printed=b"The lock manager of OpenVMS"),
-    Words("version", ["vlm", "--version"], 0, printed=b"vlm 0.1.0\n"),
+    Words("version", ["vlm", "--version"], 0, printed=b"vlm 0.2.0\n"),
     Words("help on play", ["vlm", "play", "--help"], 0, printed=b"Reads a script of lock requests"),
     Words("help on cluster", ["vlm", "cluster", "--help"], 0, printed=b"Serves a script with a thread for each node"),
     Words("help on watch", ["vlm", "watch", "--help"], 0,

@@ -29,6 +29,8 @@ COMPILERS = ("gcc", "clang")
 SANITIZERS = ("none", "address,undefined", "thread")
 TOOLS = (*COMPILERS, "g++", "clang++", "valgrind", "pkg-config", "cmake", "man", "cargo", "dot", "chromium",
          "chromedriver")
+# The first two numbers of the version: libraries with the same ones fit each other.
+SONAME = "libvlm.so.0.2"
 STRICT = ["-Wall", "-Wextra", "-Wpedantic", "-Werror"]
 # What an installation leaves, beside the shared library.
 FILES = ("bin/vlm", *(f"include/{it.name}" for it in (TOP / "include").glob("*.h")),
@@ -71,7 +73,7 @@ def installed(_program):
     links = {name: os.readlink(it) for name, it in left.items() if it.is_symlink()}
     shared = "libvlm.so." + version()
     yield from difference(sorted(left), sorted([*FILES, f"lib/{shared}", *links]))
-    yield from difference(links, {"lib/libvlm.so.0": shared, "lib/libvlm.so": "libvlm.so.0"})
+    yield from difference(links, {f"lib/{SONAME}": shared, "lib/libvlm.so": SONAME})
 
 
 def refused(_program):
@@ -124,8 +126,8 @@ def names_shown(_program):
     """Each library shows the calls alone, and the shared one has its name for the loader."""
     yield from shown_names("libvlm.a")
     yield from shown_names("libvlm.so", "-D")
-    if "Library soname: [libvlm.so.0]" not in told_by_kit("llvm-readelf", "-d", prefix() / "lib" / "libvlm.so"):
-        yield "the shared library has no soname libvlm.so.0"
+    if f"Library soname: [{SONAME}]" not in told_by_kit("llvm-readelf", "-d", prefix() / "lib" / "libvlm.so"):
+        yield f"the shared library has no soname {SONAME}"
 
 
 def told_by_package(*words):
@@ -280,7 +282,7 @@ def by_package(compiler, _program):
     words = shlex.split(told_by_package("--cflags", "--libs"))
     wrong = list(ran(compiler, "-std=c11", FIRST, *words, "-o", shared))
     yield from wrong or printed(FIRST, shared, env={**os.environ, "LD_LIBRARY_PATH": str(prefix() / "lib")})
-    if not wrong and "libvlm.so.0" not in needed(shared):
+    if not wrong and SONAME not in needed(shared):
         yield f"it needs {needed(shared)}"
     if links(compiler, "none", "-static"):
         words = shlex.split(told_by_package("--static", "--cflags", "--libs"))
@@ -292,7 +294,7 @@ PROJECT = """cmake_minimum_required(VERSION 3.10)
 project(example C)
 set(CMAKE_C_STANDARD 11)
 find_package(vlm @VERSION@ EXACT REQUIRED)
-find_package(vlm 0.1 REQUIRED)
+find_package(vlm 0.2 REQUIRED)
 add_executable(shared two.c)
 target_link_libraries(shared vlm::vlm)
 add_executable(static two.c)
@@ -311,7 +313,7 @@ def by_cmake(_program):
     yield from wrong
     for name, wanted in () if wrong else (("shared", True), ("static", False)):
         yield from printed(FIRST, built / name)
-        if ("libvlm.so.0" in needed(built / name)) != wanted:
+        if (SONAME in needed(built / name)) != wanted:
             yield f"{name} needs {needed(built / name)}"
 
 

@@ -29,7 +29,7 @@ def missing():
 
 def installed(_program):
     """The library is installed where the part `library` installs it."""
-    if not (library.prefix() / "lib" / "libvlm.so.0").exists():
+    if not (library.prefix() / "lib" / "libvlm.so.0.2").exists():
         yield from library.installed(None)
 
 

@@ -15,11 +15,10 @@ from project import MISSING, TOP, fail
 SOURCES = sorted((TOP / "bindings" / "c").glob("*.c"))
 LAYERS = {layer: [it for it in SOURCES if it.stem.startswith(layer)] for layer in ("vlm_threads", "vlm_hub_wait")}
 LAYER = sorted((TOP / "bindings" / "c").glob("*.c"))
-SONAME = "libvlm.so.0"
 # The names that both libraries show. All others are local to them.
 SHOWN = "vlm_*"
 COMPILE = ["-std=c11", "-O2", "-fPIC", "-pthread", f"-I{TOP / 'include'}", "-c"]
-SHARE = ["-shared", "-pthread", "-Wl,-Bsymbolic", "-Wl,-z,defs", "-Wl,-z,now", "-Wl,-z,relro", f"-Wl,-soname,{SONAME}"]
+SHARE = ["-shared", "-pthread", "-Wl,-Bsymbolic", "-Wl,-z,defs", "-Wl,-z,now", "-Wl,-z,relro"]
 
 
 def kit():
@@ -80,11 +79,16 @@ def make_objects(folder, archive):
     return [core, *layers]
 
 
-def make_shared(made, objects, folder):
+def soname_of(version):
+    """The name by which programs find the shared library. Versions with the same first two numbers fit each other."""
+    return "libvlm.so." + version.rpartition(".")[0]
+
+
+def make_shared(made, objects, folder, soname):
     """Makes the shared library. Its calls of itself stay in it."""
     names = folder / "names.map"
     names.write_text(f"{{ global: {SHOWN}; local: *; }};\n")
-    make(made, *compiler(), *SHARE, f"-Wl,--version-script={names}", *objects, "-o", made)
+    make(made, *compiler(), *SHARE, f"-Wl,-soname,{soname}", f"-Wl,--version-script={names}", *objects, "-o", made)
 
 
 def link(name, file):
@@ -100,5 +104,5 @@ def make_libraries(lib, archive, version):
         objects = make_objects(folder, archive)
         make_by_kit(lib / "libvlm.a", "llvm-ar", "qcs", lib / "libvlm.a", *objects)
         shared = lib / f"libvlm.so.{version}"
-        make_shared(shared, objects, folder)
-        link("libvlm.so", link(SONAME, shared))
+        make_shared(shared, objects, folder, soname_of(version))
+        link("libvlm.so", link(soname_of(version), shared))

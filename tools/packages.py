@@ -1,6 +1,6 @@
 """What tells other build tools of the libraries: the package for pkg-config, and the one for CMake."""
 
-from libraries import SONAME
+from libraries import soname_of
 
 PKG_CONFIG = """prefix={prefix}
 libdir=${{prefix}}/lib
@@ -34,24 +34,24 @@ endif()
 unset(_vlm_prefix)
 """
 
-# A version fits a program that asks for one that is not later, with the same first number.
+# A version fits a program that asks for one that is not later, with the same first two numbers.
 CMAKE_VERSION = """set(PACKAGE_VERSION "{version}")
-string(REGEX MATCH "^[0-9]+" _vlm_major "${{PACKAGE_FIND_VERSION}}")
+string(REGEX MATCH "^[0-9]+[.][0-9]+" _vlm_asked "${{PACKAGE_FIND_VERSION}}")
 if(NOT CMAKE_SIZEOF_VOID_P EQUAL 8)
   set(PACKAGE_VERSION_UNSUITABLE TRUE)
 elseif(PACKAGE_FIND_VERSION VERSION_EQUAL PACKAGE_VERSION)
   set(PACKAGE_VERSION_EXACT TRUE)
   set(PACKAGE_VERSION_COMPATIBLE TRUE)
-elseif(PACKAGE_FIND_VERSION VERSION_LESS PACKAGE_VERSION AND _vlm_major EQUAL {major})
+elseif(PACKAGE_FIND_VERSION VERSION_LESS PACKAGE_VERSION AND _vlm_asked STREQUAL "{fits}")
   set(PACKAGE_VERSION_COMPATIBLE TRUE)
 endif()
-unset(_vlm_major)
+unset(_vlm_asked)
 """
 
 
 def write_packages(lib, prefix, version):
     """Writes both packages into the folder lib, of libraries that are to be in this prefix."""
-    values = {"prefix": prefix, "version": version, "soname": SONAME, "major": version.partition(".")[0]}
+    values = {"prefix": prefix, "version": version, "soname": soname_of(version), "fits": version.rpartition(".")[0]}
     for name, text in (("pkgconfig/vlm.pc", PKG_CONFIG), ("cmake/vlm/vlm-config.cmake", CMAKE),
                        ("cmake/vlm/vlm-config-version.cmake", CMAKE_VERSION)):
         (lib / name).write_text(text.format(**values))

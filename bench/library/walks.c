@@ -53,7 +53,7 @@ static void make_processes(long count) {
 
 static long walk_resources(void) {
     long seen = 0;
-    struct vlm_resource resource = {.size = sizeof resource};
+    vlm_resource resource = {.size = sizeof resource};
     while (vlm_next_resource(&handle, &resource) == VLM_NORMAL && resource.serial != 0)
         seen++;
     return seen;
@@ -62,7 +62,7 @@ static long walk_resources(void) {
 /* The locks of all queues of all resources. */
 static long walk_rows(void) {
     long seen = 0;
-    struct vlm_resource resource = {.size = sizeof resource};
+    vlm_resource resource = {.size = sizeof resource};
     vlm_lock lock = {.size = sizeof lock};
     while (vlm_next_resource(&handle, &resource) == VLM_NORMAL && resource.serial != 0)
         for (uint32_t queue = VLM_GRANTED; queue <= VLM_WAITING; queue++) {
@@ -75,7 +75,7 @@ static long walk_rows(void) {
 
 static long walk_processes(void) {
     long seen = 0;
-    struct vlm_process process = {.size = sizeof process};
+    vlm_process process = {.size = sizeof process};
     while (vlm_next_process(&handle, process.pid, &process) == VLM_NORMAL && process.pid != 0)
         seen++;
     return seen;

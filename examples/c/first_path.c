@@ -13,17 +13,21 @@ static void tell(const char *what, uint32_t status) {
     printf("%s: %s\n", what, name != NULL ? name : "-");
 }
 
-static void show(vlm *handle) {
+static void show_queue(vlm *handle, const vlm_resource *resource, uint32_t queue) {
     static const char *const queues[] = {"granted", "conversion", "waiting"};
-    struct vlm_resource resource = {.size = sizeof resource};
-    for (size_t at = 0; vlm_resource(handle, at, &resource) == VLM_NORMAL; at++) {
+    vlm_lock lock = {.size = sizeof lock};
+    uint32_t status = vlm_first_row(handle, resource, queue, &lock);
+    for (; status == VLM_NORMAL && lock.lkid != 0; status = vlm_next_row(handle, lock.lkid, &lock))
+        printf("    %s: lock %u of %08x holds %s wants %s\n", queues[queue], (unsigned)lock.lkid, (unsigned)lock.pid,
+               mode_name(lock.held), mode_name(lock.want));
+}
+
+static void show(vlm *handle) {
+    vlm_resource resource = {.size = sizeof resource};
+    while (vlm_next_resource(handle, &resource) == VLM_NORMAL && resource.serial != 0) {
         printf("  resource %u %.*s\n", (unsigned)resource.serial, (int)resource.name_len, (const char *)resource.name);
-        for (uint32_t queue = VLM_GRANTED; queue <= VLM_WAITING; queue++) {
-            struct vlm_row row = {.size = sizeof row};
-            for (size_t place = 0; vlm_row(handle, at, queue, place, &row) == VLM_NORMAL; place++)
-                printf("    %s: lock %u of %08x holds %s wants %s\n", queues[queue], (unsigned)row.lkid,
-                       (unsigned)row.pid, mode_name(row.held), mode_name(row.want));
-        }
+        for (uint32_t queue = VLM_GRANTED; queue <= VLM_WAITING; queue++)
+            show_queue(handle, &resource, queue);
     }
 }
 

@@ -73,7 +73,7 @@ static int differences, processes, resources, locks;
 
 static void compare(const void *one, const void *other, size_t size) { differences += memcmp(one, other, size) != 0; }
 
-static void compare_blocks(const struct vlm_process *process) {
+static void compare_blocks(const vlm_process *process) {
     vlm_lksb one = {.size = sizeof one}, other = {.size = sizeof other};
     for (uint32_t block = 1; block <= process->blocks; block++) {
         differences += vlm_block(&follower, process->pid, block, &one) != VLM_NORMAL;
@@ -82,7 +82,7 @@ static void compare_blocks(const struct vlm_process *process) {
     }
 }
 
-static void compare_queue(const struct vlm_resource *resource, uint32_t queue) {
+static void compare_queue(const vlm_resource *resource, uint32_t queue) {
     vlm_lock one = {.size = sizeof one}, other = {.size = sizeof other};
     uint32_t status = vlm_first_row(&follower, resource, queue, &one);
     uint32_t same = vlm_first_row(&restored, resource, queue, &other);
@@ -96,8 +96,8 @@ static void compare_queue(const struct vlm_resource *resource, uint32_t queue) {
 }
 
 static void compare_all(void) {
-    struct vlm_process one = {.size = sizeof one}, other = {.size = sizeof other};
-    struct vlm_resource here = {.size = sizeof here}, there = {.size = sizeof there};
+    vlm_process one = {.size = sizeof one}, other = {.size = sizeof other};
+    vlm_resource here = {.size = sizeof here}, there = {.size = sizeof there};
     for (; vlm_next_process(&follower, one.pid, &one) == VLM_NORMAL && one.pid; processes++) {
         differences += vlm_next_process(&restored, other.pid, &other) != VLM_NORMAL;
         compare(&one, &other, sizeof one);

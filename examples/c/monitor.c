@@ -26,7 +26,7 @@ static void print_waits(vlm *handle, const vlm_lock *waits) {
 }
 
 /* Prints the waits of the requests in a queue of a resource. */
-static void print_queue(vlm *handle, const struct vlm_resource *resource, uint32_t queue) {
+static void print_queue(vlm *handle, const vlm_resource *resource, uint32_t queue) {
     vlm_lock waits = {.size = sizeof waits};
     uint32_t status = vlm_first_row(handle, resource, queue, &waits);
     for (; status == VLM_NORMAL && waits.lkid != 0; status = vlm_next_row(handle, waits.lkid, &waits))
@@ -35,7 +35,7 @@ static void print_queue(vlm *handle, const struct vlm_resource *resource, uint32
 
 /* The reader: no other call of the layer works while it runs. */
 static void print_all(void *context, vlm *handle) {
-    struct vlm_resource resource = {.size = sizeof resource};
+    vlm_resource resource = {.size = sizeof resource};
     (void)context;
     while (vlm_next_resource(handle, &resource) == VLM_NORMAL && resource.serial != 0) {
         printf("resource %.*s\n", (int)resource.name_len, (const char *)resource.name);

@@ -227,9 +227,9 @@ static void wrong_openings(void) {
     EXPECT(vlm_hub_open(&hub, 0, &options), VLM_BADPARAM);
     EXPECT(vlm_hub_open(&hub, 9, &options), VLM_BADPARAM);
     EXPECT(vlm_hub_open(&hub, 257, &options), VLM_BADPARAM);
-    options.version++;
+    options.version += 0x100;
     EXPECT(vlm_hub_open(&hub, 2, &options), VLM_BADPARAM);
-    options.version--;
+    options.version -= 0x100;
     options.size = 63;
     EXPECT(vlm_hub_open(&hub, 2, &options), VLM_BADPARAM);
     options.size = sizeof options;

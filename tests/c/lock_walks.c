@@ -68,7 +68,7 @@ static int is_none(const vlm_lock *lock) { return is_lock(lock, 0, 0, VLM_NO_MOD
     } while (0)
 
 static void rows(uint32_t p, uint32_t q, uint32_t r) {
-    struct vlm_resource a = {.size = sizeof a, .group = 1, .name = "A", .name_len = 1}, b = a;
+    vlm_resource a = {.size = sizeof a, .group = 1, .name = "A", .name_len = 1}, b = a;
     b.name[0] = 'B';
     WALKS(vlm_first_row(&handle, &a, VLM_GRANTED, &lock), vlm_next_row(&handle, lock.lkid, &lock), 1);
     WALKS(vlm_first_row(&handle, &a, VLM_CONVERSION, &lock), vlm_next_row(&handle, lock.lkid, &lock), 2, 3);

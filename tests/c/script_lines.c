@@ -84,7 +84,7 @@ static void wrong_sizes(void) {
     vlm_line line = read_line("ast P");
     vlm_ast ast = {.size = sizeof ast};
     vlm_lock lock = {.size = sizeof lock};
-    struct vlm_resource resource = {.size = sizeof resource, .name_len = 1, .name = "A", .group = 1};
+    vlm_resource resource = {.size = sizeof resource, .name_len = 1, .name = "A", .group = 1};
     vlm_text small = untouched;
     small.size--;
     const vlm_text before = small;
@@ -113,7 +113,7 @@ static void wrong_members(void) {
     vlm_line line = read_line("leave node=1");
     vlm_ast ast = {.size = sizeof ast};
     vlm_lock lock = {.size = sizeof lock, .queue = 3};
-    struct vlm_resource resource = {.size = sizeof resource, .name_len = 1, .name = "B", .group = 1};
+    vlm_resource resource = {.size = sizeof resource, .name_len = 1, .name = "B", .group = 1};
     REFUSED(vlm_print_answer(&line, 0, 0, &text));
     REFUSED(vlm_print_answer(&line, VLM_WIDENOTVALID + 1, 0, &text));
     line.number = 256;
@@ -165,7 +165,7 @@ static void printed(void) {
 /* A name of 31 bytes that no line can have as a word, in a resource of the system. */
 static void longest_resource(uint32_t pid) {
     vlm_request request = {.size = sizeof request, .pid = pid, .mode = VLM_EX, .flags = VLM_SYSTEM, .block = 1};
-    struct vlm_resource resource = {.size = sizeof resource, .is_system = 1, .name_len = 31};
+    vlm_resource resource = {.size = sizeof resource, .is_system = 1, .name_len = 31};
     vlm_text text = {.size = sizeof text};
     uint32_t lkid;
     memset(resource.name, 0xff, 31);

@@ -30,29 +30,28 @@ struct figures {
     uint64_t processes, locks, waiting;
 };
 
-static void read_resource(vlm *handle, size_t resource, struct figures *figures) {
-    struct vlm_row row = {.size = sizeof row};
-    for (uint32_t queue = VLM_GRANTED; queue <= VLM_WAITING; queue++)
-        for (size_t place = 0; vlm_row(handle, resource, queue, place, &row) == VLM_NORMAL; place++) {
+static void read_resource(vlm *handle, const vlm_resource *resource, struct figures *figures) {
+    for (uint32_t queue = VLM_GRANTED; queue <= VLM_WAITING; queue++) {
+        vlm_lock lock = {.size = sizeof lock};
+        uint32_t status = vlm_first_row(handle, resource, queue, &lock);
+        for (; status == VLM_NORMAL && lock.lkid != 0; status = vlm_next_row(handle, lock.lkid, &lock)) {
             figures->locks++;
             figures->waiting += queue != VLM_GRANTED;
         }
+    }
 }
 
-/* Walks the processes and the resources, which are as many as the core counts. The walk of resources goes in the order
- * of their places. */
+/* Walks the processes and the resources, which are as many as the core counts. */
 static void read_core(void *context, vlm *handle) {
     struct figures *figures = context;
-    struct vlm_process process = {.size = sizeof process};
-    struct vlm_resource resource = {.size = sizeof resource}, at_place = {.size = sizeof at_place};
-    size_t place = 0;
+    vlm_process process = {.size = sizeof process};
+    vlm_resource resource = {.size = sizeof resource};
+    size_t resources = 0;
     while (vlm_next_process(handle, process.pid, &process) == VLM_NORMAL && process.pid != 0)
         figures->processes++;
-    for (; vlm_next_resource(handle, &resource) == VLM_NORMAL && resource.serial != 0; place++) {
-        HOLD(vlm_resource(handle, place, &at_place) == VLM_NORMAL && at_place.serial == resource.serial);
-        read_resource(handle, place, figures);
-    }
-    HOLD(figures->processes == vlm_process_count(handle) && place == vlm_resource_count(handle));
+    for (; vlm_next_resource(handle, &resource) == VLM_NORMAL && resource.serial != 0; resources++)
+        read_resource(handle, &resource, figures);
+    HOLD(figures->processes == vlm_process_count(handle) && resources == vlm_resource_count(handle));
 }
 
 static void expect_agreement(void) {

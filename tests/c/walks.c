@@ -64,21 +64,21 @@ static void given_up(vlm *handle, uint32_t pid, uint32_t lkid) {
 }
 
 /* The key of a root of a group, or of a resource below the one with the serial `parent`. */
-static struct vlm_resource key(const char *name, uint32_t parent, uint32_t group) {
-    struct vlm_resource made = {.size = sizeof made, .parent = parent, .group = group};
+static vlm_resource key(const char *name, uint32_t parent, uint32_t group) {
+    vlm_resource made = {.size = sizeof made, .parent = parent, .group = group};
     made.name_len = (uint32_t)strlen(name);
     memcpy(made.name, name, strlen(name));
     return made;
 }
 
-static int is_named(const struct vlm_resource *resource, const char *name) {
+static int is_named(const vlm_resource *resource, const char *name) {
     return resource->name_len == strlen(name) && memcmp(resource->name, name, strlen(name)) == 0;
 }
 
 /* A closed handle: BADPARAM of each call, and only *pid is written. */
 static void closed_calls(vlm *handle) {
-    struct vlm_process process = {.size = sizeof process, .pid = 5};
-    struct vlm_resource resource = key("A", 0, 7);
+    vlm_process process = {.size = sizeof process, .pid = 5};
+    vlm_resource resource = key("A", 0, 7);
     vlm_ast ast = {.size = sizeof ast, .kind = 9};
     uint32_t pid = 5;
     REFUSED(vlm_next_process(handle, 0, &process), process);
@@ -90,8 +90,8 @@ static void closed_calls(vlm *handle) {
 
 /* A lock manager with nothing in it: each walk ends at once, and nothing is pending. */
 static void empty_calls(vlm *handle) {
-    struct vlm_process process = {.size = sizeof process, .pid = 5};
-    struct vlm_resource resource = {.size = sizeof resource, .name_len = 9};
+    vlm_process process = {.size = sizeof process, .pid = 5};
+    vlm_resource resource = {.size = sizeof resource, .name_len = 9};
     vlm_ast ast = {.size = sizeof ast, .kind = 9, .lkid = 9};
     uint32_t pid = 5;
     EXPECT(vlm_next_process(handle, 0, &process), VLM_NORMAL);
@@ -106,7 +106,7 @@ static void empty_calls(vlm *handle) {
 }
 
 static void processes(vlm *handle, const uint32_t *made, size_t count) {
-    struct vlm_process process = {.size = sizeof process};
+    vlm_process process = {.size = sizeof process};
     for (size_t i = 0; i < count; i++) {
         EXPECT(vlm_next_process(handle, process.pid, &process), VLM_NORMAL);
         HOLD(process.pid == made[i] && process.group == 7 && process.syslck == 1 && process.blocks == 9);
@@ -127,12 +127,12 @@ static void processes(vlm *handle, const uint32_t *made, size_t count) {
 static void resources(vlm *handle, uint32_t p) {
     uint32_t root = locked(handle, p, "A", 0, 0, 0), below = locked(handle, p, "B", root, 0, 0);
     locked(handle, p, "A", 0, VLM_SYSTEM, 0);
-    struct vlm_resource resource = {.size = sizeof resource};
+    vlm_resource resource = {.size = sizeof resource};
     EXPECT(vlm_next_resource(handle, &resource), VLM_NORMAL);
     HOLD(resource.serial == 1 && resource.parent == 0 && resource.group == 7 && is_named(&resource, "A"));
     EXPECT(vlm_next_resource(handle, &resource), VLM_NORMAL);
     HOLD(resource.serial == 2 && resource.parent == 1 && is_named(&resource, "B"));
-    struct vlm_resource second = resource;
+    vlm_resource second = resource;
     EXPECT(vlm_next_resource(handle, &resource), VLM_NORMAL);
     HOLD(resource.serial == 3 && resource.is_system == 1 && is_named(&resource, "A"));
     EXPECT(vlm_next_resource(handle, &resource), VLM_NORMAL);
@@ -155,15 +155,15 @@ static void keys(vlm *handle) {
         uint32_t parent, group, is_system, serial;
     } found[] = {{"A", 0, 7, 0, 1}, {"B", 1, 0, 0, 4}, {"A", 0, 0, 1, 3}, {"B", 1, 9, 1, 4}, {"A", 0, 9, 1, 3}};
     for (size_t i = 0; i < sizeof found / sizeof *found; i++) {
-        struct vlm_resource resource = key(found[i].name, found[i].parent, found[i].group);
+        vlm_resource resource = key(found[i].name, found[i].parent, found[i].group);
         resource.is_system = found[i].is_system;
         resource.reserved[3] = 9; /* is not read */
         EXPECT(vlm_find(handle, &resource), VLM_NORMAL);
         HOLD(resource.serial == found[i].serial && is_named(&resource, found[i].name) && resource.reserved[3] == 0);
     }
-    struct vlm_resource absent[] = {key("A", 0, 8), key("B", 0, 7),     key("A", 1, 7),          key("B", 2, 7),
-                                    key("", 0, 7),  key("A", 0, 65543), key("B", UINT32_MAX, 7), key("A", 0, 7),
-                                    key("A", 0, 7), key("A", 0, 7),     key("A", 0, 7)};
+    vlm_resource absent[] = {key("A", 0, 8), key("B", 0, 7),     key("A", 1, 7),          key("B", 2, 7),
+                             key("", 0, 7),  key("A", 0, 65543), key("B", UINT32_MAX, 7), key("A", 0, 7),
+                             key("A", 0, 7), key("A", 0, 7),     key("A", 0, 7)};
     absent[7].is_system = 2;
     absent[8].name_len = 32;
     absent[9].name_len = 33;
@@ -173,7 +173,7 @@ static void keys(vlm *handle) {
         absent[i].serial = 1;
         REFUSED(vlm_next_resource(handle, &absent[i]), absent[i]);
     }
-    struct vlm_resource resource = key("A", 0, 7);
+    vlm_resource resource = key("A", 0, 7);
     for (size_t i = 0; i < SIZES; i++) {
         resource.size = sizes[i];
         REFUSED(vlm_find(handle, &resource), resource);
@@ -213,7 +213,7 @@ static void asts(vlm *handle, uint32_t p, uint32_t q, uint32_t other) {
 
 /* A process that is gone: a walk does not go on from it, and its ASTs are gone too. */
 static void ended(vlm *handle, uint32_t p, uint32_t q, uint32_t other) {
-    struct vlm_process process = {.size = sizeof process};
+    vlm_process process = {.size = sizeof process};
     locked(handle, p, "D", 0, 0, 1);
     uint32_t kept = locked(handle, other, "D", 0, 0, 2);
     EXPECT(vlm_rundown(handle, p), VLM_NORMAL);

@@ -95,9 +95,10 @@ static void wrong_numbers(vlm *handle) {
     WITH(declaration, blocks, 257, DECLARE, VLM_BADPARAM);
     WITH(setting, block, 257, SET, VLM_BADPARAM);
     WITH(setting, has_tail, 2, SET, VLM_BADPARAM);
-    WITH(options, version, VLM_VERSION + 1, OPEN, VLM_BADPARAM);
     WITH(options, version, 0, OPEN, VLM_BADPARAM);
     WITH(options, has_keys, 2, OPEN, VLM_BADPARAM);
+    WITH(options, version, VLM_VERSION + 0x100, OPEN, VLM_BADPARAM);
+    WITH(options, version, VLM_VERSION - 0x100, OPEN, VLM_BADPARAM);
     EXPECT(vlm_leave(handle, 257), VLM_BADPARAM);
     EXPECT(vlm_search(handle, 257, &number), VLM_BADPARAM);
     HOLD(number == 0);
@@ -141,9 +142,8 @@ static void wrong_words(vlm *handle) {
 struct written {
     vlm_lksb lksb;
     vlm_ast ast;
-    struct vlm_process process;
-    struct vlm_resource resource;
-    struct vlm_row row;
+    vlm_process process;
+    vlm_resource resource;
     vlm_lock lock;
 };
 
@@ -153,11 +153,6 @@ static void wrong_reading(vlm *handle, struct written *to, bool is_sized) {
     EXPECT(vlm_block(handle, p, is_sized ? 3 : 1, &to->lksb), VLM_BADPARAM);
     EXPECT(vlm_block(handle, is_sized ? 12345 : p, 1, &to->lksb), VLM_BADPARAM);
     EXPECT(vlm_block(handle, p, 257, &to->lksb), VLM_BADPARAM);
-    EXPECT(vlm_process(handle, 2 * (size_t)is_sized, &to->process), VLM_BADPARAM);
-    EXPECT(vlm_resource(handle, (size_t)is_sized, &to->resource), VLM_BADPARAM);
-    EXPECT(vlm_row(handle, (size_t)is_sized, VLM_GRANTED, 0, &to->row), VLM_BADPARAM);
-    EXPECT(vlm_row(handle, 0, VLM_GRANTED, (size_t)is_sized, &to->row), VLM_BADPARAM);
-    EXPECT(vlm_row(handle, 0, 3, 0, &to->row), VLM_BADPARAM);
     EXPECT(vlm_next_process(handle, is_sized ? 12345 : 0, &to->process), VLM_BADPARAM);
     EXPECT(vlm_next_resource(handle, &to->resource), VLM_BADPARAM);
     EXPECT(vlm_find(handle, &to->resource), VLM_BADPARAM);
@@ -187,7 +182,6 @@ static void wrong_readings(vlm *handle) {
     before.lksb.size = to.lksb.size = sizeof to.lksb;
     before.process.size = to.process.size = sizeof to.process;
     before.resource.size = to.resource.size = sizeof to.resource;
-    before.row.size = to.row.size = sizeof to.row;
     before.lock.size = to.lock.size = sizeof to.lock;
     wrong_reading(handle, &to, true);
     HOLD(memcmp(&to, &before, sizeof to) == 0);
@@ -199,9 +193,8 @@ static void wrong_readings(vlm *handle) {
 static void closed_calls(vlm *handle) {
     vlm_lksb lksb = {.size = sizeof lksb};
     vlm_ast ast = {.size = sizeof ast, .kind = 9};
-    struct vlm_process process = {.size = sizeof process};
-    struct vlm_resource resource = {.size = sizeof resource};
-    struct vlm_row row = {.size = sizeof row};
+    vlm_process process = {.size = sizeof process};
+    vlm_resource resource = {.size = sizeof resource};
     vlm_lock lock = {.size = sizeof lock};
     size_t count = 99;
     number = 7;
@@ -218,9 +211,6 @@ static void closed_calls(vlm *handle) {
     EXPECT(vlm_search(handle, 1, &number), VLM_BADPARAM);
     EXPECT(vlm_block(handle, p, 1, &lksb), VLM_BADPARAM);
     EXPECT(vlm_pending(handle, p, &count), VLM_BADPARAM);
-    EXPECT(vlm_process(handle, 0, &process), VLM_BADPARAM);
-    EXPECT(vlm_resource(handle, 0, &resource), VLM_BADPARAM);
-    EXPECT(vlm_row(handle, 0, VLM_GRANTED, 0, &row), VLM_BADPARAM);
     EXPECT(vlm_next_process(handle, 0, &process), VLM_BADPARAM);
     EXPECT(vlm_next_resource(handle, &resource), VLM_BADPARAM);
     EXPECT(vlm_find(handle, &resource), VLM_BADPARAM);
@@ -286,18 +276,22 @@ static void refused_steps(vlm *handle) {
 
 /* P's lock is the only one, granted at EX, and no AST is pending; P was declared before Q. */
 static void is_as_it_was(vlm *handle) {
-    struct vlm_process process = {.size = sizeof process};
-    struct vlm_row row = {.size = sizeof row};
+    vlm_process process = {.size = sizeof process};
+    vlm_resource resource = {.size = sizeof resource};
+    vlm_lock lock = {.size = sizeof lock};
     size_t count = 99;
-    EXPECT(vlm_row(handle, 0, VLM_GRANTED, 0, &row), VLM_NORMAL);
-    HOLD(row.size == sizeof row && row.lkid == p_lock && row.pid == p && row.held == VLM_EX && row.want == VLM_NO_MODE);
-    EXPECT(vlm_row(handle, 0, VLM_GRANTED, 1, &row), VLM_BADPARAM);
-    EXPECT(vlm_row(handle, 0, VLM_WAITING, 0, &row), VLM_BADPARAM);
+    EXPECT(vlm_next_resource(handle, &resource), VLM_NORMAL);
+    EXPECT(vlm_first_row(handle, &resource, VLM_WAITING, &lock), VLM_NORMAL);
+    HOLD(lock.lkid == 0);
+    EXPECT(vlm_first_row(handle, &resource, VLM_GRANTED, &lock), VLM_NORMAL);
+    HOLD(lock.lkid == p_lock && lock.pid == p && lock.held == VLM_EX && lock.want == VLM_NO_MODE);
+    EXPECT(vlm_next_row(handle, p_lock, &lock), VLM_NORMAL);
+    HOLD(lock.lkid == 0);
     EXPECT(vlm_pending(handle, p, &count), VLM_NORMAL);
     HOLD(count == 0 && vlm_resource_count(handle) == 1);
-    EXPECT(vlm_process(handle, 1, &process), VLM_NORMAL);
+    EXPECT(vlm_next_process(handle, p, &process), VLM_NORMAL);
     HOLD(process.pid == q && vlm_process_count(handle) == 2);
-    EXPECT(vlm_process(handle, 0, &process), VLM_NORMAL);
+    EXPECT(vlm_next_process(handle, 0, &process), VLM_NORMAL);
     HOLD(process.size == sizeof process && process.pid == p && process.node == 1 && process.group == 1);
     HOLD(process.syslck == 0 && process.quota == 1 && process.blocks == 2 && process.pending == 0
          && process.locks == 1);
@@ -315,6 +309,8 @@ int main(void) {
     unsigned closed = calls;
 
     HOLD(vlm_version() == VLM_VERSION);
+    WITH(options, version, VLM_VERSION + 0xff, OPEN, VLM_NORMAL); /* a later header of the same two numbers */
+    vlm_close(handle);
     EXPECT(OPEN, VLM_NORMAL);
     EXPECT(vlm_declare(handle, &declaration, &p), VLM_NORMAL);
     EXPECT(vlm_declare(handle, &declaration, &q), VLM_NORMAL);

@@ -36,21 +36,21 @@ class Library(unittest.TestCase):
         self.assertEqual(imported(VLM_LIBRARY=str(self.file), VLM_PREFIX="/nowhere"), "imported\n")
 
     def test_a_prefix_is_named(self):
-        (self.lib / "libvlm.so.0").symlink_to(self.file)
+        (self.lib / "libvlm.so.0.2").symlink_to(self.file)
         self.assertEqual(imported(VLM_PREFIX=self.room.name), "imported\n")
 
     def test_the_loader_finds_it(self):
-        (self.lib / "libvlm.so.0").symlink_to(self.file)
+        (self.lib / "libvlm.so.0.2").symlink_to(self.file)
         self.assertEqual(imported(LD_LIBRARY_PATH=str(self.lib)), "imported\n")
         self.assertEqual(imported(LD_LIBRARY_PATH=str(self.lib), VLM_PREFIX="/nowhere"), "imported\n")
 
     def test_it_is_not_there(self):
-        text = imported(VLM_LIBRARY="/nowhere/libvlm.so.0")
-        self.assertIn("ImportError: the library /nowhere/libvlm.so.0 of the lock manager can't be used: ", text)
+        text = imported(VLM_LIBRARY="/nowhere/libvlm.so.0.2")
+        self.assertIn("ImportError: the library /nowhere/libvlm.so.0.2 of the lock manager can't be used: ", text)
         self.assertIn("./vlm install PREFIX", text)
 
     def test_it_is_another_library(self):
-        (self.lib / "libvlm.so.0").write_text("no library")
+        (self.lib / "libvlm.so.0.2").write_text("no library")
         self.assertIn("ImportError: the library ", imported(VLM_PREFIX=self.room.name))
         self.assertIn("vlm_open", imported(VLM_LIBRARY="libc.so.6"))
 

@@ -6,7 +6,7 @@
             held.write(b"version 7")
 
 docs/LIBRARY.md of the repository says what each call answers. Importing this finds the shared library: the file that
-the environment variable VLM_LIBRARY names, else libvlm.so.0 in the folder lib of VLM_PREFIX, else where the loader
+the environment variable VLM_LIBRARY names, else libvlm.so.0.2 in the folder lib of VLM_PREFIX, else where the loader
 looks.
 """
 

@@ -6,7 +6,7 @@ from ctypes import POINTER, c_bool, c_char_p, c_size_t, c_uint8, c_uint32, c_uin
 from pathlib import Path
 from typing import TYPE_CHECKING, Any, Dict, List, Tuple, Type
 
-FILE = "libvlm.so.0"
+FILE = "libvlm.so.0.2"
 
 
 class Handle(ctypes.Structure):
@@ -45,8 +45,8 @@ def _reserved(count: int) -> Tuple[str, Any]:
     return ("reserved", c_uint32 * count)
 
 
-# The version of the header that this file follows, 0.1.0: one byte for each of its numbers.
-VERSION = 0x000100
+# The version of the header that this file follows, 0.2.0: one byte for each of its numbers.
+VERSION = 0x000200
 
 Options = _struct("Options", 64, *_words("version has_keys"), ("keys", c_uint8 * 16), _reserved(9))
 Declaration = _struct("Declaration", 32, *_words("node group syslck quota blocks"), _reserved(2))

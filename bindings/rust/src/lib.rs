@@ -73,5 +73,5 @@ pub use manager::LockManager;
 pub use names::{Domain, LockId, Mode, ProcessId, Queue, Which};
 pub use requests::{Accepted, Declaration, Dequeue, Request, Setting};
 pub use shared::{Event, Guard, Shared, Terms, WaitError};
-pub use views::{Ast, AstKind, Lock, Process, Resource, Row, StatusBlock};
+pub use views::{Ast, AstKind, Lock, Process, Resource, StatusBlock};
 pub use walks::{Locks, Processes, Resources};

@@ -13,8 +13,8 @@ pub struct Vlm {
     is_held: bool,
 }
 
-/// The version of the header that this file follows, 0.1.0: one byte for each of its numbers.
-const VERSION: u32 = 0x00_01_00;
+/// The version of the header that this file follows, 0.2.0: one byte for each of its numbers.
+const VERSION: u32 = 0x00_02_00;
 
 /// Defines structs of the library, each with its size as its first member and a rest of zeros. Pins the sizes that the
 /// header asserts. There is no padding, so each member is where C has it.
@@ -66,7 +66,6 @@ structs! {
         name_len: u32 = 0, name: [u8; 32] = [0; 32], value: [u8; 16] = [0; 16], tail: [u8; 48] = [0; 48],
         reserved: [u32; 4] = [0; 4],
     }
-    Row 32 { lkid: u32 = 0, pid: u32 = 0, held: u32 = 0, want: u32 = 0, reserved: [u32; 3] = [0; 3] }
     Lock 64 {
         lkid: u32 = 0, pid: u32 = 0, held: u32 = 0, want: u32 = 0, queue: u32 = 0, resource: u32 = 0, parent: u32 = 0,
         block: u32 = 0, reserved: [u32; 7] = [0; 7],
@@ -122,10 +121,7 @@ extern "C" {
     fn vlm_block(handle: *mut Vlm, pid: u32, block: u32, lksb: *mut Lksb) -> u32;
     fn vlm_pending(handle: *mut Vlm, pid: u32, count: *mut usize) -> u32;
     fn vlm_process_count(handle: *mut Vlm) -> usize;
-    fn vlm_process(handle: *mut Vlm, place: usize, process: *mut Process) -> u32;
     fn vlm_resource_count(handle: *mut Vlm) -> usize;
-    fn vlm_resource(handle: *mut Vlm, place: usize, resource: *mut Resource) -> u32;
-    fn vlm_row(handle: *mut Vlm, resource: usize, queue: u32, place: usize, row: *mut Row) -> u32;
     fn vlm_next_process(handle: *mut Vlm, pid: u32, process: *mut Process) -> u32;
     fn vlm_next_resource(handle: *mut Vlm, resource: *mut Resource) -> u32;
     fn vlm_find(handle: *mut Vlm, resource: *mut Resource) -> u32;
@@ -197,10 +193,7 @@ calls! {
         block = vlm_block(pid: u32, block: u32, lksb: &mut Lksb) -> u32;
         pending = vlm_pending(pid: u32, count: &mut usize) -> u32;
         process_count = vlm_process_count() -> usize;
-        process = vlm_process(place: usize, process: &mut Process) -> u32;
         resource_count = vlm_resource_count() -> usize;
-        resource = vlm_resource(place: usize, resource: &mut Resource) -> u32;
-        row = vlm_row(resource: usize, queue: u32, place: usize, row: &mut Row) -> u32;
         next_process = vlm_next_process(pid: u32, process: &mut Process) -> u32;
         next_resource = vlm_next_resource(resource: &mut Resource) -> u32;
         find = vlm_find(resource: &mut Resource) -> u32;

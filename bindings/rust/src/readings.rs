@@ -26,23 +26,9 @@ impl LockManager {
         self.handle.process_count()
     }
 
-    /// The living process at a place, from 0, in order of making. The cost grows with the place.
-    pub fn process(&self, place: usize) -> Option<Process> {
-        let mut words = raw::Process::new();
-        answered(self.handle.process(place, &mut words)).ok()?;
-        Some(Process::of(&words))
-    }
-
     /// How many resources have locks.
     pub fn resource_count(&self) -> usize {
         self.handle.resource_count()
-    }
-
-    /// The resource at a place, from 0, by rising serial. The cost grows with the place.
-    pub fn resource(&self, place: usize) -> Option<Resource> {
-        let mut words = raw::Resource::new();
-        answered(self.handle.resource(place, &mut words)).ok()?;
-        Some(Resource::of(&words))
     }
 
     /// The resource of a root's name in a domain. None where there is none. It takes constant time.
@@ -101,12 +87,5 @@ impl LockManager {
         let mut words = raw::Resource::new();
         answered(self.handle.lock_resource(lock.0, &mut words)).ok()?;
         Some(Resource::of(&words))
-    }
-
-    /// The lock at a place of a queue of the resource at its place, each from 0. The cost grows with both.
-    pub fn row(&self, resource: usize, queue: Queue, place: usize) -> Option<Row> {
-        let mut words = raw::Row::new();
-        answered(self.handle.row(resource, queue as u32, place, &mut words)).ok()?;
-        Some(Row::of(&words))
     }
 }

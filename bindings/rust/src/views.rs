@@ -86,20 +86,6 @@ pub struct Resource {
     pub tail_valid: bool,
 }
 
-/// A lock in a queue.
-#[derive(Clone, Copy, Debug, PartialEq, Eq)]
-#[non_exhaustive]
-pub struct Row {
-    /// The lock.
-    pub lock: LockId,
-    /// Its process.
-    pub process: ProcessId,
-    /// The mode that it holds, if it holds one.
-    pub held: Option<Mode>,
-    /// The mode that it waits for, if it waits.
-    pub want: Option<Mode>,
-}
-
 /// A lock with its place, as the system service $GETLKI tells of it.
 #[derive(Clone, Copy, Debug, PartialEq, Eq)]
 #[non_exhaustive]
@@ -220,17 +206,6 @@ impl Lock {
             resource: words.resource,
             parent: (words.parent != 0).then_some(LockId(words.parent)),
             block: words.block as u8,
-        }
-    }
-}
-
-impl Row {
-    pub(crate) fn of(words: &raw::Row) -> Row {
-        Row {
-            lock: LockId(words.lkid),
-            process: ProcessId(words.pid),
-            held: mode_of(words.held),
-            want: mode_of(words.want),
         }
     }
 }

@@ -29,9 +29,12 @@ fn two() -> (Shared, ProcessId, ProcessId) {
 /// Waits until a request is in the queue of the first resource, and returns its lock.
 fn queued(shared: &Shared, queue: Queue) -> LockId {
     loop {
-        let row = shared.look(|manager| manager.row(0, queue, 0));
-        if let Some(row) = row {
-            return row.lock;
+        let first = shared.look(|manager| {
+            let resource = manager.resources().next()?;
+            manager.rows(&resource, queue).next()
+        });
+        if let Some(lock) = first {
+            return lock.id;
         }
         thread::yield_now();
     }

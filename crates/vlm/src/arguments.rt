@@ -16,7 +16,7 @@ const ABOUT: &str =
     "The lock manager of OpenVMS: lock modes, queues, value blocks, run from a script";
 
 // The version that `vlm --version` and an installed package tell.
-const VERSION: &str = "0.1.0";
+const VERSION: &str = "0.2.0";
 
 const PLAY_ABOUT: &str =
     "Reads a script of lock requests from standard input and prints each answer";

@@ -22,7 +22,6 @@ use Rattle.vlm_capi.specs.declared.shown.VlmLksb.{VlmLksb}
 use Rattle.vlm_capi.specs.declared.shown.VlmLock.{VlmLock}
 use Rattle.vlm_capi.specs.declared.shown.VlmProcess.{VlmProcess}
 use Rattle.vlm_capi.specs.declared.shown.VlmResource.{VlmResource}
-use Rattle.vlm_capi.specs.declared.shown.VlmRow.{VlmRow}
 use Rattle.vlm_words.specs.Resources.{is_at}
 use Rattle.vlm_core.specs.Locks.{lock_view}
 use Rattle.vlm_core.specs.Readers.{all_locks, all_queued, after_first, has_pid, key_of as core_key}
@@ -139,25 +138,10 @@ pub record ReadTold {A Words : Type 0} (Shows : State → Option A → Type 0) (
   pub reads : Reads Shows before answer after
   pub told : Told (sized fits (option_map words_of answer)) old new status
 
-abbrev pub row_of : RowView → VlmRow
-row_of row = record {
-  size = 32;
-  lkid = row.lkid;
-  pid = row.pid;
-  held = mode_number row.held;
-  want = mode_number row.want;
-  reserved = replicate 3 0;
-}
-
 -- the lock at a place of a queue
 abbrev pub row_in : State → ℕ → Option Queue → ℕ → Option RowView
 row_in s resource (Some queue) place = row_shown (slice_get s.resources resource) queue place
 row_in s resource None place = None
-
--- the lock at a place of the queue that has this number for C
-abbrev pub row_shown_at : Option State → ℕ → ℕ → ℕ → Option RowView
-row_shown_at None resource queue place = None
-row_shown_at (Some s) resource queue place = row_in s resource (queue_of queue) place
 
 -- 1 for the system's domain
 abbrev pub system_bit : Domain → ℕ
@@ -208,11 +192,6 @@ resource_of r = record {
   tail = r.tail;
   reserved = replicate 4 0;
 }
-
--- the resource at a place
-abbrev pub resource_shown : Option State → ℕ → Option ResourceView
-resource_shown None place = None
-resource_shown (Some s) place = option_map resource_view (slice_get s.resources place)
 
 -- the resource with the key
 abbrev pub found_shown : Option State → Option ResourceKey → Option ResourceView

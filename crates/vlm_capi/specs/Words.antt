@@ -1,5 +1,5 @@
 -- The steps that the structs and numbers of C name.
-use Rattle.std.specs.Prelude.{◌≡◌, ℕ, List, Bool, ◌==◌, ◌&&◌, nat_lt, nat_le, take, Option, Some, None, if◌then◌else◌}
+use Rattle.std.specs.Prelude.{◌≡◌, ℕ, ◌/◌, List, Bool, ◌==◌, ◌&&◌, nat_lt, nat_le, take, Option, Some, None, if◌then◌else◌}
 use Rattle.std.specs.List.{list_all}
 use Rattle.std.specs.Hash.DefaultHasher.{initial as empty, write}
 use Rattle.vlm_collections.specs.declared.hashers.HashKeys.{HashKeys}
@@ -56,9 +56,9 @@ is_blank words = list_all (λ w. w == 0) words
 abbrev pub given : {A : Type 0} → ℕ → A → Option A
 given mark x = if mark == 1 then Some x else None
 
--- the struct has its size and this version, its reserved words are 0, and its mark is 0 or 1
+-- the struct has its size and a version that begins as this one, its reserved words are 0, and its mark is 0 or 1
 unfoldable pub is_options : VlmOptions → Bool
-is_options w = (w.size == 64) && (w.version == 256) && is_blank w.reserved && nat_le w.has_keys 1
+is_options w = (w.size == 64) && (w.version / 256 == 2) && is_blank w.reserved && nat_le w.has_keys 1
 
 -- the keys are the 16 bytes that the options give, or the fixed keys
 pub record AreKeysOf (w : VlmOptions) (keys : HashKeys) : Type 0 where

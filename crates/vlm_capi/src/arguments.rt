@@ -11,8 +11,8 @@ use vlm_collections::HashKeys;
 use vlm_words::names::NameArg;
 use vlm_words::steps::{Conversion, Declaration, Dequeue, NewRequest, ValueSetting, Which};
 
-/// The version of the library and its header, 0.1.0: one byte for each of its numbers.
-pub(crate) const VERSION: u32 = 0x00_01_00;
+/// The version of the library and its header, 0.2.0: one byte for each of its numbers.
+pub(crate) const VERSION: u32 = 0x00_02_00;
 
 // The `size` that C writes into each struct.
 const OPTIONS_SIZE: u32 = 64;
@@ -146,13 +146,17 @@ fn given<T: Copy>(mark: u32, value: T) -> Option<T>
     if mark == 1 { Some(value) } else { None }
 }
 
-/// The keys for the index of names; `None` if the struct is malformed or of another version.
+/// The keys for the index of names; `None` if the struct is malformed, or of another version. Versions that
+/// differ in their last number alone are one.
 #[tactic(auto, unfolding(crate::specs::Words::is_options))]
 pub(crate) fn keys_of(words: &VlmOptions) -> Option<HashKeys>
     ensures options { is_some result ≡ is_options words.now }
     ensures keys { IfSome result (λ keys. AreKeysOf words.now keys) }
 {
-    if words.size != OPTIONS_SIZE || words.version != VERSION || !is_blank(&words.reserved) {
+    if words.size != OPTIONS_SIZE
+        || words.version / 256 != VERSION / 256
+        || !is_blank(&words.reserved)
+    {
         return None;
     }
     match words.has_keys {

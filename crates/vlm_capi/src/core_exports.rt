@@ -10,7 +10,7 @@ ghost use Rattle.vlm_model.specs.Stepped.{Outcome};
 ghost use Rattle.vlm_capi.specs.Lending.{LendsCore, core_of};
 ghost use Rattle.vlm_capi.specs.Served.{AstReplied, OpenedIf, Replied, Served, StatusReplied, TakesFirst, TookAnyIf};
 ghost use Rattle.vlm_capi.specs.Copies.{Told, sized};
-ghost use Rattle.vlm_capi.specs.Shown.{block_shown, count_shown, found_shown, lksb_of, next_process_shown, next_resource_shown, pending_shown, process_count_shown, process_of, process_or_none, process_shown, queued_count_shown, resource_of, resource_or_none, resource_shown, row_of, row_shown_at, lock_count_shown};
+ghost use Rattle.vlm_capi.specs.Shown.{block_shown, count_shown, found_shown, lksb_of, next_process_shown, next_resource_shown, pending_shown, process_count_shown, process_or_none, queued_count_shown, resource_of, resource_or_none, lock_count_shown};
 ghost use Rattle.vlm_capi.specs.Keys.{key_of};
 ghost use Rattle.vlm_capi.specs.Replies.{take_of};
 ghost use Rattle.vlm_capi.specs.Words.{conversion_of, declaration_of, dequeue_of, is_options, node_of, request_of, setting_of};
@@ -27,8 +27,8 @@ use crate::replies::{
     AST_SIZE, VlmAst, answer_number, answer_status, no_ast, status, take_of, write_ast,
 };
 use crate::shown::{
-    LKSB_SIZE, PROCESS_SIZE, RESOURCE_SIZE, ROW_SIZE, VlmLksb, VlmProcess, VlmResource, VlmRow,
-    lksb_of, process_of, process_or_none, resource_of, resource_or_none, row_of,
+    LKSB_SIZE, PROCESS_SIZE, RESOURCE_SIZE, VlmLksb, VlmProcess, VlmResource, lksb_of,
+    process_or_none, resource_of, resource_or_none,
 };
 use std::alloc::Global;
 use vlm_core::Core;
@@ -38,7 +38,7 @@ use vlm_words::steps::{Answer, Step};
 /// The version of the library, as VLM_VERSION of its header has it.
 #[unsafe(no_mangle)]
 pub extern "C" fn vlm_version() -> u32
-    ensures { result ≡ 256 }
+    ensures { result ≡ 512 }
 {
     VERSION
 }
@@ -265,19 +265,6 @@ pub extern "C" fn vlm_process_count(handle: &mut Handle) -> usize
     handle.process_count()
 }
 
-/// Copies a living process. Places start at 0; the cost grows with the place.
-#[unsafe(no_mangle)]
-pub extern "C" fn vlm_process(handle: &mut Handle, place: usize, out: &mut VlmProcess) -> u32
-    ensures told { Told (sized (out.old.size == 64)
-        (option_map process_of (process_shown (core_of handle.old.slot.held) place))) out.old out.new result }
-    ensures same { handle.new.slot.held ≡ handle.old.slot.held }
-{
-    let shown = handle
-        .process(place)
-        .map(|(process, locks)| process_of(&process, locks));
-    copy_out(sized(out.size == PROCESS_SIZE, shown), out)
-}
-
 /// Copies the living process after the process with this identification, or with 0 the first one. After the last one it
 /// copies a process with identification 0.
 #[unsafe(no_mangle)]
@@ -319,19 +306,6 @@ pub extern "C" fn vlm_queued_count(handle: &mut Handle) -> usize
     handle.queued_count()
 }
 
-/// Copies a resource. Places start at 0; the cost grows with the place.
-#[unsafe(no_mangle)]
-pub extern "C" fn vlm_resource(handle: &mut Handle, place: usize, out: &mut VlmResource) -> u32
-    ensures told { Told (sized (out.old.size == 144)
-        (option_map resource_of (resource_shown (core_of handle.old.slot.held) place))) out.old out.new result }
-    ensures same { handle.new.slot.held ≡ handle.old.slot.held }
-{
-    let shown = handle
-        .resource(place)
-        .map(|resource| resource_of(&resource));
-    copy_out(sized(out.size == RESOURCE_SIZE, shown), out)
-}
-
 /// Copies the resource that parent, domain and name of the struct name.
 #[unsafe(no_mangle)]
 pub extern "C" fn vlm_find(handle: &mut Handle, resource: &mut VlmResource) -> u32
@@ -356,21 +330,4 @@ pub extern "C" fn vlm_next_resource(handle: &mut Handle, resource: &mut VlmResou
         .next_resource(resource)
         .map(|next| resource_or_none(&next));
     copy_out(sized(resource.size == RESOURCE_SIZE, shown), resource)
-}
-
-/// Copies a lock in a queue of a resource. Places start at 0; the cost grows with both.
-#[unsafe(no_mangle)]
-pub extern "C" fn vlm_row(
-    handle: &mut Handle,
-    resource: usize,
-    queue: u32,
-    place: usize,
-    out: &mut VlmRow,
-) -> u32
-    ensures told { Told (sized (out.old.size == 32) (option_map row_of
-        (row_shown_at (core_of handle.old.slot.held) resource queue place))) out.old out.new result }
-    ensures same { handle.new.slot.held ≡ handle.old.slot.held }
-{
-    let shown = handle.row(resource, queue, place).map(|row| row_of(&row));
-    copy_out(sized(out.size == ROW_SIZE, shown), out)
 }

@@ -3,13 +3,13 @@
 ghost use Rattle.std.specs.Prelude.{◌≡◌, ◌==◌, Some, false};
 ghost use Rattle.vlm_capi.specs.Keys.{key_of};
 ghost use Rattle.vlm_capi.specs.Lending.{core_of};
-ghost use Rattle.vlm_capi.specs.Shown.{Tells, block_shown, block_there, count_shown, found_shown, lock_count_shown, next_process_shown, next_resource_shown, pending_shown, process_count_shown, process_shown, queued_count_shown, resource_shown, row_shown_at};
+ghost use Rattle.vlm_capi.specs.Shown.{Tells, block_shown, block_there, count_shown, found_shown, lock_count_shown, next_process_shown, next_resource_shown, pending_shown, process_count_shown, process_shown, queued_count_shown};
 
 use crate::handle::Handle;
 use crate::numbers::node_of;
-use crate::resource_keys::{key_of, queue_of};
+use crate::resource_keys::key_of;
 use crate::shown::VlmResource;
-use vlm_core::{Core, ProcessView, ResourceView, RowView};
+use vlm_core::{Core, ProcessView, ResourceView};
 use vlm_words::blocks::Block;
 
 impl Handle {
@@ -38,14 +38,6 @@ impl Handle {
             self.old.slot.held self.new.slot.held }
     {
         self.with_core(|core| core.process_count()).unwrap_or(0)
-    }
-
-    /// The living process at a place, from 0, and how many locks it has.
-    pub(crate) fn process(&mut self, place: usize) -> Option<(ProcessView, usize)>
-        ensures { Tells (process_shown (core_of self.old.slot.held) place) result
-            self.old.slot.held self.new.slot.held }
-    {
-        self.with_core(|core| process_at(core, place))?
     }
 
     /// The living process after the process with this identification, or with 0 the first one. `Some(None)` after the
@@ -91,13 +83,6 @@ impl Handle {
         self.with_core(|core| core.queued_count()).unwrap_or(0)
     }
 
-    pub(crate) fn resource(&mut self, place: usize) -> Option<ResourceView>
-        ensures { Tells (resource_shown (core_of self.old.slot.held) place) result
-            self.old.slot.held self.new.slot.held }
-    {
-        self.with_core(|core| core.resource_at(place))?
-    }
-
     pub(crate) fn find(&mut self, words: &VlmResource) -> Option<ResourceView>
         ensures { Tells (found_shown (core_of self.old.slot.held) (key_of words.now)) result
             self.old.slot.held self.new.slot.held }
@@ -118,15 +103,6 @@ impl Handle {
         }
         let key = key_of(words)?;
         self.with_core(|core| core.resource_after(key.parent, key.domain, key.name))?
-    }
-
-    /// The lock at a place in a queue of a resource, each from 0.
-    pub(crate) fn row(&mut self, resource: usize, queue: u32, place: usize) -> Option<RowView>
-        ensures { Tells (row_shown_at (core_of self.old.slot.held) resource queue place) result
-            self.old.slot.held self.new.slot.held }
-    {
-        let queue = queue_of(queue)?;
-        self.with_core(|core| core.row_at(resource, queue, place))?
     }
 }
 

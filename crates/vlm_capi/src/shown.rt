@@ -1,12 +1,12 @@
 //! The structs that readers copy out to C. include/vlm.h describes their members.
 
 ghost use Rattle.std.specs.Prelude.{◌≡◌};
-ghost use Rattle.vlm_capi.specs.Shown.{lksb_of, lock_of, lock_or_none, process_of, process_or_none, queue_number, resource_of, resource_or_none, row_of};
+ghost use Rattle.vlm_capi.specs.Shown.{lksb_of, lock_of, lock_or_none, process_of, process_or_none, queue_number, resource_of, resource_or_none};
 
 use crate::numbers::mode_number;
 use crate::padding::name_cells;
 use std::mem::size_of;
-use vlm_core::{LockView, ProcessView, ResourceView, RowView};
+use vlm_core::{LockView, ProcessView, ResourceView};
 use vlm_words::blocks::Block;
 use vlm_words::resources::{Domain, Queue};
 
@@ -17,8 +17,6 @@ pub(crate) const PROCESS_SIZE: u32 = 64;
 
 pub(crate) const RESOURCE_SIZE: u32 = 144;
 
-pub(crate) const ROW_SIZE: u32 = 32;
-
 pub(crate) const LOCK_SIZE: u32 = 64;
 
 const _: () = prove!(size_of::<VlmLksb>() == 80);
@@ -26,8 +24,6 @@ const _: () = prove!(size_of::<VlmLksb>() == 80);
 const _: () = prove!(size_of::<VlmProcess>() == 64);
 
 const _: () = prove!(size_of::<VlmResource>() == 144);
-
-const _: () = prove!(size_of::<VlmRow>() == 32);
 
 const _: () = prove!(size_of::<VlmLock>() == 64);
 
@@ -86,20 +82,6 @@ pub struct VlmResource {
     pub value: [u8; 16],
     pub tail: [u8; 48],
     pub reserved: [u32; 4],
-}
-
-/// A lock in a queue.
-#[repr(C)]
-#[derive(Clone, Copy)]
-pub struct VlmRow {
-    pub size: u32,
-    pub lkid: u32,
-    pub pid: u32,
-    /// The held and the wanted mode, or 255 for no mode.
-    pub held: u32,
-    /// A mode, or 255 for no mode.
-    pub want: u32,
-    pub reserved: [u32; 3],
 }
 
 /// A lock with its place.
@@ -200,19 +182,6 @@ pub(crate) fn lock_or_none(lock: &Option<LockView>) -> VlmLock
             block: 0,
             reserved: [0; 7],
         },
-    }
-}
-
-pub(crate) fn row_of(row: &RowView) -> VlmRow
-    ensures { result ≡ row_of row.now }
-{
-    VlmRow {
-        size: ROW_SIZE,
-        lkid: row.lkid,
-        pid: row.pid,
-        held: mode_number(row.held),
-        want: mode_number(row.want),
-        reserved: [0; 3],
     }
 }
 

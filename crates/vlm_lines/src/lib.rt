@@ -1,5 +1,5 @@
-//! Reads one line of a script: its command, its words, and the first fault. Prints one line: an answer, an AST, a status
-//! block, a resource or a lock.
+//! Reads one line of a script: its command, its words, and the first fault. Prints one line: an answer, an AST, a
+//! status block, a resource or a lock.
 //!
 //! It knows no machine and no process, and takes no memory.
 #![tactic(auto)]

@@ -107,7 +107,7 @@ static void print_tail(void) {
     put(vlm_print_tail(&handle, process(), &line, &text), &text);
 }
 
-static void print_queue(const struct vlm_resource *resource, uint32_t queue) {
+static void print_queue(const vlm_resource *resource, uint32_t queue) {
     vlm_lock lock = {.size = sizeof lock};
     vlm_text text = {.size = sizeof text};
     uint32_t status = vlm_first_row(&handle, resource, queue, &lock);
@@ -115,21 +115,21 @@ static void print_queue(const struct vlm_resource *resource, uint32_t queue) {
         put(vlm_print_lock(&lock, &text), &text);
 }
 
-static void print_resource(const struct vlm_resource *resource) {
+static void print_resource(const vlm_resource *resource) {
     vlm_text text = {.size = sizeof text};
     put(vlm_print_resource(&handle, resource, &text), &text);
     for (uint32_t queue = 0; queue < QUEUES; queue++)
         print_queue(resource, queue);
 }
 
-static void print_resource_tail(const struct vlm_resource *resource) {
+static void print_resource_tail(const vlm_resource *resource) {
     vlm_text text = {.size = sizeof text};
     put(vlm_print_resource_tail(&handle, resource, &text), &text);
 }
 
 /* Prints every resource, by rising serial. */
-static void print_resources(void (*print)(const struct vlm_resource *)) {
-    struct vlm_resource resource = {.size = sizeof resource};
+static void print_resources(void (*print)(const vlm_resource *)) {
+    vlm_resource resource = {.size = sizeof resource};
     uint32_t status = vlm_next_resource(&handle, &resource);
     if (status == VLM_NORMAL && resource.serial == 0)
         printf("no resources\n");
