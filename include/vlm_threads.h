@@ -201,7 +201,9 @@ uint32_t vlm_threads_convert(vlm_threads *layer, vlm_threads_request *request);
  * NORMAL: accepted. The completion routine gets an event when the request ends, also if it is granted at once; `status`
  * is not 0 then. The event brings the value block.
  * SYNCH: with VLM_SYNCSTS, granted at once. The completion routine is not called, and `value` is written.
- * Refused as the forms that wait; BADPARAM also without a completion routine. */
+ * Refused as the forms that wait; BADPARAM also without a completion routine.
+ * Two requests of one process that are queued on one resource are a deadlock if the second waits for the first: let
+ * each have a process of its own. */
 uint32_t vlm_threads_start_enq(vlm_threads *layer, vlm_threads_request *request, const uint8_t *name, size_t name_len);
 uint32_t vlm_threads_start_convert(vlm_threads *layer, vlm_threads_request *request);
 

@@ -35,12 +35,13 @@ STRICT = ["-Wall", "-Wextra", "-Wpedantic", "-Werror"]
 # What an installation leaves, beside the shared library.
 FILES = ("bin/vlm", *(f"include/{it.name}" for it in (TOP / "include").glob("*.h")),
          "lib/cmake/vlm/vlm-config-version.cmake", "lib/cmake/vlm/vlm-config.cmake", "lib/libvlm.a",
-         "lib/pkgconfig/vlm.pc", "share/man/man1/vlm.1", "share/man/man3/vlm.3")
+         "lib/pkgconfig/vlm.pc", "share/man/man1/vlm.1", "share/man/man3/vlm.3", "share/vlm/files")
 VALGRIND = ["valgrind", "-q", "--leak-check=full", "--show-leak-kinds=all", "--error-exitcode=9"]
 HELGRIND = ["valgrind", "-q", "--tool=helgrind", f"--suppressions={TOP}/tests/c/helgrind.supp", "--error-exitcode=9"]
 # The layers for threads and for the threads of a hub, and the functions that some tests put their own in the place of.
 LAYER_SOURCES = sorted((TOP / "bindings" / "c").glob("*.c"))
-WRAPPED = {"refused": ("malloc", "realloc", "free"),
+WRAPPED = {"growths": ("malloc", "realloc"),
+           "refused": ("malloc", "realloc", "free"),
            "hub_refused": ("malloc", "realloc"),
            "hub_starved": ("malloc", "realloc", "free"),
            "threads_refused": ("malloc", "realloc", "calloc", "free", "pthread_create", "eventfd")}
@@ -74,6 +75,21 @@ def installed(_program):
     shared = "libvlm.so." + version()
     yield from difference(sorted(left), sorted([*FILES, f"lib/{shared}", *links]))
     yield from difference(links, {f"lib/{SONAME}": shared, "lib/libvlm.so": SONAME})
+
+
+def staged_prefix():
+    return room() / "staged" / "usr"
+
+
+def staged(_program):
+    """An installation for packagers goes into the folder DESTDIR. It lists its files, so that it can be taken away."""
+    yield from ran(TOP / "vlm", "install", "/usr", seconds=INSTALL_SECONDS,
+                   env={**os.environ, "DESTDIR": str(staged_prefix().parent)})
+    there = staged_prefix()
+    left = sorted(str(it.relative_to(there)) for it in there.rglob("*") if it.is_symlink() or not it.is_dir())
+    yield from difference((there / "share" / "vlm" / "files").read_text().splitlines(), left)
+    if any(str(there).encode() in (there / name).read_bytes() for name in left):
+        yield "a file names the folder that it was put into"
 
 
 def refused(_program):
@@ -131,8 +147,8 @@ def names_shown(_program):
 
 
 def told_by_package(*words):
-    """What pkg-config says of the package."""
-    env = {**os.environ, "PKG_CONFIG_PATH": str(prefix() / "lib" / "pkgconfig")}
+    """What pkg-config says of the package, of one that is not where it was made for."""
+    env = {**os.environ, "PKG_CONFIG_PATH": str(staged_prefix() / "lib" / "pkgconfig")}
     return subprocess.run(["pkg-config", *words, "vlm"], capture_output=True, text=True, check=True, env=env).stdout
 
 
@@ -406,7 +422,8 @@ def python(_program):
 
 def first():
     """Tests that come before all others: the rest use what they leave."""
-    return [Test("./vlm install", installed), Test("an installation that is refused", refused),
+    return [Test("./vlm install", installed), Test("an installation for packagers", staged),
+            Test("an installation that is refused", refused),
             Test("an installation without a C compiler", uncompiled)]
 
 

@@ -2,7 +2,8 @@
 
 from libraries import soname_of
 
-PKG_CONFIG = """prefix={prefix}
+# Both packages find their files from their own place, so the whole prefix can be moved.
+PKG_CONFIG = """prefix=${{pcfiledir}}/../..
 libdir=${{prefix}}/lib
 includedir=${{prefix}}/include
 
@@ -14,7 +15,6 @@ Libs.private: -pthread
 Cflags: -I"${{includedir}}"
 """
 
-# It finds its files from its own place, so the whole prefix can be moved.
 CMAKE = """# The lock manager vlm: the targets vlm::vlm, the shared library, and vlm::static.
 include(CMakeFindDependencyMacro)
 find_dependency(Threads)
@@ -49,9 +49,9 @@ unset(_vlm_asked)
 """
 
 
-def write_packages(lib, prefix, version):
-    """Writes both packages into the folder lib, of libraries that are to be in this prefix."""
-    values = {"prefix": prefix, "version": version, "soname": soname_of(version), "fits": version.rpartition(".")[0]}
+def write_packages(lib, version):
+    """Writes both packages into the folder lib of the libraries."""
+    values = {"version": version, "soname": soname_of(version), "fits": version.rpartition(".")[0]}
     for name, text in (("pkgconfig/vlm.pc", PKG_CONFIG), ("cmake/vlm/vlm-config.cmake", CMAKE),
                        ("cmake/vlm/vlm-config-version.cmake", CMAKE_VERSION)):
         (lib / name).write_text(text.format(**values))
