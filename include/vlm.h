@@ -79,6 +79,10 @@ enum {
     VLM_WIDENOTVALID = 24
 };
 
+/* What calls of the other headers answer beside these. VLM_TIMEOUT: the wait for a grant has lasted as long as it may.
+ * VLM_FULL, of a post: the port knows no free place, and nothing was posted; take items, and post again. */
+enum { VLM_TIMEOUT = 100, VLM_FULL = 256 };
+
 /* Modes. */
 enum { VLM_NL = 0, VLM_CR = 1, VLM_CW = 2, VLM_PR = 3, VLM_PW = 4, VLM_EX = 5, VLM_NO_MODE = 255 };
 
@@ -568,8 +572,8 @@ uint32_t vlm_print_resource(vlm *handle, const vlm_resource *resource, vlm_text 
 uint32_t vlm_print_resource_tail(vlm *handle, const vlm_resource *resource, vlm_text *text);
 uint32_t vlm_print_lock(const vlm_lock *lock, vlm_text *text);
 
-/* The name of a condition value as the manual has it, of this library's own the plain one; null for a number that is
- * none. */
+/* The name of a condition value, or of another answer, as the manual has it; of this library's own the plain one; null
+ * for a number that is none. */
 static inline const char *vlm_condition_name(uint32_t status) {
     switch (status) {
     case VLM_NORMAL: return "SS$_NORMAL";
@@ -596,6 +600,8 @@ static inline const char *vlm_condition_name(uint32_t status) {
     case VLM_NONEXPR: return "SS$_NONEXPR";
     case VLM_DEPARTED: return "DEPARTED";
     case VLM_WIDENOTVALID: return "WIDENOTVALID";
+    case VLM_TIMEOUT: return "TIMEOUT";
+    case VLM_FULL: return "FULL";
     default: return NULL;
     }
 }

@@ -32,10 +32,6 @@
 extern "C" {
 #endif
 
-/* What a post answers, beside VLM_NORMAL and VLM_BADPARAM: the port knows no free place, and nothing was posted. Take
- * items, and post again. It is no condition value of a step. */
-#define VLM_FULL 256
-
 /* Kinds of item. */
 enum { VLM_NO_ITEM = 0, VLM_ANSWER = 1, VLM_AST = 2 };
 

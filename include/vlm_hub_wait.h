@@ -26,7 +26,6 @@
 #define VLM_HUB_WAIT_H
 
 #include "vlm_hub.h"
-#include "vlm_threads.h" /* (for VLM_TIMEOUT alone) */
 
 #ifdef __cplusplus
 extern "C" {

@@ -57,12 +57,6 @@ extern "C" {
 /* A lock manager with its mutex, its processes and its threads. */
 typedef struct vlm_threads vlm_threads;
 
-/* The layer's own condition: the wait for a grant has lasted as long as it may. */
-enum { VLM_TIMEOUT = 100 };
-
-/* The name of a condition value, VLM_TIMEOUT too, or null for a number that is none. */
-const char *vlm_threads_condition_name(uint32_t status);
-
 /* Opening and closing. */
 
 /* Who runs the routines. */

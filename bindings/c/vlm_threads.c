@@ -223,7 +223,3 @@ uint32_t vlm_threads_read_counters(vlm_threads *layer, vlm_threads_counters *cou
     vlmt_unlock(layer);
     return VLM_NORMAL;
 }
-
-const char *vlm_threads_condition_name(uint32_t status) {
-    return status == VLM_TIMEOUT ? "TIMEOUT" : vlm_condition_name(status);
-}

@@ -42,7 +42,7 @@ static uint64_t count_of(const vlm_threads_counters *counters, const struct figu
 
 /* The name of a condition without SS$_, with which the manual's names begin. */
 static const char *short_name(uint32_t condition) {
-    const char *name = vlm_threads_condition_name(condition);
+    const char *name = vlm_condition_name(condition);
     if (!name)
         return "UNKNOWN";
     return strncmp(name, "SS$_", 4) ? name : name + 4;

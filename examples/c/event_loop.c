@@ -22,7 +22,7 @@ static void give_up(const struct session *session, uint32_t lock) {
 /* The session has A: it works, and gives A up. */
 static void is_granted(void *context, const vlm_threads_event *event) {
     const struct session *session = context;
-    printf("%s has A: %s\n", session->name, vlm_threads_condition_name(event->status));
+    printf("%s has A: %s\n", session->name, vlm_condition_name(event->status));
     give_up(session, event->lkid);
     left--;
     if (write(jobs[1], session->name, 1) != 1)
@@ -37,7 +37,7 @@ static void begin(struct session *session) {
         return;
     request.pid = session->pid;
     uint32_t status = vlm_threads_start_enq(layer, &request, (const uint8_t *)"A", 1);
-    printf("%s asks: %s\n", session->name, vlm_threads_condition_name(status));
+    printf("%s asks: %s\n", session->name, vlm_condition_name(status));
 }
 
 /* One turn of the loop: serves what is readable. */

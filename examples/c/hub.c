@@ -1,5 +1,6 @@
 /* Two threads count under a lock. Each has a port of a hub, which a third thread serves. */
 #include <pthread.h>
+#include <stdio.h>
 #include <vlm_hub_wait.h>
 
 enum { NODES = 2 };

@@ -5,6 +5,7 @@
 #include <vlm_hub_wait.h>
 
 #include <pthread.h>
+#include <stdio.h>
 
 enum { NODES = 4 };
 

@@ -3,6 +3,7 @@
 #include <vlm_hub_wait.h>
 
 #include <pthread.h>
+#include <stdio.h>
 #include <string.h>
 
 enum { THREADS = 2, ROUNDS = 200, PART = 64 };

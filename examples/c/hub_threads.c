@@ -3,6 +3,7 @@
 #include <vlm_hub_wait.h>
 
 #include <pthread.h>
+#include <stdio.h>
 
 enum { THREADS = 8, RESOURCES = 3, ROUNDS = 300, PART = 200 };
 

@@ -14,7 +14,7 @@ static uint32_t declared(void) {
 
 static void ask(const char *who, vlm_threads_request *request) {
     uint32_t status = vlm_threads_enq(layer, request, (const uint8_t *)"A", 1);
-    printf("%s: %s%s\n", who, vlm_threads_condition_name(status), request->lkid ? ", has A" : ", has no lock");
+    printf("%s: %s%s\n", who, vlm_condition_name(status), request->lkid ? ", has A" : ", has no lock");
 }
 
 static void *give_up(void *given) {

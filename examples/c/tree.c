@@ -17,7 +17,7 @@ static uint32_t take(uint32_t pid, uint32_t parent, uint32_t mode, const char *n
     vlm_threads_request request = {
         .size = sizeof request, .pid = pid, .mode = mode, .flags = VLM_NOQUEUE, .lock = parent};
     uint32_t status = vlm_threads_enq(layer, &request, (const uint8_t *)name, strlen(name));
-    printf("process %u, %s: %s\n", (unsigned)(pid & 0xffff), name, vlm_threads_condition_name(status));
+    printf("process %u, %s: %s\n", (unsigned)(pid & 0xffff), name, vlm_condition_name(status));
     return request.lkid;
 }
 
@@ -26,7 +26,7 @@ static void give_up(uint32_t pid, uint32_t lock, uint32_t flags) {
     vlm_threads_counters counters = {.size = sizeof counters};
     uint32_t status = vlm_threads_deq(layer, &dequeue);
     vlm_threads_read_counters(layer, &counters);
-    printf("process %u gives up: %s, %u locks are left\n", (unsigned)(pid & 0xffff), vlm_threads_condition_name(status),
+    printf("process %u gives up: %s, %u locks are left\n", (unsigned)(pid & 0xffff), vlm_condition_name(status),
            (unsigned)counters.locks);
 }
 

@@ -361,9 +361,9 @@ static void test_readings(void) {
     EXPECT(vlm_threads_print(&counters, stdout), VLM_BADPARAM);
     EXPECT(vlm_threads_print_prometheus(&counters, stdout), VLM_BADPARAM);
     EXPECT(vlm_threads_settle(layer), VLM_NORMAL);
-    HOLD(strcmp(vlm_threads_condition_name(VLM_TIMEOUT), "TIMEOUT") == 0);
-    HOLD(strcmp(vlm_threads_condition_name(VLM_DEADLOCK), "SS$_DEADLOCK") == 0);
-    HOLD(vlm_threads_condition_name(99) == NULL);
+    HOLD(strcmp(vlm_condition_name(VLM_TIMEOUT), "TIMEOUT") == 0);
+    HOLD(strcmp(vlm_condition_name(VLM_DEADLOCK), "SS$_DEADLOCK") == 0);
+    HOLD(vlm_condition_name(99) == NULL);
 }
 
 static void test_departure(void) {

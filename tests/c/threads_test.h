@@ -20,8 +20,8 @@ static inline void expect_at(int line, uint32_t got, uint32_t want) {
     if (got == want)
         return;
     atomic_fetch_add(&wrong, 1);
-    fprintf(stderr, "line %d: %u %s, not %u %s\n", line, (unsigned)got, vlm_threads_condition_name(got), (unsigned)want,
-            vlm_threads_condition_name(want));
+    fprintf(stderr, "line %d: %u %s, not %u %s\n", line, (unsigned)got, vlm_condition_name(got), (unsigned)want,
+            vlm_condition_name(want));
 }
 #define EXPECT(call, want) expect_at(__LINE__, (call), (want))
 
