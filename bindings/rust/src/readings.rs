@@ -2,9 +2,9 @@
 
 use crate::condition::answered;
 use crate::manager::LockManager;
-use crate::names::{Domain, LockId, ProcessId, Queue};
+use crate::names::{Domain, LockId, ProcessId};
 use crate::raw;
-use crate::views::{Lock, Process, Resource, Row, StatusBlock};
+use crate::views::{Lock, Resource, StatusBlock};
 
 impl LockManager {
     /// The status block of this number, from 1, of a process. None where there is none.
