@@ -357,7 +357,7 @@ def shown_calls(_program):
         text = "".join(text_of(f"include/{name}") for name in headers)
         there = set(re.findall(rf"^[\w *]*\b({word})\(", text, re.M))
         named = set(re.findall(f"`({word})`", text_of(f"docs/{page}")))
-        if len(there) < 20 or there != named:
+        if len(there) < 15 or there != named:
             yield f"docs/{page} and the header differ in {sorted(there ^ named)}"
 
 

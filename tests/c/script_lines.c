@@ -178,7 +178,7 @@ int main(void) {
     vlm_options options = VLM_OPTIONS;
     vlm_declaration declaration = {
         .size = sizeof declaration, .node = 1, .group = 1, .syslck = 1, .quota = 9, .blocks = 1};
-    uint32_t pid;
+    uint32_t pid = 0;
     vlm_line line = read_line("block P 1");
     REFUSED(vlm_print_block(&handle, 65537, &line, &text)); /* closed */
     HOLD(vlm_open(&handle, &options) == VLM_NORMAL && vlm_declare(&handle, &declaration, &pid) == VLM_NORMAL);

@@ -229,6 +229,18 @@ static void closed_calls(vlm *handle) {
     HOLD(!handle->is_held && handle->core == NULL);
 }
 
+/* Locks that are named by status blocks that do not exist. */
+static void absent_blocks(vlm *handle) {
+    conversion.lock_kind = VLM_BY_BLOCK;
+    WITH(conversion, lock, 3, CONVERT, VLM_ACCVIO);
+    conversion.lock_kind = VLM_BY_BLOCK;
+    WITH(conversion, lock, 0, CONVERT, VLM_ACCVIO);
+    dequeue.lock_kind = VLM_BY_BLOCK;
+    WITH(dequeue, lock, 3, DEQ, VLM_ACCVIO);
+    dequeue.lock_kind = VLM_BY_BLOCK;
+    WITH(dequeue, lock, 0, DEQ, VLM_ACCVIO);
+}
+
 /* Words that name steps, which the core refuses. */
 static void refused_steps(vlm *handle) {
     vlm_ast ast = {.size = sizeof ast};
@@ -253,19 +265,11 @@ static void refused_steps(vlm *handle) {
     WITH(conversion, flags, 0x8000, CONVERT, VLM_BADPARAM);
     WITH(conversion, block, 3, CONVERT, VLM_ACCVIO);
     WITH(conversion, lock, 12345, CONVERT, VLM_IVLOCKID);
-    conversion.lock_kind = VLM_BY_BLOCK;
-    WITH(conversion, lock, 3, CONVERT, VLM_ACCVIO);
-    conversion.lock_kind = VLM_BY_BLOCK;
-    WITH(conversion, lock, 0, CONVERT, VLM_ACCVIO);
     WITH(dequeue, pid, 12345, DEQ, VLM_NONEXPR);
     WITH(dequeue, flags, 0x8000, DEQ, VLM_BADPARAM);
     WITH(dequeue, has_tail, 1, DEQ, VLM_BADPARAM);
     WITH(dequeue, lock, 12345, DEQ, VLM_IVLOCKID);
     WITH(dequeue, flags, VLM_DEQ_CANCEL, DEQ, VLM_CANCELGRANT);
-    dequeue.lock_kind = VLM_BY_BLOCK;
-    WITH(dequeue, lock, 3, DEQ, VLM_ACCVIO);
-    dequeue.lock_kind = VLM_BY_BLOCK;
-    WITH(dequeue, lock, 0, DEQ, VLM_ACCVIO);
     EXPECT(vlm_take(handle, 12345, &ast), VLM_NONEXPR);
     EXPECT(vlm_rundown(handle, 12345), VLM_NONEXPR);
     EXPECT(vlm_leave(handle, 0), VLM_BADPARAM);
@@ -323,6 +327,7 @@ int main(void) {
     is_as_it_was(handle);
     wrong_readings(handle);
     refused_steps(handle);
+    absent_blocks(handle);
     is_as_it_was(handle);
 
     EXPECT(vlm_leave(handle, 1), VLM_NORMAL);
