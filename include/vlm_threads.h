@@ -218,6 +218,12 @@ typedef struct vlm_threads_dequeue {
  * sublocks. CANCELGRANT: it has no request to cancel. NONEXPR, DEPARTED: as vlm_threads_rundown. */
 uint32_t vlm_threads_deq(vlm_threads *layer, const vlm_threads_dequeue *dequeue);
 
+/* Cancels each request of a process that is queued, as vlm_threads_deq does with VLM_DEQ_CANCEL: a call that waits for
+ * one answers ABORT or CANCEL. A thread that ends a session need not know its requests. *cancelled is how many there
+ * were. Never waits, and needs no memory. The cost grows with the locks of the process.
+ * NONEXPR, DEPARTED: as vlm_threads_rundown; *cancelled is 0. */
+uint32_t vlm_threads_cancel(vlm_threads *layer, uint32_t pid, uint32_t *cancelled);
+
 /* Delivery. Routines run one at a time, without the layer's mutex, oldest event first. So the events of a process come
  * in the core's order: the completion of a grant before the warning of that grant. Each completion is told once, unless
  * its process has ended. A warning is dropped if its grant is over: the lock has gone, or a conversion was granted.

@@ -142,13 +142,19 @@ static uint32_t make_request(vlm_threads *layer, const struct asked *asked, stru
     return words->flags & VLM_SYNCSTS ? status : VLM_NORMAL;
 }
 
-/* Cancels a request whose time is over. Its end wakes the waiter. */
-static void cancel_late(vlm_threads *layer, struct request *request) {
-    vlm_dequeue dequeue = {
-        .size = sizeof dequeue, .pid = request->process->entry.id, .flags = VLM_DEQ_CANCEL, .lock = request->lkid};
-    request->is_late = true;
-    if (vlm_deq(&layer->handle, &dequeue) == VLM_NORMAL)
+/* Cancels the request of a lock: whether it has one. Its end wakes the waiter. */
+static bool cancel(vlm_threads *layer, uint32_t pid, uint32_t lkid) {
+    vlm_dequeue dequeue = {.size = sizeof dequeue, .pid = pid, .flags = VLM_DEQ_CANCEL, .lock = lkid};
+    bool had_one = vlm_deq(&layer->handle, &dequeue) == VLM_NORMAL;
+    if (had_one)
         vlmt_take_asts(layer);
+    return had_one;
+}
+
+/* Cancels a request whose time is over. */
+static void cancel_late(vlm_threads *layer, struct request *request) {
+    request->is_late = true;
+    cancel(layer, request->process->entry.id, request->lkid);
 }
 
 static void sleep_until_ended(vlm_threads *layer, struct waiter *waiter) {
@@ -261,6 +267,29 @@ uint32_t vlm_threads_deq(vlm_threads *layer, const vlm_threads_dequeue *dequeue)
         return VLM_BADPARAM;
     vlmt_lock(layer);
     uint32_t status = give_up(layer, dequeue);
+    vlmt_unlock(layer);
+    return status;
+}
+
+/* Cancels all requests of a process, and tells how many there were. The next lock is read before a lock goes with its
+ * request. */
+static uint32_t cancel_all(vlm_threads *layer, uint32_t pid) {
+    vlm_lock lock = {.size = sizeof lock}, next = {.size = sizeof next};
+    uint32_t cancelled = 0;
+    uint32_t status = vlm_first_own(&layer->handle, pid, &lock);
+    for (; status == VLM_NORMAL && lock.lkid; lock = next) {
+        status = vlm_next_own(&layer->handle, lock.lkid, &next);
+        if (lock.queue != VLM_GRANTED)
+            cancelled += cancel(layer, pid, lock.lkid);
+    }
+    return cancelled;
+}
+
+uint32_t vlm_threads_cancel(vlm_threads *layer, uint32_t pid, uint32_t *cancelled) {
+    vlmt_lock(layer);
+    bool is_there = process_of(layer, pid);
+    uint32_t status = is_there ? VLM_NORMAL : refusal(layer, pid);
+    *cancelled = is_there ? cancel_all(layer, pid) : 0;
     vlmt_unlock(layer);
     return status;
 }
