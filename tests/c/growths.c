@@ -6,7 +6,7 @@
 #include <stdio.h>
 #include <stdlib.h>
 
-enum { LOCKS = 300000, EACH = 60000, IN_A_ROW = 1000, LARGE = 16384 };
+enum { LOCKS = 300000, EACH = 60000, IN_A_ROW = 1000, LARGE = 49152 };
 /* Two parts of each index, with two blocks each, and the blocks of the slabs. */
 enum { MOST = 12 };
 

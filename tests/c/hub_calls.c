@@ -552,7 +552,7 @@ static void two_hubs(void) {
 }
 
 int main(void) {
-    HOLD(vlm_condition_name(VLM_FULL) == NULL);
+    HOLD(strcmp(vlm_condition_name(VLM_FULL), "FULL") == 0 && vlm_condition_name(VLM_FULL + 1) == NULL);
     steps_and_journal();
     wrong_openings();
     wrong_arguments();
