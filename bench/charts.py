@@ -20,6 +20,14 @@ def text(x, y, words, colour, anchor="middle", size=13):
             f"{escape(words)}</text>")
 
 
+def apart(heights, least=16):
+    """These heights, from the top, each at least so far from the one above it that their names can be read."""
+    placed, order = list(heights), sorted(range(len(heights)), key=heights.__getitem__)
+    for above, below in zip(order, order[1:]):
+        placed[below] = max(placed[below], placed[above] + least)
+    return placed
+
+
 def drawn(title, beside, sizes, costs, colours):
     """A chart: the instructions of each program beside each of these sizes, which grow tenfold."""
     ground, ink, grid, lines = colours
@@ -40,10 +48,11 @@ def drawn(title, beside, sizes, costs, colours):
                   text(LEFT - 8, up(mark) + 4, f"{mark:,}", ink, "end")]
     parts += [text(across(place), HEIGHT - BOTTOM + 20, f"{size:,}", ink) for place, size in enumerate(sizes)]
     parts.append(text((LEFT + WIDTH - RIGHT) / 2, HEIGHT - 12, beside, ink))
-    for (name, row), colour in zip(costs.items(), lines):
+    names = apart([up(row[-1]) + 4 for row in costs.values()])
+    for (name, row), colour, height in zip(costs.items(), lines, names):
         points = " ".join(f"{across(place):.1f},{up(cost):.1f}" for place, cost in enumerate(row))
         parts += [f'<polyline points="{points}" fill="none" stroke="{colour}" stroke-width="2.5"/>',
-                  text(WIDTH - RIGHT + 8, up(row[-1]) + 4, name, colour, "start")]
+                  text(WIDTH - RIGHT + 8, height, name, colour, "start")]
     return "\n".join([*parts, "</svg>", ""])
 
 
