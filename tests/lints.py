@@ -22,7 +22,7 @@ BY_HAND = "bench/peers/by_hand/main.rs"
 # How the C is compiled for clang-tidy. It follows a third of the paths that it would, in less than half of the time.
 COMPILED = ["-std=gnu11", "-Iinclude", "-Itests/c", "-Xclang", "-analyzer-config", "-Xclang", "max-nodes=75000"]
 # Files whose lines are what is tested, are laid out by a prover's needs, or can't be broken.
-FREE_FILES = re.compile(r".*\.(stdout|out|png)|tests/scripts/play/.*|crates/\w+/proofs/.*|crates/vlm/std(in|out)"
+FREE_FILES = re.compile(r".*\.(stdout|out|png|svg)|tests/scripts/play/.*|crates/\w+/proofs/.*|crates/vlm/std(in|out)"
                         r"|crates\.txt")
 # Lines that nobody can break: rows of tables, imports and tactics that `rt fmt` lays out, what an edit is, addresses.
 FREE_LINES = re.compile(r"\s*(//[/!] )?\||\s*(pub(\(\w+\))? )?(ghost )?use |\s*#!?\[tactic\(|(old|new): |.*https?://")
