@@ -10,9 +10,9 @@ includedir=${{prefix}}/include
 Name: vlm
 Description: The lock manager of OpenVMS, proved: a library for programs in C
 Version: {version}
-Libs: -L"${{libdir}}" -lvlm
+Libs: -L${{libdir}} -lvlm
 Libs.private: -pthread
-Cflags: -I"${{includedir}}"
+Cflags: -I${{includedir}}
 """
 
 CMAKE = """# The lock manager vlm: the targets vlm::vlm, the shared library, and vlm::static.
