@@ -163,12 +163,12 @@ uint32_t vlm_hub_turn(vlm_hub *hub, size_t *made);
  * DEPARTED if it had departed before; INSFMEM: then nothing is changed; BADPARAM if the node is not 1 to 8. */
 uint32_t vlm_hub_lost(vlm_hub *hub, uint32_t node);
 
-/* *posts is the number of posts of a node that are in its ring, and that the hub has not made. It looks at the ring, so
- * once the node's thread has ended, none is missed. NORMAL, or BADPARAM and nothing is written: the hub has no such
+/* Counts the posts of a node that are in its ring, and that the hub has not made. It looks at the ring, so once the
+ * node's thread has ended, none is missed. NORMAL, or BADPARAM and nothing is written: the hub has no such
  * node. */
 uint32_t vlm_hub_waiting(vlm_hub *hub, uint32_t node, size_t *posts);
 
-/* How many nodes the hub serves, and how many entries its journal has since the last cut. 0 on a handle with no hub. */
+/* Count the nodes that the hub serves, and the entries of its journal since the last cut. 0 on a handle with no hub. */
 size_t vlm_hub_nodes(vlm_hub *hub);
 size_t vlm_hub_entries(vlm_hub *hub);
 
@@ -186,11 +186,12 @@ uint32_t vlm_hub_cut(vlm_hub *hub, vlm_entry *entries, size_t capacity, vlm_cut 
  * them. */
 void vlm_hub_close(vlm_hub *hub);
 
-/* The node of a port, 1 to 8, or 0 on a handle with no port. */
+/* Tells the node of a port, 1 to 8, or 0 on a handle with no port. */
 uint32_t vlm_port_node(vlm_port *port);
 
-/* The posts. NORMAL: the step is posted, and its answer comes as an item. FULL; BADPARAM. The answer is what the call
- * of vlm.h would have returned. vlm_port_search searches for a deadlock, and vlm_port_bye lets the node depart. */
+/* Post a step of the node. NORMAL: it is posted, and its answer comes as an item; FULL; BADPARAM. The answer is what
+ * the call of vlm.h would have returned. vlm_port_search searches for a deadlock, and vlm_port_bye lets the node
+ * depart. */
 uint32_t vlm_port_declare(vlm_port *port, const vlm_declaration *declaration);
 uint32_t vlm_port_set_value(vlm_port *port, const vlm_setting *setting);
 uint32_t vlm_port_enq(vlm_port *port, const vlm_request *request, const uint8_t *name, size_t name_len);
@@ -203,43 +204,20 @@ uint32_t vlm_port_bye(vlm_port *port);
 /* Takes the next item: kind VLM_NO_ITEM if the port knows of none. NORMAL, or BADPARAM and nothing is written. */
 uint32_t vlm_port_take(vlm_port *port, vlm_item *item);
 
-/* *items is the number of items that have come and that nobody has taken. It looks at the ring, so while the hub makes
- * no turn, none is missed. NORMAL, or BADPARAM and nothing is written. */
+/* Counts the items that have come and that nobody has taken. It looks at the ring, so while the hub makes no turn, none
+ * is missed. NORMAL, or BADPARAM and nothing is written. */
 uint32_t vlm_port_waiting(vlm_port *port, size_t *items);
 
 /* Frees the port of a handle. The hub may go on, or be closed already. */
 void vlm_port_close(vlm_port *port);
 
-/* Replay. Makes the step of a journal's entry on a lock manager, by the calls of vlm.h. All entries of a hub, in their
- * order, bring a new lock manager to the state of the hub's. NORMAL: the answer is the entry's. A step that was
- * answered INSFMEM changed nothing, and is not made. INSFMEM: memory was refused here; replay the same entry again.
- * BADPARAM: the answer is another one, or this is no entry, or the handle has no lock manager. */
-static inline uint32_t vlm_replay(vlm *handle, const vlm_entry *entry) {
-    vlm_ast ast = {sizeof(vlm_ast), 0, 0, 0, 0, {0, 0, 0}};
-    uint32_t status = 0, number = 0;
-    if (!handle->is_held || entry->size != sizeof *entry || entry->name_len > sizeof entry->name)
-        return VLM_BADPARAM;
-    if (entry->status == VLM_INSFMEM)
-        return VLM_NORMAL;
-    switch (entry->step) {
-    case VLM_STEP_DECLARE: status = vlm_declare(handle, &entry->declaration, &number); break;
-    case VLM_STEP_SET_VALUE: status = vlm_set_value(handle, &entry->setting); break;
-    case VLM_STEP_ENQ: status = vlm_enq(handle, &entry->request, entry->name, entry->name_len, &number); break;
-    case VLM_STEP_CONVERT: status = vlm_convert(handle, &entry->request, &number); break;
-    case VLM_STEP_DEQ: status = vlm_deq(handle, &entry->dequeue); break;
-    case VLM_STEP_RUNDOWN: status = vlm_rundown(handle, entry->pid); break;
-    case VLM_STEP_LEAVE: status = vlm_leave(handle, entry->node); break;
-    case VLM_STEP_SEARCH: status = vlm_search(handle, entry->node, &number); break;
-    case VLM_STEP_TAKE: status = vlm_take(handle, entry->pid, &ast); break;
-    default: return VLM_BADPARAM;
-    }
-    if (status == VLM_INSFMEM)
-        return VLM_INSFMEM;
-    return status == entry->status && number == entry->number && ast.kind == entry->ast.kind
-                   && ast.routine == entry->ast.routine && ast.param == entry->ast.param && ast.lkid == entry->ast.lkid
-               ? VLM_NORMAL
-               : VLM_BADPARAM;
-}
+/* Makes the step of a journal's entry on a lock manager, and compares its answer. All entries of a hub, in their order,
+ * bring a new lock manager to the state of the hub's. It costs what the step costs.
+ * NORMAL: the answer is the entry's. A step that was answered INSFMEM changed nothing, and is not made.
+ * INSFMEM: memory was refused here; replay the same entry again.
+ * BADPARAM: the answer is another one, and the step was made; or the struct is no entry, or the handle has no lock
+ * manager, and nothing has changed. */
+uint32_t vlm_replay(vlm *handle, const vlm_entry *entry);
 
 #ifdef __cplusplus
 }

@@ -1,3 +1,5 @@
 mod LooseValues
 mod Values
 mod Serving
+mod AnswersBack
+mod EntriesBack

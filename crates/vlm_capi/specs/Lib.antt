@@ -13,3 +13,4 @@ pub mod Entries
 pub mod Hubs
 pub mod ScriptLines
 pub mod Printed
+pub mod Replay

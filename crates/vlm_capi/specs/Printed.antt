@@ -1,5 +1,5 @@
 -- The lines that C has printed.
-use Rattle.std.specs.Prelude.{ℕ, List, nat_le, ◌==◌, ◌&&◌, length, take, codes, Option, Some, None, if◌then◌else◌}
+use Rattle.std.specs.Prelude.{◌≡◌, ℕ, false, List, nat_le, ◌==◌, ◌&&◌, length, take, codes, Option, Some, None, if◌then◌else◌}
 use Rattle.std.specs.Option.{option_map}
 use Rattle.vlm_words.specs.Padding.{padded}
 use Rattle.vlm_words.specs.declared.asts.Ast.{Ast}
@@ -17,6 +17,7 @@ use Rattle.vlm_capi.specs.declared.printed.VlmText.{VlmText}
 use Rattle.vlm_capi.specs.declared.replies.VlmAst.{VlmAst}
 use Rattle.vlm_capi.specs.declared.script_lines.VlmLine.{VlmLine}
 use Rattle.vlm_capi.specs.declared.shown.VlmLock.{VlmLock}
+use Rattle.vlm_capi.specs.Replies.{answer_number, answer_status}
 use Rattle.vlm_capi.specs.Words.{mode_of, node_of}
 
 -- the condition with this number
@@ -54,6 +55,20 @@ answer_told kind cond number =
     if number == 0 then (if (kind == 8) && (condition_number cond == 1) then Victim None else Plain cond)
     else (if kind == 1 then Process number
     else (if kind == 8 then Victim (Some number) else Lock cond number))
+
+-- the answers to a line of this kind
+abbrev pub IsAnswerTo : ℕ → Answer → Type 0
+IsAnswerTo kind (Process pid) = (kind ≡ 1) × ((pid == 0) ≡ false)
+IsAnswerTo kind (Lock cond lkid) = ((kind == 1) ≡ false) × ((kind == 8) ≡ false) × ((lkid == 0) ≡ false)
+IsAnswerTo kind (Victim (Some lkid)) = (kind ≡ 8) × ((lkid == 0) ≡ false)
+IsAnswerTo kind (Victim None) = kind ≡ 8
+IsAnswerTo kind (Taken ast) = ⊥
+IsAnswerTo kind (Plain cond) = ((kind == 8) && (condition_number cond == 1)) ≡ false
+
+-- the answer to a line of this kind that C has as this condition and this number
+abbrev pub IsToldOf : ℕ → Cond → ℕ → Answer → Type 0
+IsToldOf kind cond number answer =
+    IsAnswerTo kind answer × (answer_status answer ≡ condition_number cond) × (answer_number answer ≡ number)
 
 -- the AST of this kind of a struct
 abbrev pub ast_with : AstKind → VlmAst → Ast

@@ -26,7 +26,6 @@ use Rattle.vlm_words.specs.Resources.{is_at}
 use Rattle.vlm_core.specs.Locks.{lock_view}
 use Rattle.vlm_core.specs.Readers.{all_locks, all_queued, after_first, has_pid, key_of as core_key}
 use Rattle.vlm_capi.specs.declared.resource_keys.ResourceKey.{ResourceKey}
-use Rattle.vlm_capi.specs.Keys.{queue_of}
 use Rattle.vlm_capi.specs.Copies.{Told, sized}
 use Rattle.vlm_capi.specs.StepWords.{bit}
 use Rattle.vlm_capi.specs.Words.{mode_number}

@@ -100,7 +100,7 @@ fn named_node(step: &Step) -> u32
     }
 }
 
-fn ast_in(answer: &Answer) -> VlmAst
+pub(crate) fn ast_in(answer: &Answer) -> VlmAst
     ensures { result ≡ ast_in answer.now }
 {
     match answer {

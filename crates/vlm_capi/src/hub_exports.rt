@@ -9,6 +9,8 @@ ghost use Rattle.vlm_capi.specs.Copies.{Told, sized};
 ghost use Rattle.vlm_capi.specs.Words.{is_options};
 ghost use Rattle.vlm_capi.specs.Entries.{entry_of};
 ghost use Rattle.vlm_capi.specs.Lending.{IsSameHeld};
+ghost use Rattle.vlm_capi.specs.Replay.{FitsStructs, Replayed, step_of};
+ghost use Rattle.vlm_journal.specs.declared.entries.Entry.{Entry};
 ghost use Rattle.vlm_capi.specs.Hubs.{CountsPosts, CutsHubIf, GivesPortIf, LosesNode, OpensHubIf, TurnsHub, cut_of, entries_shown, lost_status, node_count, turn_count, turn_status};
 
 use crate::arguments::{VlmOptions, keys_of};
@@ -206,4 +208,16 @@ pub extern "C" fn vlm_hub_close(alloc: Global, handle: &mut Handle)
     ensures { handle.new.slot.held ≡ None }
 {
     *handle = Handle::closed(alloc);
+}
+
+/// Makes the step of a journal's entry on a core, and compares the answer with the entry's. The step of an entry that a
+/// hub wrote is the step that the hub made.
+#[unsafe(no_mangle)]
+#[tactic(auto, using(crate::proofs::EntriesBack::entry_back))]
+pub extern "C" fn vlm_replay(handle: &mut Handle, entry: &VlmEntry) -> u32
+    ensures replayed { Replayed entry.now handle.old.slot.held handle.new.slot.held result }
+    ensures step { (made : Entry) → FitsStructs made.step → entry.now ≡ entry_of made
+        → step_of entry.now ≡ Some made.step }
+{
+    handle.replay(entry)
 }

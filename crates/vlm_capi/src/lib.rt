@@ -17,6 +17,7 @@
 //! | `replies` | turns answers into the values that C gets |
 //! | `shown` | the structs that readers copy out |
 //! | `items`, `entries` | the structs that C gets of an item and of an entry of the journal |
+//! | `replay` | makes the step of an entry of the journal again |
 //! | `copies` | values that a call copies out to C |
 //! | `text_exports` | the calls of include/vlm.h that read and print the lines of a script |
 //! | `script_lines`, `printed` | the structs of a line that was read, and of one that was printed |
@@ -48,6 +49,7 @@ mod padding;
 mod port_exports;
 mod posts;
 mod printed;
+mod replay;
 mod replies;
 mod resource_keys;
 mod script_lines;

@@ -2,12 +2,13 @@
 
 ghost use Rattle.std.specs.Prelude.{◌≡◌};
 ghost use Rattle.std.specs.Option.{option_map};
-ghost use Rattle.vlm_capi.specs.Printed.{answer_printed, answer_told, ast_told, ast_with, block_printed, condition_of, row_told, tail_printed, taken_printed, taken_told, text_of, told_printed};
+ghost use Rattle.vlm_words.specs.declared.steps.Answer.{Answer};
+ghost use Rattle.vlm_capi.specs.Printed.{IsToldOf, answer_printed, answer_told, ast_told, ast_with, block_printed, condition_of, row_told, tail_printed, taken_printed, taken_told, text_of, told_printed};
 
 use crate::numbers::{mode_of, node_of};
 use crate::padding::line_cells;
 use crate::replies::VlmAst;
-use crate::script_lines::VlmLine;
+use crate::script_lines::{DECLARE, LEAVE, SEARCH, VlmLine};
 use crate::shown::VlmLock;
 use std::mem::size_of;
 use vlm_lines::{PrintedLine, answer_line, node_line, status_block_line, status_tail_line};
@@ -77,19 +78,20 @@ fn condition_of(number: u32) -> Option<Cond>
     Some(cond)
 }
 
-#[tactic(auto, unfolding(crate::specs::Printed::answer_told))]
+#[tactic(auto, using(crate::proofs::AnswersBack::told_back), unfolding(crate::specs::Printed::answer_told))]
 fn answer_told(kind: u32, cond: Cond, number: u32) -> Answer
-    ensures { result ≡ answer_told kind cond number }
+    ensures told { result ≡ answer_told kind cond number }
+    ensures back { (answer : Answer) → IsToldOf kind cond number answer → result ≡ answer }
 {
     if number == 0 {
-        if kind == 8 && cond.number() == 1 {
+        if kind == SEARCH && cond.number() == 1 {
             return Answer::Victim(None);
         }
         return Answer::Plain(cond);
     }
     match kind {
-        1 => Answer::Process(number),
-        8 => Answer::Victim(Some(number)),
+        DECLARE => Answer::Process(number),
+        SEARCH => Answer::Victim(Some(number)),
         _ => Answer::Lock(cond, number),
     }
 }
@@ -132,8 +134,8 @@ fn answer_printed(line: &VlmLine, answer: Answer) -> Option<PrintedLine>
     ensures { option_map (λ text. text.items) result ≡ answer_printed line.now answer }
 {
     match line.kind {
-        7 => Some(node_line(node_of(line.number)?, answer)),
-        8 => Some(answer_line(b"search", answer)),
+        LEAVE => Some(node_line(node_of(line.number)?, answer)),
+        SEARCH => Some(answer_line(b"search", answer)),
         _ if line.name_len > 15 => None,
         _ => Some(answer_line(&line.name[..line.name_len as usize], answer)),
     }

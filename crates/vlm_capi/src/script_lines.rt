@@ -18,6 +18,35 @@ pub(crate) const LINE_SIZE: u32 = 464;
 
 const _: () = prove!(size_of::<VlmLine>() == 464);
 
+// The kinds of line, as include/vlm.h names them.
+const EMPTY: u32 = 0;
+
+pub(crate) const DECLARE: u32 = 1;
+
+const SET: u32 = 2;
+
+const ENQ: u32 = 3;
+
+const CVT: u32 = 4;
+
+const DEQ: u32 = 5;
+
+const END: u32 = 6;
+
+pub(crate) const LEAVE: u32 = 7;
+
+pub(crate) const SEARCH: u32 = 8;
+
+const AST: u32 = 9;
+
+const BLOCK: u32 = 10;
+
+const TAIL: u32 = 11;
+
+const SHOW: u32 = 12;
+
+const TAILS: u32 = 13;
+
 /// A line of a script.
 #[repr(C)]
 #[derive(Clone, Copy)]
@@ -103,44 +132,44 @@ fn line_words(line: Line) -> VlmLine
     ensures { result ≡ line_words line }
 {
     match line {
-        Line::Empty => line_of_kind(0),
+        Line::Empty => line_of_kind(EMPTY),
         Line::Declare(name, declaration) => VlmLine {
             declaration: declaration_words(declaration),
-            ..named_line(1, name)
+            ..named_line(DECLARE, name)
         },
         Line::Set(name, setting) => VlmLine {
             setting: setting_words(setting),
-            ..named_line(2, name)
+            ..named_line(SET, name)
         },
-        Line::Enq(name, request) => with_request(named_line(3, name), request),
+        Line::Enq(name, request) => with_request(named_line(ENQ, name), request),
         Line::Cvt(name, conversion) => VlmLine {
             request: conversion_words(conversion),
-            ..named_line(4, name)
+            ..named_line(CVT, name)
         },
         Line::Deq(name, dequeue) => VlmLine {
             dequeue: dequeue_words(dequeue),
-            ..named_line(5, name)
+            ..named_line(DEQ, name)
         },
-        Line::End(name) => named_line(6, name),
+        Line::End(name) => named_line(END, name),
         Line::Leave(node) => VlmLine {
             number: u32::from(node),
-            ..line_of_kind(7)
+            ..line_of_kind(LEAVE)
         },
         Line::Search(node) => VlmLine {
             number: u32::from(node),
-            ..line_of_kind(8)
+            ..line_of_kind(SEARCH)
         },
-        Line::Ast(name) => named_line(9, name),
+        Line::Ast(name) => named_line(AST, name),
         Line::Block(name, number) => VlmLine {
             number: u32::from(number),
-            ..named_line(10, name)
+            ..named_line(BLOCK, name)
         },
         Line::Tail(name, number) => VlmLine {
             number: u32::from(number),
-            ..named_line(11, name)
+            ..named_line(TAIL, name)
         },
-        Line::Show => line_of_kind(12),
-        Line::Tails => line_of_kind(13),
+        Line::Show => line_of_kind(SHOW),
+        Line::Tails => line_of_kind(TAILS),
     }
 }
 
@@ -152,7 +181,7 @@ pub(crate) fn read_words(read: Result<Line, LineFault>) -> VlmLine
         Ok(line) => line_words(line),
         Err(fault) => VlmLine {
             fault: fault_number(fault),
-            ..line_of_kind(0)
+            ..line_of_kind(EMPTY)
         },
     }
 }
