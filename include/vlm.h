@@ -3,8 +3,9 @@
  * What the caller owes, which nothing checks:
  * - A handle is all bytes 0 (VLM_CLOSED), or as a call of this library left it. Its bytes are not written by others,
  *   and not copied to be used twice; it may be moved while no call runs.
- * - One call at a time has a handle. It may go from thread to thread, where a lock, the start or join of a thread or a
- *   sequentially consistent atomic orders the calls.
+ * - One call at a time has a handle, a reading too: a call takes what the handle holds, and puts it back at its end. So
+ *   no handle is const. It may go from thread to thread, where a lock, the start or join of a thread or a sequentially
+ *   consistent atomic orders the calls.
  * - A pointer is not null and points, for the call, to initialized objects of its type: `name` to `name_len` bytes and
  *   `keys` to `keys_len`. They are not null even where the length is 0. No two arguments overlap.
  * - malloc, realloc and free are those of one allocator, which aligns as C says. No call is made from a signal handler
@@ -305,7 +306,7 @@ typedef struct vlm_line {
     uint32_t reserved[2];
 } vlm_line;
 
-/* A printed line with its line feed. No line has more than 168 bytes. */
+/* A printed line with its line feed. */
 typedef struct vlm_text {
     uint32_t size;
     uint32_t len;
@@ -438,7 +439,7 @@ VLM_ASSERT_AT(struct vlm_text, size, 0);
 VLM_ASSERT_AT(struct vlm_text, len, 4);
 VLM_ASSERT_AT(struct vlm_text, bytes, 8);
 
-/* The version of the library, in the form of VLM_VERSION. */
+/* Tells the version of the library, in the form of VLM_VERSION. */
 uint32_t vlm_version(void);
 
 /* Puts a new lock manager into a handle that has none. NORMAL, INSFMEM, BADPARAM where it has one, or where the options
@@ -491,7 +492,8 @@ uint32_t vlm_leave(vlm *handle, uint32_t node);
  * DEPARTED. */
 uint32_t vlm_search(vlm *handle, uint32_t node, uint32_t *victim);
 
-/* The readings: they change nothing, and take constant time. NORMAL, or BADPARAM and nothing is written. */
+/* Read a status block, or count. Nothing changes, and each call takes constant time. NORMAL, or BADPARAM and nothing is
+ * written. */
 uint32_t vlm_block(vlm *handle, uint32_t pid, uint32_t block, vlm_lksb *lksb);
 uint32_t vlm_pending(vlm *handle, uint32_t pid, size_t *count);
 size_t vlm_process_count(vlm *handle);  /* 0 also on a handle with no lock manager */
@@ -499,8 +501,8 @@ size_t vlm_resource_count(vlm *handle); /* 0 also on a handle with no lock manag
 size_t vlm_lock_count(vlm *handle);     /* waiting locks included; 0 also on a handle with no lock manager */
 size_t vlm_queued_count(vlm *handle);   /* the queued requests; 0 also on a handle with no lock manager */
 
-/* The readings that walk and look up, each in constant time. NORMAL, or BADPARAM and nothing is written: there is no
- * such process or resource, or not any more.
+/* Read a process or a resource by its place in a walk, or a resource by its name. Each call takes constant time.
+ * NORMAL, or BADPARAM and nothing is written: there is no such process or resource, or not any more.
  *
  * vlm_next_process reads the living process that was made after `pid`, or with 0 the first one. vlm_next_resource reads
  * the resource that was made after the one in *resource, or the first one where its serial is 0. After the last one
@@ -516,9 +518,10 @@ uint32_t vlm_next_process(vlm *handle, uint32_t pid, vlm_process *process);
 uint32_t vlm_next_resource(vlm *handle, vlm_resource *resource);
 uint32_t vlm_find(vlm *handle, vlm_resource *resource);
 
-/* The readings of single locks. Each takes constant time, except where it says more. NORMAL, or BADPARAM and nothing is
- * written: there is no such lock, process, resource or queue, or not any more. Lock, process, resource and queue are
- * named by the first arguments; a resource by its members, as for vlm_find.
+/* Read single locks: by identification, by place in a walk, or as blockers of another lock. Each call takes constant
+ * time, except where this says more. NORMAL, or BADPARAM and nothing is written: there is no such lock, process,
+ * resource or queue, or not any more. Lock, process, resource and queue are named by the first arguments; a resource by
+ * its members, as for vlm_find.
  *
  * vlm_find_lock reads the lock with an identification, and vlm_lock_resource the resource of a lock. The others walk. A
  * first call reads the first lock: of a queue of a resource (in queue order), of a process, or below a parent lock (in
@@ -543,7 +546,7 @@ uint32_t vlm_next_sublock(vlm *handle, uint32_t lkid, vlm_lock *lock);
 uint32_t vlm_first_blocker(vlm *handle, uint32_t lkid, vlm_lock *lock);
 uint32_t vlm_next_blocker(vlm *handle, uint32_t lkid, uint32_t blocker, vlm_lock *lock);
 
-/* The lines of a script, read and printed as `vlm play` does. The proof holds each of these calls to the definitions
+/* Read and print the lines of a script, as `vlm play` does. The proof holds each of these calls to the definitions
  * that the program is held to. None takes memory. NORMAL; or BADPARAM, and nothing is written, where a struct has
  * another size or its members are those of no line.
  *
@@ -572,8 +575,8 @@ uint32_t vlm_print_resource(vlm *handle, const vlm_resource *resource, vlm_text 
 uint32_t vlm_print_resource_tail(vlm *handle, const vlm_resource *resource, vlm_text *text);
 uint32_t vlm_print_lock(const vlm_lock *lock, vlm_text *text);
 
-/* The name of a condition value, or of another answer, as the manual has it; of this library's own the plain one; null
- * for a number that is none. */
+/* Names a condition value, or another answer: by the name that the manual has, by a plain name if it is this library's
+ * own, and by null if the number is none. */
 static inline const char *vlm_condition_name(uint32_t status) {
     switch (status) {
     case VLM_NORMAL: return "SS$_NORMAL";

@@ -45,14 +45,14 @@ typedef struct vlm_bell {
 #define VLM_BELL_CLOSED \
     { 0, 0, 0, -1, 0, 0, 0 }
 
-/* A bell with a new eventfd. NORMAL, INSFMEM: there was no eventfd to be had; BADPARAM: the bell is open. */
+/* Opens a bell with a new eventfd. NORMAL; INSFMEM: there was no eventfd to be had; BADPARAM: the bell is open. */
 uint32_t vlm_bell_open(vlm_bell *bell);
 
-/* A bell that rings an eventfd of the program, which stays the program's. An event loop polls the descriptor; when it
- * is readable, the loop calls vlm_bell_wait with 0 milliseconds, and reads nothing itself. NORMAL, BADPARAM. */
+/* Opens a bell that rings an eventfd of the program, which stays the program's. An event loop polls the descriptor;
+ * when it is readable, the loop calls vlm_bell_wait with 0 milliseconds, and reads nothing itself. NORMAL, BADPARAM. */
 uint32_t vlm_bell_open_on(vlm_bell *bell, int descriptor);
 
-/* A bell of two functions, which keep the promise of a bell. NORMAL, BADPARAM. */
+/* Opens a bell of two functions, which keep the promise of a bell. NORMAL, BADPARAM. */
 uint32_t vlm_bell_open_with(vlm_bell *bell, void (*ring)(void *context),
                             uint32_t (*wait)(void *context, int milliseconds), void *context);
 

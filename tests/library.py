@@ -32,8 +32,12 @@ TOOLS = (*COMPILERS, "g++", "clang++", "valgrind", "pkg-config", "cmake", "man",
 # The first two numbers of the version: libraries with the same ones fit each other.
 SONAME = "libvlm.so.0.2"
 STRICT = ["-Wall", "-Wextra", "-Wpedantic", "-Werror"]
-# What an installation leaves, beside the shared library.
-FILES = ("bin/vlm", *(f"include/{it.name}" for it in (TOP / "include").glob("*.h")),
+# The files of the repository that an installation has too, at the same places below a folder.
+COPIED = {"": (TOP / "include").glob("*.h*"),
+          "share/doc/vlm/": [TOP / "README.md", TOP / "CHANGELOG.md", *(TOP / "docs").iterdir(),
+                             *(TOP / "examples" / "c").iterdir()]}
+# What an installation leaves, beside the shared library and the manual pages of the calls.
+FILES = ("bin/vlm", *(f"{folder}{it.relative_to(TOP)}" for folder, files in COPIED.items() for it in files),
          "lib/cmake/vlm/vlm-config-version.cmake", "lib/cmake/vlm/vlm-config.cmake", "lib/libvlm.a",
          "lib/pkgconfig/vlm.pc", "share/man/man1/vlm.1", "share/man/man3/vlm.3", "share/vlm/files")
 VALGRIND = ["valgrind", "-q", "--leak-check=full", "--show-leak-kinds=all", "--error-exitcode=9"]
@@ -73,7 +77,8 @@ def installed(_program):
     left = {str(it.relative_to(prefix())): it for it in prefix().rglob("*") if it.is_symlink() or not it.is_dir()}
     links = {name: os.readlink(it) for name, it in left.items() if it.is_symlink()}
     shared = "libvlm.so." + version()
-    yield from difference(sorted(left), sorted([*FILES, f"lib/{shared}", *links]))
+    pages = [f"share/man/man3/{call}.3" for call in calls() | {"vlm_condition_name"}]
+    yield from difference(sorted(left), sorted([*FILES, *pages, f"lib/{shared}", *links]))
     yield from difference(links, {f"lib/{SONAME}": shared, "lib/libvlm.so": SONAME})
 
 
@@ -162,9 +167,9 @@ def package():
     return [f"-I{prefix()}/include", prefix() / "lib" / "libvlm.a"]
 
 
-def options(tool):
+def options(tool, standard="c11"):
     # (valgrind reads what clang tells a debugger by DWARF 4, and not by 5)
-    words = ["-std=c11", "-O1", "-gdwarf-4", *STRICT, "-pthread"]
+    words = [f"-std={standard}", "-O1", "-gdwarf-4", *STRICT, "-pthread"]
     return words if tool in ("none", "helgrind") else [*words, f"-fsanitize={tool}", "-fno-sanitize-recover=all"]
 
 
@@ -368,11 +373,28 @@ def two_heaps(compiler, _program):
         yield from wrong or ran(folder / "both")
 
 
+def shown_by_man(*words):
+    """What man prints, and what is wrong: it ends badly, or warns."""
+    env = {**os.environ, "MANPATH": str(prefix() / "share" / "man"), "MANWIDTH": "100"}
+    ended = subprocess.run(["man", "--warnings", *words], capture_output=True, text=True, timeout=SECONDS, env=env)
+    return ended.stdout, list(difference((ended.returncode, ended.stderr), (0, "")))
+
+
+def call_manuals(_program):
+    """What is wrong with the manual pages of the calls: man finds each by the name of its call, and shows the name, the
+    declaration and what the header says, without a warning."""
+    for call in sorted(calls()):
+        text, wrong = shown_by_man("3", call)
+        words = " ".join(text.split())
+        yield from (f"{call}: {it}" for it in wrong)
+        if not re.search(rf"NAME [^-]*\b{call}\b.* SYNOPSIS .*\b{call}\(.* DESCRIPTION .{{20}}", words):
+            yield f"man 3 {call} shows {words[:400]}"
+
+
 def manual(_program):
     """What is wrong with the manual page of the library: man shows it without a warning, and its example runs."""
     page = prefix() / "share" / "man" / "man3" / "vlm.3"
-    ended = subprocess.run(["man", "--warnings", "-l", page], capture_output=True, text=True, timeout=SECONDS)
-    yield from difference((ended.returncode, ended.stderr), (0, ""))
+    yield from shown_by_man("-l", page)[1]
     source = room() / "manual.c"
     source.write_text(re.search(r"^\.EX\n(.*?)^\.EE", page.read_text(), re.M | re.S)[1].replace("\\e", "\\"))
     source.with_suffix(".out").write_text("lock 1: SS$_NORMAL\n")
@@ -384,9 +406,28 @@ def manual(_program):
 def header(compiler, _program):
     """What is wrong with the headers as C++."""
     source = room() / f"header {compiler}.cc"
-    source.write_text("".join(f'#include "{it.name}"\n' for it in sorted((TOP / "include").glob("*.h"))))
+    source.write_text("".join(f'#include "{it.name}"\n' for it in sorted((TOP / "include").glob("*.h*"))))
     folders = [f"-I{prefix()}/include", f"-I{TOP}/include"]
     yield from ran(compiler, "-std=c++17", *STRICT, "-fsyntax-only", *folders, source)
+
+
+def guards(compiler, sanitizer, _program):
+    """What is wrong with the guards of vlm.hpp."""
+    source = TOP / "tests" / "cpp" / "guards.cc"
+    built = room() / f"guards {compiler} {sanitizer}"
+    wrong = list(ran(compiler, *options(sanitizer, "c++17"), source, *package(), "-o", built))
+    yield from wrong or printed(source, built)
+
+
+def cpp_of_page(_program):
+    """What is wrong with the program in C++ of docs/LIBRARY.md."""
+    page = (TOP / "docs" / "LIBRARY.md").read_text()
+    source = room() / "page.cc"
+    source.write_text(re.search(r"^```cpp\n(.*?)^```", page, re.M | re.S)[1])
+    source.with_suffix(".out").write_text("not queued\ngranted\n")
+    compiler = next(filter(shutil.which, ("g++", "clang++")))
+    wrong = list(ran(compiler, *options("none", "c++17"), source, *package(), "-o", room() / "page"))
+    yield from wrong or printed(source, room() / "page")
 
 
 def rust(_program):
@@ -434,8 +475,13 @@ def once():
              for compiler in COMPILERS for sanitizer in SANITIZERS if links(compiler, sanitizer) for source in SOURCES]
     found += [Test(f"the worked scripts in C by {compiler}", partial(plays, compiler))
               for compiler in COMPILERS if shutil.which(compiler)]
-    found += [Test(f"the headers by {compiler}", partial(header, compiler))
-              for compiler in ("g++", "clang++") if shutil.which(compiler)]
+    if shutil.which("g++") or shutil.which("clang++"):
+        found.append(Test("the lines of C++ in LIBRARY.md", cpp_of_page))
+    for compiler in filter(shutil.which, ("g++", "clang++")):
+        found.append(Test(f"the headers by {compiler}", partial(header, compiler)))
+        found += [Test(f"the guards of vlm.hpp by {compiler} with the sanitizer {sanitizer}",
+                       partial(guards, compiler, sanitizer))
+                  for sanitizer in SANITIZERS[:2] if sanitizer == "none" or links(compiler, sanitizer)]
     found += [Test(f"two heaps in a program by {compiler}", partial(two_heaps, compiler))
               for compiler in COMPILERS if shutil.which(compiler)]
     found += [Test("the names that the libraries show", names_shown), Test("the tests of bindings/python", python)]
@@ -443,7 +489,9 @@ def once():
         found.append(Test("the lines of C in the README", readme))
         found += [Test(f"chosen names with keys of the caller by {call}", partial(hashed_by_keys, call))
                   for call in ("open", "hub")]
-        found += [Test("the manual page of the library", manual)] * bool(shutil.which("man"))
+        if shutil.which("man"):
+            found += [Test("the manual page of the library", manual),
+                      Test("the manual pages of the calls", call_manuals)]
     if shutil.which("pkg-config"):
         found.append(Test("the versions of the program and the package", versions))
         found += [Test(f"pkg-config and {compiler}", partial(by_package, compiler))
