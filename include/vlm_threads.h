@@ -17,9 +17,13 @@
  *     }
  *     vlm_threads_close(layer);
  *
- * Answers. A call returns a condition value of vlm.h, or VLM_TIMEOUT. Modes, flags and queues are vlm.h's. A struct
- * with another size, or with a reserved word that is not 0, is answered VLM_BADPARAM and nothing changes. Arguments are
- * checked, except for the list below.
+ * Answers. A call returns a condition value of vlm.h, or VLM_TIMEOUT. Modes, flags and queues are vlm.h's. Arguments
+ * are checked, except for the list below. A malformed one is answered VLM_BADPARAM and nothing changes.
+ *
+ * Sizes. Set `size` of every struct before a call. Later versions with the same first two numbers add members at the
+ * ends of structs. So a struct may be shorter than the library's: the members that it lacks count as 0, and are not
+ * written. These are always there: up to `keys` in options, `tied` in a declaration, `status` in a request, `wide` in a
+ * dequeue, `most_waiting` in counters. A struct without them, or longer than the library's, is answered VLM_BADPARAM.
  *
  * Threads. Any thread may make any call for any process, at any time between opening and closing; so may a routine,
  * except where a comment says otherwise. A call holds the layer's mutex while it works, and gives it up while it
@@ -27,9 +31,9 @@
  * cancelled by pthread_cancel during a call ends after it, if its cancelability type is deferred, as it is by default.
  *
  * Memory. A call asks for all memory before its step. If memory is refused, it answers VLM_INSFMEM and nothing has
- * changed. Giving up, ending and waking need none. A lock with its request takes about 340 bytes here beside what the
- * core takes, a conversion that waits 250 more. The layer keeps what has ended for later requests, and frees it when it
- * is closed.
+ * changed. Giving up, ending, searching and waking need none. A lock with its request takes about 400 bytes here beside
+ * what the core takes, a conversion that waits 310 more. The layer keeps what has ended for later requests, and frees
+ * it when it is closed.
  *
  * What the caller owes, which nothing checks:
  * - A layer comes from vlm_threads_open, and vlm_threads_close has not begun with it, except in a routine that the
@@ -37,9 +41,9 @@
  *   that declared a tied process ends during a close.
  * - A pointer is not null, except where its comment says so, and points to initialized objects of its type during the
  *   call. A name has name_len bytes, and is not null even with length 0. No two arguments overlap.
- * - The context of a routine lives as long as the routine may run; see vlm_threads_settle.
+ * - The context of a routine lives as long as the routine may run; see `released` and vlm_threads_settle.
  * - A routine or a reader returns. It does not leave by longjmp, a C++ exception or pthread_exit.
- * - A reader of vlm_threads_look makes only the readings of vlm.h, and no call of this header.
+ * - A reader of vlm_threads_look makes only the readings of vlm.h, and no call of this header except vlm_threads_label.
  * - No call is made from a signal handler, or in the forked child of a process with threads.
  * - malloc, calloc, realloc and free belong to one allocator. The library and both headers are of one version.
  */
@@ -57,6 +61,38 @@ extern "C" {
 /* A lock manager with its mutex, its processes and its threads. */
 typedef struct vlm_threads vlm_threads;
 
+/* What is told of waits. */
+
+enum { VLM_THREADS_LABEL = 32, VLM_THREADS_CIRCLE = 16 };
+
+/* A request that waits, and a lock for which it waits. */
+typedef struct vlm_threads_wait {
+    uint32_t size;
+    uint32_t milliseconds; /* how long it has waited */
+    vlm_lock waits;        /* the lock whose request waits */
+    vlm_lock blocks;       /* the lock that it waits for; lkid 0 if there is none */
+    uint32_t name_len;     /* of the resource of both */
+    uint8_t name[32];
+    uint8_t waits_label[VLM_THREADS_LABEL];  /* of the process that waits */
+    uint8_t blocks_label[VLM_THREADS_LABEL]; /* of the other process */
+} vlm_threads_wait;
+
+/* A deadlock: the circle of waits that leads from the victim's process back to it. */
+typedef struct vlm_threads_deadlock {
+    uint32_t size;
+    uint32_t victim; /* the lock whose request is to end by DEADLOCK */
+    uint32_t pid;    /* its process */
+    uint32_t length; /* how many waits the circle has */
+    /* The first of them, at most 16. The first is the victim's request; each next one is of the process that the one
+     * before waits for. */
+    vlm_threads_wait waits[VLM_THREADS_CIRCLE];
+} vlm_threads_deadlock;
+
+/* The hooks of a layer. A hook runs without the layer's mutex, and may make any call except vlm_threads_close and
+ * vlm_threads_settle. What it is given lasts as long as its call. */
+typedef void (*vlm_threads_deadlock_hook)(void *context, const vlm_threads_deadlock *deadlock);
+typedef void (*vlm_threads_wait_hook)(void *context, const vlm_threads_wait *wait);
+
 /* Opening and closing. */
 
 /* Who runs the routines. */
@@ -71,43 +107,54 @@ typedef struct vlm_threads_options {
     uint32_t search_milliseconds; /* the time between two searches for deadlocks, or 0: the layer never searches */
     uint32_t has_keys;            /* 1: names are hashed by keys; 0: by fixed keys */
     uint8_t keys[16];
-    uint32_t reserved[8];
+    uint32_t victim_milliseconds; /* a request that has waited less is no victim; see vlm_threads_search */
+    uint32_t long_milliseconds;   /* a longer wait is told to `long_wait`; 0: none is */
+    /* Is told of each deadlock before its victim ends, by the thread that searches; or null. */
+    vlm_threads_deadlock_hook deadlock;
+    void *deadlock_context;
+    /* Is told once of each wait that lasts longer than long_milliseconds, by the thread that searches at intervals; or
+     * null. */
+    vlm_threads_wait_hook long_wait;
+    void *long_wait_context;
 } vlm_threads_options;
 
 /* Makes a layer with a lock manager. Starts a thread that runs routines (VLM_THREADS_BY_LAYER), and one that searches
- * (search_milliseconds not 0). No signal is delivered to them. *layer is null unless the answer is NORMAL.
+ * and tells of long waits (search_milliseconds or long_milliseconds not 0). No signal is delivered to them. *layer is
+ * null unless the answer is NORMAL.
  * INSFMEM: memory, a thread or an eventfd was refused.
- * BADPARAM: the options are malformed. */
+ * BADPARAM: the options are malformed; also long_milliseconds without `long_wait`. */
 uint32_t vlm_threads_open(const vlm_threads_options *options, vlm_threads **layer);
 
 /* Ends all processes, as if all nodes departed. A call that waits answers DEPARTED, and so does each later call for a
  * process. Pending events are dropped, and no routine begins any more. NORMAL. */
 uint32_t vlm_threads_stop(vlm_threads *layer);
 
-/* Stops the layer, waits until each call that sleeps or searches and the routine that runs have returned, ends the
- * layer's threads, and frees everything. The answer is NORMAL, also with a null layer.
- * BADPARAM: a routine of the layer calls it; nothing happens. */
+/* Stops the layer, waits until each call that sleeps or searches and each routine that runs have returned, calls the
+ * `released` routines that are left, ends the layer's threads, and frees everything. The answer is NORMAL, also with a
+ * null layer.
+ * BADPARAM: a routine or a hook of the layer calls it; nothing happens. */
 uint32_t vlm_threads_close(vlm_threads *layer);
 
 /* Processes. A process owns locks. A program has one for each thread, session or client. */
 
 typedef struct vlm_threads_declaration {
     uint32_t size;
-    uint32_t node;     /* 1 to 8 */
-    uint32_t group;    /* the UIC group, to 65535 */
-    uint32_t syslck;   /* 1 with the privilege SYSLCK */
-    uint32_t quota;    /* how many locks it may have, to 65535 */
-    uint32_t requests; /* how many of its requests may be under way at once, 1 to 255 */
-    uint32_t tied;     /* 1: the process is run down when the calling thread ends */
-    uint32_t reserved[9];
+    uint32_t node;                    /* 1 to 8 */
+    uint32_t group;                   /* the UIC group, to 65535 */
+    uint32_t syslck;                  /* 1 with the privilege SYSLCK */
+    uint32_t quota;                   /* how many locks it may have, to 65535 */
+    uint32_t requests;                /* how many of its requests may be under way at once, 1 to 255 */
+    uint32_t tied;                    /* 1: the process is run down when the calling thread ends */
+    uint32_t own_queue;               /* 1: its events wait in a queue of its own, for vlm_threads_process_dispatch */
+    uint8_t label[VLM_THREADS_LABEL]; /* a text for people, with zeros behind it, or zeros */
 } vlm_threads_declaration;
 
 /* Declares a process. *pid is 0 unless the answer is NORMAL. A tied process ends when the thread returns from its start
  * routine, calls pthread_exit or is cancelled; one of the main thread only by pthread_exit. A process takes about 75
- * bytes for each of `requests`, and 300 more.
+ * bytes for each of `requests`, and 420 more.
  * BADPARAM: the declaration is malformed, or the node has declared 65,535 processes.
  * DEPARTED: the node has departed.
- * INSFMEM: memory was refused, or with `tied` a key for data of threads. */
+ * INSFMEM: memory was refused, with `tied` a key for data of threads, or with `own_queue` an eventfd. */
 uint32_t vlm_threads_declare(vlm_threads *layer, const vlm_threads_declaration *declaration, uint32_t *pid);
 
 /* Ends a process with all its locks. Each value block that it could write becomes invalid. A call that waits for the
@@ -121,6 +168,10 @@ uint32_t vlm_threads_rundown(vlm_threads *layer, uint32_t pid);
  * BADPARAM: the node is not 1 to 8. DEPARTED: it has departed before. */
 uint32_t vlm_threads_leave(vlm_threads *layer, uint32_t node);
 
+/* Reads the label of a process, 32 bytes. A reader of vlm_threads_look may call it too.
+ * NONEXPR: there is no such process; label is zeros. */
+uint32_t vlm_threads_label(vlm_threads *layer, uint32_t pid, uint8_t *label);
+
 /* Routines. An event tells a completion routine how its request ended, or a blocking routine that its lock is in the
  * way of another request. It lasts as long as the call of the routine. A request ends with the status NORMAL,
  * VALNOTVALID or WIDENOTVALID if it was granted, else with ABORT, CANCEL or DEADLOCK. */
@@ -133,10 +184,15 @@ typedef struct vlm_threads_event {
     uint32_t status;    /* of a completion: how the request ended; else 0 */
     uint32_t value_len; /* of a grant with VLM_VALBLK: 16, or 64 with VLM_WIDE; else 0 */
     uint8_t value[64];  /* the value block that the grant returned, valid or not; else what the conversion was given */
-    uint32_t reserved[8];
+    /* Of a warning: the mode that the first queued request in whose way the lock is wants. It is VLM_NO_MODE if there
+     * is none any more, and in a completion. */
+    uint32_t wanted;
 } vlm_threads_event;
 
 typedef void (*vlm_threads_routine)(void *context, const vlm_threads_event *event);
+
+/* Is given both contexts of a request, once neither of its routines runs or will run. */
+typedef void (*vlm_threads_released)(void *completion_context, void *blocking_context);
 
 /* Requests. */
 
@@ -154,7 +210,7 @@ typedef struct vlm_threads_request {
     void *blocking_context;         /* its first argument; may be null */
     uint32_t lkid;                  /* written: the lock, or 0 if there is none */
     uint32_t status;                /* written: how the request ended, or 0 if it was refused or has not ended */
-    uint32_t reserved[10];
+    vlm_threads_released released;  /* called once for a request that was accepted, or null */
 } vlm_threads_request;
 
 /* Asks for a new lock and waits until the request has ended. With these answers there is a lock, and `lkid` is written:
@@ -201,6 +257,11 @@ uint32_t vlm_threads_convert(vlm_threads *layer, vlm_threads_request *request);
 uint32_t vlm_threads_start_enq(vlm_threads *layer, vlm_threads_request *request, const uint8_t *name, size_t name_len);
 uint32_t vlm_threads_start_convert(vlm_threads *layer, vlm_threads_request *request);
 
+/* Reads `lkid` of a request while another thread may be in the call for it: the lock that this call waits for, or 0 if
+ * it does not wait yet. With it, vlm_threads_deq with VLM_DEQ_CANCEL ends this one wait. The request has been
+ * initialized, and lives. NORMAL. */
+uint32_t vlm_threads_lkid(vlm_threads *layer, const vlm_threads_request *request, uint32_t *lkid);
+
 typedef struct vlm_threads_dequeue {
     uint32_t size;
     uint32_t pid;
@@ -208,7 +269,6 @@ typedef struct vlm_threads_dequeue {
     uint32_t lock;
     const uint8_t *value; /* what is written to the value block if the lock holds PW or EX, or null */
     uint32_t wide;        /* 1: value has 64 bytes; 0: it has 16 */
-    uint32_t reserved[7];
 } vlm_threads_dequeue;
 
 /* Gives a lock up. With VLM_DEQALL gives up all locks below it, or with lock 0 all locks of the process. With
@@ -224,28 +284,39 @@ uint32_t vlm_threads_deq(vlm_threads *layer, const vlm_threads_dequeue *dequeue)
  * NONEXPR, DEPARTED: as vlm_threads_rundown; *cancelled is 0. */
 uint32_t vlm_threads_cancel(vlm_threads *layer, uint32_t pid, uint32_t *cancelled);
 
-/* Delivery. Routines run one at a time, without the layer's mutex, oldest event first. So the events of a process come
- * in the core's order: the completion of a grant before the warning of that grant. Each completion is told once, unless
- * its process has ended. A warning is dropped if its grant is over: the lock has gone, or a conversion was granted.
+/* Delivery. Events wait in queues: that of the layer, and that of each process with `own_queue`. The routines of a
+ * queue run one at a time, without the layer's mutex, oldest event first. So the events of a process come in the core's
+ * order: the completion of a grant before the warning of that grant. Each completion is told once, unless its process
+ * has ended. A warning is dropped if its grant is over: the lock has gone, or a conversion was granted.
  *
- * A routine may make any call except vlm_threads_close and vlm_threads_settle. If a routine waits, no other routine
- * runs until it returns. Its wait ends all the same, because the thread that makes the granting step wakes it. But if
- * the lock must be given up by another routine, that routine can't run: use `milliseconds`, or a start form. */
+ * A routine may make any call except vlm_threads_close and vlm_threads_settle. If a routine waits, no other routine of
+ * its queue runs until it returns. Its wait ends all the same, because the thread that makes the granting step wakes
+ * it. But if the lock must be given up by another routine of the queue, that routine can't run: use `milliseconds`, a
+ * start form, or another queue.
+ *
+ * A `released` routine runs as an event of the queue does. It is called after the lock has gone or got another mode,
+ * the request has ended without a grant, or the process has ended. */
 
-/* Tells the file descriptor that is readable while an event is pending, for poll, select and epoll. Only the layer
- * reads, writes and closes it.
+/* Tells the file descriptor of the layer's queue, for poll, select and epoll. It is readable while an event is pending
+ * and no dispatch of the queue runs. Only the layer reads, writes and closes it.
  * BADPARAM: the layer runs the routines itself; *descriptor is -1. */
 uint32_t vlm_threads_fd(vlm_threads *layer, int *descriptor);
 
 /* Runs, in the calling thread, the routines of the events that are pending at the call; not of those that come
- * meanwhile. *delivered is how many. It is 0 if another dispatch runs, in this thread or another.
+ * meanwhile. *delivered is how many. It is 0 if another dispatch of the queue runs, in this thread or another.
  * BADPARAM: the layer runs the routines itself; *delivered is 0. */
 uint32_t vlm_threads_dispatch(vlm_threads *layer, uint32_t *delivered);
 
-/* Waits until the routine that runs, if one does, has returned. To free the context of a blocking routine, give its
- * lock up and then call this. To free all contexts of a process, run it down and then call this. No such routine runs
- * then, or will run. A completion routine of a living process is called once in any case.
- * BADPARAM: a routine calls it. */
+/* The same for a process with `own_queue`, whoever runs the routines of the layer's queue. A slow routine stalls only
+ * its own process then. The descriptor is closed when the process ends: stop polling it before a rundown.
+ * BADPARAM: the process has no queue of its own. NONEXPR, DEPARTED: as vlm_threads_rundown. */
+uint32_t vlm_threads_process_fd(vlm_threads *layer, uint32_t pid, int *descriptor);
+uint32_t vlm_threads_process_dispatch(vlm_threads *layer, uint32_t pid, uint32_t *delivered);
+
+/* Waits until each routine and hook that runs has returned. To free the context of a blocking routine, give its lock up
+ * and then call this. To free all contexts of a process, run it down and then call this. No such routine runs then, or
+ * will run, except `released`. A completion routine of a living process is called once in any case.
+ * BADPARAM: a routine or a hook calls it. */
 uint32_t vlm_threads_settle(vlm_threads *layer);
 
 /* Deadlocks. */
@@ -254,6 +325,17 @@ uint32_t vlm_threads_settle(vlm_threads *layer);
  * layer's own thread does the same each search_milliseconds, if a request waits. The search for a victim keeps the
  * mutex, and costs more the more requests wait (docs/PERFORMANCE.md). After each victim the mutex is let go: the victim
  * is told, and the threads that wait for the mutex have it before the next search.
+ *
+ * The victim is the most recent deadlocked request. With victim_milliseconds a search ends there, without a victim,
+ * while that request has waited less. Older deadlocks wait with it. So no request ends by DEADLOCK before it has waited
+ * that long, and a deadlock lasts that long at least.
+ *
+ * The hook `deadlock` is called once for each victim, and then the layer looks again. If the hook has resolved the
+ * deadlock, by cancelling a request of its choice say, there is no victim. If two threads search at once, one may end
+ * the victim while the other is in the hook.
+ *
+ * With victim_milliseconds or a hook, the layer reads all waits before each search, under the mutex. It takes time for
+ * each pair of a request and a lock that it waits for: 1,000 requests in one queue have 500,000.
  * DEPARTED: all nodes have departed. */
 uint32_t vlm_threads_search(vlm_threads *layer, uint32_t *victims);
 
@@ -298,7 +380,6 @@ typedef struct vlm_threads_counters {
     uint64_t events;       /* pending */
     uint64_t waiting;      /* requests that are queued */
     uint64_t most_waiting; /* how many were queued at once, at most */
-    uint64_t more[8];      /* 0 */
 } vlm_threads_counters;
 
 /* Reads all counters at one moment.
@@ -311,12 +392,20 @@ uint32_t vlm_threads_read_counters(vlm_threads *layer, vlm_threads_counters *cou
 uint32_t vlm_threads_print(const vlm_threads_counters *counters, FILE *file);
 uint32_t vlm_threads_print_prometheus(const vlm_threads_counters *counters, FILE *file);
 
-VLM_ASSERT(sizeof(struct vlm_threads_options) == 64);
+/* Print what a hook was given: a wait or a deadlock as a line of text, with the locks, modes and processes. A process
+ * without a label is called by its number.
+ * BADPARAM: the size is wrong; nothing is printed. */
+uint32_t vlm_threads_print_wait(const vlm_threads_wait *wait, FILE *file);
+uint32_t vlm_threads_print_deadlock(const vlm_threads_deadlock *deadlock, FILE *file);
+
+VLM_ASSERT(sizeof(struct vlm_threads_wait) == 236);
+VLM_ASSERT(sizeof(struct vlm_threads_deadlock) == 3792);
+VLM_ASSERT(sizeof(struct vlm_threads_options) == 72);
 VLM_ASSERT(sizeof(struct vlm_threads_declaration) == 64);
-VLM_ASSERT(sizeof(struct vlm_threads_event) == 120);
-VLM_ASSERT(sizeof(struct vlm_threads_request) == 112);
-VLM_ASSERT(sizeof(struct vlm_threads_dequeue) == 56);
-VLM_ASSERT(sizeof(struct vlm_threads_counters) == 736);
+VLM_ASSERT(sizeof(struct vlm_threads_event) == 92);
+VLM_ASSERT(sizeof(struct vlm_threads_request) == 80);
+VLM_ASSERT(sizeof(struct vlm_threads_dequeue) == 32);
+VLM_ASSERT(sizeof(struct vlm_threads_counters) == 672);
 
 #ifdef __cplusplus
 }

@@ -430,6 +430,35 @@ def cpp_of_page(_program):
     yield from wrong or printed(source, room() / "page")
 
 
+# Members that a header of the layer for threads did not have at first.
+LATER_MEMBERS = {"options": "victim_milliseconds", "declaration": "own_queue", "request": "released"}
+# Programs that use none of them.
+OLDER = ("count", "cache", "timed_wait", "event_loop")
+
+
+def older_header():
+    """A folder with the header of the layer for threads as it would be without its later members."""
+    folder = room() / "an older header"
+    folder.mkdir(exist_ok=True)
+    text = (TOP / "include" / "vlm_threads.h").read_text()
+    for name, first in LATER_MEMBERS.items():
+        text, count = re.subn(rf"\n {{4}}[^\n]*\b{first};.*?(?=\n}} vlm_threads_{name};)", "", text, flags=re.S)
+        if not count:
+            raise LookupError(f"{first} of vlm_threads_{name}")
+        text = re.sub(rf"VLM_ASSERT\(sizeof\(struct vlm_threads_{name}\).*", "", text)
+    (folder / "vlm_threads.h").write_text(text)
+    return folder
+
+
+def under_older_header(compiler, _program):
+    """What is wrong with programs of an older header, whose structs are shorter than the library's."""
+    folder = older_header()
+    for name in OLDER:
+        source, built = TOP / "examples" / "c" / f"{name}.c", room() / f"{name} of old by {compiler}"
+        wrong = list(ran(compiler, "-std=c11", *STRICT, "-pthread", f"-I{folder}", source, *package(), "-o", built))
+        yield from wrong or printed(source, built)
+
+
 def rust(_program):
     """What is wrong with the tests of the package for Rust."""
     copy = room() / "rust"
@@ -482,6 +511,8 @@ def once():
         found += [Test(f"the guards of vlm.hpp by {compiler} with the sanitizer {sanitizer}",
                        partial(guards, compiler, sanitizer))
                   for sanitizer in SANITIZERS[:2] if sanitizer == "none" or links(compiler, sanitizer)]
+    found += [Test(f"a program of an older header by {compiler}", partial(under_older_header, compiler))
+              for compiler in COMPILERS if shutil.which(compiler)]
     found += [Test(f"two heaps in a program by {compiler}", partial(two_heaps, compiler))
               for compiler in COMPILERS if shutil.which(compiler)]
     found += [Test("the names that the libraries show", names_shown), Test("the tests of bindings/python", python)]

@@ -1,65 +1,24 @@
-/* The layer for threads, vlm_threads.h: opening and closing, searches and counters. Not proved. */
+/* The layer for threads, vlm_threads.h: opening and closing, readers and counters. Not proved. */
 #include "vlm_threads_parts.h"
 
 #include <signal.h>
 #include <stdlib.h>
-#include <string.h>
 #include <sys/eventfd.h>
 #include <unistd.h>
 
-/* Searches. */
+/* Readers. */
 
-/* The first node that has not departed, or the last one. */
-static uint32_t living_node(const vlm_threads *layer) {
-    uint32_t node = 1;
-    while (node < NODES && layer->departed >> node & 1)
-        node++;
-    return node;
-}
+/* The layer at which this thread looks, or null. */
+static _Thread_local const vlm_threads *looked_at;
 
-/* Searches until there is no victim. Between two searches others have the mutex, and the victim wakes. */
-static uint32_t search(vlm_threads *layer, uint32_t *victims) {
-    uint32_t victim = 0;
-    for (*victims = 0;; ++*victims) {
-        uint32_t status = vlm_search(&layer->handle, living_node(layer), &victim);
-        if (status != VLM_NORMAL)
-            return status;
-        layer->counters.searches++;
-        if (!victim)
-            return VLM_NORMAL;
-        vlmt_take_asts(layer);
-        vlmt_let_others(layer);
-    }
-}
-
-static void *watch(void *given) {
-    vlm_threads *layer = given;
-    uint32_t victims;
-    vlmt_lock(layer);
-    while (!layer->is_closing) {
-        struct timespec next = after(now(), layer->search_milliseconds);
-        while (!layer->is_closing && vlmt_sleep(layer, &layer->watched, &next)) {
-        }
-        if (!layer->is_closing && layer->counters.waiting)
-            search(layer, &victims);
-    }
-    vlmt_unlock(layer);
-    return NULL;
-}
-
-uint32_t vlm_threads_search(vlm_threads *layer, uint32_t *victims) {
-    vlmt_lock(layer);
-    int before = vlmt_begin_sleep(layer);
-    uint32_t status = search(layer, victims);
-    vlmt_end_sleep(layer, before);
-    vlmt_unlock(layer);
-    return status;
-}
+bool vlmt_looks(const vlm_threads *layer) { return looked_at == layer; }
 
 uint32_t vlm_threads_look(vlm_threads *layer, vlm_threads_reader reader, void *context) {
     int before = cancels_off();
     vlmt_lock(layer);
+    looked_at = layer;
     reader(context, &layer->handle);
+    looked_at = NULL;
     vlmt_unlock(layer);
     cancels_back(before);
     return VLM_NORMAL;
@@ -84,41 +43,47 @@ static void make_primitives(vlm_threads *layer) {
     vlmt_make_condition(&layer->calm);
 }
 
-static bool has_manager(vlm_threads *layer, const vlm_threads_options *options) {
+static bool has_manager(vlm_threads *layer) {
     vlm_options core = VLM_OPTIONS;
-    core.has_keys = options->has_keys;
-    memcpy(core.keys, options->keys, sizeof core.keys);
+    core.has_keys = layer->options.has_keys;
+    memcpy(core.keys, layer->options.keys, sizeof core.keys);
     return vlm_open(&layer->handle, &core) == VLM_NORMAL && vlmt_table_is_made(&layer->processes, 4)
            && vlmt_table_is_made(&layer->locks, 4);
 }
 
-static bool has_delivery(vlm_threads *layer, uint32_t delivery) {
-    if (delivery == VLM_THREADS_BY_PROGRAM) {
-        layer->descriptor = eventfd(0, EFD_CLOEXEC | EFD_NONBLOCK);
-        return layer->descriptor >= 0;
+static bool has_delivery(vlm_threads *layer) {
+    if (layer->options.delivery == VLM_THREADS_BY_PROGRAM) {
+        layer->queue.descriptor = eventfd(0, EFD_CLOEXEC | EFD_NONBLOCK);
+        return layer->queue.descriptor >= 0;
     }
     layer->has_dispatcher = is_started(&layer->dispatcher, vlmt_dispatch, layer);
     return layer->has_dispatcher;
 }
 
-static bool has_watch(vlm_threads *layer, uint32_t milliseconds) {
-    layer->search_milliseconds = milliseconds;
-    layer->has_watchdog = milliseconds && is_started(&layer->watchdog, watch, layer);
-    return layer->has_watchdog || !milliseconds;
+static bool has_watch(vlm_threads *layer) {
+    if (!layer->options.search_milliseconds && !layer->options.long_milliseconds)
+        return true;
+    layer->has_watchdog = is_started(&layer->watchdog, vlmt_watch, layer);
+    return layer->has_watchdog;
+}
+
+static bool is_right_choice(const vlm_threads_options *options) {
+    return options->delivery <= VLM_THREADS_BY_PROGRAM && options->has_keys <= 1
+           && (options->long_wait || !options->long_milliseconds);
 }
 
 uint32_t vlm_threads_open(const vlm_threads_options *options, vlm_threads **made) {
+    vlm_threads_options whole;
     *made = NULL;
-    if (options->size != sizeof *options || !all_zero(options->reserved, sizeof options->reserved)
-        || options->delivery > VLM_THREADS_BY_PROGRAM || options->has_keys > 1)
+    if (!is_copied(&whole, sizeof whole, options, FIRST_OPTIONS) || !is_right_choice(&whole))
         return VLM_BADPARAM;
     vlm_threads *layer = calloc(1, sizeof *layer);
     if (!layer)
         return VLM_INSFMEM;
-    layer->descriptor = -1;
+    layer->options = whole;
+    layer->queue.descriptor = -1;
     make_primitives(layer);
-    if (!has_manager(layer, options) || !has_delivery(layer, options->delivery)
-        || !has_watch(layer, options->search_milliseconds)) {
+    if (!has_manager(layer) || !has_delivery(layer) || !has_watch(layer)) {
         vlm_threads_close(layer);
         return VLM_INSFMEM;
     }
@@ -168,8 +133,8 @@ static void free_records(vlm_threads *layer) {
 static void free_primitives(vlm_threads *layer) {
     if (layer->has_key)
         pthread_key_delete(layer->key);
-    if (layer->descriptor >= 0)
-        close(layer->descriptor);
+    if (layer->queue.descriptor >= 0)
+        close(layer->queue.descriptor);
     vlmt_free_condition(&layer->pending);
     vlmt_free_condition(&layer->watched);
     vlmt_free_condition(&layer->calm);
@@ -185,6 +150,7 @@ static void empty(vlm_threads *layer) {
     vlmt_settle(layer);
     while (layer->sleepers)
         vlmt_sleep(layer, &layer->calm, NULL);
+    vlmt_release_rest(layer);
 }
 
 static void free_layer(vlm_threads *layer) {
@@ -213,13 +179,14 @@ uint32_t vlm_threads_close(vlm_threads *layer) {
 /* Counters. */
 
 uint32_t vlm_threads_read_counters(vlm_threads *layer, vlm_threads_counters *counters) {
-    if (counters->size != sizeof *counters)
+    uint32_t size = counters->size;
+    if (size < FIRST_COUNTERS || size > sizeof *counters)
         return VLM_BADPARAM;
     vlmt_lock(layer);
-    *counters = layer->counters;
-    counters->size = sizeof *counters;
-    counters->processes = layer->processes.count;
-    counters->locks = layer->locks.count;
+    layer->counters.size = size;
+    layer->counters.processes = layer->processes.count;
+    layer->counters.locks = layer->locks.count;
+    memcpy(counters, &layer->counters, size);
     vlmt_unlock(layer);
     return VLM_NORMAL;
 }

@@ -1,58 +1,80 @@
 /* The ends of requests, grants and locks; the core's ASTs, which report them; the queue of events. */
 #include "vlm_threads_parts.h"
 
-#include <string.h>
+#include <stdlib.h>
 #include <sys/eventfd.h>
+#include <unistd.h>
 
 /* Events. */
 
-void vlmt_set_readable(vlm_threads *layer, bool is_readable) {
+void vlmt_set_readable(const struct queue *queue, bool is_readable) {
     eventfd_t count;
+    if (queue->descriptor < 0)
+        return;
     int before = cancels_off();
     if (is_readable)
-        eventfd_write(layer->descriptor, 1);
+        eventfd_write(queue->descriptor, 1);
     else
-        eventfd_read(layer->descriptor, &count);
+        eventfd_read(queue->descriptor, &count);
     cancels_back(before);
 }
 
-void vlmt_queue_event(vlm_threads *layer, struct event *event) {
-    event->is_pending = true;
+static void append(vlm_threads *layer, struct queue *queue, struct event *event) {
+    event->queue = queue;
     event->next = NULL;
-    event->previous = layer->last;
-    *(layer->last ? &layer->last->next : &layer->first) = event;
-    layer->last = event;
-    if (layer->counters.events++)
+    event->previous = queue->last;
+    *(queue->last ? &queue->last->next : &queue->first) = event;
+    queue->last = event;
+    layer->counters.events++;
+    if (queue->count++ || queue->is_delivering)
         return;
-    if (layer->descriptor >= 0)
-        vlmt_set_readable(layer, true);
-    else
+    vlmt_set_readable(queue, true);
+    if (queue->descriptor < 0)
         vlmt_wake(layer, &layer->pending);
 }
 
+void vlmt_queue_event(vlm_threads *layer, struct event *event) { append(layer, event->request->process->queue, event); }
+
 void vlmt_unqueue_event(vlm_threads *layer, struct event *event) {
-    event->is_pending = false;
-    if (layer->due == event)
-        layer->due = event->previous;
-    *(event->previous ? &event->previous->next : &layer->first) = event->next;
-    *(event->next ? &event->next->previous : &layer->last) = event->previous;
-    if (--layer->counters.events == 0 && layer->descriptor >= 0)
-        vlmt_set_readable(layer, false);
+    struct queue *queue = event->queue;
+    event->queue = NULL;
+    if (queue->due == event)
+        queue->due = event->previous;
+    *(event->previous ? &event->previous->next : &queue->first) = event->next;
+    *(event->next ? &event->next->previous : &queue->last) = event->previous;
+    layer->counters.events--;
+    if (--queue->count == 0 && !queue->is_delivering)
+        vlmt_set_readable(queue, false);
 }
 
 void vlmt_drop_event(vlm_threads *layer, struct event *event) {
-    if (!event->is_pending)
+    if (!event->queue)
         return;
     vlmt_unqueue_event(layer, event);
     layer->counters.dropped++;
 }
 
+void vlmt_free_queue(vlm_threads *layer, struct queue *queue) {
+    while (queue->first) {
+        struct event *event = queue->first;
+        vlmt_unqueue_event(layer, event);
+        append(layer, &layer->queue, event);
+    }
+    close(queue->descriptor);
+    free(queue);
+}
+
 /* Ends of requests. */
 
-/* Gives a record back if nothing uses it any more. */
+/* Gives a record back if nothing uses it any more. Its `released` routine is called before. */
 void vlmt_release(vlm_threads *layer, struct request *request) {
-    if (request->is_queued || request->is_held || request->ended.is_pending || request->warned.is_pending)
+    if (request->is_queued || request->is_held || request->ended.queue || request->warned.queue)
         return;
+    if (request->released) {
+        request->ended.kind = RELEASED;
+        vlmt_queue_event(layer, &request->ended);
+        return;
+    }
     request->next_free = layer->free_requests;
     layer->free_requests = request;
 }
@@ -104,10 +126,10 @@ void vlmt_read_block(vlm_threads *layer, struct request *request) {
     memcpy(request->value + SHORT_VALUE, lksb.tail, WHOLE_VALUE - SHORT_VALUE);
 }
 
-void vlmt_write_words(const struct request *request, vlm_threads_request *words) {
-    words->status = request->status;
+void vlmt_write_words(const struct request *request, const struct asked *asked) {
+    asked->given->status = request->status;
     if (vlmt_value_len(request))
-        memcpy(words->value, request->value, vlmt_value_len(request));
+        memcpy(asked->words.value, request->value, vlmt_value_len(request));
 }
 
 /* Tells the thread that waits, or the completion routine. */
@@ -118,7 +140,7 @@ void vlmt_tell(vlm_threads *layer, struct request *request) {
         return;
     }
     request->waiter = NULL;
-    vlmt_write_words(request, waiter->words);
+    vlmt_write_words(request, waiter->asked);
     waiter->status = request->status;
     vlmt_wake(layer, &waiter->ended);
 }
@@ -132,9 +154,21 @@ static void count_time(vlm_threads *layer, const struct request *request) {
     layer->counters.microseconds += microseconds;
 }
 
+/* Takes a request out of the lists of queued ones. */
+static void unlist(vlm_threads *layer, struct request *request) {
+    if (layer->untold == request)
+        layer->untold = request->newer;
+    *(request->older ? &request->older->newer : &layer->oldest) = request->newer;
+    *(request->newer ? &request->newer->older : &layer->newest) = request->older;
+    *request->link = request->next_own;
+    if (request->next_own)
+        request->next_own->link = request->link;
+}
+
 void vlmt_leave_queue(vlm_threads *layer, struct request *request) {
     request->is_queued = false;
     request->lock->queued = NULL;
+    unlist(layer, request);
     layer->counters.waiting--;
     count_time(layer, request);
 }

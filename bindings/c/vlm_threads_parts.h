@@ -3,17 +3,18 @@
  * The layer has one mutex, which guards everything. Each call makes a step of the core, then takes all ASTs that the
  * step queued, so between two calls none is pending in the core. A request has a record here. Its place in the table of
  * records is the parameter of both its ASTs, so an AST finds its request at once. An AST wakes the one thread that
- * waits for its request, or becomes an event in the layer's own queue, from which routines are called without the
- * mutex.
+ * waits for its request, or becomes an event in a queue, from which routines are called without the mutex.
  *
- * vlm_threads.c            opening, closing, searches, counters
+ * vlm_threads.c            opening, closing, counters
+ * vlm_threads_watch.c      searches, the thread that watches, and the hooks
+ * vlm_threads_circles.c    who is deadlocked, read from the core before a search
  * vlm_threads_processes.c  declare, rundown, leave, the ends of threads
  * vlm_threads_requests.c   enq, convert, deq, and the wait for a grant
  * vlm_threads_delivery.c   calls of routines
  * vlm_threads_ends.c       the ASTs of the core, the ends of requests, the queue of events
  * vlm_threads_records.c    tables, and the room that a call makes before its step
  * vlm_threads_lock.c       the mutex, and how threads sleep without it
- * vlm_threads_print.c      counters as text
+ * vlm_threads_print.c      counters, waits and deadlocks as text
  *
  * Every function that is declared here wants the mutex held, except vlmt_lock.
  */
@@ -26,9 +27,22 @@
 
 #include <pthread.h>
 #include <stdatomic.h>
+#include <string.h>
 #include <time.h>
 
 enum { NODES = 8, MOST_BLOCKS = 255, SHORT_VALUE = 16, WHOLE_VALUE = 64, CACHE_LINE = 64 };
+
+/* The kind of an event that calls a `released` routine, beside those of ASTs. */
+enum { RELEASED = 3 };
+
+/* The parts of structs that programs with an older header have too. */
+enum {
+    FIRST_OPTIONS = offsetof(vlm_threads_options, victim_milliseconds),
+    FIRST_DECLARATION = offsetof(vlm_threads_declaration, own_queue),
+    FIRST_REQUEST = offsetof(vlm_threads_request, released),
+    FIRST_DEQUEUE = sizeof(vlm_threads_dequeue),
+    FIRST_COUNTERS = sizeof(vlm_threads_counters)
+};
 
 static const uint64_t NANOSECONDS = 1000000000;
 
@@ -77,16 +91,43 @@ struct table {
 struct event {
     struct event *next, *previous;
     struct request *request;
+    struct queue *queue; /* in which it is pending, or null */
     uint32_t kind;
-    bool is_pending; /* it is in the layer's queue */
+};
+
+/* Pending events, whose routines run one at a time. */
+struct queue {
+    struct event *first, *last;
+    struct event *due; /* the last one that the delivery under way calls for, or null */
+    uint64_t count;
+    int descriptor;     /* the eventfd, or -1 */
+    bool is_delivering; /* a thread is in a delivery */
+    bool is_left;       /* its process has ended */
+};
+
+/* A call of a routine or a hook that runs without the mutex. It is on the stack of the thread that makes it. */
+struct running {
+    struct running *next, **link;
+    pthread_t thread;
+    uint64_t number; /* such calls are numbered in the order in which they begin */
 };
 
 /* A thread that waits for the end of a request. It is on that thread's stack. */
 struct waiter {
     struct condition ended;
-    vlm_threads_request *words;
+    const struct asked *asked;
     struct request *request; /* null if the thread does not wait */
     uint32_t status;         /* 0 until the request has ended */
+};
+
+/* The arguments of a call that makes a request. */
+struct asked {
+    vlm_threads_request words;  /* as they were given, and whole */
+    vlm_threads_request *given; /* where the answers are written */
+    const uint8_t *name;
+    size_t name_len;
+    bool is_conversion;
+    bool waits;
 };
 
 /* A request that was accepted. Its record is in use while it is queued, while its lock holds the mode that it granted,
@@ -94,6 +135,8 @@ struct waiter {
 struct request {
     struct request *next_free;
     struct process *process;
+    struct request *older, *newer;    /* among all queued requests */
+    struct request *next_own, **link; /* among those of its process */
     struct lock *lock;
     uint32_t index; /* its place in the layer's table */
     uint32_t lkid;
@@ -103,11 +146,13 @@ struct request {
     bool is_queued;
     bool is_held; /* its lock holds the mode that it granted */
     bool is_late; /* its time is over */
+    bool is_told; /* the hook was told that it is to be a victim */
     uint64_t since;
     struct waiter *waiter; /* null with a completion routine */
     vlm_threads_routine completion, blocking;
     void *completion_context, *blocking_context;
-    struct event ended, warned;
+    vlm_threads_released released; /* null after its call too */
+    struct event ended, warned;    /* `ended` also calls `released` at last */
     uint8_t value[WHOLE_VALUE];
 };
 
@@ -120,10 +165,27 @@ struct lock {
     struct request *queued;    /* the one that waits, or null */
 };
 
+/* What a reading of all waits knows of a process. vlm_threads_circles.c says what for. */
+struct visit {
+    uint32_t reading; /* of the last reading that came here */
+    uint32_t order, lowest, circle;
+    bool is_open, is_caught;
+    struct process *below, *came_from;
+    struct request *request; /* the one whose waits are read */
+    uint32_t blocker;
+    uint32_t walk; /* of the last walk that came here, by this wait of a request for a lock */
+    struct request *reached_by;
+    uint32_t reached_for;
+};
+
 struct process {
     struct entry entry;
-    struct lock *locks; /* those without a parent */
-    struct bond *bond;  /* the thread that it is tied to, or null */
+    struct lock *locks;     /* those without a parent */
+    struct request *queued; /* its queued requests, the latest first */
+    struct queue *queue;    /* the layer's, or its own */
+    struct visit visit;
+    uint8_t label[VLM_THREADS_LABEL];
+    struct bond *bond; /* the thread that it is tied to, or null */
     struct process *next_tied;
     uint32_t free_count;
     uint8_t free_blocks[]; /* the status blocks that no queued request has */
@@ -151,14 +213,14 @@ struct vlm_threads {
     struct request *free_requests;
     struct lock *free_locks;
 
-    struct event *first, *last; /* the pending ones */
-    struct event *due;          /* the last one that the delivery under way calls for, or null */
-    int descriptor;             /* the eventfd, or -1 */
-    bool is_delivering;         /* a thread, the deliverer, is in a delivery */
-    bool is_calling;            /* and runs a routine */
-    pthread_t deliverer;
-    uint64_t called;   /* how many routines have returned */
-    uint32_t settling; /* threads that wait for the end of a routine */
+    struct request *oldest, *newest; /* all queued requests, in the order in which they were made */
+    struct request *untold;          /* the oldest one whose wait was not told as a long one, or null */
+    uint32_t reading, walk;          /* how many readings of all waits there were, and walks of one circle */
+
+    struct queue queue;      /* of the processes without one */
+    struct running *running; /* the calls of routines and hooks that run */
+    uint64_t begun;          /* how many of them have begun */
+    uint32_t settling;       /* threads that wait for their end */
 
     pthread_key_t key; /* of a thread's bond */
     bool has_key;
@@ -166,7 +228,7 @@ struct vlm_threads {
 
     pthread_t dispatcher, watchdog;
     bool has_dispatcher, has_watchdog, is_closing;
-    uint32_t search_milliseconds;
+    vlm_threads_options options;
     uint32_t sleepers; /* threads that sleep in a call other than a close */
     vlm_threads_counters counters;
 };
@@ -199,11 +261,14 @@ bool vlmt_table_has_room(struct table *table);
 bool vlmt_has_room_for_request(vlm_threads *layer);
 bool vlmt_has_room_for_lock(vlm_threads *layer);
 
-/* vlm_threads_ends.c: the eventfd, and events. */
-void vlmt_set_readable(vlm_threads *layer, bool is_readable);
+/* vlm_threads_ends.c: the eventfd of a queue, and events. An event joins the queue of its process. */
+void vlmt_set_readable(const struct queue *queue, bool is_readable);
 void vlmt_queue_event(vlm_threads *layer, struct event *event);
 void vlmt_unqueue_event(vlm_threads *layer, struct event *event);
 void vlmt_drop_event(vlm_threads *layer, struct event *event);
+
+/* Frees the queue of a process that has ended. What is left in it goes to the layer's queue. */
+void vlmt_free_queue(vlm_threads *layer, struct queue *queue);
 
 /* The beginning and the end of a grant, of a wait, of a lock, and of a record. */
 void vlmt_hold(vlm_threads *layer, struct request *request);
@@ -216,7 +281,7 @@ void vlmt_release(vlm_threads *layer, struct request *request);
 /* How a request ended: the bytes that were returned, the reading from its status block, the writing for the caller. */
 uint32_t vlmt_value_len(const struct request *request);
 void vlmt_read_block(vlm_threads *layer, struct request *request);
-void vlmt_write_words(const struct request *request, vlm_threads_request *words);
+void vlmt_write_words(const struct request *request, const struct asked *asked);
 
 /* Takes all ASTs that a step has queued: ends their requests and queues their warnings. Comes after each step. */
 void vlmt_take_asts(vlm_threads *layer);
@@ -224,22 +289,52 @@ void vlmt_take_asts(vlm_threads *layer);
 /* vlm_threads_processes.c: all processes of a node have ended in the core, or of all nodes with 0. */
 void vlmt_forget_node(vlm_threads *layer, uint32_t node);
 
+/* The core's answer about a process that does not live: NONEXPR or DEPARTED. */
+uint32_t vlmt_refusal(vlm_threads *layer, uint32_t pid);
+
 /* vlm_threads_delivery.c: the start routine of the layer's thread, which takes the mutex itself. */
 void *vlmt_dispatch(void *layer);
+
+/* Before and after a call of a routine or a hook: the first lets the mutex go, the second takes it. */
+void vlmt_begin_running(vlm_threads *layer, struct running *running);
+void vlmt_end_running(vlm_threads *layer, struct running *running);
 bool vlmt_is_in_routine(const vlm_threads *layer);
+
+/* Calls the `released` routines that are left when the layer is closed. */
+void vlmt_release_rest(vlm_threads *layer);
 
 /* Before and after a sleep of a call, for which a close waits. Between them the thread is not cancelled. */
 int vlmt_begin_sleep(vlm_threads *layer);
 void vlmt_end_sleep(vlm_threads *layer, int before);
 
-/* Waits until the routine that runs has returned. */
+/* Waits until each routine and hook that runs has returned. */
 void vlmt_settle(vlm_threads *layer);
 
-static inline bool all_zero(const uint32_t *words, size_t bytes) {
-    uint32_t any = 0;
-    for (size_t i = 0; i < bytes / sizeof *words; i++)
-        any |= words[i];
-    return !any;
+/* vlm_threads.c: whether the calling thread is in a reader of vlm_threads_look. Needs no mutex. */
+bool vlmt_looks(const vlm_threads *layer);
+
+/* vlm_threads_watch.c: the start routine of the thread that watches, which takes the mutex itself. */
+void *vlmt_watch(void *layer);
+
+/* vlm_threads_circles.c: the request that a search of the core would end, or null; its circle; a wait of a request for
+ * another lock, or for none with 0. */
+struct request *vlmt_victim(vlm_threads *layer);
+void vlmt_read_circle(vlm_threads *layer, struct request *victim, vlm_threads_deadlock *deadlock);
+void vlmt_read_wait(vlm_threads *layer, const struct request *request, uint32_t blocker, vlm_threads_wait *wait);
+
+/* Copies a struct of the caller's: whether its size is right. An older header may have made it shorter. The members
+ * that it lacks are 0. */
+static inline bool is_copied(void *whole, size_t size, const void *given, size_t first) {
+    uint32_t given_size = *(const uint32_t *)given;
+    if (given_size != size) {
+        if (given_size < first || given_size > size)
+            return false;
+        memset(whole, 0, size);
+        memcpy(whole, given, given_size);
+        return true;
+    }
+    memcpy(whole, given, size);
+    return true;
 }
 
 static inline uint64_t now(void) {
@@ -248,9 +343,11 @@ static inline uint64_t now(void) {
     return (uint64_t)time.tv_sec * NANOSECONDS + (uint64_t)time.tv_nsec;
 }
 
-static inline struct timespec after(uint64_t since, uint32_t milliseconds) {
-    uint64_t moment = since + (uint64_t)milliseconds * 1000000;
-    return (struct timespec){.tv_sec = (time_t)(moment / NANOSECONDS), .tv_nsec = (long)(moment % NANOSECONDS)};
+static inline uint64_t milliseconds(uint32_t count) { return (uint64_t)count * 1000000; }
+
+static inline struct timespec moment_at(uint64_t nanoseconds) {
+    return (struct timespec){.tv_sec = (time_t)(nanoseconds / NANOSECONDS),
+                             .tv_nsec = (long)(nanoseconds % NANOSECONDS)};
 }
 
 /* Between these two the thread is not cancelled: it would leave the mutex locked, or a delivery unfinished. */

@@ -1,4 +1,5 @@
-/* The counters of vlm_threads.h as lines of text, and in the text format of Prometheus. Not proved. */
+/* The counters of vlm_threads.h as lines of text, and in the text format of Prometheus; waits and deadlocks as
+ * sentences. Not proved. */
 #include "vlm_threads.h"
 
 #include <inttypes.h>
@@ -113,5 +114,85 @@ uint32_t vlm_threads_print_prometheus(const vlm_threads_counters *counters, FILE
         fprintf(file, "vlm_%s %" PRIu64 "\n", levels[i].name, count_of(counters, &levels[i]));
     }
     print_times(counters, file);
+    return VLM_NORMAL;
+}
+
+/* Waits and deadlocks. */
+
+static const char *mode_name(uint32_t mode) {
+    static const char *const names[] = {"NL", "CR", "CW", "PR", "PW", "EX"};
+    return mode <= VLM_EX ? names[mode] : "nothing";
+}
+
+static void print_process(const uint8_t *label, uint32_t pid, FILE *file) {
+    if (label[0])
+        fprintf(file, "%.*s", VLM_THREADS_LABEL, (const char *)label);
+    else
+        fprintf(file, "process %" PRIu32, pid);
+}
+
+/* The name of a resource: as it is if a script can have it as a word, else in hexadecimal digits. */
+static void print_name(const vlm_threads_wait *wait, FILE *file) {
+    uint32_t fit = 0, len = wait->name_len < sizeof wait->name ? wait->name_len : sizeof wait->name;
+    while (fit < len && wait->name[fit] > ' ' && wait->name[fit] <= '~')
+        fit++;
+    if (fit == len && memcmp(wait->name, "x:", 2) != 0) {
+        fprintf(file, "%.*s", (int)len, (const char *)wait->name);
+        return;
+    }
+    fputs("x:", file);
+    for (uint32_t i = 0; i < len; i++)
+        fprintf(file, "%02x", wait->name[i]);
+}
+
+/* What a lock holds or wants, with its number. */
+static void print_lock(const vlm_lock *lock, FILE *file) {
+    fprintf(file, "lock %" PRIu32 " ", lock->lkid);
+    if (lock->held <= VLM_EX)
+        fprintf(file, "holds %s", mode_name(lock->held));
+    if (lock->want <= VLM_EX)
+        fprintf(file, "%swants %s", lock->held <= VLM_EX ? " and " : "", mode_name(lock->want));
+}
+
+static void print_step(const vlm_threads_wait *wait, FILE *file) {
+    print_process(wait->waits_label, wait->waits.pid, file);
+    fputs(" waits for ", file);
+    if (wait->blocks.lkid)
+        print_process(wait->blocks_label, wait->blocks.pid, file);
+    else
+        fputs("nobody", file);
+    fputs(" on ", file);
+    print_name(wait, file);
+    fputs(" (", file);
+    print_lock(&wait->waits, file);
+    if (wait->blocks.lkid) {
+        fputs(", ", file);
+        print_lock(&wait->blocks, file);
+    }
+    fputs(")", file);
+}
+
+uint32_t vlm_threads_print_wait(const vlm_threads_wait *wait, FILE *file) {
+    if (wait->size != sizeof *wait)
+        return VLM_BADPARAM;
+    print_step(wait, file);
+    fprintf(file, ", for %" PRIu32 " ms.\n", wait->milliseconds);
+    return VLM_NORMAL;
+}
+
+uint32_t vlm_threads_print_deadlock(const vlm_threads_deadlock *deadlock, FILE *file) {
+    if (deadlock->size != sizeof *deadlock)
+        return VLM_BADPARAM;
+    uint32_t told = deadlock->length < VLM_THREADS_CIRCLE ? deadlock->length : VLM_THREADS_CIRCLE;
+    fputs("A circle: ", file);
+    for (uint32_t i = 0; i < told; i++) {
+        fputs(i ? ", " : "", file);
+        print_step(&deadlock->waits[i], file);
+    }
+    if (told < deadlock->length)
+        fprintf(file, ", and %" PRIu32 " more", deadlock->length - told);
+    fprintf(file, ". The victim is lock %" PRIu32 " of ", deadlock->victim);
+    print_process(deadlock->waits[0].waits_label, deadlock->pid, file);
+    fputs(".\n", file);
     return VLM_NORMAL;
 }

@@ -1,32 +1,14 @@
 /* Requests and dequeues. */
 #include "vlm_threads_parts.h"
 
-#include <string.h>
-
 /* Requests. */
 
 /* The routines of the core's ASTs. The layer tells ASTs apart by kind: these numbers are for a debugger. */
 enum { COMPLETION_ROUTINE = 1, BLOCKING_ROUTINE = 2 };
 
-/* The arguments of a call that makes a request. */
-struct asked {
-    vlm_threads_request *words;
-    const uint8_t *name;
-    size_t name_len;
-    bool is_conversion;
-    bool waits;
-};
-
 static bool is_right_request(const struct asked *asked) {
-    const vlm_threads_request *words = asked->words;
-    return all_zero(words->reserved, sizeof words->reserved) && (words->value || !(words->flags & VLM_VALBLK))
-           && !words->completion == asked->waits;
-}
-
-/* The core's answer about a process that does not live: NONEXPR or DEPARTED. */
-static uint32_t refusal(vlm_threads *layer, uint32_t pid) {
-    vlm_ast ast = {.size = sizeof ast};
-    return vlm_take(&layer->handle, pid, &ast);
+    const vlm_threads_request *words = &asked->words;
+    return (words->value || !(words->flags & VLM_VALBLK)) && !words->completion == asked->waits;
 }
 
 /* A conversion may write the value block from its status block. */
@@ -41,7 +23,7 @@ static void set_value(vlm_threads *layer, const vlm_threads_request *words, uint
 
 /* The core's step: SYNCH if it is granted at once, NORMAL if it is queued, or a refusal. */
 static uint32_t core_step(vlm_threads *layer, const struct asked *asked, struct request *request) {
-    const vlm_threads_request *words = asked->words;
+    const vlm_threads_request *words = &asked->words;
     vlm_request step = {.size = sizeof step,
                         .pid = words->pid,
                         .mode = words->mode,
@@ -76,12 +58,13 @@ static struct lock *made_lock(vlm_threads *layer, const struct request *request,
 static void fill(struct request *request, const vlm_threads_request *words) {
     request->flags = words->flags;
     request->status = 0;
-    request->is_late = false;
+    request->is_late = request->is_told = false;
     request->waiter = NULL;
     request->completion = words->completion;
     request->completion_context = words->completion_context;
     request->blocking = words->blocking;
     request->blocking_context = words->blocking_context;
+    request->released = words->released;
 }
 
 static void grant_at_once(vlm_threads *layer, struct request *request, const struct asked *asked) {
@@ -90,11 +73,27 @@ static void grant_at_once(vlm_threads *layer, struct request *request, const str
         vlmt_read_block(layer, request);
     vlmt_hold(layer, request);
     layer->counters.granted_at_once++;
-    asked->words->status = request->status;
+    asked->given->status = request->status;
     if (asked->waits || request->flags & VLM_SYNCSTS)
-        vlmt_write_words(request, asked->words);
+        vlmt_write_words(request, asked);
     else
         vlmt_queue_event(layer, &request->ended);
+}
+
+/* Puts a request into the lists of queued ones. */
+static void list(vlm_threads *layer, struct request *request) {
+    struct request **own = &request->process->queued;
+    request->older = layer->newest;
+    request->newer = NULL;
+    *(layer->newest ? &layer->newest->newer : &layer->oldest) = request;
+    layer->newest = request;
+    if (!layer->untold)
+        layer->untold = request;
+    request->next_own = *own;
+    request->link = own;
+    if (*own)
+        (*own)->link = &request->next_own;
+    *own = request;
 }
 
 static void join_queue(vlm_threads *layer, struct request *request, struct waiter *waiter) {
@@ -103,6 +102,7 @@ static void join_queue(vlm_threads *layer, struct request *request, struct waite
     request->is_queued = true;
     request->lock->queued = request;
     request->since = now();
+    list(layer, request);
     counters->waited++;
     if (++counters->waiting > counters->most_waiting)
         counters->most_waiting = counters->waiting;
@@ -115,10 +115,10 @@ static void join_queue(vlm_threads *layer, struct request *request, struct waite
 
 /* Makes the step and does all that follows from it, except the wait. */
 static uint32_t make_request(vlm_threads *layer, const struct asked *asked, struct waiter *waiter) {
-    vlm_threads_request *words = asked->words;
+    const vlm_threads_request *words = &asked->words;
     struct process *process = process_of(layer, words->pid);
     if (!process)
-        return refusal(layer, words->pid);
+        return vlmt_refusal(layer, words->pid);
     if (!process->free_count)
         return VLM_EXENQLM;
     if (!vlmt_has_room_for_request(layer) || !(asked->is_conversion || vlmt_has_room_for_lock(layer)))
@@ -131,7 +131,7 @@ static uint32_t make_request(vlm_threads *layer, const struct asked *asked, stru
         return status;
     layer->free_requests = request->next_free;
     fill(request, words);
-    words->lkid = request->lkid;
+    asked->given->lkid = request->lkid;
     request->lock = asked->is_conversion ? lock_of(layer, words->lock) : made_lock(layer, request, words->lock);
     if (status == VLM_SYNCH)
         grant_at_once(layer, request, asked);
@@ -158,13 +158,13 @@ static void cancel_late(vlm_threads *layer, struct request *request) {
 }
 
 static void sleep_until_ended(vlm_threads *layer, struct waiter *waiter) {
-    uint32_t milliseconds = waiter->words->milliseconds;
-    struct timespec deadline = after(waiter->request->since, milliseconds);
+    uint32_t longest = waiter->asked->words.milliseconds;
+    struct timespec deadline = moment_at(waiter->request->since + milliseconds(longest));
     while (!waiter->status) {
-        if (!milliseconds) {
+        if (!longest) {
             vlmt_sleep(layer, &waiter->ended, NULL);
         } else if (!vlmt_sleep(layer, &waiter->ended, &deadline) && !waiter->status) {
-            milliseconds = 0;
+            longest = 0;
             cancel_late(layer, waiter->request);
         }
     }
@@ -184,40 +184,56 @@ static bool has_lock(const struct asked *asked, uint32_t status) {
     return asked->is_conversion && (status == VLM_TIMEOUT || status == VLM_DEADLOCK || status == VLM_CANCEL);
 }
 
-static uint32_t ask(vlm_threads *layer, const struct asked *asked) {
-    vlm_threads_request *words = asked->words;
-    struct waiter waiter = {.words = words};
-    if (words->size == sizeof *words)
-        words->lkid = words->status = 0;
-    vlmt_lock(layer);
-    layer->counters.requests++;
-    bool is_right = words->size == sizeof *words && is_right_request(asked);
-    uint32_t status = is_right ? make_request(layer, asked, &waiter) : VLM_BADPARAM;
+/* Makes a request and waits for its end. Counts a refusal. */
+static uint32_t ask_and_wait(vlm_threads *layer, const struct asked *asked) {
+    struct waiter waiter = {.asked = asked};
+    uint32_t status = is_right_request(asked) ? make_request(layer, asked, &waiter) : VLM_BADPARAM;
     if (status != VLM_NORMAL && status != VLM_SYNCH && status < VLM_THREADS_CONDITIONS)
         layer->counters.refused[status]++;
-    if (waiter.request) {
-        status = awaited(layer, &waiter);
-        if (status != VLM_NORMAL && !has_lock(asked, status))
-            words->lkid = 0;
+    if (!waiter.request)
+        return status;
+    status = awaited(layer, &waiter);
+    if (status != VLM_NORMAL && !has_lock(asked, status))
+        asked->given->lkid = 0;
+    return status;
+}
+
+static uint32_t ask(vlm_threads *layer, struct asked *asked) {
+    bool is_sized = is_copied(&asked->words, sizeof asked->words, asked->given, FIRST_REQUEST);
+    uint32_t status = VLM_BADPARAM;
+    vlmt_lock(layer);
+    layer->counters.requests++;
+    if (is_sized) {
+        asked->given->lkid = asked->given->status = 0;
+        status = ask_and_wait(layer, asked);
+    } else {
+        layer->counters.refused[VLM_BADPARAM]++;
     }
     vlmt_unlock(layer);
     return status;
 }
 
 uint32_t vlm_threads_enq(vlm_threads *layer, vlm_threads_request *request, const uint8_t *name, size_t name_len) {
-    return ask(layer, &(struct asked){.words = request, .name = name, .name_len = name_len, .waits = true});
+    return ask(layer, &(struct asked){.given = request, .name = name, .name_len = name_len, .waits = true});
 }
 
 uint32_t vlm_threads_start_enq(vlm_threads *layer, vlm_threads_request *request, const uint8_t *name, size_t name_len) {
-    return ask(layer, &(struct asked){.words = request, .name = name, .name_len = name_len});
+    return ask(layer, &(struct asked){.given = request, .name = name, .name_len = name_len});
 }
 
 uint32_t vlm_threads_convert(vlm_threads *layer, vlm_threads_request *request) {
-    return ask(layer, &(struct asked){.words = request, .is_conversion = true, .waits = true});
+    return ask(layer, &(struct asked){.given = request, .is_conversion = true, .waits = true});
 }
 
 uint32_t vlm_threads_start_convert(vlm_threads *layer, vlm_threads_request *request) {
-    return ask(layer, &(struct asked){.words = request, .is_conversion = true});
+    return ask(layer, &(struct asked){.given = request, .is_conversion = true});
+}
+
+uint32_t vlm_threads_lkid(vlm_threads *layer, const vlm_threads_request *request, uint32_t *lkid) {
+    vlmt_lock(layer);
+    *lkid = request->lkid;
+    vlmt_unlock(layer);
+    return VLM_NORMAL;
 }
 
 /* Dequeues. */
@@ -250,7 +266,7 @@ static void remove_given_up(vlm_threads *layer, const vlm_threads_dequeue *words
 
 static uint32_t give_up(vlm_threads *layer, const vlm_threads_dequeue *words) {
     if (!process_of(layer, words->pid))
-        return refusal(layer, words->pid);
+        return vlmt_refusal(layer, words->pid);
     vlm_dequeue step = core_dequeue(words);
     uint32_t status = vlm_deq(&layer->handle, &step);
     if (status != VLM_NORMAL)
@@ -263,10 +279,11 @@ static uint32_t give_up(vlm_threads *layer, const vlm_threads_dequeue *words) {
 }
 
 uint32_t vlm_threads_deq(vlm_threads *layer, const vlm_threads_dequeue *dequeue) {
-    if (dequeue->size != sizeof *dequeue || !all_zero(dequeue->reserved, sizeof dequeue->reserved))
+    vlm_threads_dequeue words;
+    if (!is_copied(&words, sizeof words, dequeue, FIRST_DEQUEUE))
         return VLM_BADPARAM;
     vlmt_lock(layer);
-    uint32_t status = give_up(layer, dequeue);
+    uint32_t status = give_up(layer, &words);
     vlmt_unlock(layer);
     return status;
 }
@@ -288,7 +305,7 @@ static uint32_t cancel_all(vlm_threads *layer, uint32_t pid) {
 uint32_t vlm_threads_cancel(vlm_threads *layer, uint32_t pid, uint32_t *cancelled) {
     vlmt_lock(layer);
     bool is_there = process_of(layer, pid);
-    uint32_t status = is_there ? VLM_NORMAL : refusal(layer, pid);
+    uint32_t status = is_there ? VLM_NORMAL : vlmt_refusal(layer, pid);
     *cancelled = is_there ? cancel_all(layer, pid) : 0;
     vlmt_unlock(layer);
     return status;

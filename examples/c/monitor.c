@@ -1,15 +1,26 @@
-/* Prints who waits for whom. The monitor walks the resources, the queued requests of each, and for each request the
- * locks for which it waits. Each step of these walks takes constant time, except past locks that are in nobody's
- * way. */
+/* Prints who waits for whom, and why there is a deadlock. The monitor walks the resources, the queued requests of each,
+ * and for each request the locks for which it waits. Each step of these walks takes constant time, except past locks
+ * that are in nobody's way. Processes are called by their labels. */
 #include <vlm_threads.h>
 
 #include <string.h>
 
 static const char *const modes[] = {"NL", "CR", "CW", "PR", "PW", "EX"};
 
+static vlm_threads *layer;
+
+static void print_label(uint32_t pid) {
+    uint8_t label[VLM_THREADS_LABEL];
+    vlm_threads_label(layer, pid, label);
+    fputs((const char *)label, stdout);
+}
+
 static void print_wait(const vlm_lock *waits, const vlm_lock *blocks) {
-    printf("  process %u waits for process %u: lock %u wants %s, lock %u ", (unsigned)(waits->pid & 0xffff),
-           (unsigned)(blocks->pid & 0xffff), (unsigned)waits->lkid, modes[waits->want], (unsigned)blocks->lkid);
+    fputs("  ", stdout);
+    print_label(waits->pid);
+    fputs(" waits for ", stdout);
+    print_label(blocks->pid);
+    printf(": lock %u wants %s, lock %u ", (unsigned)waits->lkid, modes[waits->want], (unsigned)blocks->lkid);
     if (blocks->held == VLM_NO_MODE)
         printf("wants %s before it\n", modes[blocks->want]);
     else
@@ -49,11 +60,16 @@ static void ignore(void *context, const vlm_threads_event *event) {
     (void)event;
 }
 
-static vlm_threads *layer;
+/* The hook: its victim has not ended yet. */
+static void print_deadlock(void *context, const vlm_threads_deadlock *deadlock) {
+    (void)context;
+    vlm_threads_print_deadlock(deadlock, stdout);
+}
 
-static uint32_t declared(void) {
+static uint32_t declared(const char *label) {
     vlm_threads_declaration declaration = {.size = sizeof declaration, .node = 1, .quota = 9, .requests = 9};
     uint32_t pid;
+    memcpy(declaration.label, label, strlen(label));
     return vlm_threads_declare(layer, &declaration, &pid) == VLM_NORMAL ? pid : 0;
 }
 
@@ -69,10 +85,11 @@ static uint32_t start(uint32_t pid, uint32_t lock, uint32_t mode, const char *na
 }
 
 int main(void) {
-    vlm_threads_options options = {.size = sizeof options};
+    vlm_threads_options options = {.size = sizeof options, .deadlock = print_deadlock};
+    uint32_t victims;
     if (vlm_threads_open(&options, &layer) != VLM_NORMAL)
         return 1;
-    uint32_t p = declared(), q = declared(), r = declared();
+    uint32_t p = declared("Paul"), q = declared("Quentin"), r = declared("Rosa");
     uint32_t lock = start(p, 0, VLM_PR, "A");
     start(q, 0, VLM_PR, "A");
     start(r, 0, VLM_CW, "A");
@@ -81,6 +98,7 @@ int main(void) {
     start(p, 0, VLM_PR, "B");
     start(p, lock, VLM_EX, "A");
     vlm_threads_look(layer, print_all, NULL);
+    vlm_threads_search(layer, &victims);
     vlm_threads_close(layer);
     return 0;
 }

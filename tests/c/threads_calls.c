@@ -27,7 +27,7 @@ static void test_open(void) {
     vlm_threads *none = NULL;
     options.size++;
     EXPECT(vlm_threads_open(&options, &none), VLM_BADPARAM);
-    options = (vlm_threads_options){.size = sizeof options, .reserved[7] = 1};
+    options = (vlm_threads_options){.size = sizeof options, .long_milliseconds = 1};
     EXPECT(vlm_threads_open(&options, &none), VLM_BADPARAM);
     options = (vlm_threads_options){.size = sizeof options, .delivery = 2};
     EXPECT(vlm_threads_open(&options, &none), VLM_BADPARAM);
@@ -66,7 +66,8 @@ static void test_declare(void) {
     WRONG(requests, 0);
     WRONG(requests, 256);
     WRONG(tied, 2);
-    WRONG(reserved[8], 1);
+    WRONG(own_queue, 2);
+    WRONG(label[31], 'x');
 #undef WRONG
     EXPECT(vlm_threads_declare(layer, &right, &p), VLM_NORMAL);
     EXPECT(vlm_threads_declare(layer, &right, &q), VLM_NORMAL);
@@ -88,9 +89,10 @@ static void test_refused_enq(void) {
         HOLD(request.lkid == 0 && request.status == 0);                                                 \
     } while (0)
     request = asked(p, VLM_EX);
-    request.size--;
+    request.size++;
     EXPECT(enq(layer, &request, "A"), VLM_BADPARAM);
-    REFUSED(VLM_BADPARAM, "A", .reserved[9] = 1);
+    request.size = offsetof(vlm_threads_request, status);
+    EXPECT(enq(layer, &request, "A"), VLM_BADPARAM);
     REFUSED(VLM_BADPARAM, "A", .flags = VLM_VALBLK);
     REFUSED(VLM_BADPARAM, "A", .completion = note);
     REFUSED(VLM_BADPARAM, "A", .flags = 512);
@@ -121,7 +123,6 @@ static void test_refused_convert(void) {
         EXPECT(vlm_threads_convert(layer, &request), want);                                                 \
         HOLD(request.lkid == 0 && request.status == 0);                                                     \
     } while (0)
-    REFUSED(VLM_BADPARAM, .reserved[0] = 1);
     REFUSED(VLM_BADPARAM, .completion = note);
     REFUSED(VLM_BADPARAM, .flags = VLM_VALBLK);
     REFUSED(VLM_BADPARAM, .flags = VLM_QUECVT);
@@ -187,12 +188,10 @@ static void test_validity(void) {
 
 static void test_dequeue(void) {
     vlm_threads_request top = asked(p, VLM_CR), below = asked(p, VLM_EX);
-    vlm_threads_dequeue words = {.size = sizeof words, .pid = p, .reserved[6] = 1};
+    vlm_threads_dequeue words = {.size = sizeof words, .pid = p};
     EXPECT(enq(layer, &top, "T"), VLM_NORMAL);
     below.lock = words.lock = top.lkid;
     EXPECT(enq(layer, &below, "B"), VLM_NORMAL);
-    EXPECT(vlm_threads_deq(layer, &words), VLM_BADPARAM);
-    words.reserved[6] = 0;
     words.size++;
     EXPECT(vlm_threads_deq(layer, &words), VLM_BADPARAM);
     words.size--;

@@ -128,6 +128,7 @@ static void use(vlm_threads *layer) {
     waits.completion_context = &granted;
     for (uint32_t i = 0; i < MANY; i++) {
         declaration.tied = i % 2;
+        declaration.own_queue = i == MANY - 1;
         MADE(vlm_threads_declare(layer, &declaration, &pids[i]));
     }
     holds.pid = pids[0];
@@ -141,6 +142,7 @@ static void use(vlm_threads *layer) {
     holds.blocking = NULL;
     MADE(vlm_threads_convert(layer, &holds));
     EXPECT(vlm_threads_dispatch(layer, &delivered), VLM_NORMAL);
+    EXPECT(vlm_threads_process_dispatch(layer, pids[MANY - 1], &delivered), VLM_NORMAL);
     HOLD(granted == MANY - 1);
     expect_sums(layer);
 }
@@ -175,6 +177,7 @@ static void use_starved(vlm_threads *layer) {
     waits.completion_context = &granted;
     for (uint32_t i = 0; i < MANY; i++) {
         declaration.tied = i % 2;
+        declaration.own_queue = i == 0;
         LASTS(vlm_threads_declare(layer, &declaration, &pids[i]));
         HOLD((pids[i] != 0) == (status == VLM_NORMAL));
     }

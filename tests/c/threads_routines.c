@@ -157,7 +157,7 @@ static void go_on(void *context, const vlm_threads_event *event) {
     request.completion = go_on;
     request.completion_context = chain;
     EXPECT(start_enq(layer, &request, "chain"), VLM_NORMAL);
-    HOLD(is_readable() && delivered() == 0);
+    HOLD(!is_readable() && delivered() == 0);
 }
 
 /* A dispatch delivers what was pending when it began, and leaves what its routines add. */
