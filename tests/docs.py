@@ -211,7 +211,7 @@ def version(_program):
         if not found or found[1] != wanted:
             yield f"{name} has no version {wanted}"
     number = "0x" + "".join(f"{int(part):02x}" for part in wanted.split("."))
-    for name in ("include/vlm.h", "crates/vlm_capi/src/arguments.rt", "bindings/rust/src/raw.rs",
+    for name in ("include/vlm.h", "crates/vlm_capi/src/arguments.rt", "bindings/rust/vlm-sys/src/lib.rs",
                  "bindings/python/vlm/_library.py"):
         found = re.search(r"VERSION[^\n]*?(0x[0-9a-f_]+)", text_of(name))
         if not found or found[1].replace("_", "") != number:

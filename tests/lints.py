@@ -95,17 +95,18 @@ def c_mistakes(_program):
 
 def rust_layout(_program):
     yield from said("rustfmt", "--check", "--edition", "2021", BY_HAND)
-    yield from said("cargo", "fmt", "--check", folder=TOP / "bindings" / "rust")
+    yield from said("cargo", "fmt", "--all", "--check", folder=TOP / "bindings" / "rust")
 
 
 def cargo(*words, **env):
-    """What cargo says of the package, which has no library here to be linked with."""
+    """What cargo says of the packages, which have no library here to be linked with."""
     return said("cargo", *words, folder=TOP / "bindings" / "rust", DOCS_RS="1",
                 CARGO_TARGET_DIR=str(Path(ROOM().name) / words[0]), **env)
 
 
 def rust_mistakes(_program):
-    yield from cargo("clippy", "--offline", "--all-targets", "--message-format=short", "--", "-D", "warnings")
+    yield from cargo("clippy", "--offline", "--workspace", "--all-targets", "--message-format=short", "--",
+                     "-D", "warnings")
     listed = re.search(r"^DUTIES = \((.*)\)$", (TOP / "bench" / "run").read_text(), re.M)[1]
     duties = re.findall(r"\w+", listed)
     for chosen in ([], [word for duty in duties for word in ("--cfg", duty)]):
@@ -115,7 +116,8 @@ def rust_mistakes(_program):
 
 
 def rust_pages(_program):
-    yield from cargo("doc", "--offline", "--no-deps", "--message-format=short", RUSTDOCFLAGS="-D warnings")
+    yield from cargo("doc", "--offline", "--workspace", "--no-deps", "--message-format=short",
+                     RUSTDOCFLAGS="-D warnings")
 
 
 def python_types(_program):

@@ -198,14 +198,23 @@ static uint32_t ask_and_wait(vlm_threads *layer, const struct asked *asked) {
     return status;
 }
 
-static uint32_t ask(vlm_threads *layer, struct asked *asked) {
-    bool is_sized = is_copied(&asked->words, sizeof asked->words, asked->given, FIRST_REQUEST);
+/* The forms of a request. */
+enum { WAITS = 1, CONVERTS = 2 };
+
+static uint32_t ask(vlm_threads *layer, vlm_threads_request *given, const uint8_t *name, size_t name_len, int form) {
+    struct asked asked; /* (its members are set one by one: zeros for all would cost more) */
+    bool is_sized = is_copied(&asked.words, sizeof asked.words, given, FIRST_REQUEST);
     uint32_t status = VLM_BADPARAM;
+    asked.given = given;
+    asked.name = name;
+    asked.name_len = name_len;
+    asked.is_conversion = form & CONVERTS;
+    asked.waits = form & WAITS;
     vlmt_lock(layer);
     layer->counters.requests++;
     if (is_sized) {
-        asked->given->lkid = asked->given->status = 0;
-        status = ask_and_wait(layer, asked);
+        given->lkid = given->status = 0;
+        status = ask_and_wait(layer, &asked);
     } else {
         layer->counters.refused[VLM_BADPARAM]++;
     }
@@ -214,19 +223,19 @@ static uint32_t ask(vlm_threads *layer, struct asked *asked) {
 }
 
 uint32_t vlm_threads_enq(vlm_threads *layer, vlm_threads_request *request, const uint8_t *name, size_t name_len) {
-    return ask(layer, &(struct asked){.given = request, .name = name, .name_len = name_len, .waits = true});
+    return ask(layer, request, name, name_len, WAITS);
 }
 
 uint32_t vlm_threads_start_enq(vlm_threads *layer, vlm_threads_request *request, const uint8_t *name, size_t name_len) {
-    return ask(layer, &(struct asked){.given = request, .name = name, .name_len = name_len});
+    return ask(layer, request, name, name_len, 0);
 }
 
 uint32_t vlm_threads_convert(vlm_threads *layer, vlm_threads_request *request) {
-    return ask(layer, &(struct asked){.given = request, .is_conversion = true, .waits = true});
+    return ask(layer, request, NULL, 0, CONVERTS | WAITS);
 }
 
 uint32_t vlm_threads_start_convert(vlm_threads *layer, vlm_threads_request *request) {
-    return ask(layer, &(struct asked){.given = request, .is_conversion = true});
+    return ask(layer, request, NULL, 0, CONVERTS);
 }
 
 uint32_t vlm_threads_lkid(vlm_threads *layer, const vlm_threads_request *request, uint32_t *lkid) {

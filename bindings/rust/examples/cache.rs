@@ -9,10 +9,11 @@
 
 use std::sync::atomic::{AtomicBool, AtomicU64, Ordering::SeqCst};
 use std::sync::mpsc::{channel, Receiver};
+use std::sync::Barrier;
 use std::thread;
 use std::time::Duration;
 
-use vlm::{Condition, Declaration, EnqFlags, Guard, Mode, Shared, Terms, WaitError};
+use vlm::{Client, EnqFlags, Error, Guard, Mode, Shared, Terms};
 
 const READERS: usize = 6;
 const WRITERS: usize = 2;
@@ -40,13 +41,16 @@ struct Cache {
     shared: Shared,
     /// What the lock guards.
     stored: AtomicU64,
+    /// Where writers wait until each reader holds PR.
+    begins: Barrier,
     has_ended: AtomicBool,
 }
 
 /// The version in the value block, as it was at the grant.
 fn version_in(guard: &Guard) -> u64 {
     let mut bytes = [0; 8];
-    bytes.copy_from_slice(&guard.value()[..8]);
+    let value = guard.value().unwrap_or_default();
+    bytes.copy_from_slice(&value[..8]);
     u64::from_le_bytes(bytes)
 }
 
@@ -60,16 +64,15 @@ fn queued() -> Terms {
 
 impl Cache {
     /// A lock at NL of a new process. Its blocking routine rings.
-    fn lock(&self) -> Result<(Guard, Receiver<()>), WaitError> {
+    fn lock(&self) -> Result<(Guard, Receiver<()>), Error> {
         let (ring, bell) = channel();
-        let declaration = Declaration {
-            node: 1,
+        let declaration = Client {
             quota: 1,
-            blocks: 1,
-            ..Declaration::default()
+            requests: 1,
+            ..Client::default()
         };
         let process = self.shared.declare(&declaration)?;
-        let terms = Terms::new().blocking(move |_| {
+        let terms = Terms::new().flags(EnqFlags::VALBLK).blocking(move |_| {
             // (a reader that has ended does not listen)
             let _ = ring.send(());
         });
@@ -78,11 +81,12 @@ impl Cache {
     }
 
     /// Reads until the writers have ended. Counts the stale reads, and how often it gave way.
-    fn read(&self) -> Result<(u64, u64), WaitError> {
+    fn read(&self) -> Result<(u64, u64), Error> {
         let (mut stale, mut gave_way) = (0, 0);
         let (mut guard, bell) = self.lock()?;
+        guard.convert(Mode::Pr)?;
+        self.begins.wait();
         while !self.has_ended.load(SeqCst) {
-            guard.convert_with(Mode::Pr, queued())?;
             let cached = version_in(&guard);
             let mut is_told = false;
             while !is_told && !self.has_ended.load(SeqCst) {
@@ -91,14 +95,16 @@ impl Cache {
             }
             gave_way += u64::from(is_told);
             guard.convert(Mode::Nl)?;
+            guard.convert_with(Mode::Pr, queued())?;
         }
         Ok((stale, gave_way))
     }
 
     /// Makes new versions. Counts the lost updates.
-    fn write(&self) -> Result<u64, WaitError> {
+    fn write(&self) -> Result<u64, Error> {
         let mut lost = 0;
         let (mut guard, _) = self.lock()?;
+        self.begins.wait();
         for _ in 0..UPDATES {
             guard.convert_with(Mode::Ex, queued())?;
             let last = version_in(&guard);
@@ -111,19 +117,15 @@ impl Cache {
         Ok(lost)
     }
 
-    /// Runs all threads, and delivers until the writers have ended.
-    fn run_all(&self, counts: &mut Counts) -> Result<(), WaitError> {
+    /// Runs all threads until the writers have ended.
+    fn run_all(&self, counts: &mut Counts) -> Result<(), Error> {
         thread::scope(|scope| {
             let readers: Vec<_> = (0..READERS).map(|_| scope.spawn(|| self.read())).collect();
             let writers: Vec<_> = (0..WRITERS).map(|_| scope.spawn(|| self.write())).collect();
-            while writers.iter().any(|writer| !writer.is_finished()) {
-                self.shared.wait_event(Some(TURN));
-                self.shared.deliver();
-            }
-            self.has_ended.store(true, SeqCst);
             for writer in writers {
                 counts.lost += writer.join().expect("a writer")?;
             }
+            self.has_ended.store(true, SeqCst);
             for reader in readers {
                 let (stale, gave_way) = reader.join().expect("a reader")?;
                 counts.stale += stale;
@@ -135,10 +137,11 @@ impl Cache {
 }
 
 /// Runs the protocol.
-pub fn run() -> Result<Counts, WaitError> {
+pub fn run() -> Result<Counts, Error> {
     let cache = Cache {
         shared: Shared::new()?,
         stored: AtomicU64::new(0),
+        begins: Barrier::new(READERS + WRITERS),
         has_ended: AtomicBool::new(false),
     };
     let mut counts = Counts::default();
@@ -151,8 +154,8 @@ pub fn run() -> Result<Counts, WaitError> {
     Ok(counts)
 }
 
-fn main() -> Result<(), Condition> {
-    let counts = run().map_err(WaitError::condition)?;
+fn main() -> Result<(), Error> {
+    let counts = run()?;
     let updates = WRITERS as u64 * UPDATES;
     println!(
         "{updates} updates, the last version is {}, {} updates were lost",

@@ -1,9 +1,10 @@
 //! The lock manager of OpenVMS ($ENQ, $DEQ) for Rust programs: a safe wrapper of its proved static library.
 //!
-//! There are three forms of it:
+//! There are three forms of it, and [`script`] runs lines of text on the second:
 //!
-//! - [`Shared`] is for threads. A call waits for its grant, a [`Guard`] gives its lock up on drop, and closures are
-//!   told that a lock is in the way.
+//! - [`Shared`] is for threads. A call waits for its grant, or a future does; a [`Guard`] gives its lock up on drop,
+//!   and
+//!   closures are told that a lock is in the way. It is the library's layer for threads.
 //! - [`LockManager`] has the calls of the library. None of them waits: a request that has to wait stays queued, its
 //!   status block tells of its end, and an AST is pending where it names a routine.
 //! - [`hub`] is for threads that never wait: each posts its steps at a port of its own, and takes answers and ASTs.
@@ -13,11 +14,11 @@
 //!
 //! ```
 //! use std::time::Duration;
-//! use vlm::{Declaration, Mode, Shared};
+//! use vlm::{Client, Mode, Shared};
 //!
-//! # fn main() -> Result<(), vlm::WaitError> {
+//! # fn main() -> Result<(), vlm::Error> {
 //! let shared = Shared::new()?;
-//! let p = shared.declare(&Declaration { node: 1, quota: 9, blocks: 1, ..Declaration::default() })?;
+//! let p = shared.declare(&Client::default())?;
 //! let mut guard = shared.lock_timeout(p, b"A", Mode::Ex, Duration::from_secs(1))?;
 //! guard.write(*b"the next version");
 //! drop(guard);
@@ -28,7 +29,7 @@
 //! ```
 //! use vlm::{Declaration, LockManager, Mode, Request};
 //!
-//! # fn main() -> Result<(), vlm::Condition> {
+//! # fn main() -> Result<(), vlm::Error> {
 //! let mut manager = LockManager::new()?;
 //! let p = manager.declare(&Declaration { node: 1, quota: 9, blocks: 1, ..Declaration::default() })?;
 //! let lock = manager.enq(&Request::new(p, Mode::Ex, 1), b"A")?.lock;
@@ -63,15 +64,18 @@ mod names;
 mod raw;
 mod readings;
 mod requests;
+pub mod script;
 mod shared;
 mod views;
 mod walks;
 
-pub use condition::Condition;
+pub use condition::{Condition, Error};
 pub use flags::{DeqFlags, EnqFlags};
 pub use manager::LockManager;
 pub use names::{Domain, LockId, Mode, ProcessId, Queue, Which};
 pub use requests::{Accepted, Declaration, Dequeue, Request, Setting};
-pub use shared::{Event, Guard, Shared, Terms, WaitError};
+pub use shared::{
+    Client, Counters, Deadlock, Event, Guard, LockFuture, Options, Shared, Terms, Wait,
+};
 pub use views::{Ast, AstKind, Lock, Process, Resource, StatusBlock};
 pub use walks::{Locks, Processes, Resources};

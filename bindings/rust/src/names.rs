@@ -1,7 +1,5 @@
 //! The names of processes, locks, modes, queues and domains.
 
-use std::num::NonZeroU8;
-
 /// The identification of a process.
 #[derive(Clone, Copy, Debug, PartialEq, Eq, PartialOrd, Ord, Hash)]
 pub struct ProcessId(pub u32);
@@ -50,8 +48,8 @@ pub enum Queue {
 pub enum Which {
     /// The lock of this identification.
     Lock(LockId),
-    /// The lock in the status block of this number of the caller.
-    Block(NonZeroU8),
+    /// The lock in the status block of this number of the caller. Block 0 does not exist, and is refused by ACCVIO.
+    Block(u8),
 }
 
 impl From<LockId> for Which {
@@ -65,7 +63,7 @@ pub(crate) fn lock_named(lock: Option<Which>) -> (u32, u32) {
     match lock {
         None => (0, 0),
         Some(Which::Lock(lock)) => (lock.0, 0),
-        Some(Which::Block(number)) => (u32::from(number.get()), 1),
+        Some(Which::Block(number)) => (u32::from(number), 1),
     }
 }
 
@@ -74,7 +72,7 @@ pub(crate) fn which_of(lock: u32, lock_kind: u32) -> Option<Which> {
     match (lock_kind, lock) {
         (0, 0) => None,
         (0, lkid) => Some(Which::Lock(LockId(lkid))),
-        _ => NonZeroU8::new(lock as u8).map(Which::Block),
+        _ => Some(Which::Block(lock as u8)),
     }
 }
 

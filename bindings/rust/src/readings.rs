@@ -36,7 +36,7 @@ impl LockManager {
     /// ```
     /// use vlm::{Declaration, Domain, LockManager, Mode, Request};
     ///
-    /// # fn main() -> Result<(), vlm::Condition> {
+    /// # fn main() -> Result<(), vlm::Error> {
     /// let mut manager = LockManager::new()?;
     /// let p = manager.declare(&Declaration { node: 1, group: 7, quota: 9, blocks: 1, ..Declaration::default() })?;
     /// manager.enq(&Request::new(p, Mode::Ex, 1), b"A")?;

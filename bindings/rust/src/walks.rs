@@ -119,7 +119,7 @@ impl LockManager {
     /// ```
     /// use vlm::{Declaration, LockManager};
     ///
-    /// # fn main() -> Result<(), vlm::Condition> {
+    /// # fn main() -> Result<(), vlm::Error> {
     /// let mut manager = LockManager::new()?;
     /// let p = manager.declare(&Declaration { node: 1, quota: 9, blocks: 1, ..Declaration::default() })?;
     /// assert!(manager.processes().any(|process| process.id == p));
@@ -147,7 +147,7 @@ impl LockManager {
     /// ```
     /// use vlm::{Declaration, LockManager, Mode, Queue, Request};
     ///
-    /// # fn main() -> Result<(), vlm::Condition> {
+    /// # fn main() -> Result<(), vlm::Error> {
     /// let mut manager = LockManager::new()?;
     /// let p = manager.declare(&Declaration { node: 1, quota: 9, blocks: 1, ..Declaration::default() })?;
     /// manager.enq(&Request::new(p, Mode::Ex, 1), b"A")?;
@@ -189,7 +189,7 @@ impl LockManager {
     /// ```
     /// use vlm::{Declaration, LockManager, Mode, Request};
     ///
-    /// # fn main() -> Result<(), vlm::Condition> {
+    /// # fn main() -> Result<(), vlm::Error> {
     /// let mut manager = LockManager::new()?;
     /// let p = manager.declare(&Declaration { node: 1, quota: 9, blocks: 2, ..Declaration::default() })?;
     /// let held = manager.enq(&Request::new(p, Mode::Ex, 1), b"A")?.lock;

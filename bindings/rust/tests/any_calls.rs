@@ -6,7 +6,7 @@ use std::thread;
 use std::time::Duration;
 
 use vlm::{
-    Condition, Declaration, DeqFlags, Dequeue, EnqFlags, Guard, Mode, ProcessId, Shared, Terms,
+    Client, DeqFlags, Dequeue, EnqFlags, Error, Guard, Mode, Options, ProcessId, Shared, Terms,
 };
 
 const THREADS: u64 = 4;
@@ -40,12 +40,12 @@ struct Caller {
     told: Arc<AtomicU64>,
 }
 
-fn declared(shared: &Shared, node: u8) -> Result<ProcessId, Condition> {
-    shared.declare(&Declaration {
+fn declared(shared: &Shared, node: u8) -> Result<ProcessId, Error> {
+    shared.declare(&Client {
         node,
         quota: 20,
-        blocks: 3,
-        ..Declaration::default()
+        requests: 3,
+        ..Client::default()
     })
 }
 
@@ -60,7 +60,7 @@ impl Caller {
         ]);
         let terms = Terms::new().flags(flags).within(longest);
         let terms = match self.guards.last() {
-            Some(guard) if self.numbers.below(4) == 0 => terms.below(guard.lock()),
+            Some(guard) if self.numbers.below(4) == 0 => terms.below(guard),
             _ => terms,
         };
         let (told, shared) = (Arc::clone(&self.told), self.shared.clone());
@@ -102,7 +102,7 @@ impl Caller {
                         let _ = shared.deq(event.process, event.lock);
                     });
             }
-            9 => drop(self.shared.search(1)),
+            9 => drop(self.shared.search()),
             10 => {
                 let flags = DeqFlags::DEQALL;
                 let lock = self.guards.last().map(|guard| guard.lock().into());
@@ -122,7 +122,7 @@ impl Caller {
 
 #[test]
 fn any_calls_leave_nothing() {
-    let shared = Shared::new().expect("memory");
+    let shared = Options::new().by_program().open().expect("memory");
     let (told, has_ended) = (Arc::new(AtomicU64::new(0)), AtomicBool::new(false));
     thread::scope(|scope| {
         let callers: Vec<_> = (0..THREADS)
@@ -144,8 +144,9 @@ fn any_calls_leave_nothing() {
             .collect();
         scope.spawn(|| {
             while !has_ended.load(SeqCst) {
-                shared.wait_event(Some(Duration::from_millis(1)));
-                shared.deliver();
+                if shared.deliver() == Ok(0) {
+                    thread::yield_now();
+                }
             }
         });
         for caller in callers {
@@ -153,7 +154,7 @@ fn any_calls_leave_nothing() {
         }
         has_ended.store(true, SeqCst);
     });
-    shared.deliver();
+    while shared.deliver() != Ok(0) {}
     assert_eq!(
         shared.look(|manager| (manager.resource_count(), manager.process_count())),
         (0, 0)

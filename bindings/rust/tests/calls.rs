@@ -1,9 +1,7 @@
 //! Each call of a lock manager once, with what it refuses.
 
-use std::num::NonZeroU8;
-
 use vlm::{
-    Accepted, AstKind, Condition, Declaration, DeqFlags, Dequeue, Domain, EnqFlags, LockId,
+    Accepted, AstKind, Condition, Declaration, DeqFlags, Dequeue, Domain, EnqFlags, Error, LockId,
     LockManager, Mode, ProcessId, Request, Setting, Which,
 };
 
@@ -28,7 +26,7 @@ fn two() -> (LockManager, ProcessId, ProcessId) {
 }
 
 fn block(number: u8) -> Which {
-    Which::Block(NonZeroU8::new(number).expect("not 0"))
+    Which::Block(number)
 }
 
 #[test]
@@ -37,14 +35,14 @@ fn conditions_have_numbers_and_names() {
         let condition = Condition::of(number);
         assert_eq!(condition.number(), number);
         assert_eq!(
-            condition == Condition::Other(number),
-            !(1..=24).contains(&number)
+            condition == Condition::Failed(Error::Other(number)),
+            !((1..=24).contains(&number) || [100, 256].contains(&number))
         );
         assert!(!condition.name().is_empty() && !condition.to_string().is_empty());
     }
-    assert_eq!(Condition::Other(99).to_string(), "condition 99");
-    assert_eq!(Condition::Nonexpr.to_string(), "SS$_NONEXPR");
-    assert!(Condition::Valnotvalid.is_grant() && !Condition::Abort.is_grant());
+    assert_eq!(Error::Other(99).to_string(), "condition 99");
+    assert_eq!(Error::Nonexpr.to_string(), "SS$_NONEXPR");
+    assert!(Condition::Valnotvalid.is_grant() && !Condition::Failed(Error::Abort).is_grant());
 }
 
 #[test]
@@ -65,7 +63,7 @@ fn flags_are_joined() {
 #[test]
 fn processes_are_declared_and_end() {
     let (mut manager, p, q) = two();
-    assert_eq!(manager.declare(&declaration(9)), Err(Condition::Badparam));
+    assert_eq!(manager.declare(&declaration(9)), Err(Error::Badparam));
     let shown: Vec<_> = manager
         .processes()
         .map(|it| (it.id, it.node, it.group, it.quota, it.blocks))
@@ -73,11 +71,11 @@ fn processes_are_declared_and_end() {
     assert_eq!(shown, [(p, 1, 7, 4, 2), (q, 2, 7, 4, 2)]);
     assert_eq!(manager.process_count(), 2);
     assert_eq!(manager.rundown(p), Ok(()));
-    assert_eq!(manager.rundown(p), Err(Condition::Nonexpr));
+    assert_eq!(manager.rundown(p), Err(Error::Nonexpr));
     assert_eq!((manager.pending(p), manager.pending(q)), (None, Some(0)));
     assert_eq!(manager.leave(2), Ok(()));
-    assert_eq!(manager.leave(2), Err(Condition::Departed));
-    assert_eq!(manager.leave(0), Err(Condition::Badparam));
+    assert_eq!(manager.leave(2), Err(Error::Departed));
+    assert_eq!(manager.leave(0), Err(Error::Badparam));
     let mut processes = manager.processes();
     assert_eq!((processes.next(), processes.next()), (None, None));
 }
@@ -101,10 +99,7 @@ fn locks_are_asked_for_and_given_up() {
         manager.block(q, 1).map(|it| (it.status, it.lock)),
         Some((None, Some(LockId(2))))
     );
-    assert_eq!(
-        manager.convert(&at_once, LockId(2)),
-        Err(Condition::Ivlockid)
-    );
+    assert_eq!(manager.convert(&at_once, LockId(2)), Err(Error::Ivlockid));
     assert_eq!(
         manager
             .convert(&Request::new(p, Mode::Pr, 1), block(1))
@@ -112,7 +107,7 @@ fn locks_are_asked_for_and_given_up() {
         Ok(LockId(1))
     );
     assert_eq!(manager.deq(p, LockId(1)), Ok(()));
-    assert_eq!(manager.deq(p, block(2)), Err(Condition::Ivlockid));
+    assert_eq!(manager.deq(p, block(2)), Err(Error::Ivlockid));
     assert_eq!(
         manager.block(q, 1).and_then(|it| it.status),
         Some(Condition::Normal)
@@ -130,7 +125,7 @@ fn a_granted_request_is_not_cancelled() {
         flags: DeqFlags::CANCEL,
         ..Dequeue::new(q, Some(lock.into()))
     };
-    assert_eq!(manager.dequeue(&cancel), Err(Condition::Cancelgrant));
+    assert_eq!(manager.dequeue(&cancel), Err(Error::Cancelgrant));
     assert_eq!(manager.block(q, 3), None);
     assert_eq!(manager.block(NOBODY, 1), None);
 }
@@ -144,17 +139,17 @@ fn requests_are_refused() {
     let request = Request::new(p, Mode::Ex, 1);
     let nobody = Request::new(NOBODY, Mode::Ex, 1);
     for (refused, name, refusal) in [
-        (nobody, &b"A"[..], Condition::Nonexpr),
-        (Request::new(p, Mode::Ex, 3), b"A", Condition::Accvio),
-        (request, b"", Condition::Ivbuflen),
-        (request, &[1; 32], Condition::Ivbuflen),
+        (nobody, &b"A"[..], Error::Nonexpr),
+        (Request::new(p, Mode::Ex, 3), b"A", Error::Accvio),
+        (request, b"", Error::Ivbuflen),
+        (request, &[1; 32], Error::Ivbuflen),
         (
             Request {
                 flags: EnqFlags::from_bits(0x8000),
                 ..request
             },
             b"A",
-            Condition::Badparam,
+            Error::Badparam,
         ),
         (
             Request {
@@ -162,7 +157,7 @@ fn requests_are_refused() {
                 ..request
             },
             b"A",
-            Condition::Notqueued,
+            Error::Notqueued,
         ),
         (
             Request {
@@ -170,7 +165,7 @@ fn requests_are_refused() {
                 ..request
             },
             b"A",
-            Condition::Ivlockid,
+            Error::Ivlockid,
         ),
     ] {
         assert_eq!(manager.enq(&refused, name), Err(refusal));
@@ -195,7 +190,7 @@ fn value_blocks_are_written() {
             block: 0,
             ..setting
         }),
-        Err(Condition::Accvio)
+        Err(Error::Accvio)
     );
     let wide = EnqFlags::VALBLK | EnqFlags::WIDE;
     let weaker = Request {
@@ -255,7 +250,7 @@ fn asts_are_taken() {
     let (taker, ast) = manager.take_any().expect("a lock manager").expect("an AST");
     assert_eq!((taker, ast.kind, ast.routine), (p, AstKind::Blocking, 9));
     assert_eq!((manager.take_any(), manager.take(p)), (Ok(None), Ok(None)));
-    assert_eq!(manager.take(NOBODY), Err(Condition::Nonexpr));
+    assert_eq!(manager.take(NOBODY), Err(Error::Nonexpr));
 }
 
 #[test]
@@ -273,7 +268,7 @@ fn a_deadlock_has_a_victim() {
     }
     assert_eq!(manager.search(1), Ok(Some(LockId(2))));
     assert_eq!(manager.search(1), Ok(None));
-    assert_eq!(manager.search(0), Err(Condition::Badparam));
+    assert_eq!(manager.search(0), Err(Error::Badparam));
 }
 
 /// A lock manager goes to another thread, which makes the next step there.

@@ -3,20 +3,20 @@
 use std::sync::atomic::{AtomicUsize, Ordering::SeqCst};
 use std::sync::mpsc::channel;
 use std::sync::{Arc, Mutex};
-use std::time::Duration;
 
 use vlm::{
-    AstKind, Condition, Declaration, DeqFlags, Dequeue, LockId, Mode, ProcessId, Shared, Terms,
+    AstKind, Client, Condition, DeqFlags, Dequeue, EnqFlags, Error, LockId, Mode, Options,
+    ProcessId, Shared, Terms,
 };
 
 fn two() -> (Shared, ProcessId, ProcessId) {
-    let shared = Shared::new().expect("memory");
+    let shared = Options::new().by_program().open().expect("memory");
     let declare = |node| {
-        shared.declare(&Declaration {
+        shared.declare(&Client {
             node,
             quota: 9,
-            blocks: 3,
-            ..Declaration::default()
+            requests: 3,
+            ..Client::default()
         })
     };
     let (p, q) = (
@@ -24,6 +24,20 @@ fn two() -> (Shared, ProcessId, ProcessId) {
         declare(2).expect("a process"),
     );
     (shared, p, q)
+}
+
+fn await_event(shared: &Shared) {
+    while shared.counters().events == 0 {
+        std::thread::yield_now();
+    }
+}
+
+/// Delivers all that is pending, and returns how many routines of ends and warnings were called.
+fn called(shared: &Shared) -> u64 {
+    let count = |counters: vlm::Counters| counters.completions + counters.blockings;
+    let before = count(shared.counters());
+    while shared.deliver() != Ok(0) {}
+    count(shared.counters()) - before
 }
 
 fn resources(shared: &Shared) -> usize {
@@ -42,18 +56,17 @@ fn a_blocking_routine_gives_way() {
         );
         count.fetch_add(1, SeqCst);
         // (a delivery in a routine runs nothing)
-        assert_eq!(clone.deliver(), 0);
+        assert_eq!(clone.deliver(), Ok(0));
         clone.deq(p, event.lock).expect("the lock");
     });
     shared
         .lock_with(p, b"A", Mode::Ex, terms)
         .expect("a lock")
         .keep();
-    assert!(!shared.wait_event(Some(Duration::ZERO)));
     let clone = shared.clone();
     let thread = std::thread::spawn(move || clone.lock(q, b"A", Mode::Ex).map(drop));
-    assert!(shared.wait_event(None));
-    assert_eq!((shared.deliver(), shared.deliver()), (1, 0));
+    await_event(&shared);
+    assert_eq!(called(&shared), 1);
     assert_eq!(thread.join().expect("a thread"), Ok(()));
     assert_eq!(told.load(SeqCst), 1);
     assert_eq!(Arc::strong_count(&told), 1);
@@ -66,9 +79,10 @@ fn a_completion_comes_before_the_warning_of_its_grant() {
     let ended = note.clone();
     let held = shared.lock(p, b"A", Mode::Ex).expect("a lock");
     let terms = Terms::new()
+        .flags(EnqFlags::VALBLK)
         .blocking(move |event| note.send((event.kind, event.status)).expect("a listener"));
     let completion = move |event: vlm::Event| {
-        assert_eq!((event.value, event.tail), (Some([0; 16]), Some([0; 48])));
+        assert_eq!((event.value, event.tail), (Some([0; 16]), None));
         ended.send((event.kind, event.status)).expect("a listener");
     };
     let first = shared
@@ -77,9 +91,9 @@ fn a_completion_comes_before_the_warning_of_its_grant() {
     let second = shared
         .start(p, b"A", Mode::Ex, Terms::new(), |_| ())
         .expect("a lock");
-    assert_eq!(shared.deliver(), 0);
+    assert_eq!(called(&shared), 0);
     drop(held);
-    assert_eq!(shared.deliver(), 2);
+    assert_eq!(called(&shared), 2);
     let granted = (AstKind::Completion, Some(Condition::Normal));
     assert_eq!(
         noted.try_iter().collect::<Vec<_>>(),
@@ -89,8 +103,8 @@ fn a_completion_comes_before_the_warning_of_its_grant() {
         (shared.deq(q, first), shared.deq(p, second)),
         (Ok(()), Ok(()))
     );
+    assert_eq!(called(&shared), 1);
     assert_eq!(noted.recv().ok(), None, "both routines are gone");
-    assert_eq!(shared.deliver(), 1);
 }
 
 #[test]
@@ -105,10 +119,10 @@ fn warnings_of_grants_that_are_over_are_dropped() {
     shared
         .start(q, b"A", Mode::Pr, Terms::new(), |_| ())
         .expect("a lock");
-    assert!(shared.wait_event(None));
+    await_event(&shared);
     assert_eq!(guard.convert(Mode::Nl), Ok(()));
     assert_eq!(
-        (shared.deliver(), told.load(SeqCst)),
+        (called(&shared), told.load(SeqCst)),
         (1, 0),
         "the completion alone"
     );
@@ -117,9 +131,10 @@ fn warnings_of_grants_that_are_over_are_dropped() {
     let waits = shared
         .start(q, b"A", Mode::Ex, Terms::new(), |_| ())
         .expect("a lock");
-    assert_eq!((shared.deliver(), told.load(SeqCst)), (1, 1));
+    assert_eq!((called(&shared), told.load(SeqCst)), (1, 1));
     assert_eq!(shared.cancel(q, waits), Ok(()));
     drop(guard);
+    assert_eq!(called(&shared), 1);
     assert_eq!(
         Arc::strong_count(&told),
         1,
@@ -134,7 +149,7 @@ fn all_locks_of_a_process_go_with_their_routines() {
     let keep = |parent: Option<LockId>, name: &[u8]| {
         let held = Arc::clone(&alive);
         let terms = Terms::new().blocking(move |_| drop(Arc::clone(&held)));
-        let terms = parent.into_iter().fold(terms, Terms::below);
+        let terms = parent.into_iter().fold(terms, Terms::below_lock);
         shared
             .lock_with(p, name, Mode::Nl, terms)
             .expect("a lock")
@@ -148,17 +163,17 @@ fn all_locks_of_a_process_go_with_their_routines() {
         ..Dequeue::new(p, lock.map(Into::into))
     };
     assert_eq!(shared.dequeue(&deqall(Some(below))), Ok(()));
+    assert_eq!(called(&shared), 0);
     assert_eq!(Arc::strong_count(&alive), 3);
     assert_eq!(shared.dequeue(&deqall(None)), Ok(()));
+    assert_eq!(called(&shared), 0);
     assert_eq!((Arc::strong_count(&alive), resources(&shared)), (1, 0));
     keep(None, b"A");
     assert_eq!(shared.leave(1), Ok(()));
-    assert_eq!(shared.leave(1), Err(Condition::Departed));
+    assert_eq!(shared.leave(1), Err(Error::Departed));
+    assert_eq!(called(&shared), 0);
     assert_eq!(Arc::strong_count(&alive), 1);
-    assert_eq!(
-        shared.lock(p, b"A", Mode::Ex).err(),
-        Some(Condition::Departed)
-    );
+    assert_eq!(shared.lock(p, b"A", Mode::Ex).err(), Some(Error::Departed));
 }
 
 #[test]
@@ -173,11 +188,11 @@ fn a_routine_that_is_dropped_may_call() {
         .expect("a lock")
         .release()
         .expect("the lock");
-    assert_eq!(resources(&shared), 0);
+    assert_eq!((called(&shared), resources(&shared)), (0, 0));
 }
 
 #[test]
-fn a_panic_of_a_routine_leaves_the_rest_in_order() {
+fn a_panic_of_a_routine_goes_on_after_the_others() {
     let (shared, p, _) = two();
     let first = shared
         .start(p, b"A", Mode::Ex, Terms::new(), |_| {
@@ -194,8 +209,7 @@ fn a_panic_of_a_routine_leaves_the_rest_in_order() {
     std::thread::spawn(move || clone.deliver())
         .join()
         .expect_err("a panic");
-    assert_eq!(shared.deliver(), 1);
-    assert_eq!(ends.recv(), Ok(()));
+    assert_eq!(ends.recv(), Ok(()), "the other routine runs");
     assert_eq!(
         (shared.deq(p, first), shared.deq(p, second)),
         (Ok(()), Ok(()))

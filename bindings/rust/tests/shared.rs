@@ -2,24 +2,28 @@
 
 use std::time::Duration;
 
-use vlm::{Condition, Declaration, EnqFlags, LockId, Mode, ProcessId, Shared, Terms, WaitError};
+use vlm::{Client, EnqFlags, Error, LockId, Mode, Options, ProcessId, Shared, Terms};
 
 const NOBODY: ProcessId = ProcessId(12345);
 
-fn declaration(node: u8) -> Declaration {
-    Declaration {
+fn declaration(node: u8) -> Client<'static> {
+    Client {
         node,
         quota: 9,
-        blocks: 3,
-        ..Declaration::default()
+        requests: 3,
+        ..Client::default()
     }
 }
 
 fn two() -> (Shared, ProcessId, ProcessId) {
-    let shared = Shared::with_keys([7; 16]).expect("memory");
+    let shared = Options::new().keys([7; 16]).open().expect("memory");
     let p = shared.declare(&declaration(1)).expect("a process");
     let q = shared.declare(&declaration(2)).expect("a process");
     (shared, p, q)
+}
+
+fn with_value() -> Terms {
+    Terms::new().flags(EnqFlags::VALBLK)
 }
 
 fn resources(shared: &Shared) -> usize {
@@ -48,7 +52,7 @@ fn a_guard_gives_its_lock_up() {
     let kept = shared.lock(p, b"A", Mode::Ex).expect("a lock").keep();
     assert_eq!(resources(&shared), 1);
     assert_eq!(shared.deq(p, kept), Ok(()));
-    assert_eq!(shared.deq(p, kept), Err(Condition::Ivlockid));
+    assert_eq!(shared.deq(p, kept), Err(Error::Ivlockid));
 }
 
 #[test]
@@ -58,37 +62,31 @@ fn requests_are_refused() {
     let noqueue = || Terms::new().flags(EnqFlags::NOQUEUE).blocking(|_| ());
     let refused =
         |process, name: &[u8], terms| shared.lock_with(process, name, Mode::Ex, terms).err();
+    assert_eq!(refused(q, b"A", noqueue()), Some(Error::Notqueued));
+    assert_eq!(refused(q, b"", noqueue()), Some(Error::Ivbuflen));
     assert_eq!(
-        refused(q, b"A", noqueue()),
-        Some(Condition::Notqueued.into())
+        refused(q, b"B", noqueue().below_lock(LockId(9))),
+        Some(Error::Ivlockid)
     );
-    assert_eq!(refused(q, b"", noqueue()), Some(Condition::Ivbuflen.into()));
-    assert_eq!(
-        refused(q, b"B", noqueue().below(LockId(9))),
-        Some(Condition::Ivlockid.into())
-    );
-    assert_eq!(
-        refused(NOBODY, b"A", noqueue()),
-        Some(Condition::Nonexpr.into())
-    );
+    assert_eq!(refused(NOBODY, b"A", noqueue()), Some(Error::Nonexpr));
     assert_eq!(
         shared.start(NOBODY, b"A", Mode::Ex, noqueue(), |_| ()),
-        Err(Condition::Nonexpr)
+        Err(Error::Nonexpr)
     );
     assert_eq!(
         shared.start(q, b"A", Mode::Ex, noqueue(), |_| ()),
-        Err(Condition::Notqueued)
+        Err(Error::Notqueued)
     );
-    assert_eq!(shared.cancel(q, LockId(2)), Err(Condition::Ivlockid));
-    assert_eq!(shared.cancel(p, LockId(1)), Err(Condition::Cancelgrant));
+    assert_eq!(shared.cancel(q, LockId(2)), Err(Error::Ivlockid));
+    assert_eq!(shared.cancel(p, LockId(1)), Err(Error::Cancelgrant));
 }
 
 #[test]
-fn each_request_takes_a_status_block() {
+fn a_process_has_as_many_requests_as_it_declared() {
     let shared = Shared::new().expect("memory");
     let process = shared
-        .declare(&Declaration {
-            blocks: 1,
+        .declare(&Client {
+            requests: 1,
             ..declaration(1)
         })
         .expect("a process");
@@ -102,27 +100,31 @@ fn each_request_takes_a_status_block() {
         .expect("a lock");
     assert_eq!(
         shared.lock(process, b"B", Mode::Ex).err(),
-        Some(Condition::Exenqlm)
+        Some(Error::Exenqlm)
     );
     assert_eq!(shared.cancel(process, waits), Ok(()));
     drop(shared.lock(process, b"B", Mode::Ex).expect("a lock"));
-    let none = shared
-        .declare(&Declaration {
-            blocks: 0,
-            ..declaration(1)
-        })
-        .expect("a process");
-    assert_eq!(
-        shared.lock(none, b"A", Mode::Ex).err(),
-        Some(Condition::Exenqlm)
-    );
+    let none = Client {
+        requests: 0,
+        ..declaration(1)
+    };
+    let long = Client {
+        label: "a label of two and thirty bytes.",
+        ..declaration(1)
+    };
+    assert_eq!(shared.declare(&none), Err(Error::Badparam));
+    assert_eq!(shared.declare(&long), Err(Error::Badparam));
 }
 
 #[test]
 fn the_value_block_goes_from_lock_to_lock() {
     let (shared, p, q) = two();
-    let mut reader = shared.lock(p, b"A", Mode::Nl).expect("a lock");
-    let mut writer = shared.lock(q, b"A", Mode::Ex).expect("a lock");
+    let mut reader = shared
+        .lock_with(p, b"A", Mode::Nl, with_value())
+        .expect("a lock");
+    let mut writer = shared
+        .lock_with(q, b"A", Mode::Ex, with_value())
+        .expect("a lock");
     assert_eq!(
         (
             writer.value(),
@@ -130,7 +132,7 @@ fn the_value_block_goes_from_lock_to_lock() {
             writer.is_valid(),
             writer.is_tail_valid()
         ),
-        (&[0; 16], None, true, false)
+        (Some([0; 16]), None, true, false)
     );
     writer.write_wide([1; 16], [2; 48]);
     assert_eq!(writer.convert(Mode::Cr), Ok(()));
@@ -138,7 +140,7 @@ fn the_value_block_goes_from_lock_to_lock() {
     assert_eq!(reader.convert_with(Mode::Pr, wide()), Ok(()));
     assert_eq!(
         (reader.value(), reader.tail(), reader.is_tail_valid()),
-        (&[1; 16], Some(&[2; 48]), true)
+        (Some([1; 16]), Some([2; 48]), true)
     );
     assert_eq!(reader.convert(Mode::Nl), Ok(()));
     assert_eq!(writer.convert_timeout(Mode::Pw, Duration::ZERO), Ok(()));
@@ -148,19 +150,23 @@ fn the_value_block_goes_from_lock_to_lock() {
     assert_eq!(reader.convert_with(Mode::Pr, wide()), Ok(()));
     assert_eq!(
         (reader.value(), reader.is_valid(), reader.is_tail_valid()),
-        (&[3; 16], true, false)
+        (Some([3; 16]), true, false)
     );
 }
 
 #[test]
 fn an_ended_writer_leaves_an_invalid_value() {
     let (shared, p, q) = two();
-    let mut reader = shared.lock(p, b"A", Mode::Nl).expect("a lock");
-    let mut writer = shared.lock(q, b"A", Mode::Ex).expect("a lock");
+    let mut reader = shared
+        .lock_with(p, b"A", Mode::Nl, with_value())
+        .expect("a lock");
+    let mut writer = shared
+        .lock_with(q, b"A", Mode::Ex, with_value())
+        .expect("a lock");
     assert_eq!(shared.rundown(q), Ok(()));
-    assert_eq!(shared.rundown(q), Err(Condition::Nonexpr));
-    assert_eq!(writer.release(), Err(Condition::Nonexpr));
-    assert_eq!(writer.convert(Mode::Nl), Err(Condition::Nonexpr));
+    assert_eq!(shared.rundown(q), Err(Error::Nonexpr));
+    assert_eq!(writer.release(), Err(Error::Nonexpr));
+    assert_eq!(writer.convert(Mode::Nl), Err(Error::Nonexpr));
     assert_eq!(reader.convert(Mode::Pr), Ok(()));
     assert!(!reader.is_valid());
 }
@@ -169,18 +175,37 @@ fn an_ended_writer_leaves_an_invalid_value() {
 fn a_guard_of_a_lock_with_sublocks_is_refused() {
     let (shared, p, _) = two();
     let mut parent = shared.lock(p, b"A", Mode::Nl).expect("a lock");
-    let below = Terms::new().below(parent.lock());
+    let below = Terms::new().below(&parent);
     let mut child = shared.lock_with(p, b"B", Mode::Ex, below).expect("a lock");
-    assert_eq!(parent.release(), Err(Condition::Sublocks));
+    assert_eq!(parent.release(), Err(Error::Sublocks));
     assert_eq!(child.release(), Ok(()));
     assert_eq!(parent.release(), Ok(()));
     assert_eq!(resources(&shared), 0);
 }
 
 #[test]
+fn a_child_guard_keeps_its_parent() {
+    let (shared, p, _) = two();
+    let parent = shared.lock(p, b"A", Mode::Nl).expect("a lock");
+    let below = Terms::new().below(&parent);
+    let child = shared.lock_with(p, b"B", Mode::Ex, below).expect("a lock");
+    drop(parent);
+    assert_eq!(resources(&shared), 2);
+    drop(child);
+    assert_eq!(resources(&shared), 0);
+    let parent = shared.lock(p, b"A", Mode::Nl).expect("a lock");
+    let below = Terms::new().below_lock(parent.lock());
+    let child = shared.lock_with(p, b"B", Mode::Ex, below).expect("a lock");
+    drop(vec![child, parent]);
+    assert_eq!(resources(&shared), 0);
+}
+
+#[test]
 fn a_guard_that_is_dropped_in_a_panic_writes_nothing() {
     let (shared, p, q) = two();
-    let mut reader = shared.lock(p, b"A", Mode::Nl).expect("a lock");
+    let mut reader = shared
+        .lock_with(p, b"A", Mode::Nl, with_value())
+        .expect("a lock");
     let clone = shared.clone();
     let thread = std::thread::spawn(move || {
         let mut writer = clone.lock(q, b"A", Mode::Ex).expect("a lock");
@@ -189,12 +214,11 @@ fn a_guard_that_is_dropped_in_a_panic_writes_nothing() {
     });
     thread.join().expect_err("a panic");
     assert_eq!(reader.convert(Mode::Pr), Ok(()));
-    assert_eq!((reader.value(), reader.is_valid()), (&[0; 16], true));
+    assert_eq!((reader.value(), reader.is_valid()), (Some([0; 16]), true));
 }
 
 #[test]
 fn errors_have_texts() {
-    assert_eq!(WaitError::TimedOut.to_string(), "timed out");
-    assert_eq!(WaitError::from(Condition::Abort).to_string(), "SS$_ABORT");
-    assert_eq!(WaitError::TimedOut.condition(), Condition::Cancel);
+    assert_eq!(Error::Timeout.to_string(), "TIMEOUT");
+    assert_eq!(Error::Abort.to_string(), "SS$_ABORT");
 }

@@ -4,19 +4,19 @@ use std::sync::atomic::{AtomicU64, Ordering::Relaxed};
 use std::thread;
 use std::time::Duration;
 
-use vlm::{Condition, Declaration, LockId, Mode, ProcessId, Queue, Shared, WaitError};
+use vlm::{Client, Error, LockId, Mode, ProcessId, Queue, Shared};
 
-const RACES: u32 = 3_000;
+const RACES: u32 = 400;
 const LONGEST: Duration = Duration::from_secs(30);
 
 fn two() -> (Shared, ProcessId, ProcessId) {
     let shared = Shared::new().expect("memory");
     let declare = |node| {
-        shared.declare(&Declaration {
+        shared.declare(&Client {
             node,
             quota: 9,
-            blocks: 4,
-            ..Declaration::default()
+            requests: 4,
+            ..Client::default()
         })
     };
     let (p, q) = (
@@ -41,7 +41,7 @@ fn queued(shared: &Shared, queue: Queue) -> LockId {
 }
 
 /// How a request for A by Q ends that waits while this is done.
-fn ends_by(shared: &Shared, q: ProcessId, act: impl FnOnce(LockId)) -> Result<(), Condition> {
+fn ends_by(shared: &Shared, q: ProcessId, act: impl FnOnce(LockId)) -> Result<(), Error> {
     thread::scope(|scope| {
         let asked = scope.spawn(|| shared.lock(q, b"A", Mode::Ex).map(drop));
         act(queued(shared, Queue::Waiting));
@@ -60,7 +60,7 @@ fn a_wait_ends_with_the_grant() {
 fn a_wait_ends_with_its_request() {
     let (shared, p, q) = two();
     let _held = shared.lock(p, b"A", Mode::Ex).expect("a lock");
-    let aborted = Err(Condition::Abort);
+    let aborted = Err(Error::Abort);
     assert_eq!(
         ends_by(&shared, q, |lock| shared.deq(q, lock).expect("the lock")),
         aborted
@@ -76,16 +76,16 @@ fn a_wait_ends_with_its_process() {
     let (shared, p, q) = two();
     let _held = shared.lock(p, b"A", Mode::Ex).expect("a lock");
     let rundown = |_| shared.rundown(q).expect("the process");
-    assert_eq!(ends_by(&shared, q, rundown), Err(Condition::Nonexpr));
-    let declaration = Declaration {
+    assert_eq!(ends_by(&shared, q, rundown), Err(Error::Nonexpr));
+    let declaration = Client {
         node: 2,
         quota: 9,
-        blocks: 1,
-        ..Declaration::default()
+        requests: 1,
+        ..Client::default()
     };
     let other = shared.declare(&declaration).expect("a process");
     let leave = |_| shared.leave(2).expect("the node");
-    assert_eq!(ends_by(&shared, other, leave), Err(Condition::Departed));
+    assert_eq!(ends_by(&shared, other, leave), Err(Error::Departed));
 }
 
 #[test]
@@ -96,7 +96,7 @@ fn a_conversion_that_waits_too_long_leaves_the_lock_as_it_was() {
     let longest = Duration::from_millis(2);
     assert_eq!(
         guard.convert_timeout(Mode::Ex, longest),
-        Err(WaitError::TimedOut)
+        Err(Error::Timeout)
     );
     assert_eq!(guard.mode(), Mode::Pr);
     let lock = guard.lock();
@@ -106,7 +106,7 @@ fn a_conversion_that_waits_too_long_leaves_the_lock_as_it_was() {
         shared.cancel(q, lock).expect("the conversion");
         asked.join().expect("a thread")
     });
-    assert_eq!(ended, Err(Condition::Cancel));
+    assert_eq!(ended, Err(Error::Cancel));
     assert_eq!(guard.convert(Mode::Cr), Ok(()));
 }
 
@@ -115,7 +115,7 @@ fn times_that_do_not_end_are_none() {
     let (shared, p, q) = two();
     let held = shared.lock(p, b"A", Mode::Ex).expect("a lock");
     let refused = shared.lock_timeout(q, b"A", Mode::Ex, Duration::ZERO);
-    assert_eq!(refused.map(drop), Err(WaitError::TimedOut));
+    assert_eq!(refused.map(drop), Err(Error::Timeout));
     thread::scope(|scope| {
         let asked = scope.spawn(|| {
             shared
@@ -137,15 +137,14 @@ fn a_search_ends_a_wait() {
         // Each gives its first lock up when its second request has ended.
         let first = scope.spawn(|| (shared.lock(p, b"B", Mode::Ex).map(drop), drop(a)).0);
         let second = scope.spawn(|| (shared.lock(q, b"A", Mode::Ex).map(drop), drop(b)).0);
-        while shared.search(1) == Ok(None) {
+        while shared.search() == Ok(0) {
             thread::yield_now();
         }
         [first, second].map(|asked| asked.join().expect("a thread"))
     });
-    let victims = ends.iter().filter(|end| **end == Err(Condition::Deadlock));
+    let victims = ends.iter().filter(|end| **end == Err(Error::Deadlock));
     assert_eq!(victims.count(), 1);
     assert_eq!(ends.iter().filter(|end| end.is_ok()).count(), 1);
-    assert_eq!(shared.search(9), Err(Condition::Badparam));
 }
 
 #[test]
@@ -154,16 +153,16 @@ fn a_time_out_races_with_a_grant() {
     let (mut granted, mut timed_out) = (0, 0);
     for race in 0..RACES {
         let held = shared.lock(p, b"A", Mode::Ex).expect("a lock");
-        let longest = Duration::from_micros(u64::from(race * 7 % 200));
+        let longest = Duration::from_millis(1);
         let ended = thread::scope(|scope| {
             let asked = scope.spawn(|| shared.lock_timeout(q, b"A", Mode::Ex, longest).map(drop));
-            thread::sleep(longest);
+            thread::sleep(Duration::from_micros(u64::from(race % 24) * 100));
             drop(held);
             asked.join().expect("a thread")
         });
         match ended {
             Ok(()) => granted += 1,
-            Err(WaitError::TimedOut) => timed_out += 1,
+            Err(Error::Timeout) => timed_out += 1,
             Err(other) => panic!("{other}"),
         }
         assert_eq!(shared.look(|manager| manager.resource_count()), 0);

@@ -1,7 +1,7 @@
 //! What a step answered.
 
 use super::raw;
-use crate::condition::Condition;
+use crate::condition::{Condition, Error};
 use crate::names::{LockId, ProcessId};
 use crate::requests::Accepted;
 use crate::views::Ast;
@@ -47,23 +47,23 @@ impl Answer {
     }
 
     /// As the answer to a setting, a dequeue, a rundown or a departure.
-    pub fn done(&self) -> Result<(), Condition> {
-        self.condition.accepted().map(drop)
+    pub fn done(&self) -> Result<(), Error> {
+        self.condition.success().map(drop)
     }
 
     /// As the answer to a declaration.
-    pub fn process(&self) -> Result<ProcessId, Condition> {
+    pub fn process(&self) -> Result<ProcessId, Error> {
         self.done().map(|()| ProcessId(self.number))
     }
 
     /// As the answer to a new request or a conversion.
-    pub fn accepted(&self) -> Result<Accepted, Condition> {
-        let condition = self.condition.accepted()?;
+    pub fn accepted(&self) -> Result<Accepted, Error> {
+        let condition = self.condition.success()?;
         Ok(Accepted::of(condition, self.number))
     }
 
     /// As the answer to a search: the lock of its victim, if there is one.
-    pub fn victim(&self) -> Result<Option<LockId>, Condition> {
+    pub fn victim(&self) -> Result<Option<LockId>, Error> {
         self.done()?;
         Ok((self.number != 0).then_some(LockId(self.number)))
     }

@@ -1,6 +1,6 @@
 //! The journal of a hub: its entries, its parts and its replay.
 
-use std::error::Error;
+use std::error;
 use std::fmt;
 use std::iter::FusedIterator;
 use std::ops::Range;
@@ -11,7 +11,7 @@ use super::answers::Answer;
 use super::raw;
 use super::steps::Step;
 use super::Hub;
-use crate::condition::{answered, Condition};
+use crate::condition::{answered, Condition, Error};
 use crate::manager::LockManager;
 
 /// An entry of a journal: a step that the hub made, with its answer.
@@ -61,7 +61,7 @@ impl Entry {
     /// A step that was answered INSFMEM had changed nothing, so it is left out. If memory is refused here, the answer
     /// in [`Difference::made`] is INSFMEM: replay the same entry again.
     pub fn replay(&self, manager: &mut LockManager) -> Result<(), Difference> {
-        if self.answer.condition == Condition::Insfmem {
+        if self.answer.condition == Condition::Failed(Error::Insfmem) {
             return Ok(());
         }
         let made = self.step.make(manager);
@@ -94,7 +94,7 @@ impl Step {
             Step::Leave(node) => handle.leave(u32::from(*node)),
             Step::Search(node) => handle.search(u32::from(*node), &mut number),
             Step::Take(process) => handle.take(process.0, &mut ast),
-            Step::Other(_) => Condition::Badparam.number(),
+            Step::Other(_) => Condition::Failed(Error::Badparam).number(),
         };
         Answer::of(status, number, &ast)
     }
@@ -117,7 +117,7 @@ impl fmt::Display for Difference {
     }
 }
 
-impl Error for Difference {}
+impl error::Error for Difference {}
 
 /// The entries since the last cut: see [`Hub::entries`].
 #[derive(Clone)]
@@ -227,7 +227,7 @@ impl Hub {
     /// # Ok(())
     /// # }
     /// ```
-    pub fn cut(&mut self) -> Result<Journal, Condition> {
+    pub fn cut(&mut self) -> Result<Journal, Error> {
         let count = self.handle.entries();
         let (mut words, mut entries) = (room(count)?, room(count)?);
         words.resize_with(count, raw::Entry::new);
@@ -242,11 +242,11 @@ impl Hub {
 }
 
 /// An empty vector with room for this many.
-fn room<T>(count: usize) -> Result<Vec<T>, Condition> {
+fn room<T>(count: usize) -> Result<Vec<T>, Error> {
     let mut room = Vec::new();
     let is_refused = room.try_reserve_exact(count).is_err();
     if is_refused {
-        return Err(Condition::Insfmem);
+        return Err(Error::Insfmem);
     }
     Ok(room)
 }

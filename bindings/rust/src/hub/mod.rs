@@ -43,15 +43,15 @@ mod steps;
 #[cfg(test)]
 mod tests;
 
-use std::error::Error;
+use std::error;
 use std::fmt;
 
 pub use answers::Answer;
 pub use journal::{Difference, Entries, Entry, Journal};
-pub use port::{Item, Port, PostError};
+pub use port::{Item, Port};
 pub use steps::{Name, Step};
 
-use crate::condition::{answered, Condition};
+use crate::condition::{answered, Error};
 use crate::manager::random_keys;
 
 /// A hub with its lock manager and its journal. Two hubs share nothing. A hub may go to another thread.
@@ -69,24 +69,24 @@ pub struct Hub {
 impl Hub {
     /// A hub of 1 to 8 nodes. Its lock manager hashes names by random keys, as that of
     /// [`LockManager::new`](crate::LockManager::new). INSFMEM; BADPARAM for another number of nodes.
-    pub fn new(nodes: u8) -> Result<Hub, Condition> {
+    pub fn new(nodes: u8) -> Result<Hub, Error> {
         Hub::with_keys(nodes, random_keys())
     }
 
     /// The same, with these keys.
-    pub fn with_keys(nodes: u8, keys: [u8; 16]) -> Result<Hub, Condition> {
+    pub fn with_keys(nodes: u8, keys: [u8; 16]) -> Result<Hub, Error> {
         match raw::Hub::open(u32::from(nodes), keys) {
             Ok(handle) => Ok(Hub { handle }),
-            Err(status) => Err(Condition::of(status)),
+            Err(status) => Err(Error::of(status)),
         }
     }
 
     /// The port of a node. The hub gives it once. BADPARAM: there is no such node, or its port was given before.
     /// INSFMEM: the hub still has the port.
-    pub fn port(&mut self, node: u8) -> Result<Port, Condition> {
+    pub fn port(&mut self, node: u8) -> Result<Port, Error> {
         match self.handle.port(u32::from(node)) {
             Ok(handle) => Ok(Port::of(handle)),
-            Err(status) => Err(Condition::of(status)),
+            Err(status) => Err(Error::of(status)),
         }
     }
 
@@ -103,13 +103,13 @@ impl Hub {
 
     /// Lets a node depart whose thread is gone. All its processes end, and its later posts are answered DEPARTED.
     /// DEPARTED: it had departed before. INSFMEM: nothing is changed. BADPARAM: the node is not 1 to 8.
-    pub fn lost(&mut self, node: u8) -> Result<(), Condition> {
+    pub fn lost(&mut self, node: u8) -> Result<(), Error> {
         answered(self.handle.lost(u32::from(node)))?;
         Ok(())
     }
 
     /// How many posts of a node the hub has not made. BADPARAM: the hub has no such node.
-    pub fn waiting(&self, node: u8) -> Result<usize, Condition> {
+    pub fn waiting(&self, node: u8) -> Result<usize, Error> {
         let mut posts = 0;
         answered(self.handle.waiting(u32::from(node), &mut posts))?;
         Ok(posts)
@@ -126,7 +126,7 @@ impl Hub {
 #[non_exhaustive]
 pub struct TurnError {
     /// INSFMEM.
-    pub condition: Condition,
+    pub condition: Error,
     /// How many entries the turn had made.
     pub made: usize,
 }
@@ -137,4 +137,4 @@ impl fmt::Display for TurnError {
     }
 }
 
-impl Error for TurnError {}
+impl error::Error for TurnError {}

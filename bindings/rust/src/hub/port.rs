@@ -1,19 +1,17 @@
 //! A node's end of a hub: posts and items.
 
-use std::error::Error;
-use std::fmt;
-
 use super::answers::Answer;
 use super::raw;
-use crate::condition::{answered, Condition};
+use crate::condition::{answered, Error};
 use crate::names::{ProcessId, Which};
 use crate::requests::{Declaration, Dequeue, Request, Setting};
 use crate::views::Ast;
 
 /// The port of a node: it posts steps of the node, and takes items. No call waits or takes memory.
 ///
-/// A post is refused by BADPARAM if it is a step of another node: a declaration for that node, or a step of its
-/// process. A port may go to another thread, and live longer than its hub: nobody answers it then.
+/// A post fails by `Full` if the port knows no free place, and by BADPARAM if it is a step of another node: a
+/// declaration for that node, or a step of its process. A port may go to another thread, and live longer than its hub:
+/// nobody answers it then.
 ///
 /// ```compile_fail
 /// fn shared<T: Sync>(_: T) {}
@@ -34,47 +32,47 @@ impl Port {
     }
 
     /// Posts a declaration of a process. [`Answer::process`] reads its answer.
-    pub fn declare(&mut self, declaration: &Declaration) -> Result<(), PostError> {
+    pub fn declare(&mut self, declaration: &Declaration) -> Result<(), Error> {
         posted(self.handle.declare(&declaration.words()))
     }
 
     /// Posts a setting of the value part of a status block. [`Answer::done`] reads its answer.
-    pub fn set_value(&mut self, setting: &Setting) -> Result<(), PostError> {
+    pub fn set_value(&mut self, setting: &Setting) -> Result<(), Error> {
         posted(self.handle.set_value(&setting.words()))
     }
 
     /// Posts a request for a new lock ($ENQ). [`Answer::accepted`] reads its answer.
-    pub fn enq(&mut self, request: &Request, name: &[u8]) -> Result<(), PostError> {
+    pub fn enq(&mut self, request: &Request, name: &[u8]) -> Result<(), Error> {
         posted(self.handle.enq(&request.words(request.parent), name))
     }
 
     /// Posts a request for another mode of a lock ($ENQ with CONVERT). [`Answer::accepted`] reads its answer.
-    pub fn convert(&mut self, request: &Request, lock: impl Into<Which>) -> Result<(), PostError> {
+    pub fn convert(&mut self, request: &Request, lock: impl Into<Which>) -> Result<(), Error> {
         posted(self.handle.convert(&request.words(Some(lock.into()))))
     }
 
     /// Posts that a lock is given up ($DEQ): what [`Port::dequeue`] does without flags and without a value.
-    pub fn deq(&mut self, process: ProcessId, lock: impl Into<Which>) -> Result<(), PostError> {
+    pub fn deq(&mut self, process: ProcessId, lock: impl Into<Which>) -> Result<(), Error> {
         self.dequeue(&Dequeue::new(process, Some(lock.into())))
     }
 
     /// Posts that locks are given up, or a request is cancelled ($DEQ). [`Answer::done`] reads its answer.
-    pub fn dequeue(&mut self, dequeue: &Dequeue) -> Result<(), PostError> {
+    pub fn dequeue(&mut self, dequeue: &Dequeue) -> Result<(), Error> {
         posted(self.handle.deq(&dequeue.words()))
     }
 
     /// Posts the end of a process. [`Answer::done`] reads its answer.
-    pub fn rundown(&mut self, process: ProcessId) -> Result<(), PostError> {
+    pub fn rundown(&mut self, process: ProcessId) -> Result<(), Error> {
         posted(self.handle.rundown(process.0))
     }
 
     /// Posts a search for a deadlock. [`Answer::victim`] reads its answer.
-    pub fn search(&mut self) -> Result<(), PostError> {
+    pub fn search(&mut self) -> Result<(), Error> {
         posted(self.handle.search())
     }
 
     /// Posts the departure of the node, with all its processes. [`Answer::done`] reads its answer.
-    pub fn bye(&mut self) -> Result<(), PostError> {
+    pub fn bye(&mut self) -> Result<(), Error> {
         posted(self.handle.bye())
     }
 
@@ -141,31 +139,7 @@ impl Item {
     }
 }
 
-/// Why a step was not posted.
-#[derive(Clone, Copy, Debug, PartialEq, Eq)]
-#[non_exhaustive]
-pub enum PostError {
-    /// The port knows no free place. Take items, and post again.
-    Full,
-    /// BADPARAM: it is a step of another node.
-    Refused(Condition),
-}
-
-impl fmt::Display for PostError {
-    fn fmt(&self, f: &mut fmt::Formatter<'_>) -> fmt::Result {
-        match self {
-            PostError::Full => f.write_str("no free place"),
-            PostError::Refused(condition) => condition.fmt(f),
-        }
-    }
-}
-
-impl Error for PostError {}
-
 /// The answer of a post.
-fn posted(status: u32) -> Result<(), PostError> {
-    if status == raw::FULL {
-        return Err(PostError::Full);
-    }
-    answered(status).map(drop).map_err(PostError::Refused)
+fn posted(status: u32) -> Result<(), Error> {
+    answered(status).map(drop)
 }

@@ -1,12 +1,13 @@
 //! An entry has the same bytes in Rust as in the library.
 
-use super::{raw, Entry, Hub, Port, PostError};
+use super::{raw, Entry, Hub, Port};
+use crate::Error;
 use crate::{Declaration, DeqFlags, Dequeue, LockId, Mode, ProcessId, Request, Setting};
 
 const P: ProcessId = ProcessId(0x1_0001);
 
 /// Posts each kind of step.
-fn post_all(port: &mut Port) -> Result<(), PostError> {
+fn post_all(port: &mut Port) -> Result<(), Error> {
     port.declare(&Declaration {
         node: 1,
         quota: 9,

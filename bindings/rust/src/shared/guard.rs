@@ -1,84 +1,158 @@
 //! A lock that is given up on drop.
 
 use std::fmt;
+use std::sync::atomic::{AtomicBool, Ordering::Relaxed};
+use std::sync::{Arc, Mutex, MutexGuard, PoisonError};
 use std::thread;
 use std::time::Duration;
 
-use super::terms::{Terms, WaitError};
-use super::waits::{Asked, Value, What};
-use super::Shared;
-use crate::condition::Condition;
-use crate::flags::EnqFlags;
+use super::routines::{part, Blocking};
+use super::terms::Terms;
+use super::{Asked, Shared};
+use crate::condition::{Condition, Error};
+use crate::flags::{DeqFlags, EnqFlags};
 use crate::names::{LockId, Mode, ProcessId};
-use crate::requests::Dequeue;
-use crate::views::StatusBlock;
+
+/// What a value block is set to: 16 bytes, or with a tail 64.
+pub(super) type Value = ([u8; 16], Option<[u8; 48]>);
+
+/// A lock that its guard holds, and the guards of its sublocks keep.
+pub(super) struct Held {
+    shared: Shared,
+    process: ProcessId,
+    lock: LockId,
+    is_held: AtomicBool,
+    /// What is to be written to the value block. (Few locks write one, so it is in a box.)
+    written: Mutex<Option<Box<Value>>>,
+    /// (it is dropped after the lock is given up)
+    _parent: Option<Arc<Held>>,
+}
+
+impl Held {
+    fn written(&self) -> MutexGuard<'_, Option<Box<Value>>> {
+        self.written.lock().unwrap_or_else(PoisonError::into_inner)
+    }
+
+    fn give_up(&self, written: Option<Value>) -> Result<(), Error> {
+        let lock = self.lock.0;
+        self.shared
+            .give_up(self.process, lock, DeqFlags::default(), written)
+    }
+
+    fn release(&self) -> Result<(), Error> {
+        if !self.is_held.load(Relaxed) {
+            return Ok(());
+        }
+        let written = self.written().as_deref().copied();
+        self.give_up(written)?;
+        self.is_held.store(false, Relaxed);
+        Ok(())
+    }
+}
+
+impl Drop for Held {
+    fn drop(&mut self) {
+        if *self.is_held.get_mut() {
+            let written = self.written.get_mut();
+            let written = written.unwrap_or_else(PoisonError::into_inner);
+            // A refusal has nobody to tell.
+            let written = written.as_deref().copied();
+            let _ = self.give_up(written);
+        }
+    }
+}
+
+/// The value block that a grant returned, with the flags of its request and how that ended.
+pub(super) struct Granted {
+    pub(super) value: [u8; 64],
+    pub(super) flags: EnqFlags,
+    pub(super) status: Condition,
+}
+
+impl Granted {
+    /// Where a request with these flags returns the value block, if it does.
+    pub(super) fn asked_by(flags: EnqFlags) -> Option<Box<Granted>> {
+        let is_asked = flags.contains(EnqFlags::VALBLK);
+        is_asked.then(|| Granted::of([0; 64], flags))
+    }
+
+    fn of(value: [u8; 64], flags: EnqFlags) -> Box<Granted> {
+        Box::new(Granted {
+            value,
+            flags,
+            status: Condition::Normal,
+        })
+    }
+}
 
 /// A lock that is held. Dropping it gives the lock up, and writes the value that [`Guard::write`] named. It may go to
 /// another thread.
 ///
-/// A guard that is dropped by a panic writes nothing. A lock that went with its process is no error. A lock with
-/// sublocks stays when its guard is dropped: drop the guards of the sublocks first, or see [`Guard::release`].
+/// A guard that is dropped by a panic writes nothing. A lock that went with its process is no error. A lock stays as
+/// long as the guard of a sublock that was asked for by [`Terms::below`].
 ///
 /// ```
-/// use vlm::{Declaration, Mode, Shared};
+/// use vlm::{Client, EnqFlags, Mode, Shared, Terms};
 ///
-/// # fn main() -> Result<(), vlm::WaitError> {
+/// # fn main() -> Result<(), vlm::Error> {
 /// let shared = Shared::new()?;
-/// let p = shared.declare(&Declaration { node: 1, quota: 9, blocks: 1, ..Declaration::default() })?;
-/// let mut reader = shared.lock(p, b"A", Mode::Nl)?; // keeps the resource and its value block
+/// let p = shared.declare(&Client::default())?;
+/// let with_value = Terms::new().flags(EnqFlags::VALBLK);
+/// let mut reader = shared.lock_with(p, b"A", Mode::Nl, with_value)?; // keeps the resource and its value block
 /// let mut writer = shared.lock(p, b"A", Mode::Ex)?;
 /// writer.write(*b"sixteen bytes ..");
 /// drop(writer);
 /// reader.convert(Mode::Pr)?;
-/// assert_eq!(reader.value(), b"sixteen bytes ..");
+/// assert_eq!(reader.value(), Some(*b"sixteen bytes .."));
 /// # Ok(())
 /// # }
 /// ```
 #[must_use = "a guard that is dropped gives its lock up"]
 pub struct Guard {
-    shared: Shared,
-    process: ProcessId,
-    lock: LockId,
+    held: Arc<Held>,
     mode: Mode,
-    // The last grant that returned the value block, and the flags of its request.
-    granted: StatusBlock,
-    flags: EnqFlags,
-    // What is to be written to the value block.
-    written: Option<Value>,
-    is_held: bool,
+    // The last grant that returned the value block, if the lock was asked for with VALBLK.
+    granted: Option<Box<Granted>>,
+    blocking: Option<Blocking>,
     was_panicking: bool,
 }
 
 impl Guard {
+    #[inline]
     pub(super) fn new(
-        shared: Shared,
-        process: ProcessId,
+        shared: &Shared,
+        asked: Asked<'_>,
         lock: LockId,
-        mode: Mode,
-        granted: StatusBlock,
-        flags: EnqFlags,
+        granted: Option<Box<Granted>>,
     ) -> Guard {
         Guard {
-            shared,
-            process,
-            lock,
-            mode,
+            held: Arc::new(Held {
+                shared: shared.clone(),
+                process: asked.process,
+                lock,
+                is_held: AtomicBool::new(true),
+                written: Mutex::new(None),
+                _parent: asked.kept,
+            }),
+            mode: asked.mode,
             granted,
-            flags,
-            written: None,
-            is_held: true,
+            blocking: asked.blocking,
             was_panicking: thread::panicking(),
         }
     }
 
+    pub(super) fn held(&self) -> Arc<Held> {
+        Arc::clone(&self.held)
+    }
+
     /// The identification of the lock.
     pub fn lock(&self) -> LockId {
-        self.lock
+        self.held.lock
     }
 
     /// Its process.
     pub fn process(&self) -> ProcessId {
-        self.process
+        self.held.process
     }
 
     /// The mode that it holds.
@@ -86,74 +160,78 @@ impl Guard {
         self.mode
     }
 
-    /// The 16 bytes of the value block at the last grant that returned it.
-    pub fn value(&self) -> &[u8; 16] {
-        &self.granted.value
+    /// The 16 bytes of the value block at the last grant that returned it. None if the lock was asked for without
+    /// VALBLK.
+    pub fn value(&self) -> Option<[u8; 16]> {
+        Some(part(&self.granted.as_ref()?.value, 0))
     }
 
     /// The other 48 bytes, if that request had the flag WIDE.
-    pub fn tail(&self) -> Option<&[u8; 48]> {
-        let is_wide = self.flags.contains(EnqFlags::WIDE);
-        is_wide.then_some(&self.granted.tail)
+    pub fn tail(&self) -> Option<[u8; 48]> {
+        let granted = self.granted.as_ref()?;
+        let is_wide = granted.flags.contains(EnqFlags::WIDE);
+        is_wide.then(|| part(&granted.value, 16))
     }
 
-    /// Whether the value was valid. It is not after its last writer ended without giving its lock up.
+    /// Whether there is a value, and it was valid. It is not after its last writer ended without giving its lock up.
     pub fn is_valid(&self) -> bool {
-        self.granted.status != Some(Condition::Valnotvalid)
+        let granted = self.granted.as_ref();
+        granted.is_some_and(|granted| granted.status != Condition::Valnotvalid)
     }
 
     /// Whether there is a tail, and it was valid.
     pub fn is_tail_valid(&self) -> bool {
-        self.tail().is_some() && self.granted.status == Some(Condition::Normal)
+        let granted = self.granted.as_ref();
+        self.tail().is_some() && granted.is_some_and(|granted| granted.status == Condition::Normal)
     }
 
     /// Names what is written to the value block when the lock is given up or goes to a weaker mode. At modes below PW
     /// nothing is written. A tail becomes invalid.
     pub fn write(&mut self, value: [u8; 16]) {
-        self.written = Some((value, None));
+        *self.held.written() = Some(Box::new((value, None)));
     }
 
     /// The same, with the tail.
     pub fn write_wide(&mut self, value: [u8; 16], tail: [u8; 48]) {
-        self.written = Some((value, Some(tail)));
+        *self.held.written() = Some(Box::new((value, Some(tail))));
     }
 
     /// Asks for another mode and waits for the grant. If it fails, the lock holds what it held. The blocking routine
     /// stays: the grant arms it again.
     ///
-    /// Refused as [`LockManager::convert`](crate::LockManager::convert); EXENQLM if no status block of the process is
-    /// free. The wait ends without a grant by DEADLOCK, CANCEL, ABORT, NONEXPR or DEPARTED.
-    pub fn convert(&mut self, mode: Mode) -> Result<(), Condition> {
+    /// Refused as [`LockManager::convert`](crate::LockManager::convert); EXENQLM if as many requests of the process are
+    /// under way as it declared. The wait ends without a grant by DEADLOCK, CANCEL, ABORT, NONEXPR or DEPARTED.
+    pub fn convert(&mut self, mode: Mode) -> Result<(), Error> {
         self.convert_with(mode, Terms::new())
-            .map_err(WaitError::condition)
     }
 
     /// The same, and waits at most this long: see [`Shared::lock_timeout`].
-    pub fn convert_timeout(&mut self, mode: Mode, longest: Duration) -> Result<(), WaitError> {
+    pub fn convert_timeout(&mut self, mode: Mode, longest: Duration) -> Result<(), Error> {
         self.convert_with(mode, Terms::new().within(longest))
     }
 
     /// The same, on these terms. A blocking routine among them takes the place of the old one with the grant.
-    pub fn convert_with(&mut self, mode: Mode, terms: Terms) -> Result<(), WaitError> {
-        let (flags, value) = self.change_to(mode, terms.flags);
-        let asked = Asked {
-            process: self.process,
-            mode,
-            flags,
-            what: What::Change(self.lock),
-            value,
+    pub fn convert_with(&mut self, mode: Mode, terms: Terms) -> Result<(), Error> {
+        let written = self.held.written().as_deref().copied();
+        let written = written.filter(|_| self.mode >= Mode::Pw);
+        let (is_read, has_value) = (self.is_read_by(mode), self.granted.is_some());
+        let mut asked = Asked::convert(self.process(), self.lock(), mode, terms);
+        asked.flags = match is_read {
+            true if has_value => asked.flags | EnqFlags::VALBLK,
+            true => asked.flags,
+            false => writing_flags(asked.flags, &written),
         };
-        let mut state = self.shared.locked();
-        let old = || state.blocking_of(self.process, self.lock);
-        let blocking = terms.blocking.or_else(old);
-        let (_, granted) = state.ask(&asked, blocking, terms.longest)?;
-        drop(state);
-        if self.is_read_by(mode) {
-            (self.granted, self.flags) = (granted, flags);
-        } else if value.is_some() {
-            self.written = None;
+        asked.blocking = asked.blocking.or_else(|| self.blocking.clone());
+        let mut granted = Granted::of(bytes_of(written), asked.flags);
+        let routines = asked.routines(None);
+        let value = Some(&mut granted.value);
+        (_, granted.status) = self.held.shared.ask(&asked, routines, value)?;
+        if is_read {
+            self.granted = has_value.then_some(granted);
+        } else if written.is_some() {
+            *self.held.written() = None;
         }
-        self.mode = mode;
+        (self.mode, self.blocking) = (mode, asked.blocking);
         Ok(())
     }
 
@@ -163,58 +241,52 @@ impl Guard {
         (mode >= self.mode && !is_writer) || (self.mode, mode) == (Mode::Pw, Mode::Ex)
     }
 
-    /// The flags of a conversion, by which it returns the value block or writes what was named, and what it writes.
-    fn change_to(&self, mode: Mode, flags: EnqFlags) -> (EnqFlags, Option<Value>) {
-        let value_flags = EnqFlags::VALBLK | EnqFlags::WIDE;
-        let others = EnqFlags(flags.0 & !value_flags.0);
-        if self.is_read_by(mode) {
-            return (flags | EnqFlags::VALBLK, None);
-        }
-        match self.written.filter(|_| self.mode >= Mode::Pw) {
-            Some((_, Some(_))) => (others | value_flags, self.written),
-            Some((_, None)) => (others | EnqFlags::VALBLK, self.written),
-            None => (others, None),
-        }
-    }
-
     /// Gives the lock up, and writes the value that was named. A second call does nothing. If it is refused, the guard
     /// has the lock still. SUBLOCKS; IVLOCKID: another call gave it up; NONEXPR, DEPARTED: its process has ended.
-    pub fn release(&mut self) -> Result<(), Condition> {
-        if !self.is_held {
-            return Ok(());
-        }
-        let dequeue = Dequeue {
-            value: self.written.map(|(value, _)| value),
-            tail: self.written.and_then(|(_, tail)| tail),
-            ..Dequeue::new(self.process, Some(self.lock.into()))
-        };
-        self.shared.dequeue(&dequeue)?;
-        self.is_held = false;
-        Ok(())
+    pub fn release(&mut self) -> Result<(), Error> {
+        self.held.release()
     }
 
     /// Lets the guard go and leaves the lock held. [`Shared::deq`] gives it up.
-    pub fn keep(mut self) -> LockId {
-        self.is_held = false;
-        self.lock
+    pub fn keep(self) -> LockId {
+        self.held.is_held.store(false, Relaxed);
+        self.lock()
     }
+}
+
+/// The flags of a conversion that writes what was named.
+fn writing_flags(flags: EnqFlags, written: &Option<Value>) -> EnqFlags {
+    let value_flags = EnqFlags::VALBLK | EnqFlags::WIDE;
+    let others = EnqFlags(flags.0 & !value_flags.0);
+    match written {
+        Some((_, Some(_))) => others | value_flags,
+        Some((_, None)) => others | EnqFlags::VALBLK,
+        None => others,
+    }
+}
+
+/// The 64 bytes of what is written.
+pub(super) fn bytes_of(written: Option<Value>) -> [u8; 64] {
+    let (value, tail) = written.unwrap_or(([0; 16], None));
+    let mut bytes = [0; 64];
+    bytes[..16].copy_from_slice(&value);
+    bytes[16..].copy_from_slice(&tail.unwrap_or([0; 48]));
+    bytes
 }
 
 impl Drop for Guard {
     fn drop(&mut self) {
         if thread::panicking() && !self.was_panicking {
-            self.written = None;
+            *self.held.written() = None;
         }
-        // A refusal has nobody to tell.
-        let _ = self.release();
     }
 }
 
 impl fmt::Debug for Guard {
     fn fmt(&self, f: &mut fmt::Formatter<'_>) -> fmt::Result {
         f.debug_struct("Guard")
-            .field("process", &self.process)
-            .field("lock", &self.lock)
+            .field("process", &self.process())
+            .field("lock", &self.lock())
             .field("mode", &self.mode)
             .finish_non_exhaustive()
     }

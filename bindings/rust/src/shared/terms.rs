@@ -1,15 +1,81 @@
-//! How a lock is asked for, and why a wait fails.
+//! How a process is declared, and how a lock is asked for.
 
-use std::error::Error;
-use std::fmt;
 use std::sync::{Arc, Mutex};
 use std::time::Duration;
 
-use super::delivery::Event;
-use super::state::Run;
-use crate::condition::Condition;
+use super::guard::{Guard, Held};
+use super::raw;
+use super::routines::{Blocking, Event};
+use crate::condition::Error;
 use crate::flags::EnqFlags;
-use crate::names::{LockId, Which};
+use crate::names::LockId;
+
+/// What a process of a [`Shared`](super::Shared) is declared with.
+///
+/// ```
+/// use vlm::{Client, Shared};
+///
+/// # fn main() -> Result<(), vlm::Error> {
+/// let shared = Shared::new()?;
+/// let p = shared.declare(&Client { label: "reader", ..Client::default() })?;
+/// # shared.rundown(p)
+/// # }
+/// ```
+#[derive(Clone, Copy, Debug, PartialEq, Eq)]
+pub struct Client<'a> {
+    /// Its node, 1 to 8.
+    pub node: u8,
+    /// Its UIC group.
+    pub group: u16,
+    /// Whether it has the privilege SYSLCK.
+    pub syslck: bool,
+    /// How many locks it may have.
+    pub quota: u16,
+    /// How many of its requests may be under way at once, from 1.
+    pub requests: u8,
+    /// Whether it ends when the calling thread ends.
+    pub tied: bool,
+    /// Whether its events wait in a queue of its own, for [`Shared::deliver_of`](super::Shared::deliver_of).
+    pub own_queue: bool,
+    /// A text for people, of at most 31 bytes.
+    pub label: &'a str,
+}
+
+impl Default for Client<'_> {
+    fn default() -> Self {
+        Client {
+            node: 1,
+            group: 0,
+            syslck: false,
+            quota: u16::MAX,
+            requests: 16,
+            tied: false,
+            own_queue: false,
+            label: "",
+        }
+    }
+}
+
+impl Client<'_> {
+    /// The words of the declaration. BADPARAM if the label is too long.
+    pub(super) fn words(&self) -> Result<raw::Declaration, Error> {
+        let mut words = raw::Declaration {
+            node: self.node.into(),
+            group: self.group.into(),
+            syslck: self.syslck.into(),
+            quota: self.quota.into(),
+            requests: self.requests.into(),
+            tied: self.tied.into(),
+            own_queue: self.own_queue.into(),
+            ..raw::Declaration::new()
+        };
+        let place = words.label.get_mut(..self.label.len());
+        place
+            .ok_or(Error::Badparam)?
+            .copy_from_slice(self.label.as_bytes());
+        Ok(words)
+    }
+}
 
 /// The terms of a request. Without any, it has no flags and no parent, waits without an end and names no routine.
 ///
@@ -25,9 +91,12 @@ use crate::names::{LockId, Which};
 #[derive(Default)]
 pub struct Terms {
     pub(super) flags: EnqFlags,
-    pub(super) parent: Option<Which>,
-    pub(super) longest: Option<Duration>,
-    pub(super) blocking: Option<Run>,
+    /// The parent lock, or 0.
+    pub(super) parent: u32,
+    pub(super) kept: Option<Arc<Held>>,
+    /// The longest wait in milliseconds, or 0.
+    pub(super) longest: u32,
+    pub(super) blocking: Option<Blocking>,
 }
 
 impl Terms {
@@ -36,32 +105,41 @@ impl Terms {
         Terms::default()
     }
 
-    /// Asks with these flags too. VALBLK and SYNCSTS do nothing: the call decides on them.
+    /// Asks with these flags too. With VALBLK the guard of a new lock reads the value block, at this grant and at those
+    /// of its conversions that return it; with WIDE it reads the tail too. SYNCSTS does nothing.
     #[must_use]
     pub fn flags(mut self, flags: EnqFlags) -> Terms {
         self.flags = self.flags | flags;
         self
     }
 
-    /// The parent lock of a new lock. A conversion ignores it.
+    /// The parent lock of a new lock. The guard of the new lock keeps the parent's lock until it is dropped itself, in
+    /// whatever order the two are dropped. A conversion ignores it.
     #[must_use]
-    pub fn below(mut self, parent: LockId) -> Terms {
-        self.parent = Some(parent.into());
+    pub fn below(mut self, parent: &Guard) -> Terms {
+        (self.parent, self.kept) = (parent.lock().0, Some(parent.held()));
         self
     }
 
-    /// Waits at most this long.
+    /// The same for a parent lock that this guard of no other keeps.
+    #[must_use]
+    pub fn below_lock(mut self, parent: LockId) -> Terms {
+        (self.parent, self.kept) = (parent.0, None);
+        self
+    }
+
+    /// Waits at most this long, rounded up to milliseconds. A start ignores it.
     #[must_use]
     pub fn within(mut self, longest: Duration) -> Terms {
-        self.longest = Some(longest);
+        self.longest = milliseconds(longest);
         self
     }
 
     /// The blocking routine: it is told once that the lock, once granted, is in the way of another request. It lives
     /// until the lock is given up or a conversion brings another.
     ///
-    /// [`Shared::deliver`](super::Shared::deliver) calls it, outside the mutex, so it may make any call. If it holds a
-    /// `Shared` or a guard of the same lock manager, that stays alive as long as the routine.
+    /// It runs outside the mutex, so it may make any call. If it holds a `Shared` or a guard of the same lock manager,
+    /// that stays alive as long as the routine.
     #[must_use]
     pub fn blocking(mut self, routine: impl FnMut(Event) + Send + 'static) -> Terms {
         self.blocking = Some(Arc::new(Mutex::new(routine)));
@@ -69,39 +147,8 @@ impl Terms {
     }
 }
 
-/// Why a call that waits has no grant.
-#[derive(Clone, Copy, Debug, PartialEq, Eq)]
-#[non_exhaustive]
-pub enum WaitError {
-    /// It was refused, or its request ended by this condition.
-    Condition(Condition),
-    /// It has waited as long as it may. The request was cancelled.
-    TimedOut,
+/// A time in milliseconds, rounded up to 1 and more. One that is too long for the library has no end: 0.
+pub(super) fn milliseconds(time: Duration) -> u32 {
+    let count = (time.as_nanos() + 999_999) / 1_000_000;
+    u32::try_from(count.max(1)).unwrap_or(0)
 }
-
-impl WaitError {
-    /// The condition. A wait that timed out was cancelled.
-    pub fn condition(self) -> Condition {
-        match self {
-            WaitError::Condition(condition) => condition,
-            WaitError::TimedOut => Condition::Cancel,
-        }
-    }
-}
-
-impl From<Condition> for WaitError {
-    fn from(condition: Condition) -> WaitError {
-        WaitError::Condition(condition)
-    }
-}
-
-impl fmt::Display for WaitError {
-    fn fmt(&self, f: &mut fmt::Formatter<'_>) -> fmt::Result {
-        match self {
-            WaitError::Condition(condition) => condition.fmt(f),
-            WaitError::TimedOut => f.write_str("timed out"),
-        }
-    }
-}
-
-impl Error for WaitError {}

@@ -5,19 +5,15 @@ mod pair;
 mod threads;
 mod twins;
 
-use std::num::NonZeroU8;
-
 use pair::{declaration, Pair};
-use vlm::hub::{Hub, Item, Port, PostError};
-use vlm::{
-    AstKind, Condition, DeqFlags, Dequeue, EnqFlags, LockId, Mode, ProcessId, Request, Setting,
-    Which,
-};
+use vlm::hub::{Hub, Item, Port};
+use vlm::Error;
+use vlm::{AstKind, DeqFlags, Dequeue, EnqFlags, LockId, Mode, ProcessId, Request, Setting, Which};
 
 const NOBODY: ProcessId = ProcessId(0x1_0999);
 /// The places between a port and its hub, each way.
 const PLACES: usize = 64;
-const BADPARAM: PostError = PostError::Refused(Condition::Badparam);
+const BADPARAM: Error = Error::Badparam;
 
 #[test]
 fn hubs_and_ports_go_between_threads() {
@@ -29,7 +25,7 @@ fn hubs_and_ports_go_between_threads() {
 #[test]
 fn a_hub_has_1_to_8_nodes() {
     for nodes in [0, 9, u8::MAX] {
-        assert_eq!(Hub::new(nodes).err(), Some(Condition::Badparam));
+        assert_eq!(Hub::new(nodes).err(), Some(Error::Badparam));
     }
     for nodes in 1..=8 {
         let hub = Hub::with_keys(nodes, [7; 16]).expect("memory");
@@ -41,13 +37,13 @@ fn a_hub_has_1_to_8_nodes() {
 fn a_port_is_given_once() {
     let mut hub = Hub::new(2).expect("memory");
     for node in [0, 3, 9, u8::MAX] {
-        assert_eq!(hub.port(node).err(), Some(Condition::Badparam));
+        assert_eq!(hub.port(node).err(), Some(Error::Badparam));
     }
     let port = hub.port(2).expect("a port");
     assert_eq!(port.node(), 2);
-    assert_eq!(hub.port(2).err(), Some(Condition::Badparam));
+    assert_eq!(hub.port(2).err(), Some(Error::Badparam));
     drop(port);
-    assert_eq!(hub.port(2).err(), Some(Condition::Badparam));
+    assert_eq!(hub.port(2).err(), Some(Error::Badparam));
     assert_eq!(hub.port(1).map(|port| port.node()), Ok(1));
 }
 
@@ -76,7 +72,7 @@ fn each_step_is_posted_and_answered() {
         accepted.map(|it| (it.lock, it.at_once)),
         Ok((LockId(2), false))
     );
-    let block = Which::Block(NonZeroU8::MIN);
+    let block = Which::Block(1);
     let weaker = Request::new(p, Mode::Pr, 1);
     let accepted = pair.made(1, |port| port.convert(&weaker, block)).accepted();
     assert_eq!(accepted.map(|it| it.lock), Ok(LockId(1)));
@@ -106,7 +102,7 @@ fn searches_and_ends_are_posted_and_answered() {
     assert_eq!(pair.made(1, |port| port.rundown(p)).done(), Ok(()));
     assert_eq!(pair.made(2, Port::bye).done(), Ok(()));
     let refused = pair.made(2, |port| port.rundown(q));
-    assert_eq!(refused.done(), Err(Condition::Departed));
+    assert_eq!(refused.done(), Err(Error::Departed));
 }
 
 #[test]
@@ -115,13 +111,13 @@ fn refusals_are_answers() {
     let request = Request::new(p, Mode::Ex, 1);
     let nobody = Request::new(NOBODY, Mode::Ex, 1);
     for (request, name, refusal) in [
-        (nobody, &b"A"[..], Condition::Nonexpr),
-        (request, b"", Condition::Ivbuflen),
-        (request, &[1; 32], Condition::Ivbuflen),
-        (request, &[1; 1000], Condition::Ivbuflen),
+        (nobody, &b"A"[..], Error::Nonexpr),
+        (request, b"", Error::Ivbuflen),
+        (request, &[1; 32], Error::Ivbuflen),
+        (request, &[1; 1000], Error::Ivbuflen),
     ] {
         let answer = pair.made(1, |port| port.enq(&request, name));
-        assert_eq!(answer.condition, refusal);
+        assert_eq!(answer.done(), Err(refusal));
         assert_eq!(answer.accepted(), Err(refusal));
         assert_eq!(
             (answer.process(), answer.victim()),
@@ -129,7 +125,7 @@ fn refusals_are_answers() {
         );
     }
     let answer = pair.made(1, |port| port.deq(p, LockId(9)));
-    assert_eq!(answer.done(), Err(Condition::Ivlockid));
+    assert_eq!(answer.done(), Err(Error::Ivlockid));
 }
 
 #[test]
@@ -204,9 +200,9 @@ fn each_way_has_64_places() {
     for _ in 0..PLACES {
         assert_eq!(pair.first.search(), Ok(()));
     }
-    assert_eq!(pair.first.search(), Err(PostError::Full));
+    assert_eq!(pair.first.search(), Err(Error::Full));
     assert_eq!(pair.hub.waiting(1), Ok(PLACES));
-    assert_eq!(pair.hub.waiting(3), Err(Condition::Badparam));
+    assert_eq!(pair.hub.waiting(3), Err(Error::Badparam));
     assert_eq!(pair.second.search(), Ok(()));
     assert_eq!(pair.hub.turn(), Ok(2));
     for _ in 1..PLACES {
@@ -228,13 +224,13 @@ fn a_node_is_lost() {
     let (mut pair, p, _) = Pair::with_processes();
     pair.first.search().expect("a place");
     assert_eq!(pair.hub.lost(1), Ok(()));
-    assert_eq!(pair.hub.lost(1), Err(Condition::Departed));
+    assert_eq!(pair.hub.lost(1), Err(Error::Departed));
     for node in [0, 9, u8::MAX] {
-        assert_eq!(pair.hub.lost(node), Err(Condition::Badparam));
+        assert_eq!(pair.hub.lost(node), Err(Error::Badparam));
     }
-    assert_eq!(pair.answer(1).victim(), Err(Condition::Departed));
+    assert_eq!(pair.answer(1).victim(), Err(Error::Departed));
     let answer = pair.made(1, |port| port.rundown(p));
-    assert_eq!(answer.done(), Err(Condition::Departed));
+    assert_eq!(answer.done(), Err(Error::Departed));
     assert_eq!(pair.made(2, Port::search).victim(), Ok(None));
 }
 
@@ -244,7 +240,7 @@ fn two_hubs_share_nothing() {
     let mut other = Pair::new();
     assert_eq!(
         other.made(1, |port| port.rundown(p)).done(),
-        Err(Condition::Nonexpr)
+        Err(Error::Nonexpr)
     );
     assert_eq!((one.hub.entries().len(), other.hub.entries().len()), (2, 1));
     assert_eq!(one.hub.lost(1), Ok(()));
@@ -286,7 +282,7 @@ fn a_hub_is_dropped_first() {
     for _ in 0..PLACES {
         assert_eq!(first.search(), Ok(()));
     }
-    assert_eq!(first.search(), Err(PostError::Full));
+    assert_eq!(first.search(), Err(Error::Full));
 }
 
 #[test]
@@ -294,6 +290,6 @@ fn errors_have_texts() {
     fn text(error: &dyn std::error::Error) -> String {
         error.to_string()
     }
-    assert_eq!(text(&PostError::Full), "no free place");
+    assert_eq!(text(&Error::Full), "FULL");
     assert_eq!(text(&BADPARAM), "SS$_BADPARAM");
 }

@@ -1,6 +1,7 @@
 //! A hub with the ports of two nodes, all in one thread.
 
-use vlm::hub::{Answer, Hub, Item, Port, PostError};
+use vlm::hub::{Answer, Hub, Item, Port};
+use vlm::Error;
 use vlm::{Declaration, ProcessId};
 
 pub fn declaration(node: u8) -> Declaration {
@@ -49,11 +50,7 @@ impl Pair {
     }
 
     /// Posts a step. Returns its answer.
-    pub fn made(
-        &mut self,
-        node: u8,
-        post: impl FnOnce(&mut Port) -> Result<(), PostError>,
-    ) -> Answer {
+    pub fn made(&mut self, node: u8, post: impl FnOnce(&mut Port) -> Result<(), Error>) -> Answer {
         post(self.port(node)).expect("a place");
         self.answer(node)
     }

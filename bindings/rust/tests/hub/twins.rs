@@ -1,11 +1,10 @@
 //! A hub and a lock manager that make the same steps.
 
-use std::num::NonZeroU8;
-
-use vlm::hub::{Journal, Port, PostError};
+use vlm::hub::{Journal, Port};
+use vlm::Error;
 use vlm::{
-    Condition, DeqFlags, Dequeue, EnqFlags, Lock, LockId, LockManager, Mode, Process, ProcessId,
-    Queue, Request, Resource, Setting, StatusBlock, Which,
+    DeqFlags, Dequeue, EnqFlags, Lock, LockId, LockManager, Mode, Process, ProcessId, Queue,
+    Request, Resource, Setting, StatusBlock, Which,
 };
 
 use crate::pair::{declaration, Pair};
@@ -55,8 +54,8 @@ impl Twins {
     fn both<T>(
         &mut self,
         node: u8,
-        post: impl FnOnce(&mut Port) -> Result<(), PostError>,
-        make: impl FnOnce(&mut LockManager) -> Result<T, Condition>,
+        post: impl FnOnce(&mut Port) -> Result<(), Error>,
+        make: impl FnOnce(&mut LockManager) -> Result<T, Error>,
     ) {
         let answer = self.pair.made(node, post);
         assert_eq!(answer.done(), make(&mut self.manager).map(drop));
@@ -134,7 +133,7 @@ impl Twins {
 }
 
 /// The first status block of a process.
-pub const BLOCK: Which = Which::Block(NonZeroU8::MIN);
+pub const BLOCK: Which = Which::Block(1);
 
 /// A request with all that a request can have.
 pub fn full(process: ProcessId, mode: Mode) -> Request {
