@@ -35,7 +35,9 @@ STRICT = ["-Wall", "-Wextra", "-Wpedantic", "-Werror"]
 # What an installation leaves, beside the shared library.
 FILES = ("bin/vlm", *(f"include/{it.name}" for it in (TOP / "include").glob("*.h")),
          "lib/cmake/vlm/vlm-config-version.cmake", "lib/cmake/vlm/vlm-config.cmake", "lib/libvlm.a",
-         "lib/pkgconfig/vlm.pc", "share/man/man1/vlm.1", "share/man/man3/vlm.3", "share/vlm/files")
+         "lib/pkgconfig/vlm.pc", "libexec/vlm/vlm", "share/bash-completion/completions/vlm",
+         "share/man/man1/vlm-lock.1", "share/man/man1/vlm-who.1", "share/man/man1/vlm.1", "share/man/man3/vlm.3",
+         "share/vlm/files")
 # Of the lock service, where the header of libuv is.
 SERVICE_FILES = ("bin/vlmd", "lib/systemd/system/vlmd.service", "lib/systemd/system/vlmd.socket",
                  "share/man/man8/vlmd.8", "share/vlm/vlmd.conf")

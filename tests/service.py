@@ -15,6 +15,7 @@ from functools import partial
 from pathlib import Path
 
 import library
+import service_commands
 from daemons import NOBODY, PLAIN, SOURCES, Daemon
 from harness import PLAY, ROOM, TOP, Test, difference
 
@@ -621,4 +622,5 @@ def once():
     found += [Test(name, check) for name, check in BEHAVIOURS.items()]
     found += [Test("other users", other_users)] * (os.getuid() == 0)
     found += [Test("lines under libFuzzer", fuzzed)] * bool(shutil.which("clang"))
+    found += service_commands.tests()
     return [] if missing() else found
