@@ -19,17 +19,21 @@ struct dispatcher *dispatcher_open(const struct limits *limits, uint32_t epoch, 
         return NULL;
     }
     memcpy(dispatcher->keys, keys, sizeof dispatcher->keys);
-    dispatcher->limits = *limits;
+    dispatcher_limit(dispatcher, limits);
     dispatcher->log = log;
     dispatcher->epoch = epoch;
     dispatcher->free_place = NOBODY;
     dispatcher->free_request = dispatcher->first_waiting = dispatcher->last_waiting = NOBODY;
     dispatcher->ready_end = &dispatcher->ready;
     dispatcher->line.size = dispatcher->shown.size = sizeof(vlm_line);
+    dispatcher->text.size = sizeof(vlm_text);
     return dispatcher;
 }
 
-void dispatcher_limit(struct dispatcher *dispatcher, const struct limits *limits) { dispatcher->limits = *limits; }
+void dispatcher_limit(struct dispatcher *dispatcher, const struct limits *limits) {
+    dispatcher->limits = *limits;
+    share_identifications(dispatcher);
+}
 
 static void free_pools(struct dispatcher *dispatcher) {
     for (uint32_t bucket = 0; bucket < POOL_BUCKETS; bucket++)

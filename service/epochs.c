@@ -12,13 +12,13 @@ uint64_t handle_of(const struct dispatcher *dispatcher, uint32_t lkid) {
     return lkid == 0 ? 0 : (uint64_t)dispatcher->epoch << 32 | lkid;
 }
 
-static uint64_t percent(const struct dispatcher *dispatcher, uint32_t part) {
-    return (uint64_t)dispatcher->limits.identifications * part / 100;
+/* Computes from the limits when identifications are short. */
+void share_identifications(struct dispatcher *dispatcher) {
+    dispatcher->short_of = (uint32_t)((uint64_t)dispatcher->limits.identifications * 90 / 100);
+    dispatcher->out_of = (uint32_t)((uint64_t)dispatcher->limits.identifications * 99 / 100);
 }
 
-bool has_identifications(const struct dispatcher *dispatcher) {
-    return dispatcher->last_lkid < percent(dispatcher, 99);
-}
+bool has_identifications(const struct dispatcher *dispatcher) { return dispatcher->last_lkid < dispatcher->out_of; }
 
 static bool open_manager(struct dispatcher *dispatcher, vlm *manager) {
     vlm_options options = VLM_OPTIONS;
@@ -139,7 +139,7 @@ static void end_epoch(struct dispatcher *dispatcher) {
 
 /* Looks whether identifications are short, at a moment between two turns. */
 void check_identifications(struct dispatcher *dispatcher) {
-    if (dispatcher->last_lkid < percent(dispatcher, 90))
+    if (dispatcher->last_lkid < dispatcher->short_of)
         return;
     if (vlm_lock_count(&dispatcher->manager) == 0) {
         change_manager(dispatcher);

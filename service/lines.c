@@ -6,7 +6,15 @@
 #include <stdio.h>
 #include <string.h>
 
-enum { MOST_WORDS = 5, DECLARE_WORDS = 4, CUT_WORD = 40, DIGITS = 18, USUAL_QUOTA = 1000, USUAL_BLOCKS = 4 };
+enum {
+    MOST_WORDS = 24,
+    DECLARE_WORDS = 4,
+    STEP_LETTERS = 3,
+    CUT_WORD = 40,
+    DIGITS = 18,
+    USUAL_QUOTA = 1000,
+    USUAL_BLOCKS = 4
+};
 
 static bool is_blank(char byte) { return byte == ' ' || byte == '\t' || byte == '\r'; }
 
@@ -99,34 +107,35 @@ static uint32_t identification(const struct dispatcher *dispatcher, uint64_t han
     return handle == 0 ? 0 : handle >> 32 == dispatcher->epoch && (uint32_t)handle != 0 ? (uint32_t)handle : NO_LOCK;
 }
 
-/* The word of a line that may be a handle: the third of `cvt` and `deq`, and what follows `parent=` in `enq`. */
-static bool find_handle(const char *bytes, size_t len, struct word *handle) {
-    struct word words[LINE];
-    size_t count = split(bytes, len, words, LINE);
+/* The word of a line that may be a handle: the third of `cvt` and `deq`, and what follows `parent=` in `enq`. A line of
+ * more words than a line may have is wrong in any case. */
+static bool find_handle(const struct word *words, size_t count, struct word *handle) {
     if (count > 2 && (is_word(words[0], "cvt") || is_word(words[0], "deq"))) {
         *handle = words[2];
         return true;
     }
-    for (size_t at = 3; at < count && is_word(words[0], "enq"); at++)
+    if (!is_word(words[0], "enq"))
+        return false;
+    for (size_t at = STEP_LETTERS; at < count; at++)
         if (keyed(words[at], "parent=", handle))
             return true;
     return false;
 }
 
-/* Reads a line of at most 255 bytes in which a lock is named by its handle. */
-static bool read_with_handle(struct dispatcher *dispatcher, const char *bytes, size_t len, vlm_line *line) {
+/* Reads a line in which a lock may be named by its handle. */
+static bool read_with_handle(struct dispatcher *dispatcher, struct word whole, const struct word *words, size_t count) {
     struct word handle;
     uint64_t number;
-    if (!find_handle(bytes, len, &handle) || !decimal(handle, UINT64_MAX, &number))
-        return vlm_read_line((const uint8_t *)bytes, len, line) == VLM_NORMAL;
+    if (!find_handle(words, count, &handle) || !decimal(handle, UINT64_MAX, &number))
+        return vlm_read_line((const uint8_t *)whole.bytes, whole.len, &dispatcher->line) == VLM_NORMAL;
     char text[LINE + 24];
-    size_t before = (size_t)(handle.bytes - bytes), after = len - before - handle.len;
-    memcpy(text, bytes, before);
+    size_t before = (size_t)(handle.bytes - whole.bytes), after = whole.len - before - handle.len;
+    memcpy(text, whole.bytes, before);
     int digits = snprintf(text + before, 16, "%" PRIu32, identification(dispatcher, number));
     memcpy(text + before + digits, handle.bytes + handle.len, after);
-    size_t whole = before + (size_t)digits + after;
+    size_t len = before + (size_t)digits + after;
     /* (a short handle of another epoch has fewer digits than the identification that stands for it) */
-    return vlm_read_line((const uint8_t *)text, whole <= LINE ? whole : LINE, line) == VLM_NORMAL;
+    return vlm_read_line((const uint8_t *)text, len <= LINE ? len : LINE, &dispatcher->line) == VLM_NORMAL;
 }
 
 static const char *const faults[] = {
@@ -176,9 +185,12 @@ static void run_read_line(struct client *client, const vlm_line *line) {
 /* Whether a line has to wait: requests do while the dispatcher is quiet. */
 static bool has_to_wait(struct client *client, const struct word *words, size_t count) {
     struct dispatcher *dispatcher = client->dispatcher;
-    client->is_waiting = dispatcher->now < dispatcher->quiet_until && count > 0 && is_word(words[0], "enq");
+    client->is_waiting = dispatcher->quiet_until != 0 && count > 0 && is_word(words[0], "enq");
     return client->is_waiting;
 }
+
+/* Whether a line is surely none of a session: most lines are such steps. */
+static bool is_frequent(struct word word) { return word.len == STEP_LETTERS && word.bytes[0] != 'w'; }
 
 /* Runs a line without its line feed. Returns false, and has done nothing, if the line has to wait. */
 bool run_line(struct client *client, const char *bytes, size_t len) {
@@ -190,14 +202,14 @@ bool run_line(struct client *client, const char *bytes, size_t len) {
         answer_text(client, faults[VLM_FAULT_TOO_LONG]);
         return true;
     }
-    size_t count = split(bytes, len, words, MOST_WORDS);
+    size_t count = split(bytes, len, words, MOST_WORDS), kept = count < MOST_WORDS ? count : MOST_WORDS;
     if (has_to_wait(client, words, count))
         return false;
-    if (count == 0 || run_session_line(client, words, count))
+    if (count == 0 || (!is_frequent(words[0]) && run_session_line(client, words, count)))
         return true;
     vlm_line *line = &dispatcher->line;
     bool is_read = is_word(words[0], "declare") ? as_declaration(client, words, count, line)
-                                                : read_with_handle(dispatcher, bytes, len, line);
+                                                : read_with_handle(dispatcher, (struct word){bytes, len}, words, kept);
     if (!is_read || line->fault != 0)
         answer_text(client, faults[is_read ? line->fault : VLM_FAULT_WRONG_WORD]);
     else

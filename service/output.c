@@ -7,7 +7,7 @@
 #include <stdlib.h>
 #include <string.h>
 
-enum { FIRST_ROOM = 256, LONGEST_TEXT = 512 };
+enum { LONGEST_TEXT = 512 };
 
 void say(const struct dispatcher *dispatcher, const char *format, ...) {
     char text[LONGEST_TEXT];
@@ -39,7 +39,7 @@ static void cut_off(struct client *client, const char *reason) {
 static bool make_room(struct client *client, size_t len) {
     if (client->out_len + len <= client->out_room)
         return true;
-    size_t room = client->out_room != 0 ? client->out_room : FIRST_ROOM;
+    size_t room = client->out_room != 0 ? client->out_room : KEPT_ROOM;
     while (room < client->out_len + len)
         room *= 2;
     uint8_t *out = realloc(client->out, room);
@@ -143,9 +143,12 @@ void client_sent(struct client *client, size_t len) {
     client->out_from += len;
     client->user->queued -= len;
     if (client->out_from == client->out_len) {
-        free(client->out);
-        client->out = NULL;
-        client->out_from = client->out_len = client->out_room = 0;
+        client->out_from = client->out_len = 0;
+        if (client->out_room > KEPT_ROOM) {
+            free(client->out);
+            client->out = NULL;
+            client->out_room = 0;
+        }
     } else if (client->out_from > client->out_room / 2) {
         client->out_len -= client->out_from;
         memmove(client->out, client->out + client->out_from, client->out_len);

@@ -37,7 +37,8 @@ enum {
     POOL_BUCKETS = 256,
     NODE_PROCESSES = 65535,
     KEPT_ANSWER = 256,
-    PAIR = 512 /* bytes of an AST and its block line */
+    KEPT_ROOM = 256, /* of a client's output between two answers */
+    PAIR = 512       /* bytes of an AST and its block line */
 };
 
 #define NOBODY UINT32_MAX  /* no record */
@@ -170,7 +171,8 @@ struct dispatcher {
     uint64_t now, quiet_until, searched, drained, looked;
     uint32_t epoch;
     uint32_t last_lkid;
-    uint64_t last_process; /* number */
+    uint32_t short_of, out_of; /* identifications: from these on they are short, and no more are given */
+    uint64_t last_process;     /* number */
     uint32_t connections;
     struct client *clients, *ready, **ready_end, *changed;
     struct place *sessions;
@@ -184,6 +186,7 @@ struct dispatcher {
     uint32_t request_room, free_request;
     uint32_t first_waiting, last_waiting, waiting_count;
     vlm_line line;  /* the line that is run */
+    vlm_text text;  /* the answer to it */
     vlm_line shown; /* names a process whose AST or block is printed */
     struct counts counts;
 };
@@ -240,7 +243,7 @@ void set_bit(uint8_t *bits, uint32_t number);
 uint32_t new_request(struct process *process, vlm_request *request);
 void drop_request(struct dispatcher *dispatcher, uint32_t place);
 void accept_request(struct dispatcher *dispatcher, uint32_t place, uint32_t lkid);
-void wait_if_queued(struct dispatcher *dispatcher, uint32_t place, uint32_t lkid);
+bool wait_if_queued(struct dispatcher *dispatcher, uint32_t place, uint32_t lkid);
 void tell(struct dispatcher *dispatcher);
 
 /* circles.c */
@@ -249,6 +252,7 @@ void search(struct dispatcher *dispatcher);
 
 /* epochs.c */
 bool has_identifications(const struct dispatcher *dispatcher);
+void share_identifications(struct dispatcher *dispatcher);
 void check_identifications(struct dispatcher *dispatcher);
 uint64_t handle_of(const struct dispatcher *dispatcher, uint32_t lkid);
 

@@ -58,17 +58,18 @@ void accept_request(struct dispatcher *dispatcher, uint32_t place, uint32_t lkid
         dispatcher->last_lkid = lkid;
 }
 
-/* Once all ASTs of its step were taken, a request that has its record still is queued. */
-void wait_if_queued(struct dispatcher *dispatcher, uint32_t place, uint32_t lkid) {
+/* Once all ASTs of its step were taken, a request that has its record still is queued. Returns whether it is. */
+bool wait_if_queued(struct dispatcher *dispatcher, uint32_t place, uint32_t lkid) {
     struct request *record = &dispatcher->requests[place];
     if (record->process == NULL || record->lkid != lkid)
-        return;
+        return false;
     record->user = record->process->session->user;
     record->user->waiting++;
     record->previous = dispatcher->last_waiting;
     *(record->previous == NOBODY ? &dispatcher->first_waiting : &dispatcher->requests[record->previous].next) = place;
     dispatcher->last_waiting = place;
     dispatcher->waiting_count++;
+    return true;
 }
 
 static void wait_no_more(struct dispatcher *dispatcher, struct request *record) {

@@ -16,12 +16,13 @@ struct binding *find_binding(struct session *session, const uint8_t *name) {
 
 /* Prints and sends the answer to a step. */
 static void answer_step(struct client *client, const vlm_line *line, uint32_t status, uint32_t number) {
-    vlm_text text = {.size = sizeof text};
-    vlm_print_answer(line, status, number, &text);
-    if (number != 0 && client->dispatcher->epoch != 0)
-        replace_word(&text, LOCK_WORD, handle_of(client->dispatcher, number));
-    client->dispatcher->counts.refused += status != VLM_NORMAL && status != VLM_SYNCH;
-    answer(client, text.bytes, text.len);
+    struct dispatcher *dispatcher = client->dispatcher;
+    vlm_text *text = &dispatcher->text;
+    vlm_print_answer(line, status, number, text);
+    if (number != 0 && dispatcher->epoch != 0)
+        replace_word(text, LOCK_WORD, handle_of(dispatcher, number));
+    dispatcher->counts.refused += status != VLM_NORMAL && status != VLM_SYNCH;
+    answer(client, text->bytes, text->len);
 }
 
 /* Makes room for one name more. */
@@ -119,9 +120,11 @@ static void ask(struct client *client, const vlm_line *line, struct process *pro
         drop_request(dispatcher, place);
     answer_step(client, line, status, lkid);
     tell(dispatcher);
-    if (status == VLM_NORMAL)
-        wait_if_queued(dispatcher, place, lkid);
-    count_locks(process);
+    if (status == VLM_NORMAL && !wait_if_queued(dispatcher, place, lkid))
+        return;
+    /* (a completion has counted them) */
+    if (status == VLM_NORMAL || status == VLM_SYNCH)
+        count_locks(process);
 }
 
 static void give_up(struct client *client, const vlm_line *line, struct process *process) {

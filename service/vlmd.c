@@ -39,6 +39,7 @@ static struct {
     uv_check_t after;
     uv_idle_t busy; /* runs while lines are left, so that the loop does not wait */
     uv_timer_t due, pause, watchdog;
+    uint64_t set_for; /* when `due` wakes the loop */
     uv_signal_t signals[3];
 } vlmd;
 
@@ -170,6 +171,18 @@ static void flush_all(void) {
         flush(client);
 }
 
+/* Has the loop wake when the dispatcher has something to do. */
+static void set_timer(uint64_t now) {
+    uint64_t due = dispatcher_due(vlmd.dispatcher);
+    if (due == vlmd.set_for && due > now)
+        return;
+    vlmd.set_for = due;
+    if (due == UINT64_MAX)
+        uv_timer_stop(&vlmd.due);
+    else
+        uv_timer_start(&vlmd.due, on_due, due > now ? due - now : 0, 0);
+}
+
 /* After each poll: what is due, the lines that are left, all output, and when to wake. */
 static void on_turn(uv_check_t *check) {
     (void)check;
@@ -186,11 +199,7 @@ static void on_turn(uv_check_t *check) {
         if (!write_state(vlmd.state, vlmd.epoch, true))
             write_log("the epoch can't be written down");
     }
-    uint64_t due = dispatcher_due(vlmd.dispatcher);
-    if (due == UINT64_MAX)
-        uv_timer_stop(&vlmd.due);
-    else
-        uv_timer_start(&vlmd.due, on_due, due > now ? due - now : 0, 0);
+    set_timer(now);
 }
 
 static void on_watchdog(uv_timer_t *timer) {
