@@ -39,7 +39,12 @@ COPIED = {"": (TOP / "include").glob("*.h*"),
 # What an installation leaves, beside the shared library and the manual pages of the calls.
 FILES = ("bin/vlm", *(f"{folder}{it.relative_to(TOP)}" for folder, files in COPIED.items() for it in files),
          "lib/cmake/vlm/vlm-config-version.cmake", "lib/cmake/vlm/vlm-config.cmake", "lib/libvlm.a",
-         "lib/pkgconfig/vlm.pc", "share/man/man1/vlm.1", "share/man/man3/vlm.3", "share/vlm/files")
+         "lib/pkgconfig/vlm.pc", "libexec/vlm/vlm", "share/bash-completion/completions/vlm",
+         "share/man/man1/vlm-lock.1", "share/man/man1/vlm-who.1", "share/man/man1/vlm.1", "share/man/man3/vlm.3",
+         "share/vlm/files")
+# Of the lock service, where the header of libuv is.
+SERVICE_FILES = ("bin/vlmd", "lib/systemd/system/vlmd.service", "lib/systemd/system/vlmd.socket",
+                 "share/man/man8/vlmd.8", "share/vlm/vlmd.conf")
 VALGRIND = ["valgrind", "-q", "--leak-check=full", "--show-leak-kinds=all", "--error-exitcode=9"]
 HELGRIND = ["valgrind", "-q", "--tool=helgrind", f"--suppressions={TOP}/tests/c/helgrind.supp", "--error-exitcode=9"]
 # The layers for threads and for the threads of a hub, and the functions that some tests put their own in the place of.
@@ -71,6 +76,13 @@ def ran(*words, seconds=SECONDS, **how):
         yield f"{shlex.join(map(str, words))}: {ended.returncode}: {(ended.stdout + ended.stderr)[-600:]}"
 
 
+@functools.lru_cache(maxsize=None)
+def has_uv():
+    """Whether the header of libuv is there."""
+    return bool(shutil.which("cc")) and not subprocess.run(["cc", "-E", "-x", "c", "-"], input=b"#include <uv.h>\n",
+                                                           capture_output=True).returncode
+
+
 def installed(_program):
     """The installation leaves its files, with the shared library under three names."""
     yield from ran(TOP / "vlm", "install", prefix(), seconds=INSTALL_SECONDS)
@@ -78,7 +90,8 @@ def installed(_program):
     links = {name: os.readlink(it) for name, it in left.items() if it.is_symlink()}
     shared = "libvlm.so." + version()
     pages = [f"share/man/man3/{call}.3" for call in calls() | {"vlm_condition_name"}]
-    yield from difference(sorted(left), sorted([*FILES, *pages, f"lib/{shared}", *links]))
+    service = SERVICE_FILES * has_uv()
+    yield from difference(sorted(left), sorted([*FILES, *pages, *service, f"lib/{shared}", *links]))
     yield from difference(links, {f"lib/{SONAME}": shared, "lib/libvlm.so": SONAME})
 
 

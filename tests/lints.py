@@ -12,6 +12,7 @@ from pathlib import Path
 
 from bench import has_db
 from harness import ROOM, TOP, Test, kit_folder
+from library import has_uv
 
 TOOLS = ("clang-format", "clang-tidy", "mypy", "pyflakes3", "shellcheck", "cargo", "rustfmt", "cargo-clippy")
 # The longest time of a tool.
@@ -21,7 +22,8 @@ MOST_LINES = 40
 BY_HAND = "bench/peers/by_hand/main.rs"
 # How C and C++ are compiled for clang-tidy. In C it follows a third of the paths, in less than half of the time.
 COMPILED_CXX = ["-std=c++17", "-Iinclude"]
-COMPILED = ["-std=gnu11", "-Iinclude", "-Itests/c", "-Xclang", "-analyzer-config", "-Xclang", "max-nodes=75000"]
+COMPILED = ["-std=gnu11", "-Iinclude", "-Itests/c", "-Iservice", "-Xclang",
+            "-analyzer-config", "-Xclang", "max-nodes=75000"]
 # Files whose lines are what is tested, are laid out by a prover's needs, or can't be broken.
 FREE_FILES = re.compile(r".*\.(stdout|out|png|svg)|tests/scripts/play/.*|crates/\w+/proofs/.*|crates/vlm/std(in|out)"
                         r"|crates\.txt")
@@ -38,7 +40,8 @@ LANGUAGES = {".c": "c", ".h": "c", ".rs": "rust", ".rt": "rust", ".rattle": "rus
 
 def missing():
     """What is not there that some checks need."""
-    return [tool for tool in TOOLS if not shutil.which(tool)] + ["db.h of libdb5.3-dev"] * (not has_db())
+    return [tool for tool in TOOLS if not shutil.which(tool)] + ["db.h of libdb5.3-dev"] * (not has_db()) \
+        + ["uv.h of libuv1-dev"] * (not has_uv())
 
 
 @functools.lru_cache(maxsize=None)
@@ -61,7 +64,8 @@ def pythons():
 
 def c_files(*suffixes):
     """The files in C that can be compiled here."""
-    return [name for name in files(*suffixes) if has_db() or not name.endswith("berkeley_db.c")]
+    absent = ["berkeley_db.c"] * (not has_db()) + ["service/vlmd.c"] * (not has_uv())
+    return [name for name in files(*suffixes) if not name.endswith(tuple(absent))]
 
 
 def said(*words, folder=TOP, **env):

@@ -1,6 +1,6 @@
 """Makes the libraries for programs in C: libvlm.a and libvlm.so, from the archive of the proved crate and the layers in
-C. The kit's tools link and pack. The C compiler of the system compiles the layers and makes the shared library, so that
-both fit its C library."""
+C. Makes the daemon of the lock service over them, and its commands. The kit's tools link and pack. The C compiler of
+the system compiles the layers and makes the shared library, so that both fit its C library."""
 
 import os
 import shlex
@@ -18,6 +18,10 @@ LAYER = sorted((TOP / "bindings" / "c").glob("*.c"))
 # The names that both libraries show. All others are local to them.
 SHOWN = "vlm_*"
 COMPILE = ["-std=c11", "-O2", "-fPIC", "-pthread", f"-I{TOP / 'include'}", "-c"]
+# The daemon of the service.
+DAEMON = sorted((TOP / "service").glob("*.c"))
+# The commands of the service, which hand all other words to the proved program.
+COMMANDS = sorted((TOP / "service" / "commands").glob("*.c"))
 SHARE = ["-shared", "-pthread", "-Wl,-Bsymbolic", "-Wl,-z,defs", "-Wl,-z,now", "-Wl,-z,relro"]
 
 
@@ -77,6 +81,23 @@ def make_objects(folder, archive):
     for made, sources in zip(layers, LAYERS.values()):
         make_layer(made, sources)
     return [core, *layers]
+
+
+def has_uv():
+    """Whether the compiler finds the header of libuv, by which the daemon waits."""
+    return not subprocess.run([*compiler(), "-E", "-x", "c", "-"], input="#include <uv.h>\n", capture_output=True,
+                              text=True).returncode
+
+
+def make_daemon(made, lib):
+    """Makes the daemon over the static library in the folder lib."""
+    make(made, *compiler(), "-std=gnu11", "-O2", "-pthread", f"-I{TOP / 'include'}", *DAEMON, lib / "libvlm.a", "-luv",
+         "-Wl,-z,now", "-Wl,-z,relro", "-o", made)
+
+
+def make_commands(made):
+    """Makes the command vlm."""
+    make(made, *compiler(), "-std=gnu11", "-O2", "-Wl,-z,now", "-Wl,-z,relro", *COMMANDS, "-o", made)
 
 
 def soname_of(version):

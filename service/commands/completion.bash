@@ -1,0 +1,27 @@
+# Completion of vlm for bash.
+
+_vlm() {
+    local current=${COMP_WORDS[COMP_CWORD]} previous=${COMP_WORDS[COMP_CWORD - 1]} sessions
+    COMPREPLY=()
+    if [ "$COMP_CWORD" = 1 ]; then
+        mapfile -t COMPREPLY < <(compgen -W 'play cluster watch lock who metrics kill --help --version' -- "$current")
+        return
+    fi
+    case "${COMP_WORDS[1]},$previous" in
+        lock,-m | lock,--mode) mapfile -t COMPREPLY < <(compgen -W 'NL CR CW PR PW EX' -- "$current") ;;
+        lock,--on-blocking) mapfile -t COMPREPLY < <(compgen -A signal -- "$current") ;;
+        lock,*)
+            if [[ $current == -* ]]; then
+                mapfile -t COMPREPLY < <(compgen -W '-m -n -w -E --value --on-blocking --help' -- "$current")
+            else
+                mapfile -t COMPREPLY < <(compgen -A command -A file -- "$current")
+            fi
+            ;;
+        kill,*)
+            sessions=$(vlm who 2>/dev/null | awk 'NR > 1 {print $5}' | sort -u)
+            mapfile -t COMPREPLY < <(compgen -W "$sessions" -- "$current")
+            ;;
+        who,*) mapfile -t COMPREPLY < <(compgen -W '-w --json' -- "$current") ;;
+    esac
+}
+complete -F _vlm vlm

@@ -1,0 +1,44 @@
+/* What the commands over the lock service share: a connection to vlmd that speaks its lines. Nothing here is proved. */
+#ifndef LINK_H
+#define LINK_H
+
+#include <stdbool.h>
+#include <stddef.h>
+#include <stdint.h>
+
+/* Exit statuses, as sysexits.h has them. LOST: the lock went while the command ran. */
+enum { WRONG_WORDS = 64, NO_SERVICE = 69, LOST = 75 };
+
+enum { LINE_ROOM = 512 };
+
+#define FOREVER INT64_MAX
+
+struct link {
+    int descriptor;
+    char in[8192];
+    size_t len;
+};
+
+/* Connects to the service that VLM_SOCKET names, or the usual one. Says why not, and returns false. */
+bool link_open(struct link *link);
+
+/* Sends text. Returns false if the service has gone. */
+bool link_send(const struct link *link, const char *text);
+
+/* Reads the next line without its line feed into LINE_ROOM bytes, until a moment of `milliseconds`. Returns 1 with a
+ * line, 0 if the time has passed, and -1 if the service has gone. */
+int link_line(struct link *link, char *line, int64_t until);
+
+/* The time of a clock that never goes back, in milliseconds. */
+int64_t milliseconds(void);
+
+/* The commands. Each returns its exit status. */
+int run_lock(int count, char **words);
+int run_who(int count, char **words);
+int run_metrics(int count, char **words);
+int run_kill(int count, char **words);
+
+/* Writes a usage text to standard error, and returns the status of wrong words. */
+int wrong_words(const char *usage);
+
+#endif

@@ -1,0 +1,164 @@
+/* The configuration: one line for each setting, a word and its values. */
+#define _GNU_SOURCE
+#include "daemon.h"
+
+#include <errno.h>
+#include <grp.h>
+#include <stdio.h>
+#include <stdlib.h>
+#include <string.h>
+#include <sys/socket.h>
+
+enum { LINE = 512, WORDS = 3, MOST_GIDS = 4096 };
+
+static bool number_of(const char *word, unsigned long most, uint32_t *number) {
+    char *end;
+    errno = 0;
+    unsigned long read = strtoul(word, &end, 10);
+    *number = (uint32_t)read;
+    return word[0] >= '0' && word[0] <= '9' && *end == 0 && errno == 0 && read <= most;
+}
+
+/* A group by its name or its number. */
+static bool gid_of(const char *word, gid_t *gid) {
+    uint32_t number;
+    if (number_of(word, UINT32_MAX, &number)) {
+        *gid = number;
+        return true;
+    }
+    const struct group *group = getgrnam(word);
+    if (group != NULL)
+        *gid = group->gr_gid;
+    return group != NULL;
+}
+
+/* The place of a limit by its word, or null. */
+static uint32_t *limit_of(struct config *config, const char *word) {
+    struct limits *limits = &config->limits;
+    const struct {
+        const char *word;
+        uint32_t *place;
+    } rows[] = {{"connections", &limits->connections},
+                {"processes", &limits->processes},
+                {"locks", &limits->locks},
+                {"waiting", &limits->waiting},
+                {"queued", &limits->queued},
+                {"names", &limits->names},
+                {"lines", &limits->lines},
+                {"shown", &limits->shown},
+                {"search", &limits->search},
+                {"drain", &limits->drain},
+                {"grace", &config->grace},
+                {"identifications", &limits->identifications}};
+    for (size_t at = 0; at < sizeof rows / sizeof *rows; at++)
+        if (strcmp(word, rows[at].word) == 0)
+            return rows[at].place;
+    return NULL;
+}
+
+static bool add_group(struct config *config, const char *group, const char *uic) {
+    struct group_row *row = &config->groups[config->group_count];
+    if (config->group_count == MOST_GROUPS || !gid_of(group, &row->gid) || !number_of(uic, VLM_MAX_GROUP, &row->group))
+        return false;
+    config->group_count++;
+    return true;
+}
+
+static bool set_words(struct config *config, char *const *words, size_t count) {
+    if (count == WORDS && strcmp(words[0], "group") == 0)
+        return add_group(config, words[1], words[2]);
+    if (count != 2)
+        return false;
+    uint32_t *limit = limit_of(config, words[0]);
+    if (limit != NULL)
+        return number_of(words[1], UINT32_MAX, limit) && (limit != &config->limits.lines || *limit != 0);
+    if (strcmp(words[0], "socket") == 0)
+        return snprintf(config->socket, PATH, "%s", words[1]) < PATH;
+    if (strcmp(words[0], "syslck") == 0)
+        return config->has_syslck_group = gid_of(words[1], &config->syslck_group);
+    if (strcmp(words[0], "admin") == 0)
+        return config->has_admin_group = gid_of(words[1], &config->admin_group);
+    if (strcmp(words[0], "mode") == 0) {
+        char *end;
+        config->mode = (mode_t)strtoul(words[1], &end, 8);
+        return *end == 0 && config->mode <= 0777;
+    }
+    return false;
+}
+
+static bool read_line(struct config *config, char *line) {
+    char *words[WORDS + 1], *rest = NULL;
+    size_t count = 0;
+    line[strcspn(line, "#\n")] = 0;
+    for (char *word = strtok_r(line, " \t\r", &rest); word != NULL; word = strtok_r(NULL, " \t\r", &rest))
+        if (count <= WORDS)
+            words[count++] = word;
+    return count == 0 || set_words(config, words, count);
+}
+
+bool read_config(const char *file, bool must_be_there, struct config *config) {
+    char line[LINE], text[LINE + 64];
+    struct config read = *config;
+    FILE *from = fopen(file, "re");
+    if (from == NULL && !must_be_there && errno == ENOENT)
+        return true;
+    if (from == NULL) {
+        snprintf(text, sizeof text, "%s can't be read", file);
+        write_log(text);
+        return false;
+    }
+    unsigned number = 0;
+    bool is_right = true;
+    while (is_right && fgets(line, sizeof line, from) != NULL) {
+        number++;
+        is_right = read_line(&read, line);
+    }
+    fclose(from);
+    if (is_right) {
+        *config = read;
+        return true;
+    }
+    snprintf(text, sizeof text, "%s line %u: no such setting, or a wrong value", file, number);
+    write_log(text);
+    return false;
+}
+
+static bool is_in(const gid_t *gids, size_t count, gid_t gid) {
+    for (size_t at = 0; at < count; at++)
+        if (gids[at] == gid)
+            return true;
+    return false;
+}
+
+/* The groups of a peer, its own first. 0 if they can't be read. */
+static size_t gids_of(int descriptor, gid_t own, gid_t *gids) {
+    socklen_t len = (MOST_GIDS - 1) * sizeof(gid_t);
+    gids[0] = own;
+    if (getsockopt(descriptor, SOL_SOCKET, SO_PEERGROUPS, gids + 1, &len) != 0)
+        return 0;
+    return 1 + len / sizeof(gid_t);
+}
+
+bool read_rights(const struct config *config, int descriptor, struct rights *rights) {
+    struct ucred peer;
+    socklen_t len = sizeof peer;
+    static gid_t gids[MOST_GIDS];
+    if (getsockopt(descriptor, SOL_SOCKET, SO_PEERCRED, &peer, &len) != 0)
+        return false;
+    size_t count = gids_of(descriptor, peer.gid, gids);
+    if (count == 0)
+        return false;
+    bool is_root = peer.uid == 0;
+    rights->uid = peer.uid;
+    rights->pid = (uint32_t)peer.pid;
+    rights->has_syslck = is_root || (config->has_syslck_group && is_in(gids, count, config->syslck_group));
+    rights->is_admin = is_root || (config->has_admin_group && is_in(gids, count, config->admin_group));
+    rights->group = 1;
+    for (uint32_t at = 0; at < config->group_count; at++) {
+        if (is_in(gids, count, config->groups[at].gid)) {
+            rights->group = config->groups[at].group;
+            return true;
+        }
+    }
+    return config->group_count == 0;
+}

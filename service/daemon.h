@@ -1,0 +1,63 @@
+/* What the files of the daemon around the dispatcher share. Nothing here is proved.
+ *
+ * vlmd.c    the event loop: connections, signals, time
+ * config.c  the configuration
+ * start.c   the socket, the state file, the log, and what systemd is told
+ */
+#ifndef DAEMON_H
+#define DAEMON_H
+
+#include "dispatcher.h"
+
+#include <sys/types.h>
+
+enum { MOST_GROUPS = 256, PATH = 108 };
+
+/* Exit statuses. */
+enum { WRONG_WORDS = 2, NO_START = 4 };
+
+/* A group of the system and the UIC group of its members. */
+struct group_row {
+    gid_t gid;
+    uint32_t group;
+};
+
+struct config {
+    char socket[PATH];
+    mode_t mode;
+    uint32_t grace; /* milliseconds */
+    struct limits limits;
+    struct group_row groups[MOST_GROUPS];
+    uint32_t group_count;
+    bool has_syslck_group, has_admin_group;
+    gid_t syslck_group, admin_group;
+};
+
+/* Reads a configuration over `config`, which has the usual values. Without a file of the usual name these stay.
+ * Returns false and logs the line if a line is wrong: then `config` is as it was. */
+bool read_config(const char *file, bool must_be_there, struct config *config);
+
+/* The rights of the process at the other end of a socket. False if no row of the table of groups has it. */
+bool read_rights(const struct config *config, int descriptor, struct rights *rights);
+
+/* Writes a line to standard error, unless that would block. `<6>` and so on before it are systemd's priorities. */
+void write_log(const char *text);
+
+/* The listening socket: systemd's, or one at the path of the configuration. -1 if there is none. *is_own says whether
+ * the daemon made it and is to remove it. */
+int open_listener(const struct config *config, bool *is_own);
+
+/* Takes the state file, which no other daemon has then. *epoch is the epoch that begins, and *was_unclean says whether
+ * the last daemon ended with locks that its clients may believe in. -1 if it can't be taken. */
+int take_state(const char *socket, uint32_t *epoch, bool *was_unclean);
+
+/* Writes the state: the epoch, and whether clients may believe in locks of it. */
+bool write_state(int descriptor, uint32_t epoch, bool is_running);
+
+/* Tells systemd something, such as READY=1, if it asked for that. */
+void notify(const char *text);
+
+/* How often systemd wants to hear from the daemon, in milliseconds, or 0. */
+uint64_t watchdog_time(void);
+
+#endif

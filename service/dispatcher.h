@@ -1,0 +1,99 @@
+/* The dispatcher of the lock service: bytes of clients in, bytes to clients out. It owns the lock manager and has no
+ * input and output of its own, so it can be tested alone. docs/SERVICE.md teaches the protocol. Nothing here is proved.
+ *
+ * One thread calls it. A turn of the daemon is: dispatcher_tick with the time, client_hear for each client that has
+ * sent something, dispatcher_run for the lines that are left, and then dispatcher_changed until it returns null: each
+ * client that it returns has bytes to send, or is over. */
+#ifndef DISPATCHER_H
+#define DISPATCHER_H
+
+#include "vlm.h"
+
+/* How much a user, a session or a client may have. docs/SERVICE.md has the meaning and the usual value of each. */
+struct limits {
+    uint32_t connections;     /* of a user */
+    uint32_t processes;       /* of a user */
+    uint32_t locks;           /* of a user */
+    uint32_t waiting;         /* requests of a user */
+    uint32_t queued;          /* bytes that wait for the clients of a user */
+    uint32_t names;           /* of a session */
+    uint32_t lines;           /* of a client in a turn */
+    uint32_t shown;           /* locks that `show`, `tails` and `who` print */
+    uint32_t search;          /* milliseconds that a request waits before a search for deadlocks */
+    uint32_t drain;           /* milliseconds from the last identification to the end of the epoch */
+    uint32_t identifications; /* of locks, of one lock manager */
+};
+/* clang-format off */
+#define USUAL_LIMITS { 20000, 20000, 10000, 2000, 8 << 20, 1024, 64, 10000, 1000, 60000, UINT32_MAX }
+/* clang-format on */
+
+/* What a connection may do, as the system says who it is. */
+struct rights {
+    uint32_t uid;
+    uint32_t pid;
+    uint32_t group; /* the UIC group */
+    bool has_syslck;
+    bool is_admin; /* it sees all groups, and may kill sessions */
+};
+
+struct dispatcher;
+struct client;
+
+/* Where the dispatcher's messages for the log go, each without a line feed. */
+typedef void (*logger)(const char *text);
+
+/* Makes a dispatcher, or returns null without memory. `keys` are random. The first lock manager has this epoch, and
+ * each later one the next. */
+struct dispatcher *dispatcher_open(const struct limits *limits, uint32_t epoch, const uint8_t keys[16], logger log);
+
+/* Ends all sessions and frees everything. */
+void dispatcher_close(struct dispatcher *dispatcher);
+
+/* Other limits count from here on. */
+void dispatcher_limit(struct dispatcher *dispatcher, const struct limits *limits);
+
+/* Has requests wait, unanswered, until this time. */
+void dispatcher_be_quiet(struct dispatcher *dispatcher, uint64_t until);
+
+/* Tells the time, in milliseconds of a clock that never goes back, and does what is due. */
+void dispatcher_tick(struct dispatcher *dispatcher, uint64_t now);
+
+/* When something is due next, or UINT64_MAX. */
+uint64_t dispatcher_due(const struct dispatcher *dispatcher);
+
+/* Runs lines that were heard and not run yet. Returns whether some are left. */
+bool dispatcher_run(struct dispatcher *dispatcher);
+
+/* The epoch of the lock manager, and whether a client holds a lock or waits for one. */
+uint32_t dispatcher_epoch(const struct dispatcher *dispatcher);
+bool dispatcher_has_locks(struct dispatcher *dispatcher);
+
+/* Tells all clients that their locks are lost, and ends them. */
+void dispatcher_lose(struct dispatcher *dispatcher);
+
+/* A client with output, or one that is over, each once until it changes again; null after the last one. */
+struct client *dispatcher_changed(struct dispatcher *dispatcher);
+
+/* A new connection. `context` belongs to the daemon. Null without memory. A client over the user's limit is over at
+ * once: it gets the reason as its only line. */
+struct client *client_open(struct dispatcher *dispatcher, const struct rights *rights, void *context);
+void *client_context(const struct client *client);
+
+/* The connection has ended and the client is freed. */
+void client_close(struct client *client);
+
+/* Bytes that the client has sent. Calls with no bytes say that no more come. */
+void client_hear(struct client *client, const uint8_t *bytes, size_t len);
+
+/* Whether more should be read: not while lines are left, or while the client does not read its answers. */
+bool client_is_heard(const struct client *client);
+
+/* The bytes that wait to be sent, and that the first `len` of them were. */
+const uint8_t *client_output(const struct client *client, size_t *len);
+void client_sent(struct client *client, size_t len);
+
+/* Whether the connection is to be closed once its output has been sent, or at once. */
+bool client_is_over(const struct client *client);
+bool client_is_cut(const struct client *client);
+
+#endif

@@ -1,0 +1,218 @@
+/* What a line asks for. The proved vlm_read_line reads a step or a reading; what this file adds to the script language
+ * is the number of a line, `declare` without node and rights, and handles of locks with 64 bits. */
+#include "parts.h"
+
+#include <inttypes.h>
+#include <stdio.h>
+#include <string.h>
+
+enum {
+    MOST_WORDS = 24,
+    DECLARE_WORDS = 4,
+    STEP_LETTERS = 3,
+    CUT_WORD = 40,
+    DIGITS = 18,
+    USUAL_QUOTA = 1000,
+    USUAL_BLOCKS = 4
+};
+
+static bool is_blank(char byte) { return byte == ' ' || byte == '\t' || byte == '\r'; }
+
+/* Finds the words of a line, at most `most`, and returns how many there are. */
+size_t split(const char *bytes, size_t len, struct word *words, size_t most) {
+    size_t count = 0;
+    for (size_t at = 0; at < len;) {
+        size_t from = at;
+        while (at < len && !is_blank(bytes[at]))
+            at++;
+        if (at > from) {
+            if (count < most)
+                words[count] = (struct word){bytes + from, at - from};
+            count++;
+        }
+        at += at < len;
+    }
+    return count;
+}
+
+bool is_word(struct word word, const char *text) {
+    return word.len == strlen(text) && memcmp(word.bytes, text, word.len) == 0;
+}
+
+/* Whether a word has a form such as `key=REST`; `key` has the equals sign. */
+bool keyed(struct word word, const char *key, struct word *rest) {
+    size_t len = strlen(key);
+    if (word.len < len || memcmp(word.bytes, key, len) != 0)
+        return false;
+    *rest = (struct word){word.bytes + len, word.len - len};
+    return true;
+}
+
+bool decimal(struct word word, uint64_t most, uint64_t *number) {
+    *number = 0;
+    for (size_t at = 0; at < word.len; at++) {
+        if (word.bytes[at] < '0' || word.bytes[at] > '9')
+            return false;
+        uint64_t digit = (uint64_t)(word.bytes[at] - '0');
+        if (*number > (UINT64_MAX - digit) / 10)
+            return false;
+        *number = *number * 10 + digit;
+    }
+    return word.len > 0 && *number <= most;
+}
+
+/* Takes the number of a line off: up to 18 digits and a blank. */
+static void take_number(struct client *client, const char **bytes, size_t *len) {
+    size_t digits = 0;
+    while (digits < *len && (*bytes)[digits] >= '0' && (*bytes)[digits] <= '9')
+        digits++;
+    client->has_number = digits > 0 && digits <= DIGITS && digits < *len && (*bytes)[digits] == ' '
+                         && decimal((struct word){*bytes, digits}, UINT64_MAX, &client->line_number);
+    if (client->has_number) {
+        *bytes += digits + 1;
+        *len -= digits + 1;
+    }
+}
+
+/* A `declare` line of a client as a script has it: without its words for quota and blocks the usual ones, on some node,
+ * and with the rights of the connection. */
+static bool as_declaration(const struct client *client, const struct word *words, size_t count, vlm_line *line) {
+    char text[LINE];
+    int len = 0;
+    bool has_quota = false, has_blocks = false, is_refused = count > DECLARE_WORDS;
+    for (size_t at = 0; at < count && at < DECLARE_WORDS; at++) {
+        struct word rest;
+        is_refused |= keyed(words[at], "node=", &rest) || keyed(words[at], "group=", &rest);
+        is_refused |= is_word(words[at], "syslck");
+        has_quota |= keyed(words[at], "quota=", &rest);
+        has_blocks |= keyed(words[at], "blocks=", &rest);
+        int shown = (int)(words[at].len < CUT_WORD ? words[at].len : CUT_WORD);
+        len += snprintf(text + len, sizeof text - (size_t)len, "%.*s ", shown, words[at].bytes);
+    }
+    if (is_refused || memchr(text, 0, (size_t)len) != NULL) {
+        line->kind = VLM_LINE_EMPTY;
+        line->fault = VLM_FAULT_WRONG_WORD;
+        return true;
+    }
+    len += snprintf(text + len, sizeof text - (size_t)len, "node=1 group=%" PRIu32, client->rights.group);
+    if (!has_quota)
+        len += snprintf(text + len, sizeof text - (size_t)len, " quota=%d", USUAL_QUOTA);
+    if (!has_blocks)
+        len += snprintf(text + len, sizeof text - (size_t)len, " blocks=%d", USUAL_BLOCKS);
+    return vlm_read_line((const uint8_t *)text, (size_t)len, line) == VLM_NORMAL;
+}
+
+/* The identification that a handle names to the lock manager: another epoch's is no lock of anybody. */
+static uint32_t identification(const struct dispatcher *dispatcher, uint64_t handle) {
+    return handle == 0 ? 0 : handle >> 32 == dispatcher->epoch && (uint32_t)handle != 0 ? (uint32_t)handle : NO_LOCK;
+}
+
+/* The word of a line that may be a handle: the third of `cvt` and `deq`, and what follows `parent=` in `enq`. A line of
+ * more words than a line may have is wrong in any case. */
+static bool find_handle(const struct word *words, size_t count, struct word *handle) {
+    if (count > 2 && (is_word(words[0], "cvt") || is_word(words[0], "deq"))) {
+        *handle = words[2];
+        return true;
+    }
+    if (!is_word(words[0], "enq"))
+        return false;
+    for (size_t at = STEP_LETTERS; at < count; at++)
+        if (keyed(words[at], "parent=", handle))
+            return true;
+    return false;
+}
+
+/* Reads a line in which a lock may be named by its handle. */
+static bool read_with_handle(struct dispatcher *dispatcher, struct word whole, const struct word *words, size_t count) {
+    struct word handle;
+    uint64_t number;
+    if (!find_handle(words, count, &handle) || !decimal(handle, UINT64_MAX, &number))
+        return vlm_read_line((const uint8_t *)whole.bytes, whole.len, &dispatcher->line) == VLM_NORMAL;
+    char text[LINE + 24];
+    size_t before = (size_t)(handle.bytes - whole.bytes), after = whole.len - before - handle.len;
+    memcpy(text, whole.bytes, before);
+    int digits = snprintf(text + before, 16, "%" PRIu32, identification(dispatcher, number));
+    memcpy(text + before + digits, handle.bytes + handle.len, after);
+    size_t len = before + (size_t)digits + after;
+    /* (a short handle of another epoch has fewer digits than the identification that stands for it) */
+    return vlm_read_line((const uint8_t *)text, len <= LINE ? len : LINE, &dispatcher->line) == VLM_NORMAL;
+}
+
+static const char *const faults[] = {
+    "", "too long\n", "unknown command\n", "wrong word\n", "number out of range\n", "unknown name\n", "name used\n"};
+
+/* A step of a session that is not made again: its number came before. */
+static bool is_repeated(struct client *client) {
+    struct session *session = client->session;
+    if (!client->has_number || client->line_number > session->number)
+        return false;
+    client->is_step = false;
+    if (client->line_number == session->number && session->answer_len != 0)
+        answer(client, session->answer, session->answer_len);
+    else
+        answer_text(client, "old number\n");
+    return true;
+}
+
+static void run_read_line(struct client *client, const vlm_line *line) {
+    bool is_reading = line->kind == VLM_LINE_BLOCK || line->kind == VLM_LINE_TAIL;
+    if (line->kind == VLM_LINE_EMPTY)
+        return;
+    if (line->kind == VLM_LINE_SHOW || line->kind == VLM_LINE_TAILS) {
+        show(client, line->kind == VLM_LINE_TAILS);
+        return;
+    }
+    if (line->kind == VLM_LINE_AST || line->kind == VLM_LINE_LEAVE || line->kind == VLM_LINE_SEARCH) {
+        answer_text(client, faults[VLM_FAULT_UNKNOWN_COMMAND]);
+        return;
+    }
+    if (client->session == NULL) {
+        answer_text(client, "no session\n");
+        return;
+    }
+    client->is_step = !is_reading;
+    if (client->is_step && is_repeated(client))
+        return;
+    struct binding *binding = find_binding(client->session, line->name);
+    if ((binding == NULL) != (line->kind == VLM_LINE_DECLARE))
+        answer_text(client, faults[binding == NULL ? VLM_FAULT_UNKNOWN_NAME : VLM_FAULT_NAME_USED]);
+    else if (is_reading)
+        run_reading(client, line);
+    else
+        run_step(client, line);
+}
+
+/* Whether a line has to wait: requests do while the dispatcher is quiet. */
+static bool has_to_wait(struct client *client, const struct word *words, size_t count) {
+    struct dispatcher *dispatcher = client->dispatcher;
+    client->is_waiting = dispatcher->quiet_until != 0 && count > 0 && is_word(words[0], "enq");
+    return client->is_waiting;
+}
+
+/* Whether a line is surely none of a session: most lines are such steps. */
+static bool is_frequent(struct word word) { return word.len == STEP_LETTERS && word.bytes[0] != 'w'; }
+
+/* Runs a line without its line feed. Returns false, and has done nothing, if the line has to wait. */
+bool run_line(struct client *client, const char *bytes, size_t len) {
+    struct dispatcher *dispatcher = client->dispatcher;
+    struct word words[MOST_WORDS];
+    client->is_step = false;
+    take_number(client, &bytes, &len);
+    if (len > LINE) {
+        answer_text(client, faults[VLM_FAULT_TOO_LONG]);
+        return true;
+    }
+    size_t count = split(bytes, len, words, MOST_WORDS), kept = count < MOST_WORDS ? count : MOST_WORDS;
+    if (has_to_wait(client, words, count))
+        return false;
+    if (count == 0 || (!is_frequent(words[0]) && run_session_line(client, words, count)))
+        return true;
+    vlm_line *line = &dispatcher->line;
+    bool is_read = is_word(words[0], "declare") ? as_declaration(client, words, count, line)
+                                                : read_with_handle(dispatcher, (struct word){bytes, len}, words, kept);
+    if (!is_read || line->fault != 0)
+        answer_text(client, faults[is_read ? line->fault : VLM_FAULT_WRONG_WORD]);
+    else
+        run_read_line(client, line);
+    return true;
+}

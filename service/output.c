@@ -1,0 +1,159 @@
+/* Bytes for clients, and printed lines with handles of 64 bits. */
+#include "parts.h"
+
+#include <inttypes.h>
+#include <stdarg.h>
+#include <stdio.h>
+#include <stdlib.h>
+#include <string.h>
+
+enum { LONGEST_TEXT = 512 };
+
+void say(const struct dispatcher *dispatcher, const char *format, ...) {
+    char text[LONGEST_TEXT];
+    va_list values;
+    va_start(values, format);
+    vsnprintf(text, sizeof text, format, values);
+    va_end(values);
+    dispatcher->log(text);
+}
+
+static void note_change(struct client *client) {
+    if (client->is_changed)
+        return;
+    client->is_changed = true;
+    client->next_changed = client->dispatcher->changed;
+    client->dispatcher->changed = client;
+}
+
+/* Ends a client whose bytes can't be kept. */
+static void cut_off(struct client *client, const char *reason) {
+    if (client->is_cut)
+        return;
+    client->is_cut = client->is_over = true;
+    client->dispatcher->counts.cut_off++;
+    say(client->dispatcher, "client with pid %" PRIu32 " of user %" PRIu32 " is cut off: %s", client->rights.pid,
+        client->rights.uid, reason);
+}
+
+static bool make_room(struct client *client, size_t len) {
+    if (client->out_len + len <= client->out_room)
+        return true;
+    size_t room = client->out_room != 0 ? client->out_room : KEPT_ROOM;
+    while (room < client->out_len + len)
+        room *= 2;
+    uint8_t *out = realloc(client->out, room);
+    if (out == NULL)
+        return false;
+    client->out = out;
+    client->out_room = room;
+    return true;
+}
+
+void put(struct client *client, const void *bytes, size_t len) {
+    note_change(client);
+    if (client->is_cut || len == 0)
+        return;
+    if (client->out_len - client->out_from + len > MOST_UNSENT) {
+        cut_off(client, "it does not read");
+    } else if (client->user->queued + len > client->dispatcher->limits.queued) {
+        cut_off(client, "too many bytes wait for its user");
+    } else if (!make_room(client, len)) {
+        cut_off(client, "no memory");
+    } else {
+        memcpy(client->out + client->out_len, bytes, len);
+        client->out_len += len;
+        client->user->queued += len;
+    }
+}
+
+void put_text(struct client *client, const char *text) { put(client, text, strlen(text)); }
+
+void put_format(struct client *client, const char *format, ...) {
+    char text[LONGEST_TEXT];
+    va_list values;
+    va_start(values, format);
+    int len = vsnprintf(text, sizeof text, format, values);
+    va_end(values);
+    put(client, text, len < (int)sizeof text ? (size_t)len : sizeof text - 1);
+}
+
+/* An answer begins with the number of its line. */
+void begin_answer(struct client *client) {
+    if (client->has_number)
+        put_format(client, "%" PRIu64 " ", client->line_number);
+    else
+        note_change(client);
+}
+
+/* Keeps the answer to a numbered step, in case the line comes again. */
+static void keep_answer(struct client *client, const void *bytes, size_t len) {
+    struct session *session = client->session;
+    session->number = client->has_number ? client->line_number : session->number + 1;
+    session->answer_len = 0;
+    if (!client->has_number)
+        return;
+    if (session->answer == NULL)
+        session->answer = malloc(KEPT_ANSWER);
+    if (session->answer == NULL || len > KEPT_ANSWER)
+        return;
+    memcpy(session->answer, bytes, len);
+    session->answer_len = (uint32_t)len;
+}
+
+void answer(struct client *client, const void *bytes, size_t len) {
+    begin_answer(client);
+    put(client, bytes, len);
+    if (client->is_step)
+        keep_answer(client, bytes, len);
+}
+
+/* The answer is no step's: nothing was done. */
+void answer_text(struct client *client, const char *text) {
+    client->is_step = false;
+    answer(client, text, strlen(text));
+}
+
+/* Puts a number in the place of a word of a printed line, counted from 0. */
+void replace_word(vlm_text *text, uint32_t place, uint64_t number) {
+    char *bytes = (char *)text->bytes, digits[24];
+    size_t from = 0, len = text->len;
+    while (from < len && bytes[from] == ' ')
+        from++;
+    for (; place > 0 && from < len; from++)
+        place -= bytes[from] == ' ';
+    size_t to = from;
+    while (to < len && bytes[to] != ' ' && bytes[to] != '\n')
+        to++;
+    size_t count = (size_t)snprintf(digits, sizeof digits, "%" PRIu64, number);
+    if (len - (to - from) + count > sizeof text->bytes)
+        return;
+    memmove(bytes + from + count, bytes + to, len - to);
+    memcpy(bytes + from, digits, count);
+    text->len = (uint32_t)(len - (to - from) + count);
+}
+
+const uint8_t *client_output(const struct client *client, size_t *len) {
+    *len = client->is_cut ? 0 : client->out_len - client->out_from;
+    return client->out == NULL ? NULL : client->out + client->out_from;
+}
+
+void client_sent(struct client *client, size_t len) {
+    bool was_paused = client->out_len - client->out_from > PAUSE;
+    client->out_from += len;
+    client->user->queued -= len;
+    if (client->out_from == client->out_len) {
+        client->out_from = client->out_len = 0;
+        if (client->out_room > KEPT_ROOM) {
+            free(client->out);
+            client->out = NULL;
+            client->out_room = 0;
+        }
+    } else if (client->out_from > client->out_room / 2) {
+        client->out_len -= client->out_from;
+        memmove(client->out, client->out + client->out_from, client->out_len);
+        client->out_from = 0;
+    }
+    if (was_paused && client->out_len - client->out_from <= PAUSE)
+        make_ready(client);
+}

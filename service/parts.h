@@ -1,0 +1,269 @@
+/* What the files of the dispatcher share. Not a header of the daemon.
+ *
+ * A session has processes of the lock manager under names. Each process that the manager has made is kept for ever: a
+ * session that ends gives its processes back, clean, and a later session gets them. A request has a record from its
+ * step to its completion AST, whose routine is the place of the record.
+ *
+ * dispatcher.c  opening and closing, ticks, turns, and clients
+ * input.c       bytes of a client become lines
+ * lines.c       what a line asks for: its number, its words, and the handles of locks in it
+ * sessions.c    open, resume, close, alive and kill
+ * steps.c       declare, enq, cvt, deq, set and end
+ * readings.c    block, tail, show and tails
+ * who.c         who and metrics
+ * processes.c   processes kept for reuse, and what each user has
+ * requests.c    records of requests, ASTs, and which requests wait
+ * circles.c     searches for deadlocks, and the circle for the log
+ * epochs.c      identifications that run out
+ * output.c      bytes for clients, and printed lines with handles of 64 bits
+ */
+#ifndef PARTS_H
+#define PARTS_H
+
+#include "dispatcher.h"
+
+enum {
+    PROTOCOL = 1,
+    NAME = 16,            /* bytes of a process's name */
+    LABEL = 32,           /* bytes of a client's command, with a zero */
+    LINE = 255,           /* bytes of a line, without its number and its line feed */
+    NUMBERED = LINE + 20, /* with its number; more bytes are too long in any case */
+    PAUSE = 64 << 10,     /* unsent bytes of a client whose lines are not run */
+    MOST_UNSENT = 1 << 20,
+    KEPT_ASTS = 64, /* of a session that may be resumed */
+    MOST_SECONDS = 600,
+    BLOCK_BITS = 256 / 8,
+    USER_BUCKETS = 256,
+    POOL_BUCKETS = 256,
+    NODE_PROCESSES = 65535,
+    KEPT_ANSWER = 256,
+    KEPT_ROOM = 256, /* of a client's output between two answers */
+    PAIR = 512       /* bytes of an AST and its block line */
+};
+
+#define NOBODY UINT32_MAX  /* no record */
+#define NO_LOCK UINT32_MAX /* an identification that no lock has: the last one is never reached */
+
+/* What a user has. */
+struct user {
+    uint32_t uid;
+    uint32_t connections;
+    uint32_t processes;
+    uint32_t waiting; /* requests */
+    uint64_t locks;   /* those that wait too */
+    uint64_t queued;  /* bytes for its clients */
+    uint64_t sessions;
+    struct user *next;
+};
+
+/* A status block as it was in an earlier lock manager, until a request names the block again. */
+struct old_block {
+    uint32_t status;
+    uint64_t handle;
+};
+
+/* A process of the lock manager. */
+struct process {
+    uint32_t pid;
+    uint32_t index; /* in the order of making */
+    struct pool *pool;
+    struct process *next_free;
+    /* The session that has it, or null; the rest counts while there is one. */
+    struct session *session;
+    uint8_t name[NAME];
+    uint32_t name_len;
+    uint64_t number; /* what clients see in the place of the pid */
+    uint32_t quota;
+    uint32_t blocks;           /* as declared */
+    uint32_t locks;            /* as counted last */
+    uint8_t named[BLOCK_BITS]; /* the blocks that an accepted request has named */
+    uint8_t set[BLOCK_BITS];   /* the blocks whose value part may not be zeros */
+    uint64_t *since;           /* when the last request of a block was accepted or ended */
+    struct old_block *old;     /* of an earlier lock manager, or null */
+};
+
+/* The free processes that are alike. */
+struct pool {
+    uint32_t group;
+    uint32_t blocks; /* of the manager's process: 4, 16, 64 or 255 */
+    bool has_syslck;
+    struct process *free;
+    struct pool *next;
+};
+
+/* A name of a session; the process is null once it has ended. */
+struct binding {
+    uint8_t name[NAME];
+    struct process *process;
+};
+
+struct session {
+    uint64_t name;
+    struct dispatcher *dispatcher;
+    struct rights rights;
+    struct user *user;
+    struct client *client;           /* null between connections */
+    uint32_t seconds;                /* how long it waits for a resume */
+    uint64_t until;                  /* without a client: when it ends */
+    struct session *previous, *next; /* of the sessions without a client */
+    uint64_t number;                 /* of its last step */
+    uint8_t *answer;                 /* to its last step, if that line had a number */
+    uint32_t answer_len;
+    struct binding *bindings;
+    uint32_t binding_count, binding_room;
+    uint64_t asts;  /* how many it was told */
+    uint8_t **kept; /* the last ASTs, if it may be resumed */
+    char label[LABEL];
+};
+
+/* A place for a session: the low half of its name. */
+struct place {
+    struct session *session; /* or null */
+    uint32_t next_free;
+};
+
+struct client {
+    struct dispatcher *dispatcher;
+    struct rights rights;
+    struct user *user;
+    struct session *session; /* or null */
+    void *context;
+    uint8_t *in; /* bytes that no line was made of yet */
+    size_t in_from, in_len, in_room;
+    uint8_t *out;
+    size_t out_from, out_len, out_room;
+    /* The line that is run. */
+    uint64_t line_number;
+    bool has_number;
+    bool is_step;
+    /* What is known of the client. */
+    bool is_ended;   /* no more bytes come */
+    bool is_over;    /* the connection ends once all is sent */
+    bool is_cut;     /* it ends at once */
+    bool is_waiting; /* its next line is a request, and the dispatcher is quiet */
+    bool is_long;    /* the bytes up to the next line feed are too many */
+    bool is_ready, is_changed;
+    struct client *previous, *next; /* of all clients */
+    struct client *next_ready, *next_changed;
+};
+
+/* A request from its step to its end. */
+struct request {
+    struct process *process;
+    struct user *user; /* while it waits, else null */
+    uint32_t lkid;
+    uint32_t block;
+    uint32_t ast; /* the client's completion routine */
+    bool has_ast;
+    uint64_t since;
+    uint32_t previous, next; /* of the waiting ones, or of the free records */
+};
+
+struct counts {
+    uint64_t steps, asts, searches, victims, cut_off, refused, sessions, changes, lost;
+};
+
+struct dispatcher {
+    struct limits limits;
+    vlm manager;
+    uint8_t keys[16];
+    logger log;
+    uint64_t now, quiet_until, searched, drained, looked;
+    uint32_t epoch;
+    uint32_t last_lkid;
+    uint32_t short_of, out_of; /* identifications: from these on they are short, and no more are given */
+    uint64_t last_process;     /* number */
+    uint32_t connections;
+    struct client *clients, *ready, **ready_end, *changed;
+    struct place *sessions;
+    uint32_t session_room, session_count, free_place;
+    struct session *left; /* sessions without a client */
+    struct user *users[USER_BUCKETS];
+    struct pool *pools[POOL_BUCKETS];
+    struct process **processes; /* in the order of making */
+    uint32_t process_count, process_room;
+    struct request *requests;
+    uint32_t request_room, free_request;
+    uint32_t first_waiting, last_waiting, waiting_count;
+    vlm_line line;  /* the line that is run */
+    vlm_text text;  /* the answer to it */
+    vlm_line shown; /* names a process whose AST or block is printed */
+    struct counts counts;
+};
+
+/* A word of a line. */
+struct word {
+    const char *bytes;
+    size_t len;
+};
+
+/* dispatcher.c */
+void client_end(struct client *client);
+void make_ready(struct client *client);
+
+/* input.c */
+void run_heard(struct client *client);
+
+/* lines.c */
+bool run_line(struct client *client, const char *bytes, size_t len);
+size_t split(const char *bytes, size_t len, struct word *words, size_t most);
+bool is_word(struct word word, const char *text);
+bool keyed(struct word word, const char *key, struct word *rest);
+bool decimal(struct word word, uint64_t most, uint64_t *number);
+
+/* sessions.c */
+bool run_session_line(struct client *client, const struct word *words, size_t count);
+void end_session(struct session *session);
+void leave_session(struct client *client);
+void end_left_sessions(struct dispatcher *dispatcher);
+struct session *find_session(struct dispatcher *dispatcher, struct word name);
+
+/* steps.c and readings.c */
+void run_step(struct client *client, const vlm_line *line);
+void run_reading(struct client *client, const vlm_line *line);
+struct binding *find_binding(struct session *session, const uint8_t *name);
+void show(struct client *client, bool is_tails);
+
+/* who.c */
+void who(struct client *client, const struct word *words, size_t count);
+void metrics(struct client *client);
+
+/* processes.c */
+struct user *find_user(struct dispatcher *dispatcher, uint32_t uid);
+void drop_user(struct dispatcher *dispatcher, struct user *user);
+struct process *take_process(struct session *session, const vlm_line *line);
+void release_process(struct process *process);
+struct process *process_of(struct dispatcher *dispatcher, uint32_t pid);
+uint32_t make_process(vlm *manager, const struct pool *pool, uint32_t index, uint32_t *pid);
+void count_locks(struct process *process);
+bool has_bit(const uint8_t *bits, uint32_t number);
+void set_bit(uint8_t *bits, uint32_t number);
+
+/* requests.c */
+uint32_t new_request(struct process *process, vlm_request *request);
+void drop_request(struct dispatcher *dispatcher, uint32_t place);
+void accept_request(struct dispatcher *dispatcher, uint32_t place, uint32_t lkid);
+bool wait_if_queued(struct dispatcher *dispatcher, uint32_t place, uint32_t lkid);
+void tell(struct dispatcher *dispatcher);
+
+/* circles.c */
+uint64_t search_due(const struct dispatcher *dispatcher);
+void search(struct dispatcher *dispatcher);
+
+/* epochs.c */
+bool has_identifications(const struct dispatcher *dispatcher);
+void share_identifications(struct dispatcher *dispatcher);
+void check_identifications(struct dispatcher *dispatcher);
+uint64_t handle_of(const struct dispatcher *dispatcher, uint32_t lkid);
+
+/* output.c */
+void put(struct client *client, const void *bytes, size_t len);
+void put_text(struct client *client, const char *text);
+void put_format(struct client *client, const char *format, ...) __attribute__((format(printf, 2, 3)));
+void answer(struct client *client, const void *bytes, size_t len);
+void answer_text(struct client *client, const char *text);
+void begin_answer(struct client *client);
+void replace_word(vlm_text *text, uint32_t place, uint64_t number);
+void say(const struct dispatcher *dispatcher, const char *format, ...) __attribute__((format(printf, 2, 3)));
+
+#endif

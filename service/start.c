@@ -1,0 +1,119 @@
+/* The socket, the state file, the log, and what systemd is told. The protocols of systemd are a few lines each, so the
+ * daemon needs no library for them. */
+#define _GNU_SOURCE
+#include "daemon.h"
+
+#include <errno.h>
+#include <fcntl.h>
+#include <poll.h>
+#include <stdio.h>
+#include <stdlib.h>
+#include <string.h>
+#include <sys/file.h>
+#include <sys/socket.h>
+#include <sys/stat.h>
+#include <sys/un.h>
+#include <unistd.h>
+
+enum { BACKLOG = 4096, SYSTEMD_DESCRIPTOR = 3, STATE = 32, TEXT = 640, LONGEST_PATH = 512 };
+
+void write_log(const char *text) {
+    char line[TEXT];
+    struct pollfd ready = {.fd = STDERR_FILENO, .events = POLLOUT};
+    const char *priority = getenv("JOURNAL_STREAM") != NULL ? "<6>" : "vlmd: ";
+    int len = snprintf(line, sizeof line, "%s%s\n", priority, text);
+    if (len >= (int)sizeof line)
+        len = sizeof line - 1;
+    /* (a log that nobody reads, or whose disk is full, holds up no client) */
+    if (poll(&ready, 1, 0) == 1 && (ready.revents & POLLOUT) != 0 && write(STDERR_FILENO, line, (size_t)len) < 0)
+        return;
+}
+
+static int fail(const char *what, const char *name) {
+    char text[TEXT];
+    snprintf(text, sizeof text, "%s %s: %s", name, what, strerror(errno));
+    write_log(text);
+    return -1;
+}
+
+static int from_systemd(void) {
+    const char *pid = getenv("LISTEN_PID"), *count = getenv("LISTEN_FDS");
+    if (pid == NULL || count == NULL || strtol(pid, NULL, 10) != (long)getpid() || strcmp(count, "1") != 0)
+        return -1;
+    fcntl(SYSTEMD_DESCRIPTOR, F_SETFD, FD_CLOEXEC);
+    fcntl(SYSTEMD_DESCRIPTOR, F_SETFL, fcntl(SYSTEMD_DESCRIPTOR, F_GETFL) | O_NONBLOCK);
+    return SYSTEMD_DESCRIPTOR;
+}
+
+int open_listener(const struct config *config, bool *is_own) {
+    int given = from_systemd();
+    *is_own = given < 0;
+    if (given >= 0)
+        return given;
+    struct sockaddr_un address = {.sun_family = AF_UNIX};
+    snprintf(address.sun_path, sizeof address.sun_path, "%s", config->socket);
+    int made = socket(AF_UNIX, SOCK_STREAM | SOCK_CLOEXEC | SOCK_NONBLOCK, 0);
+    if (made < 0)
+        return fail("can't be made", "a socket");
+    /* (no other daemon has it: the state file beside it is taken) */
+    if (unlink(config->socket) != 0 && errno != ENOENT)
+        return fail("is in the way", config->socket);
+    mode_t before = umask(0777 & ~config->mode);
+    int bound = bind(made, (const struct sockaddr *)&address, sizeof address);
+    umask(before);
+    if (bound != 0 || listen(made, BACKLOG) != 0)
+        return fail("can't be listened to", config->socket);
+    return made;
+}
+
+int take_state(const char *socket, uint32_t *epoch, bool *was_unclean) {
+    char name[LONGEST_PATH], text[STATE + 1] = "";
+    const char *folder = getenv("RUNTIME_DIRECTORY");
+    /* (a folder that systemd made for the daemon) */
+    if (folder != NULL)
+        snprintf(name, sizeof name, "%s/state", folder);
+    else
+        snprintf(name, sizeof name, "%s.state", socket);
+    int descriptor = open(name, O_RDWR | O_CREAT | O_CLOEXEC, 0600);
+    if (descriptor < 0)
+        return fail("can't be opened", name);
+    if (flock(descriptor, LOCK_EX | LOCK_NB) != 0)
+        return fail("belongs to another daemon", name);
+    ssize_t len = pread(descriptor, text, STATE, 0);
+    unsigned long last = len > 0 ? strtoul(text, NULL, 10) : 0;
+    *epoch = len > 0 ? (uint32_t)last + 1 : 0;
+    *was_unclean = strstr(text, "running") != NULL;
+    if (!write_state(descriptor, *epoch, true))
+        return fail("can't be written", name);
+    return descriptor;
+}
+
+bool write_state(int descriptor, uint32_t epoch, bool is_running) {
+    char text[STATE];
+    int len = snprintf(text, sizeof text, "%010u %s\n", (unsigned)epoch, is_running ? "running" : "ended  ");
+    return pwrite(descriptor, text, (size_t)len, 0) == len;
+}
+
+void notify(const char *text) {
+    struct sockaddr_un address = {.sun_family = AF_UNIX};
+    const char *path = getenv("NOTIFY_SOCKET");
+    if (path == NULL || strlen(path) >= sizeof address.sun_path)
+        return;
+    size_t len = strlen(path);
+    memcpy(address.sun_path, path, len);
+    if (path[0] == '@')
+        address.sun_path[0] = 0;
+    int made = socket(AF_UNIX, SOCK_DGRAM | SOCK_CLOEXEC, 0);
+    if (made < 0)
+        return;
+    sendto(made, text, strlen(text), MSG_NOSIGNAL | MSG_DONTWAIT, (const struct sockaddr *)&address,
+           (socklen_t)(offsetof(struct sockaddr_un, sun_path) + len));
+    close(made);
+}
+
+uint64_t watchdog_time(void) {
+    const char *microseconds = getenv("WATCHDOG_USEC"), *pid = getenv("WATCHDOG_PID");
+    if (microseconds == NULL || (pid != NULL && strtol(pid, NULL, 10) != (long)getpid()))
+        return 0;
+    return strtoull(microseconds, NULL, 10) / 1000;
+}

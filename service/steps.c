@@ -1,0 +1,174 @@
+/* The steps of a session: declare, enq, cvt, deq, set and end. A process of the manager may have more status blocks
+ * than its session declared, and a greater quota; here the declared ones count. */
+#include "parts.h"
+
+#include <stdlib.h>
+#include <string.h>
+
+enum { FIRST_NAMES = 4, LOCK_WORD = 3, PROCESS_WORD = 2 };
+
+struct binding *find_binding(struct session *session, const uint8_t *name) {
+    for (uint32_t at = 0; at < session->binding_count; at++)
+        if (memcmp(session->bindings[at].name, name, NAME) == 0)
+            return &session->bindings[at];
+    return NULL;
+}
+
+/* Prints and sends the answer to a step. */
+static void answer_step(struct client *client, const vlm_line *line, uint32_t status, uint32_t number) {
+    struct dispatcher *dispatcher = client->dispatcher;
+    vlm_text *text = &dispatcher->text;
+    vlm_print_answer(line, status, number, text);
+    if (number != 0 && dispatcher->epoch != 0)
+        replace_word(text, LOCK_WORD, handle_of(dispatcher, number));
+    dispatcher->counts.refused += status != VLM_NORMAL && status != VLM_SYNCH;
+    answer(client, text->bytes, text->len);
+}
+
+/* Makes room for one name more. */
+static bool grow(struct session *session) {
+    if (session->binding_count < session->binding_room)
+        return true;
+    uint32_t room = session->binding_room != 0 ? 2 * session->binding_room : FIRST_NAMES;
+    struct binding *bindings = realloc(session->bindings, room * sizeof *bindings);
+    if (bindings == NULL)
+        return false;
+    session->bindings = bindings;
+    session->binding_room = room;
+    return true;
+}
+
+static void declare(struct client *client, const vlm_line *line) {
+    struct session *session = client->session;
+    const struct limits *limits = &client->dispatcher->limits;
+    if (session->user->processes >= limits->processes) {
+        answer_text(client, "too many processes\n");
+        return;
+    }
+    if (session->binding_count >= limits->names) {
+        answer_text(client, "too many names\n");
+        return;
+    }
+    struct process *process = grow(session) ? take_process(session, line) : NULL;
+    if (process == NULL) {
+        answer_step(client, line, VLM_INSFMEM, 0);
+        return;
+    }
+    struct binding *binding = &session->bindings[session->binding_count++];
+    memcpy(binding->name, line->name, NAME);
+    binding->process = process;
+    vlm_text text = {.size = sizeof text};
+    vlm_print_answer(line, VLM_NORMAL, process->pid, &text);
+    replace_word(&text, PROCESS_WORD, process->number);
+    answer(client, text.bytes, text.len);
+}
+
+/* A status block as the manager is to see it: one above the declared ones is block 0, which does not exist. */
+static uint32_t declared_block(const struct process *process, uint32_t block) {
+    return block <= process->blocks ? block : 0;
+}
+
+/* A lock that is named by a status block. A block that no request has named since the process was given to its session
+ * has no lock; one that was named in an earlier lock manager has a lock that is gone. */
+static void resolve_lock(const struct process *process, uint32_t *lock, uint32_t *kind) {
+    if (*kind != VLM_BY_BLOCK)
+        return;
+    *lock = declared_block(process, *lock);
+    if (*lock == 0 || has_bit(process->named, *lock))
+        return;
+    *lock = process->old != NULL && process->old[*lock].handle != 0 ? NO_LOCK : 0;
+    *kind = VLM_BY_ID;
+}
+
+/* The text of the service's own for a request that it does not make, or null. */
+static const char *own_refusal(const struct client *client, const vlm_line *line) {
+    if (client->user->waiting >= client->dispatcher->limits.waiting)
+        return "too many waiting requests\n";
+    if (line->kind == VLM_LINE_ENQ && !has_identifications(client->dispatcher))
+        return "no identifications left\n";
+    return NULL;
+}
+
+static bool is_over_quota(const struct process *process) {
+    const struct session *session = process->session;
+    return process->locks >= process->quota || session->user->locks >= session->dispatcher->limits.locks;
+}
+
+/* Asks for a new lock or converts one. */
+static void ask(struct client *client, const vlm_line *line, struct process *process) {
+    struct dispatcher *dispatcher = client->dispatcher;
+    const char *refusal = own_refusal(client, line);
+    if (refusal != NULL) {
+        dispatcher->counts.refused++;
+        answer_text(client, refusal);
+        return;
+    }
+    vlm_request request = line->request;
+    bool is_new = line->kind == VLM_LINE_ENQ;
+    uint32_t lkid = 0, status = is_new && is_over_quota(process) ? VLM_EXENQLM : VLM_INSFMEM;
+    request.pid = process->pid;
+    request.block = declared_block(process, request.block);
+    resolve_lock(process, &request.lock, &request.lock_kind);
+    uint32_t place = status == VLM_INSFMEM ? new_request(process, &request) : NOBODY;
+    if (place != NOBODY && is_new)
+        status = vlm_enq(&dispatcher->manager, &request, line->resource, line->resource_len, &lkid);
+    else if (place != NOBODY)
+        status = vlm_convert(&dispatcher->manager, &request, &lkid);
+    if (status == VLM_NORMAL || status == VLM_SYNCH)
+        accept_request(dispatcher, place, lkid);
+    if (place != NOBODY && status != VLM_NORMAL)
+        drop_request(dispatcher, place);
+    answer_step(client, line, status, lkid);
+    tell(dispatcher);
+    if (status == VLM_NORMAL && !wait_if_queued(dispatcher, place, lkid))
+        return;
+    /* (a completion has counted them) */
+    if (status == VLM_NORMAL || status == VLM_SYNCH)
+        count_locks(process);
+}
+
+static void give_up(struct client *client, const vlm_line *line, struct process *process) {
+    vlm_dequeue dequeue = line->dequeue;
+    dequeue.pid = process->pid;
+    resolve_lock(process, &dequeue.lock, &dequeue.lock_kind);
+    answer_step(client, line, vlm_deq(&client->dispatcher->manager, &dequeue), 0);
+    tell(client->dispatcher);
+    count_locks(process);
+}
+
+static void set_value(struct client *client, const vlm_line *line, struct process *process) {
+    vlm_setting setting = line->setting;
+    setting.pid = process->pid;
+    setting.block = declared_block(process, setting.block);
+    uint32_t status = vlm_set_value(&client->dispatcher->manager, &setting);
+    if (status == VLM_NORMAL)
+        set_bit(process->set, setting.block);
+    answer_step(client, line, status, 0);
+}
+
+static void end(struct client *client, const vlm_line *line, struct binding *binding) {
+    struct process *process = binding->process;
+    binding->process = NULL;
+    answer_step(client, line, VLM_NORMAL, 0);
+    release_process(process);
+}
+
+/* Makes a step of the client's session. The name of the line is bound, except that of a declaration. */
+void run_step(struct client *client, const vlm_line *line) {
+    client->dispatcher->counts.steps++;
+    if (line->kind == VLM_LINE_DECLARE) {
+        declare(client, line);
+        return;
+    }
+    struct binding *binding = find_binding(client->session, line->name);
+    if (binding->process == NULL)
+        answer_step(client, line, VLM_NONEXPR, 0);
+    else if (line->kind == VLM_LINE_ENQ || line->kind == VLM_LINE_CVT)
+        ask(client, line, binding->process);
+    else if (line->kind == VLM_LINE_DEQ)
+        give_up(client, line, binding->process);
+    else if (line->kind == VLM_LINE_SET)
+        set_value(client, line, binding->process);
+    else
+        end(client, line, binding);
+}

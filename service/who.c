@@ -1,0 +1,133 @@
+/* What an administrator asks: who has which lock, and counters. */
+#include "parts.h"
+
+#include <inttypes.h>
+#include <stdio.h>
+#include <string.h>
+
+enum { NAME_TEXT = 72, QUEUES = 3, MOST_PASSED = 1000000 };
+
+/* A walk over the locks. */
+struct walk {
+    struct client *client;
+    const vlm_resource *resource;
+    char name[NAME_TEXT]; /* of the resource, as `show` prints it */
+    uint64_t rows;        /* of the resource, so far */
+    uint64_t passed;      /* locks that searches for blockers may have passed over */
+};
+
+static const char *mode_name(uint32_t mode) {
+    static const char *const names[] = {"NL", "CR", "CW", "PR", "PW", "EX"};
+    return mode <= VLM_EX ? names[mode] : "-";
+}
+
+/* The name of a resource, from the line that `show` has of it. */
+static void take_name(struct walk *walk) {
+    vlm_text text = {.size = sizeof text};
+    vlm_print_resource(&walk->client->dispatcher->manager, walk->resource, &text);
+    struct word words[8];
+    size_t place = walk->resource->is_system != 0 ? 6 : 7;
+    if (split((const char *)text.bytes, text.len, words, 8) > place && words[place].len < NAME_TEXT)
+        snprintf(walk->name, sizeof walk->name, "%.*s", (int)words[place].len, words[place].bytes);
+}
+
+/* The session that a queued request waits for first. A search passes over the locks of the resource, so a walk with
+ * very many of them tells no more blockers. */
+static void tell_blocker(struct walk *walk, const vlm_lock *lock) {
+    struct dispatcher *dispatcher = walk->client->dispatcher;
+    vlm_lock blocker = {.size = sizeof blocker};
+    walk->passed += walk->rows;
+    if (lock->queue == VLM_GRANTED)
+        put_text(walk->client, " -\n");
+    else if (walk->passed > MOST_PASSED || vlm_first_blocker(&dispatcher->manager, lock->lkid, &blocker) != VLM_NORMAL
+             || blocker.lkid == 0)
+        put_text(walk->client, " ?\n");
+    else
+        put_format(walk->client, " %016" PRIx64 "\n", process_of(dispatcher, blocker.pid)->session->name);
+}
+
+static void tell_lock(struct walk *walk, const vlm_lock *lock) {
+    static const char *const queues[] = {"granted", "converting", "waiting"};
+    struct dispatcher *dispatcher = walk->client->dispatcher;
+    const struct process *process = process_of(dispatcher, lock->pid);
+    const struct session *session = process->session;
+    const vlm_resource *resource = walk->resource;
+    char domain[16] = "system";
+    if (resource->is_system == 0)
+        snprintf(domain, sizeof domain, "%" PRIu32, resource->group);
+    put_format(walk->client, "%s %" PRIu32 " %" PRIu32 " %s %s %s %s", walk->name, resource->serial, resource->parent,
+               domain, mode_name(lock->held), mode_name(lock->want), queues[lock->queue]);
+    put_format(walk->client, " %" PRIu64 " %016" PRIx64 " %" PRIu32 " %" PRIu32 " %s %" PRIu64,
+               handle_of(dispatcher, lock->lkid), session->name, session->rights.pid, session->rights.uid,
+               session->label[0] != 0 ? session->label : "-", (dispatcher->now - process->since[lock->block]) / 1000);
+    tell_blocker(walk, lock);
+}
+
+static void tell_resource(struct walk *walk) {
+    vlm *manager = &walk->client->dispatcher->manager;
+    walk->rows = 0;
+    for (uint32_t queue = 0; queue < QUEUES; queue++) {
+        vlm_lock lock = {.size = sizeof lock};
+        uint32_t status = vlm_first_row(manager, walk->resource, queue, &lock);
+        for (; status == VLM_NORMAL && lock.lkid != 0; status = vlm_next_row(manager, lock.lkid, &lock)) {
+            walk->rows++;
+            tell_lock(walk, &lock);
+        }
+    }
+}
+
+/* `who [NAME]`: a line for each lock that the client may see, of all resources or of those with a name, and a blank
+ * line. The cost grows with all locks. */
+void who(struct client *client, const struct word *words, size_t count) {
+    struct dispatcher *dispatcher = client->dispatcher;
+    if (count > 2) {
+        answer_text(client, "wrong word\n");
+        return;
+    }
+    if (vlm_lock_count(&dispatcher->manager) > dispatcher->limits.shown) {
+        answer_text(client, "too many locks\n\n");
+        return;
+    }
+    vlm_resource resource = {.size = sizeof resource};
+    struct walk walk = {.client = client, .resource = &resource};
+    begin_answer(client);
+    uint32_t status = vlm_next_resource(&dispatcher->manager, &resource);
+    for (; status == VLM_NORMAL && resource.serial != 0; status = vlm_next_resource(&dispatcher->manager, &resource)) {
+        bool is_seen = client->rights.is_admin || resource.is_system != 0 || resource.group == client->rights.group;
+        take_name(&walk);
+        if (is_seen && (count == 1 || is_word(words[1], walk.name)))
+            tell_resource(&walk);
+    }
+    put_text(client, "\n");
+}
+
+/* `metrics`: counters in the text format of Prometheus, and a blank line. */
+void metrics(struct client *client) {
+    struct dispatcher *dispatcher = client->dispatcher;
+    const struct counts *counts = &dispatcher->counts;
+    const struct {
+        const char *name, *kind;
+        uint64_t value;
+    } rows[] = {{"connections", "gauge", dispatcher->connections},
+                {"sessions", "gauge", dispatcher->session_count},
+                {"processes_made", "gauge", dispatcher->process_count},
+                {"resources", "gauge", vlm_resource_count(&dispatcher->manager)},
+                {"locks", "gauge", vlm_lock_count(&dispatcher->manager)},
+                {"waiting_requests", "gauge", dispatcher->waiting_count},
+                {"identifications_used", "gauge", dispatcher->last_lkid},
+                {"epoch", "gauge", dispatcher->epoch},
+                {"sessions_total", "counter", counts->sessions},
+                {"steps_total", "counter", counts->steps},
+                {"refused_steps_total", "counter", counts->refused},
+                {"asts_total", "counter", counts->asts},
+                {"deadlock_searches_total", "counter", counts->searches},
+                {"deadlock_victims_total", "counter", counts->victims},
+                {"clients_cut_off_total", "counter", counts->cut_off},
+                {"clients_lost_total", "counter", counts->lost},
+                {"manager_changes_total", "counter", counts->changes}};
+    begin_answer(client);
+    for (size_t at = 0; at < sizeof rows / sizeof *rows; at++)
+        put_format(client, "# TYPE vlmd_%s %s\nvlmd_%s %" PRIu64 "\n", rows[at].name, rows[at].kind, rows[at].name,
+                   rows[at].value);
+    put_text(client, "\n");
+}

@@ -1,0 +1,626 @@
+"""The lock service of the folder service: vlmd over its socket, by lines, by faults of its clients and its own, at its
+limits, and at the end of its identifications. The dispatcher alone gets mutated lines under sanitizers. Most tests run
+a daemon that is compiled with sanitizers. Without the header of libuv all are left out."""
+
+import os
+import random
+import re
+import resource
+import shutil
+import signal
+import subprocess
+import sys
+import time
+from functools import partial
+from pathlib import Path
+
+import library
+import service_commands
+from daemons import NOBODY, PLAIN, SOURCES, Daemon
+from harness import PLAY, ROOM, TOP, Test, difference
+
+HERE = Path(__file__).resolve().parent / "service"
+# The files of the dispatcher, without the daemon around it.
+DAEMON = ("vlmd.c", "config.c", "start.c")
+DISPATCHER = [it for it in SOURCES if it.name not in DAEMON]
+# How long the mutated lines run.
+MUTATED_SECONDS = 8
+ZEROS = 32 * "0"
+
+
+def missing():
+    """What is not there that these tests need."""
+    return ["uv.h of libuv1-dev"] * (not library.has_uv()) + ["cc"] * (not shutil.which("cc"))
+
+
+# Worked scripts over the socket.
+
+def reason_to_skip(script):
+    """Why a client can't send a script, or None."""
+    text = script.read_text()
+    if re.search(r"^(leave|search)\b", text, re.M):
+        return "a client may not send leave or search"
+    declared = re.findall(r"^declare .*", text, re.M)
+    if len({re.search(r"group=\d+|$", it)[0] for it in declared}) > 1:
+        return "all processes of a connection have one group"
+    if len({"syslck" in it for it in declared}) > 1:
+        return "all processes of a connection have one privilege"
+    if "NONEXPR" in script.with_suffix(".stdout").read_text() and re.search(r"node=[09]", text):
+        return "a client names no node"
+    if re.search(r"^declare .*node=(0|9|10)\b", text, re.M):
+        return "a client names no node"
+    if script.name == "first-of-two-refusals":
+        return "the service looks at the quota first"
+    if "NOSYSLCK" in script.with_suffix(".stdout").read_text() and os.getuid() != 0:
+        return "another user's connection takes root"
+    return None
+
+
+def playable():
+    return [it.with_suffix("") for it in sorted(PLAY.glob("*.stdout")) if reason_to_skip(it.with_suffix("")) is None]
+
+
+class Player:
+    """Plays a script over a connection, against what `vlm play` prints for it."""
+
+    def __init__(self, client, printed):
+        self.client, self.printed = client, printed
+        self.numbers, self.nodes, self.asts = {}, {}, {}
+
+    def declared(self, line):
+        """A `declare` line as a client sends it. Notes the process that `vlm play` makes, by its number here."""
+        node = int(re.search(r"node=(\d+)", line)[1])
+        self.nodes[node] = self.nodes.get(node, 0) + 1
+        self.numbers[str(65536 * node + self.nodes[node])] = str(65536 + sum(self.nodes.values()))
+        return re.sub(r" (node=\d+|group=\d+|syslck\b)", "", line)
+
+    def wanted(self, line):
+        """A printed line with the process numbers of the service."""
+        return re.sub(r"(process )(\d+)", lambda it: it[1] + self.numbers[it[2]], line)
+
+    def answer(self):
+        """The next line that is no AST. An AST is kept, and its block line, which ends it, left out."""
+        while True:
+            line = self.client.line()
+            ast = re.match(r"(\w+): (completion|blocking) ", line)
+            if not ast:
+                return line
+            self.asts.setdefault(ast[1], []).append(line)
+            if ast[2] == "completion":
+                self.client.line()
+
+    def play(self, line):
+        """What is wrong with the answer to a line."""
+        words = line.split()
+        if not words or words[0].startswith("#"):
+            self.client.send(line)
+        elif words[0] == "ast":
+            # (all ASTs of the steps before have come once this is answered)
+            self.client.send("alive")
+            self.answer()
+            taken = self.asts.get(words[1], [])
+            yield from difference(taken.pop(0) if taken else f"{words[1]}: none", next(self.printed))
+        elif words[0] in ("show", "tails"):
+            self.client.send(line)
+            while found := self.answer():
+                yield from difference(found, self.wanted(next(self.printed)))
+        else:
+            self.client.send(self.declared(line) if words[0] == "declare" else line)
+            yield from difference(self.answer(), self.wanted(next(self.printed)))
+
+
+def worked(script, _program):
+    """What is wrong with a worked script over the socket."""
+    printed = iter(script.with_suffix(".stdout").read_text().splitlines())
+    other = NOBODY if "NOSYSLCK" in script.with_suffix(".stdout").read_text() else None
+    with Daemon("group root 1", f"group {NOBODY} 1") as daemon, daemon.client(other) as client:
+        client.ask("open")
+        player = Player(client, printed)
+        for number, line in enumerate(script.read_bytes().decode("latin-1").splitlines(), 1):
+            yield from (f"line {number}, {line}: {it}" for it in player.play(line))
+    if rest := list(printed):
+        yield f"not printed: {rest}"
+
+
+def enough_worked(_program):
+    """Most worked scripts are playable."""
+    if len(playable()) < 45:
+        yield f"only {len(playable())} worked scripts are played"
+
+
+def random_script(seed):
+    """A script of random lines of three processes on few names, and what the library's player prints for it."""
+    pick = random.Random(seed)
+    lines = [f"declare {name} node=1 group=1 quota=20 blocks=9" for name in "PQR"]
+    for number in range(300):
+        name, block = pick.choice("PQR"), pick.randint(1, 9)
+        flags = " ".join(pick.sample(["valblk", "noqueue", "syncsts", "wide", "ast=1", "bast=2", "param=3"], 3))
+        lines.append(pick.choice([
+            f"enq {name} {pick.choice(MODES)} name={pick.choice('AB')} block={block} {flags}",
+            f"enq {name} {pick.choice(MODES)} name=S parent=@{pick.randint(1, 9)} block={block} {flags}",
+            f"cvt {name} @{pick.randint(1, 9)} {pick.choice(MODES)} block={block} {flags}",
+            f"cvt {name} {pick.randint(1, 60)} {pick.choice(MODES)} block={block} {flags}",
+            f"deq {name} @{pick.randint(1, 9)} {pick.choice(['', 'cancel', 'deqall', 'invvalblk'])}",
+            f"deq {name} {pick.randint(1, 60)} value={number:032x}",
+            f"set {name} block={block} value={number:032x}", f"block {name} {block}", f"tail {name} {block}",
+            f"ast {name}", "show", "tails"]))
+    return "".join(f"{it}\n" for it in [*lines, *(f"ast {name}" for name in "PQR" for _ in range(300))])
+
+
+MODES = ("NL", "CR", "CW", "PR", "PW", "EX")
+
+
+def random_lines(_program):
+    """What is wrong with random scripts over the socket: they print what the library's player prints."""
+    player = Path(ROOM().name) / "player of random scripts"
+    wrong = list(library.ran("cc", "-std=gnu11", "-O2", f"-I{library.prefix()}/include", library.PLAYER,
+                             library.prefix() / "lib" / "libvlm.a", "-pthread", "-o", player))
+    yield from wrong
+    for seed in range(0 if wrong else 12):
+        script = random_script(seed)
+        printed = subprocess.run([player], input=script, capture_output=True, text=True, check=True).stdout
+        with Daemon("search 100000000") as daemon, daemon.client() as client:
+            client.ask("open")
+            playing = Player(client, iter(printed.splitlines()))
+            for line in script.splitlines():
+                yield from (f"seed {seed}, {line}: {it}" for it in playing.play(line))
+
+
+# What each line answers.
+
+TALKS = {
+    "no session": [("enq P EX name=A block=1", "no session"), ("alive", "no session"), ("close", "no session")],
+    "sessions": [("open seconds=601", "number out of range"), ("open hours=1", "wrong word"),
+                 ("open command=a\tb", "wrong word"), ("open", "session 0000000200000001 seconds 0 number 0 asts 0"),
+                 ("open", "session open"), ("alive", "alive"), ("declare P", "P: process 65537"),
+                 ("close", "closed"), ("block P 1", "no session"),
+                 ("open", "session 0000000300000001 seconds 0 number 0 asts 0"), ("block P 1", "unknown name")],
+    "what a client may not send": [
+        ("open", ...), ("leave node=1", "unknown command"), ("search node=1", "unknown command"),
+        ("declare P node=1", "wrong word"), ("declare P group=1", "wrong word"), ("declare P syslck", "wrong word"),
+        ("declare P quota=9 blocks=4 node=1 group=1", "wrong word"), ("block P 1", "unknown name"),
+        ("declare P", ...), ("ast P", "unknown command"), ("frob", "unknown command"), ("alive now", "wrong word"),
+        ("declare P", "name used"), ("declare Q quota=65536", "number out of range"), ("kill", "wrong word"),
+        ("declare Q blocks", "wrong word"), ("declare 1", "wrong word"), ("kill 0000000000000000", "no such session")],
+    "numbers": [("open", ...), ("1 declare P", "1 P: process 65537"), ("1 declare P", "1 P: process 65537"),
+                ("2 enq P EX name=A block=1", "2 P: NORMAL lock 1"),
+                ("2 enq P EX name=A block=1", "2 P: NORMAL lock 1"),
+                ("1 declare P", "1 old number"), ("2 block P 1", "2 P: block 1 status 1 lock 1 value " + ZEROS),
+                ("3 frob", "3 unknown command"), ("3 deq P @1", "3 P: NORMAL"), ("deq P @1", "P: IVLOCKID"),
+                ("4 deq P @1", "4 old number"), ("9 deq P @1", "9 P: IVLOCKID")],
+    "an ended process": [("open", ...), ("declare P", ...), ("end P", "P: NORMAL"), ("end P", "P: NONEXPR"),
+                         ("enq P EX name=A block=1", "P: NONEXPR"), ("block P 1", "P: block 1 none"),
+                         ("tail P 1", "P: tail 1 none"), ("declare P", "name used")],
+    "declared blocks": [("open", ...), ("declare P blocks=2 quota=1", ...), ("enq P EX name=A block=3", "P: ACCVIO"),
+                        ("set P block=3 value=" + ZEROS, "P: ACCVIO"), ("block P 3", "P: block 3 none"),
+                        ("deq P @3", "P: ACCVIO"), ("enq P EX name=A block=2", "P: NORMAL lock 1"),
+                        ("enq P EX name=B block=2", "P: EXENQLM"), ("cvt P @2 NL block=1", "P: NORMAL lock 1")],
+    "handles": [("open", ...), ("declare P", ...), ("enq P EX name=A block=1", "P: NORMAL lock 1"),
+                ("deq P 4294967297", "P: IVLOCKID"), ("deq P 18446744073709551615", "P: IVLOCKID"),
+                ("deq P 18446744073709551616", "number out of range"), ("cvt P 4294967297 NL block=1", "P: IVLOCKID"),
+                ("enq P EX name=B block=2 parent=4294967297", "P: IVLOCKID"),
+                ("enq P EX name=B block=2 parent=1", "P: NORMAL lock 2"), ("deq P 1", "P: SUBLOCKS")],
+    "lengths": [("open", ...), ("declare P", ...), ("#" + 254 * "x" + "\nalive", "alive"),
+                ("#" + 255 * "x", "too long"), ("7 #" + 255 * "x", "7 too long"), (300000 * "x", "too long"),
+                ("alive", "alive")],
+}
+
+
+def talk(name, _program):
+    """What is wrong with the answers to some lines."""
+    with Daemon() as daemon, daemon.client() as client:
+        yield from difference(client.greeting, "vlm protocol 1 epoch 0")
+        with daemon.client() as other:
+            other.ask("open")
+            for line, wanted in TALKS[name]:
+                found = client.ask(line)
+                if wanted is not ... and found != wanted:
+                    yield f"{line[:60]}: {found} and not {wanted}"
+        client.send("# no answer", "", "alive")
+        yield from difference(client.line() in ("alive", "no session"), True)
+
+
+def shown_talk(_program):
+    """What is wrong with the first session that docs/SERVICE.md shows."""
+    page = (TOP / "docs" / "SERVICE.md").read_text()
+    lines = re.search(r"^```text\n(vlm protocol.*?)^```", page, re.M | re.S)[1].splitlines()
+    with Daemon() as daemon, daemon.client() as client:
+        yield from difference(client.greeting, lines[0])
+        for line in lines[1:]:
+            if line.startswith("> "):
+                client.send(line[2:])
+            else:
+                yield from difference(client.line(), line)
+
+
+def half_lines(_program):
+    """What is wrong with lines that come byte by byte, many at once, or not whole."""
+    lines = "open\ndeclare P\nenq P EX name=A block=1 ast=1\ndeq P @1\n"
+    with Daemon() as daemon, daemon.client() as client, daemon.client() as whole:
+        for byte in lines.encode():
+            client.socket.sendall(bytes([byte]))
+        whole.socket.sendall((lines + 500 * "alive\n" + "half").encode())
+        whole.socket.shutdown(1)
+        found = [client.line() for _ in range(6)]
+        yield from difference([it.split(" lock ")[0] for it in found[1:3]], ["P: process 65537", "P: NORMAL"])
+        told = []
+        while (line := whole.line()) is not None:
+            told.append(line)
+        yield from difference((len(told), told[-1]), (506, "alive"))
+
+
+# Faults of clients.
+
+HOLD = """import socket, sys, time
+made = socket.socket(socket.AF_UNIX)
+made.connect(sys.argv[1])
+made.sendall(b"open\\ndeclare P\\nenq P EX name=A block=1 valblk\\n")
+while b"lock" not in made.recv(1000): pass
+print("here", flush=True)
+time.sleep(60)
+"""
+
+
+def holder(daemon):
+    """A process that holds EX on A, or waits for it."""
+    made = subprocess.Popen([sys.executable, "-c", HOLD, daemon.socket], stdout=subprocess.PIPE)
+    made.stdout.readline()
+    return made
+
+
+def killed(_program):
+    """What is wrong when a holder, a waiter and a stopped holder are killed: the next request is granted, and the value
+    block is invalid."""
+    with Daemon() as daemon, daemon.client().begin("Q") as client:
+        first, second, third = holder(daemon), holder(daemon), holder(daemon)
+        client.ask("enq Q EX name=A block=1 valblk ast=7")
+        second.kill()
+        second.wait()
+        third.send_signal(signal.SIGSTOP)
+        first.kill()
+        first.wait()
+        if not client.is_quiet():
+            yield "the stopped waiter was passed over"
+        third.kill()
+        third.wait()
+        line = client.line()
+        if not re.fullmatch(r"Q: completion 7 param 0 lock \d+", line):
+            yield line
+        yield from difference(client.line().split(" lock ")[0], "Q: block 1 status 7")
+        yield from difference(daemon.metric("sessions"), 1)
+
+
+def deaf(_program):
+    """What is wrong with a client that asks and does not read: it is heard no more, others notice nothing, and once it
+    reads it gets all answers."""
+    with Daemon() as daemon, daemon.client().begin("P") as asker, daemon.client() as other:
+        asker.socket.setblocking(False)
+        sent = 0
+        try:
+            while sent < 50 << 20:
+                sent += asker.socket.send(b"block P 1\n" * 1000)
+        except BlockingIOError:
+            pass
+        if sent >= 50 << 20:
+            yield "a client that reads no answer is heard for ever"
+        yield from difference(other.ask("alive"), "no session")
+        asker.socket.setblocking(True)
+        asker.socket.shutdown(1)
+        answers = 0
+        while asker.line() is not None:
+            answers += 1
+        yield from difference(answers, sent // 10)
+
+
+def cut_off(_program):
+    """What is wrong with a client that is told very much and does not read: it is cut off, and its locks go."""
+    names, name = range(24000), 15 * "P"
+    settings = ("locks 70000", "waiting 70000", "search 1000000")
+    with Daemon(*settings) as daemon, daemon.client().begin("Q quota=65535") as other:
+        told = daemon.client().begin(f"{name} quota=65535 blocks=1")
+        for it in names:
+            told.send(f"enq {name} PR name=N{it} block=1 bast=4000000000 param=4000000000")
+            told.line()
+        for it in names:
+            other.send(f"enq Q EX name=N{it} block=1")
+            other.line()
+        yield from difference(daemon.metric("clients_cut_off_total"), 1)
+        yield from difference((daemon.metric("sessions"), daemon.metric("waiting_requests")), (1, 0))
+
+
+# Limits.
+
+def limits(_program):
+    """What is wrong at the edges of the limits of a user."""
+    with Daemon("connections 4", "processes 3", "locks 3", "waiting 1", "names 4") as daemon:
+        with daemon.client().begin("P", "Q") as one, daemon.client().begin("P") as other:
+            yield from difference(one.ask("declare R"), "too many processes")
+            for name in "ABC":
+                one.ask(f"enq P EX name={name} block=1")
+            yield from difference(one.ask("enq P EX name=D block=1"), "P: EXENQLM")
+            one.ask("deq P 3")
+            yield from difference(other.ask("enq P EX name=A block=1").split(" lock")[0], "P: NORMAL")
+            yield from difference(one.ask("deq P 2"), "P: NORMAL")
+            yield from difference(one.ask("enq Q EX name=A block=1"), "too many waiting requests")
+            other.ask("end P")
+            yield from difference(one.ask("enq Q EX name=A block=1").split(" lock")[0], "Q: NORMAL")
+            for name in "RS":
+                yield from difference(one.ask(f"declare {name}").startswith(f"{name}: process") or name == "S", True)
+            one.ask("end R")
+            yield from difference(one.ask("declare S").split(" ")[0], "S:")
+            one.ask("end S")
+            yield from difference(one.ask("declare T"), "too many names")
+            with daemon.client(), daemon.client(), daemon.client() as fifth:
+                yield from difference((fifth.line(), fifth.line()), ("too many connections", None))
+
+
+def shown(_program):
+    """Show, tails and who print no more than the limit, and who tells what is there."""
+    with Daemon("shown 2") as daemon, daemon.client().begin("P") as client, daemon.client().begin("Q") as other:
+        client.ask("enq P PR name=A block=1")
+        other.ask("enq Q EX name=A block=1")
+        rows = client.ask_all("who A")
+        wanted = r"A 1 0 1 PR - granted 1 \w{16} \d+ \d+ - \d+ -\nA 1 0 1 - EX waiting 2 \w{16} \d+ \d+ - \d+ (\w{16})"
+        found = re.fullmatch(wanted, "\n".join(rows))
+        yield from difference(bool(found) and found[1] == rows[0].split()[8], True)
+        yield from difference(client.ask_all("who B"), [])
+        client.ask("enq P PR name=B block=2")
+        for line in ("who", "show", "tails"):
+            yield from difference(client.ask_all(line), ["too many locks"])
+
+
+def other_users(_program):
+    """Another user has another group by the table, sees no locks of others, kills nobody, and without a row in the
+    table is not let in."""
+    with Daemon(f"group {NOBODY} 2", "group root 1") as daemon, daemon.client().begin("P") as client:
+        with daemon.client(NOBODY) as other:
+            other.begin("P")
+            client.ask("enq P EX name=A block=1")
+            yield from difference(other.ask("enq P EX name=A block=1"), "P: NORMAL lock 2")
+            yield from difference(other.ask("enq P EX name=A block=1 system"), "P: NOSYSLCK")
+            yield from difference(client.ask("enq P EX name=A block=2 system"), "P: NORMAL lock 3")
+            yield from difference([it.split()[:4] for it in other.ask_all("who")],
+                                  [["A", "2", "0", "2"], ["A", "3", "0", "system"]])
+            yield from difference(len(client.ask_all("who")), 3)
+            yield from difference(other.ask("kill 0000000200000000"), "not allowed")
+            name = other.ask_all("who A")[0].split()[8]
+            yield from difference((client.ask(f"kill {name}"), other.line(), other.line()),
+                                  ("killed", "session killed", None))
+    with Daemon("group root 1") as daemon:
+        yield from difference(daemon.client(NOBODY).greeting, "no group")
+
+
+def resumed(_program):
+    """A session with seconds goes on after its connection, hears the ASTs that it missed, and ends in time."""
+    with Daemon() as daemon, daemon.client() as client, daemon.client().begin("Q") as other:
+        name = client.ask("open seconds=1").split()[1]
+        for line in ("1 declare P", "2 enq P EX name=A block=1 bast=5"):
+            client.ask(line)
+        client.close()
+        other.ask("enq Q EX name=A block=1 ast=1")
+        with daemon.client() as again:
+            again.send(f"resume {name} asts=0", "2 enq P EX name=A block=1 bast=5", "3 deq P @1")
+            found = [again.line() for _ in range(4)]
+            yield from difference(found, [f"session {name} seconds 1 number 2 asts 1",
+                                          "P: blocking 5 param 0 lock 1", "2 P: NORMAL lock 1", "3 P: NORMAL"])
+            yield from difference(other.line(), "Q: completion 1 param 0 lock 2")
+            with daemon.client() as third:
+                third.ask(f"resume {name}")
+                yield from difference((again.line(), again.line()), ("session moved", None))
+        time.sleep(2.2)
+        with daemon.client() as late:
+            yield from difference((late.ask(f"resume {name}"), late.line()), ("session ended", None))
+
+
+def hidden(_program):
+    """A process that another session had shows nothing of it."""
+    with Daemon() as daemon:
+        with daemon.client().begin("P") as client:
+            client.ask(f"set P block=2 value={'ab' * 16} tail={'cd' * 48}")
+            client.ask("enq P EX name=A block=1 valblk")
+            client.ask("close")
+        with daemon.client().begin("Q") as client:
+            for block in (1, 2):
+                yield from difference(client.ask(f"block Q {block}"), f"Q: block {block} status 0 lock 0 value {ZEROS}")
+                yield from difference(client.ask(f"tail Q {block}"), f"Q: tail {block} {96 * '0'}")
+            yield from difference(client.ask("enq Q EX name=B block=2 parent=@1"), "Q: NORMAL lock 2")
+            yield from difference(client.ask("deq Q @1 deqall"), "Q: NORMAL")
+        yield from difference(daemon.metric("processes_made"), 1)
+
+
+# Faults of the daemon.
+
+def restarted(_program):
+    """A daemon that is killed: clients see the end, and the next one grants nothing for the grace time. One that ends
+    in order without locks has none; with locks it tells its clients."""
+    with Daemon("grace 1500") as first:
+        held = first.client().begin("P")
+        held.ask("enq P EX name=A block=1")
+        first.kill()
+        yield from difference(held.line(), None)
+        with Daemon("grace 1500", folder=first.folder) as second:
+            began = time.monotonic()
+            client = second.client().begin("P")
+            yield from difference(client.greeting, "vlm protocol 1 epoch 1")
+            answer = client.ask("enq P EX name=A block=1")
+            if time.monotonic() - began < 1 or answer != "P: NORMAL lock 4294967297":
+                yield f"{answer} after {time.monotonic() - began:.2f} seconds"
+            yield from difference(client.ask("block P 1"), f"P: block 1 status 1 lock 4294967297 value {ZEROS}")
+            second.run.send_signal(signal.SIGTERM)
+            yield from difference((client.line(), client.line(), second.run.wait(20)), ("lost", None, 0))
+        with Daemon("grace 1500", folder=first.folder) as third:
+            client = third.client().begin("P")
+            began = time.monotonic()
+            client.ask("enq P EX name=A block=1")
+            client.ask("deq P @1")
+            if time.monotonic() - began < 0.8:
+                yield "no grace time after an end with locks"
+        with Daemon("grace 60000", folder=first.folder) as fourth:
+            answer = fourth.client().begin("P").ask("enq P EX name=A block=1")
+            yield from difference(answer.split(" lock")[0], "P: NORMAL")
+
+
+def one_daemon(_program):
+    """A second daemon on the socket does not start."""
+    with Daemon() as daemon:
+        ended = subprocess.run([PLAIN(), "-s", daemon.socket], capture_output=True, text=True, timeout=20)
+        yield from difference((ended.returncode, "belongs to another daemon" in ended.stderr), (4, True))
+        yield from difference(daemon.client().ask("alive"), "no session")
+
+
+def configured(_program):
+    """Wrong words and configurations are refused, SIGHUP reads the configuration again, and a full disk for the log
+    holds up nobody."""
+    for words, status in ((["-x"], 2), (["-c", "/nowhere"], 2), (["here"], 2), (["-s", "/nowhere/socket"], 4)):
+        ended = subprocess.run([PLAIN(), *words], capture_output=True, text=True, timeout=20)
+        yield from difference((words, ended.returncode), (words, status))
+    with Daemon("lines 5", log="/dev/full") as daemon, daemon.client().begin("P") as client:
+        for setting, is_taken in (("locks 1", True), ("locks 0x", False), ("lines 0", False), ("frob 1", False)):
+            daemon.config.write_text(f"mode 666\n{setting}\n")
+            daemon.run.send_signal(signal.SIGHUP)
+            time.sleep(0.2)
+            client.ask("enq P NL name=A block=1")
+            answer = client.ask("enq P NL name=A block=1")
+            yield from difference((setting, answer), (setting, "P: EXENQLM"))
+
+
+def deadlocked(_program):
+    """A deadlock of two clients ends, with its most recent request, and the circle is logged."""
+    with Daemon("search 200") as daemon, daemon.client().begin("P") as one, daemon.client().begin("Q") as other:
+        one.ask("enq P EX name=A block=1")
+        other.ask("enq Q EX name=B block=1")
+        one.ask("enq P EX name=B block=2 ast=1")
+        other.ask("enq Q EX name=A block=2 ast=2")
+        yield from difference(other.line(), "Q: completion 2 param 0 lock 4")
+        yield from difference(other.line(), f"Q: block 2 status 6 lock 4 value {ZEROS}")
+        yield from difference(one.is_quiet(), True)
+        told = daemon.log.read_text()
+        for part in ("the victim: request for lock 4 of", "in its circle: request for lock 3 of"):
+            if part not in told:
+                yield f"not logged: {part}"
+        yield from difference(daemon.metric("deadlock_victims_total"), 1)
+
+
+# The end of identifications.
+
+def changed(_program):
+    """At a moment without locks a new manager takes over, which a client sees by its handles alone."""
+    with Daemon("identifications 100") as daemon, daemon.client().begin("P") as client:
+        client.ask(f"set P block=2 value={'ab' * 16}")
+        for number in range(1, 90):
+            yield from difference(client.ask("enq P EX name=A block=1"), f"P: NORMAL lock {number}")
+            client.ask("deq P @1")
+        yield from difference(client.ask("enq P EX name=A block=1"), "P: NORMAL lock 90")
+        yield from difference(daemon.metric("epoch"), 0)
+        client.ask("deq P @1")
+        yield from difference(daemon.metric("epoch"), 1)
+        yield from difference(client.ask("block P 1"), f"P: block 1 status 1 lock 90 value {ZEROS}")
+        yield from difference(client.ask("block P 2"), f"P: block 2 status 0 lock 0 value {'ab' * 16}")
+        yield from difference([client.ask(it) for it in ("deq P @1", "deq P 1", "cvt P 90 NL block=1")],
+                              3 * ["P: IVLOCKID"])
+        yield from difference(client.ask("enq P EX name=A block=1 ast=1"), "P: NORMAL lock 4294967297")
+        yield from difference(client.line(), "P: completion 1 param 0 lock 4294967297")
+        yield from difference(client.line(), f"P: block 1 status 1 lock 4294967297 value {ZEROS}")
+        yield from difference(client.ask_all("show")[1], "  granted 4294967297 process 65537 EX")
+        yield from difference(client.ask("cvt P @1 PR block=1"), "P: NORMAL lock 4294967297")
+        yield from difference(client.ask("deq P 4294967297"), "P: NORMAL")
+    yield from ()
+
+
+def drained(_program):
+    """Without such a moment new requests are refused, and at last the epoch ends for all."""
+    with Daemon("identifications 100", "drain 700") as daemon, daemon.client().begin("P") as client:
+        other = daemon.client().begin("Q")
+        other.ask("enq Q NL name=B block=1")
+        for _ in range(98):
+            client.ask("enq P EX name=A block=1")
+            client.ask("deq P @1")
+        yield from difference(client.ask("enq P EX name=A block=1"), "no identifications left")
+        yield from difference(other.ask("cvt Q @1 CR block=1"), "Q: NORMAL lock 1")
+        for it in (client, other):
+            yield from difference((it.line(), it.line()), ("lost", None))
+        yield from difference(daemon.client().greeting, "vlm protocol 1 epoch 1")
+        with Daemon("identifications 100", "drain 60000") as daemon, daemon.client().begin("P") as client:
+            client.ask("enq P NL name=B block=2")
+            for _ in range(99):
+                client.ask("enq P EX name=A block=1")
+                client.ask("deq P @1")
+            yield from difference(client.ask("enq P EX name=A block=1"), "no identifications left")
+            client.ask("deq P @2")
+            yield from difference(client.ask("enq P EX name=A block=1"), "P: NORMAL lock 4294967297")
+
+
+# Many clients, and strange bytes.
+
+def idle(_program):
+    """Beside 10,000 idle connections, or as many as files may be open, a client is served in time."""
+    soft, hard = resource.getrlimit(resource.RLIMIT_NOFILE)
+    resource.setrlimit(resource.RLIMIT_NOFILE, (hard, hard))
+    count = min(10000, hard - 500)
+    with Daemon(made=PLAIN) as daemon:
+        clients = [daemon.client() for _ in range(count)]
+        yield from difference(daemon.metric("connections"), count + 1)
+        began = time.monotonic()
+        with daemon.client().begin("P") as client:
+            for _ in range(1000):
+                client.ask("enq P EX name=A block=1")
+                client.ask("deq P @1")
+        if time.monotonic() - began > 5:
+            yield f"1000 pairs took {time.monotonic() - began:.1f} seconds"
+        for client in clients:
+            client.close()
+
+
+def over_dispatcher(name, compiler, *words):
+    """Compiles the program of strange bytes over the dispatcher. Gives its path, and what is wrong with that."""
+    made = Path(ROOM().name) / name
+    return made, list(library.ran(compiler, "-std=gnu11", *library.STRICT, "-O1", "-g", *words,
+                                  f"-I{library.prefix()}/include", f"-I{TOP}/service", HERE / "mutate.c", *DISPATCHER,
+                                  library.prefix() / "lib" / "libvlm.a", "-pthread", "-o", made))
+
+
+def mutated(_program):
+    """What is wrong with the dispatcher when clients send mutated lines: no sanitizer finds anything."""
+    made, wrong = over_dispatcher("mutated", "cc", "-fsanitize=address,undefined", "-fno-sanitize-recover=all")
+    scripts = [it.with_suffix("") for it in sorted(PLAY.glob("*.stdout"))]
+    yield from wrong or library.ran(made, MUTATED_SECONDS, *scripts, HERE / "lines")
+
+
+def fuzzed(_program):
+    """What is wrong with the dispatcher under libFuzzer, for a few seconds."""
+    made, wrong = over_dispatcher("fuzzed", "clang", "-DFUZZER", "-fsanitize=fuzzer,address,undefined")
+    corpus = Path(ROOM().name) / "corpus"
+    corpus.mkdir()
+    shutil.copy(HERE / "lines", corpus)
+    yield from wrong or library.ran(made, f"-max_total_time={MUTATED_SECONDS}", "-max_len=4000", "-timeout=10", corpus)
+
+
+BEHAVIOURS = {"the first session of the page": shown_talk,
+              "random scripts over the socket": random_lines, "half lines": half_lines, "killed clients": killed,
+              "a client that reads no answers": deaf,
+              "a client that reads no ASTs": cut_off, "limits of a user": limits, "what show and who print": shown,
+              "sessions that are resumed": resumed, "processes of another session": hidden,
+              "a daemon that ends": restarted, "a second daemon": one_daemon, "configurations": configured,
+              "a deadlock": deadlocked, "a change of managers": changed, "no identifications left": drained,
+              "10,000 idle connections": idle, "mutated lines": mutated}
+
+
+def installed(_program):
+    """The library is installed where the part `library` installs it."""
+    if not (library.prefix() / "lib" / "libvlm.a").exists():
+        yield from library.installed(None)
+
+
+def first():
+    return [] if missing() else [Test("the library", installed)]
+
+
+def once():
+    found = [Test("enough worked scripts", enough_worked)]
+    found += [Test(f"worked script {it.name} over the socket", partial(worked, it)) for it in playable()]
+    found += [Test(f"lines: {name}", partial(talk, name)) for name in TALKS]
+    found += [Test(name, check) for name, check in BEHAVIOURS.items()]
+    found += [Test("other users", other_users)] * (os.getuid() == 0)
+    found += [Test("lines under libFuzzer", fuzzed)] * bool(shutil.which("clang"))
+    found += service_commands.tests()
+    return [] if missing() else found

@@ -1,0 +1,181 @@
+/* Strange bytes for the dispatcher: mutate SECONDS FILE.. changes the lines of some files at random and has four
+ * clients send them, who also close, stay away, do not read and let time pass. The sanitizers judge, and each count has
+ * to be 0 at the end. Compiled with FUZZER it is a program of libFuzzer, which chooses the bytes. */
+#include "parts.h"
+
+#include <stdio.h>
+#include <stdlib.h>
+#include <string.h>
+#include <time.h>
+
+enum { CLIENTS = 4, MOST_FILES = 256, MOST_BYTES = 8192, KEYS = 16 };
+
+static const struct limits limits = {.connections = 3,
+                                     .processes = 12,
+                                     .locks = 60,
+                                     .waiting = 8,
+                                     .queued = 1 << 17,
+                                     .names = 9,
+                                     .lines = 5,
+                                     .shown = 40,
+                                     .search = 30,
+                                     .drain = 100,
+                                     .identifications = 150};
+
+static struct dispatcher *dispatcher;
+static struct client *clients[CLIENTS];
+static uint64_t now;
+
+static void be_silent(const char *text) { (void)text; }
+
+static void join(uint32_t at) {
+    struct rights rights = {.uid = at / 2, .pid = at, .group = at % 2, .has_syslck = at == 0, .is_admin = at == 0};
+    clients[at] = client_open(dispatcher, &rights, NULL);
+    if (clients[at] == NULL)
+        abort();
+}
+
+static void part(uint32_t at) {
+    client_close(clients[at]);
+    join(at);
+}
+
+/* Sends all output, except that of a client who does not read. */
+static void send_all(uint32_t deaf) {
+    while (dispatcher_changed(dispatcher) != NULL)
+        continue;
+    for (uint32_t at = 0; at < CLIENTS; at++) {
+        size_t len;
+        client_output(clients[at], &len);
+        if (at != deaf && len != 0)
+            client_sent(clients[at], len);
+        if (client_is_cut(clients[at]) || (client_is_over(clients[at]) && at != deaf))
+            part(at);
+    }
+}
+
+/* A line of a client. Its first byte chooses the client, and what happens besides. */
+static void play(const uint8_t *line, size_t len, bool is_whole) {
+    uint32_t at = line[0] % CLIENTS, what = line[0] / CLIENTS % 8;
+    if (client_is_heard(clients[at])) {
+        client_hear(clients[at], line, what == 0 ? len / 2 + 1 : len);
+        if (what != 0 && is_whole)
+            client_hear(clients[at], (const uint8_t *)"\n", 1);
+    }
+    if (what == 1)
+        dispatcher_tick(dispatcher, now += 50);
+    if (what == 2)
+        dispatcher_be_quiet(dispatcher, now + 40);
+    while (dispatcher_run(dispatcher))
+        continue;
+    send_all(what == 3 ? at : CLIENTS);
+    if (what == 4)
+        client_hear(clients[at], line, 0);
+    if (what == 5)
+        part(at);
+}
+
+static void begin(void) {
+    static const uint8_t keys[KEYS] = {1, 2, 3};
+    now = 1;
+    dispatcher = dispatcher_open(&limits, 0, keys, be_silent);
+    if (dispatcher == NULL)
+        abort();
+    dispatcher_tick(dispatcher, now);
+    for (uint32_t at = 0; at < CLIENTS; at++)
+        join(at);
+}
+
+/* Ends all clients, and what they may resume. Nothing must be left. */
+static void end(void) {
+    for (uint32_t at = 0; at < CLIENTS; at++)
+        client_close(clients[at]);
+    dispatcher_tick(dispatcher, now += (uint64_t)2 * MOST_SECONDS * 1000);
+    for (uint32_t bucket = 0; bucket < USER_BUCKETS; bucket++)
+        if (dispatcher->users[bucket] != NULL)
+            abort();
+    if (dispatcher_has_locks(dispatcher) || dispatcher->waiting_count != 0 || dispatcher->session_count != 0)
+        abort();
+    dispatcher_close(dispatcher);
+}
+
+int LLVMFuzzerTestOneInput(const uint8_t *bytes, size_t len);
+int LLVMFuzzerTestOneInput(const uint8_t *bytes, size_t len) {
+    begin();
+    while (len > 0) {
+        const uint8_t *feed = memchr(bytes, '\n', len);
+        size_t line = feed == NULL ? len : (size_t)(feed - bytes);
+        if (line > 0)
+            play(bytes, line, feed != NULL);
+        line += feed != NULL;
+        bytes += line;
+        len -= line;
+    }
+    end();
+    return 0;
+}
+
+#ifndef FUZZER
+static struct {
+    uint8_t bytes[MOST_BYTES];
+    size_t len;
+} files[MOST_FILES];
+static size_t file_count;
+
+static uint64_t random_state = 88172645463325252ULL;
+
+static size_t below(size_t most) {
+    random_state ^= random_state << 13;
+    random_state ^= random_state >> 7;
+    random_state ^= random_state << 17;
+    return (size_t)(random_state % most);
+}
+
+/* The next line of a file, from some byte on. */
+static size_t line_at(size_t file, size_t from) {
+    const uint8_t *feed = memchr(files[file].bytes + from, '\n', files[file].len - from);
+    return feed == NULL ? files[file].len - from : (size_t)(feed - files[file].bytes) - from + 1;
+}
+
+/* Lines of several files, some of them with other bytes. */
+static size_t mix(uint8_t *bytes) {
+    static const char marks[] = " @=:x09#\n\t\rEXP4294967296";
+    size_t len = 0;
+    for (size_t lines = 20 + below(60); lines > 0; lines--) {
+        size_t file = below(file_count), line = 0;
+        for (size_t at = 0, wanted = below(30); at < files[file].len; at += line) {
+            line = line_at(file, at);
+            if (wanted-- != 0)
+                continue;
+            if (len + line > MOST_BYTES)
+                return len;
+            memcpy(bytes + len, files[file].bytes + at, line);
+            for (size_t changes = below(4) == 0 ? below(6) : 0; changes > 0; changes--)
+                bytes[len + below(line)] = below(2) == 0 ? (uint8_t)below(256) : (uint8_t)marks[below(sizeof marks)];
+            len += line;
+            break;
+        }
+    }
+    return len;
+}
+
+int main(int count, char **words) {
+    static uint8_t bytes[MOST_BYTES];
+    if (count < 3)
+        return 2;
+    for (int at = 2; at < count && file_count < MOST_FILES; at++) {
+        FILE *file = fopen(words[at], "rb");
+        if (file == NULL)
+            return 2;
+        files[file_count].len = fread(files[file_count].bytes, 1, MOST_BYTES, file);
+        file_count += files[file_count].len != 0;
+        fclose(file);
+    }
+    time_t until = time(NULL) + strtol(words[1], NULL, 10);
+    size_t runs = 0;
+    for (; time(NULL) < until; runs++)
+        LLVMFuzzerTestOneInput(bytes, mix(bytes));
+    printf("%zu runs\n", runs);
+    return 0;
+}
+#endif

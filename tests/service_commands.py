@@ -1,0 +1,218 @@
+"""The commands of the lock service: vlm lock, who, metrics and kill, over a vlmd, with kills of each of them. An
+outside witness sees that no two commands hold a lock at once: each takes a lock of the file system without waiting."""
+
+import json
+import os
+import re
+import signal
+import subprocess
+import tempfile
+import time
+from pathlib import Path
+
+import library
+from daemons import Daemon
+from harness import ROOM, TOP, Once, Test, difference
+
+SOURCES = sorted((TOP / "service" / "commands").glob("*.c"))
+VALUE = "000102030405060708090a0b0c0d0e0f"
+
+
+def compiled():
+    """The command vlm where an installation has it, with a stub in the place of the proved program. Its path."""
+    prefix = Path(ROOM().name) / "commands"
+    for folder in ("bin", "libexec/vlm"):
+        (prefix / folder).mkdir(parents=True)
+    wrong = list(library.ran("cc", "-std=gnu11", *library.STRICT, "-O1", "-g", "-fsanitize=address,undefined",
+                             "-fno-sanitize-recover=all", *SOURCES, "-o", prefix / "bin" / "vlm"))
+    if wrong:
+        raise RuntimeError(wrong[0])
+    stub = prefix / "libexec" / "vlm" / "vlm"
+    stub.write_text('#!/bin/sh\necho "program: $*"\nexit 3\n')
+    stub.chmod(0o755)
+    return prefix / "bin" / "vlm"
+
+
+VLM = Once(compiled)
+
+
+def start(daemon, *words, **how):
+    env = {**os.environ, "VLM_SOCKET": daemon.socket, "ASAN_OPTIONS": "detect_leaks=0"}
+    return subprocess.Popen([VLM(), *map(str, words)], env=env, stdout=subprocess.PIPE, stderr=subprocess.PIPE,
+                            text=True, **how)
+
+
+def run(daemon, *words):
+    """The status of a command, and what it printed."""
+    made = start(daemon, *words)
+    printed, told = made.communicate(timeout=20)
+    return made.returncode, printed or told
+
+
+def until(holds):
+    """Waits until something holds."""
+    for _ in range(400):
+        if holds():
+            return True
+        time.sleep(0.02)
+    return False
+
+
+def holds(daemon, count=1):
+    return until(lambda: daemon.metric("locks") == count)
+
+
+def statuses(_program):
+    """Each status of vlm lock."""
+    with Daemon() as daemon:
+        for words, wanted in ((["A", "sh", "-c", "exit 7"], (7, "")), (["A", "echo", "a"], (0, "a\n")),
+                              (["A", "sh", "-c", "kill -9 $$"], (137, "")), (["x:", "true"], (0, "")),
+                              (["a b", "true"], (0, "")), ([31 * "n", "true"], (0, ""))):
+            yield from difference((words, run(daemon, "lock", *words)), (words, wanted))
+        yield from difference(run(daemon, "lock", "A", "no-such-command")[0], 127)
+        yield from difference(run(daemon, "lock", "A", "/etc/passwd")[0], 126)
+        for words in ([], ["A"], ["-x", "A", "true"], ["", "true"], [32 * "n", "true"], ["-m", "XX", "A", "true"],
+                      ["-w", "-1", "A", "true"], ["-E", "256", "A", "true"], ["--value", "00", "A", "true"],
+                      ["--on-blocking", "NO", "A", "true"]):
+            yield from difference((words, run(daemon, "lock", *words)[0]), (words, 64))
+        holder = start(daemon, "lock", "A", "sleep", "20")
+        holds(daemon)
+        began = time.monotonic()
+        for words, wanted in ((["-n"], 1), (["-n", "-E", "9"], 9), (["-w", "0.3"], 1), (["-w", "0", "-E", "0"], 0)):
+            yield from difference((words, run(daemon, "lock", *words, "A", "echo", "a")), (words, (wanted, "")))
+        if not 0.3 < time.monotonic() - began < 5:
+            yield "the wait was of another length"
+        yield from difference(holds(daemon), True)
+        holder.terminate()
+        yield from difference(holder.wait(20), 143)
+        yield from difference(holds(daemon, 0), True)
+    yield from difference(run(daemon, "lock", "A", "true")[0], 69)
+
+
+def values(_program):
+    """The value block goes from command to command, and is not told if it is invalid."""
+    with Daemon() as daemon, daemon.client().begin("P") as client:
+        client.ask("enq P NL name=A block=1")
+        yield from difference(run(daemon, "lock", "--value", VALUE, "A", "true"), (0, ""))
+        yield from difference(run(daemon, "lock", "-m", "PR", "A", "sh", "-c", "echo $VLM_VALUE"), (0, VALUE + "\n"))
+        client.ask("cvt P @1 EX block=1")
+        client.ask("declare Q")
+        client.ask("enq Q NL name=A block=1")
+        client.ask("deq P @1 invvalblk")
+        yield from difference(run(daemon, "lock", "A", "sh", "-c", "echo ${VLM_VALUE-none}"), (0, "none\n"))
+
+
+def blocking(_program):
+    """A command that asked for it gets a signal when its lock is in the way."""
+    with Daemon() as daemon:
+        holder = start(daemon, "lock", "--on-blocking", "USR1", "A", "sh", "-c", "trap 'exit 5' USR1; sleep 20 & wait")
+        holds(daemon)
+        yield from difference(run(daemon, "lock", "A", "echo", "a"), (0, "a\n"))
+        yield from difference(holder.wait(20), 5)
+
+
+def lost(_program):
+    """If the daemon is killed the command gets SIGTERM, and the status is 75. So it is if the session is killed."""
+    with Daemon("grace 0") as daemon:
+        for end in (lambda: run(daemon, "kill", run(daemon, "who")[1].splitlines()[1].split()[4]), daemon.kill):
+            script = "trap 'echo told; exit 1' TERM; sleep 20 >/dev/null 2>&1 & wait"
+            holder = start(daemon, "lock", "A", "sh", "-c", script)
+            holds(daemon)
+            end()
+            printed, told = holder.communicate(timeout=20)
+            yield from difference((holder.returncode, printed, told), (75, "told\n", "vlm lock: the lock is lost\n"))
+
+
+def killed(_program):
+    """A wrapper that is killed frees nothing while its command runs; a killed command frees the lock."""
+    with Daemon() as daemon:
+        wrapper = start(daemon, "lock", "A", "sh", "-c", "echo $$; exec sleep 20")
+        child = int(wrapper.stdout.readline())
+        wrapper.kill()
+        wrapper.wait()
+        yield from difference(run(daemon, "lock", "-n", "A", "true")[0], 1)
+        os.kill(child, signal.SIGKILL)
+        yield from difference(run(daemon, "lock", "-w", "10", "A", "echo", "a"), (0, "a\n"))
+        wrapper = start(daemon, "lock", "A", "sh", "-c", "echo $$; exec sleep 20")
+        os.kill(int(wrapper.stdout.readline()), signal.SIGKILL)
+        yield from difference(wrapper.wait(20), 137)
+        # (what a command leaves behind keeps the connection, and not the lock)
+        wrapper = start(daemon, "lock", "A", "sh", "-c", "sleep 5 >/dev/null 2>&1 &")
+        yield from difference((wrapper.wait(20), run(daemon, "lock", "-n", "A", "true")[0]), (0, 0))
+
+
+# Takes a lock of a file without waiting, and says if another has it.
+WITNESS = 'flock -n "$0" sh -c "sleep 0.0$1" || echo conflict >>"$0.wrong"'
+
+
+def witnessed(_program):
+    """Among commands that are killed with their wrappers at any moment no two hold the lock at once."""
+    with Daemon() as daemon, tempfile.TemporaryDirectory() as folder:
+        file = Path(folder) / "held"
+        for number in range(60):
+            running = [start(daemon, "lock", "A", "sh", "-c", WITNESS, file, number % 3, start_new_session=True)
+                       for _ in range(4)]
+            time.sleep(0.01 * (number % 4))
+            for at, made in enumerate(running):
+                if at % 2 == number % 2:
+                    os.killpg(made.pid, signal.SIGKILL)
+            for made in running:
+                made.communicate(timeout=20)
+        yield from difference((Path(folder) / "held.wrong").exists(), False)
+        yield from difference(holds(daemon, 0), True)
+
+
+def told(_program):
+    """What who, metrics and kill print."""
+    with Daemon() as daemon:
+        holder, waiter = start(daemon, "lock", "A", "sleep", "20"), None
+        holds(daemon)
+        waiter = start(daemon, "lock", "-m", "PR", "A", "true")
+        holds(daemon, 2)
+        rows = [it.split() for it in run(daemon, "who")[1].splitlines()]
+        yield from difference([it[:4] for it in rows[1:]], [["A", "EX", "-", "granted"], ["A", "-", "PR", "waiting"]])
+        yield from difference((rows[1][7], rows[2][9], len(rows[0])), ("sleep", rows[1][4], 10))
+        waiting = json.loads(run(daemon, "who", "--json", "-w", "A")[1])
+        yield from difference([(it["name"], it["held"], it["wanted"], it["pid"], it["blocked_by"]) for it in waiting],
+                              [("A", None, "PR", waiter.pid, rows[1][4])])
+        yield from difference(json.loads(run(daemon, "who", "--json", "B")[1]), [])
+        yield from difference(bool(re.search(r"^vlmd_locks 2$", run(daemon, "metrics")[1], re.M)), True)
+        yield from difference(run(daemon, "kill", 16 * "0"), (1, "vlm kill: no such session\n"))
+        yield from difference(run(daemon, "kill", rows[1][4]), (0, ""))
+        yield from difference((holder.wait(20), waiter.wait(20)), (75, 0))
+        for words in (["kill"], ["kill", "1"], ["metrics", "all"], ["who", "A", "B"], ["who", "-x"], ["who", "a b"]):
+            yield from difference((words, run(daemon, *words)[0]), (words, 64))
+
+
+def front(_program):
+    """All other words go to the proved program."""
+    with Daemon() as daemon:
+        for words in (["play"], ["--help"], [], ["frob", "lock"]):
+            yield from difference((words, run(daemon, *words)), (words, (3, f"program: {' '.join(words)}\n")))
+        yield from difference(run(daemon, "lock", "--help")[0], 0)
+
+
+def by_launcher(_program):
+    """./vlm lock compiles the commands and runs them."""
+    with Daemon() as daemon:
+        env = {**os.environ, "VLM_SOCKET": daemon.socket}
+        yield from library.ran(TOP / "vlm", "lock", "A", "true", env=env)
+        yield from library.ran(TOP / "vlm", "who", env=env)
+
+
+def completed(_program):
+    """The completion for bash offers the commands, modes and signals."""
+    script = ('. "$0"; COMP_WORDS=(vlm "$@"); COMP_CWORD=$#; _vlm; echo "${COMPREPLY[@]}"')
+    for words, wanted in ((["lo"], "lock"), (["lock", "-m", "P"], "PR PW"), (["lock", "--va"], "--value"),
+                          (["who", "--j"], "--json"), (["lock", "--on-blocking", "SIGUSR"], "SIGUSR1 SIGUSR2")):
+        made = subprocess.run(["bash", "-c", script, TOP / "service/commands/completion.bash", *words],
+                              capture_output=True, text=True, timeout=20)
+        yield from difference((words, made.stdout.strip(), made.stderr), (words, wanted, ""))
+
+
+def tests():
+    checks = {"statuses of vlm lock": statuses, "the value block of vlm lock": values, "signals to commands": blocking,
+              "locks that are lost": lost, "killed commands": killed, "commands and a witness": witnessed,
+              "vlm who, metrics and kill": told, "words of the program": front, "./vlm lock": by_launcher,
+              "completion": completed}
+    return [Test(name, check) for name, check in checks.items()]
