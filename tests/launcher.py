@@ -4,7 +4,6 @@ without, as it proves, and where something is missing. The stub's answers come f
 import fcntl
 import os
 import re
-import shutil
 import signal
 import subprocess
 import tempfile
@@ -42,6 +41,12 @@ esac
 """
 
 
+def put_program(path, text):
+    """Writes a program by a process of its own: no system runs a program that is open for writing, as it would be in what
+    another thread starts meanwhile."""
+    subprocess.run(["install", "-m", "755", "/dev/stdin", path], input=text.encode(), check=True)
+
+
 class Tree:
     """A copy of what ./vlm reads, with a stub of rt on the path."""
 
@@ -51,13 +56,11 @@ class Tree:
         self.kit = Path(folder) / "bin"
         for name in crates_with_libraries():
             (self.top / "crates" / name / "src").mkdir(parents=True)
-        for name in ("vlm", "crates.txt", "KIT"):
-            shutil.copy(TOP / name, self.top)
-        shutil.copytree(TOP / "tools", self.top / "tools", ignore=shutil.ignore_patterns("__pycache__"))
+        copied = [TOP / name for name in ("vlm", "crates.txt", "KIT", "tools")]
+        subprocess.run(["cp", "-r", *copied, self.top], check=True)
         self.kit.mkdir()
         self.stub = self.kit / "rt"
-        self.stub.write_text(STUB)
-        self.stub.chmod(0o755)
+        put_program(self.stub, STUB)
         self.env = {"PATH": f"{self.kit}:{os.environ['PATH']}", "KIT": KIT, "CALLS": str(self.calls),
                     "PROGRAM": str(Path(program).resolve()), "WRONG": "", "SILENT": "", "TMPDIR": folder}
 
@@ -121,8 +124,7 @@ def unanswered_runs(tree):
 def full_disk(tree):
     """A full disk is reported in one line."""
     df = tree.kit / "df"
-    df.write_text("#!/bin/sh\necho Avail\necho 2048\n")
-    df.chmod(0o755)
+    put_program(df, "#!/bin/sh\necho Avail\necho 2048\n")
     yield from unlike(tree.run("play", script=SCRIPT, SILENT="fault"), 4, b"", UNPROVED,
                       "^vlm: the disk has 2 MB left, and the checked build gives no answer: make room there$")
     yield from unlike(tree.run("prove"), 4, b"",
