@@ -14,3 +14,4 @@ pub mod Hubs
 pub mod ScriptLines
 pub mod Printed
 pub mod Replay
+pub mod Victims

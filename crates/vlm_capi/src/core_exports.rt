@@ -10,6 +10,7 @@ ghost use Rattle.vlm_model.specs.Stepped.{Outcome};
 ghost use Rattle.vlm_capi.specs.Lending.{LendsCore, core_of};
 ghost use Rattle.vlm_capi.specs.Served.{AstReplied, OpenedIf, Replied, Served, StatusReplied, TakesFirst, TookAnyIf};
 ghost use Rattle.vlm_capi.specs.Copies.{Told, sized};
+ghost use Rattle.vlm_capi.specs.Victims.{VictimTold, lkid_or_0};
 ghost use Rattle.vlm_capi.specs.Shown.{block_shown, count_shown, found_shown, lksb_of, next_process_shown, next_resource_shown, pending_shown, process_count_shown, process_or_none, queued_count_shown, resource_of, resource_or_none, lock_count_shown};
 ghost use Rattle.vlm_capi.specs.Keys.{key_of};
 ghost use Rattle.vlm_capi.specs.Replies.{take_of};
@@ -180,6 +181,16 @@ pub extern "C" fn vlm_take(handle: &mut Handle, pid: u32, out: &mut VlmAst) -> u
     answer_status(&answer)
 }
 
+// A lock's identification, or 0 for none.
+fn lkid_or_0(lkid: Option<u32>) -> u32
+    ensures { result ≡ lkid_or_0 lkid }
+{
+    match lkid {
+        Some(lkid) => lkid,
+        None => 0,
+    }
+}
+
 // Takes the oldest AST of the first process that has one, and answers that process with the answer of the Take. `None`
 // if no AST is pending.
 fn take_first(core: &mut Core) -> Option<(u32, Answer)>
@@ -235,6 +246,16 @@ pub extern "C" fn vlm_search(handle: &mut Handle, node: u32, victim: &mut u32) -
     ensures { Replied handle.old.slot.held (option_map Search (node_of node)) handle.new.slot.held result victim.new }
 {
     reply(handle, node_of(node).map(|node| Step::Search(node)), victim)
+}
+
+/// Writes the lock whose request a search would end now, or 0.
+#[unsafe(no_mangle)]
+pub extern "C" fn vlm_find_victim(handle: &mut Handle, victim: &mut u32) -> u32
+    ensures told { VictimTold (core_of handle.old.slot.held) victim.old victim.new result }
+    ensures same { handle.new.slot.held ≡ handle.old.slot.held }
+{
+    let found = handle.find_victim();
+    copy_out(found.map(|lkid| lkid_or_0(lkid)), victim)
 }
 
 /// Copies a status block of a process.

@@ -3,6 +3,7 @@
 ghost use Rattle.std.specs.Prelude.{◌≡◌, ◌==◌, Some, false};
 ghost use Rattle.vlm_capi.specs.Keys.{key_of};
 ghost use Rattle.vlm_capi.specs.Lending.{core_of};
+ghost use Rattle.vlm_capi.specs.Victims.{ReadsVictim};
 ghost use Rattle.vlm_capi.specs.Shown.{Tells, block_shown, block_there, count_shown, found_shown, lock_count_shown, next_process_shown, next_resource_shown, pending_shown, process_count_shown, process_shown, queued_count_shown};
 
 use crate::handle::Handle;
@@ -81,6 +82,14 @@ impl Handle {
             self.old.slot.held self.new.slot.held }
     {
         self.with_core(|core| core.queued_count()).unwrap_or(0)
+    }
+
+    /// The lock whose request a search would end; `None` without a core.
+    pub(crate) fn find_victim(&mut self) -> Option<Option<u32>>
+        ensures told { ReadsVictim (core_of self.old.slot.held) result }
+        ensures same { self.new.slot.held ≡ self.old.slot.held }
+    {
+        self.with_core(|core| core.find_victim())
     }
 
     pub(crate) fn find(&mut self, words: &VlmResource) -> Option<ResourceView>

@@ -4,3 +4,4 @@ pub mod Blockers
 pub mod Readers
 pub mod Running
 pub mod Made
+pub mod Victims

@@ -11,9 +11,11 @@ ghost use Rattle.vlm_store.specs.Records.{IsSound, StoredResource, queued, rows_
 ghost use Rattle.vlm_queue.specs.Walks.{GivesInTurn};
 ghost use Rattle.vlm_machine.specs.Between.{IsBetweenSteps};
 ghost use Rattle.vlm_core.specs.Made.{IsMadeAlways};
+ghost use Rattle.vlm_core.specs.Victims.{ShowsVictim};
 
 use std::alloc::Global;
 use std::marker::Model;
+use vlm_cycle::victim;
 use vlm_locks::Touched;
 use vlm_machine::{Machine, Scratch};
 use vlm_model::laws::{
@@ -262,5 +264,16 @@ impl Core {
         ensures { IsMade self.old (Step.Search node) self.new result }
     {
         self.step(Step::Search(node))
+    }
+
+    /// The lock whose request a search would end now, or `None` if no request is deadlocked (this project's own). It
+    /// changes nothing, takes no memory, and costs what the search for a victim costs.
+    pub fn find_victim(&mut self) -> Option<u32>
+        ensures same { self.new ≡ self.old }
+        ensures shown { ShowsVictim self.old result }
+    {
+        self.between_steps();
+        let located = victim(&self.machine.store, &mut self.scratch)?;
+        Some(located.row.lkid())
     }
 }
