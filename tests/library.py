@@ -496,10 +496,12 @@ def python(_program):
         for block in re.findall(r"^```python\n(.*?)^```", page.read_text(), re.M | re.S):
             yield from ran(sys.executable, "-c", block, cwd=package, env=env)
     if not subprocess.run([sys.executable, "-m", "pip", "--version"], capture_output=True).returncode:
-        there = room() / "installed by pip"
-        yield from ran(sys.executable, "-m", "pip", "install", "--no-index", "--quiet", "--target", there, package)
+        there, sources = room() / "installed by pip", package / "sources.tar.gz"
+        pack = "import os, wheels; os.rename(wheels.build_sdist('.'), 'sources.tar.gz')"
+        yield from ran(sys.executable, "-c", pack, cwd=package)
+        yield from ran(sys.executable, "-m", "pip", "install", "--no-index", "--quiet", "--target", there, sources)
         env["PYTHONPATH"] = str(there)
-        yield from ran(sys.executable, "-c", "import vlm; vlm.LockManager().close()", cwd=room(), env=env)
+        yield from ran(sys.executable, "-c", "import vlm; vlm.Shared().close()", cwd=room(), env=env)
         yield from ran(there / "bin" / "vlm-draw", PLAY / "a-circle-of-three", cwd=room(), env=env)
 
 

@@ -1,8 +1,10 @@
-"""Packs the package vlm for pip, by what pyproject.toml says of it. It is Python alone, so nothing is built."""
+"""Packs the package vlm for pip, by what pyproject.toml says of it (PEP 517 and 660). It is Python alone, so nothing is
+built."""
 
 import base64
 import hashlib
 import re
+import tarfile
 from pathlib import Path
 from typing import Any, Dict, Optional
 from zipfile import ZIP_DEFLATED, ZipFile
@@ -20,11 +22,11 @@ def _table(name: str) -> Dict[str, str]:
     return dict(re.findall(r'^([\w-]+) = "(.*)"$', table[1], re.M)) if table else {}
 
 
-def _files(project: Dict[str, str], info: str) -> Dict[str, bytes]:
-    """The files of the wheel, except the list of them."""
+def _info_files(project: Dict[str, str], info: str) -> Dict[str, bytes]:
+    """What a wheel tells of the package, except the list of its files."""
     metadata = METADATA.format(python=project["requires-python"], **project)
     commands = "[console_scripts]\n" + "".join(f"{name} = {call}\n" for name, call in _table("project.scripts").items())
-    return {**_package(), f"{info}/METADATA": metadata.encode(), f"{info}/WHEEL": WHEEL.encode(),
+    return {f"{info}/METADATA": metadata.encode(), f"{info}/WHEEL": WHEEL.encode(),
             f"{info}/entry_points.txt": commands.encode()}
 
 
@@ -40,15 +42,36 @@ def _row(name: str, text: bytes) -> str:
     return f"{name},sha256={digest},{len(text)}\n"
 
 
-def build_wheel(wheel_directory: str, config_settings: Optional[Dict[str, Any]] = None,
-                metadata_directory: Optional[str] = None) -> str:
-    """What pip calls (PEP 517): makes the wheel in a folder, and returns its name."""
+def _wheel(folder: str, content: Dict[str, bytes]) -> str:
+    """Makes a wheel with this content in a folder, and returns its name."""
     project = _table("project")
     info = f"{project['name']}-{project['version']}.dist-info"
-    files = _files(project, info)
+    files = {**content, **_info_files(project, info)}
     files[f"{info}/RECORD"] = "".join([*(_row(*it) for it in files.items()), f"{info}/RECORD,,\n"]).encode()
     wheel = f"{project['name']}-{project['version']}-py3-none-any.whl"
-    with ZipFile(Path(wheel_directory) / wheel, "w", ZIP_DEFLATED) as packed:
+    with ZipFile(Path(folder) / wheel, "w", ZIP_DEFLATED) as packed:
         for name, text in files.items():
             packed.writestr(name, text)
     return wheel
+
+
+def build_wheel(wheel_directory: str, config_settings: Optional[Dict[str, Any]] = None,
+                metadata_directory: Optional[str] = None) -> str:
+    """What pip calls to install the package."""
+    return _wheel(wheel_directory, _package())
+
+
+def build_editable(wheel_directory: str, config_settings: Optional[Dict[str, Any]] = None,
+                   metadata_directory: Optional[str] = None) -> str:
+    """What pip calls for an editable installation: Python finds the package in this folder."""
+    return _wheel(wheel_directory, {"vlm.pth": f"{HERE}\n".encode()})
+
+
+def build_sdist(sdist_directory: str, config_settings: Optional[Dict[str, Any]] = None) -> str:
+    """Packs the sources, from which pip installs the package too."""
+    project = _table("project")
+    name = f"{project['name']}-{project['version']}"
+    with tarfile.open(Path(sdist_directory) / f"{name}.tar.gz", "w:gz") as packed:
+        for file in (*_package(), "pyproject.toml", "wheels.py", "README.md"):
+            packed.add(HERE / file, f"{name}/{file}")
+    return f"{name}.tar.gz"

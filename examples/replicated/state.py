@@ -10,7 +10,7 @@ from contextlib import suppress
 from enum import Enum
 from typing import Deque, Dict, Iterator, List, Optional, Tuple, Union
 
-from vlm import BadParam, Condition, LockManager, Process, script
+from vlm import BadParamError, Condition, LockManager, Process, script
 
 from entries import Ended, Entry, Opened, Packed, Resumed, Searched, Stepped, Taken
 
@@ -165,14 +165,14 @@ class State:
         return any(self._pending_count(pid) for pid in session.names.pids.values())
 
     def _pending_count(self, pid: int) -> int:
-        with suppress(BadParam):
-            return Process(self.manager, pid, 0).pending()
+        with suppress(BadParamError):
+            return Process(self.manager, pid).pending()
         return 0
 
     def queued(self, session: Session) -> List[Tuple[int, int]]:
         """The queued requests of a session: the lock of each, and its node."""
         return [(lock.lock, pid >> 16) for pid in session.names.pids.values()
-                for lock in self.manager.locks_of(Process(self.manager, pid, 0)) if lock.want is not None]
+                for lock in self.manager.locks_of(Process(self.manager, pid)) if lock.want is not None]
 
     def text(self) -> str:
         """All that replicas have in common, as text: resources and queues, status blocks, and sessions."""

@@ -1,9 +1,11 @@
 """Arguments that are no sense: each call answers, or raises an exception, and the lock manager stays whole."""
 
 import random
+import sys
 import unittest
 
-from vlm import (AccVio, DequeueFlags, Flags, Held, InBlock, LockManager, Mode, Process, Queue, Resource, VlmError)
+from vlm import (AccVioError, DequeueFlags, Flags, InBlock, LockManager, Mode, Process, Queue, Resource, Shared,
+                 VlmError)
 
 NUMBERS = (0, 1, 2, 3, 5, 6, 8, 9, 255, 256, 511, 65_535, 65_536, 65_537, 131_073, (1 << 31) - 1, 1 << 31,
            (1 << 32) - 1, 1 << 32, 1 << 64, 10 ** 5000, -1, -(1 << 63))
@@ -18,27 +20,42 @@ REFUSALS = (VlmError, ValueError, TypeError, OverflowError, AttributeError, Look
 ROUNDS, CALLS = 200, 150
 NAMES, MODES, BLOCKS = ("A", b"B"), tuple(Mode), (1, 2, 3)
 LOCKS = (*range(9), InBlock(1), InBlock(2))
-REQUEST = {"flags": tuple(Flags), "completion": (repr, 7, None), "blocking": (len, 8, None), "param": NUMBERS[:9]}
+REQUEST = {"flags": tuple(Flags), "completion": (7, None), "blocking": (8, None), "param": NUMBERS[:9]}
 
 
 def calls_of(manager, process):
     """Each call that takes arguments, none of which waits: with what makes sense for each argument."""
-    def tried(*given, **named):
-        process.lock(*given, timeout=0, **named)
-
     return [
         (manager.declare, [(1, 2)], {"group": NUMBERS, "quota": NUMBERS, "blocks": BLOCKS, "syslck": (True, False)}),
         (manager.search, [(1, 2)], {}), (manager.rows, [[*manager.resources(), None], tuple(Queue)], {}),
-        (manager.forget, [(repr, len)], {}), (manager.deliver, [(process, None)], {}), (manager.take_any, [], {}),
+        (manager.take_any, [], {}),
         (manager.find, [NAMES], {"group": NUMBERS, "parent": NUMBERS}),
         (manager.find_lock, [NUMBERS], {}), (manager.resource_of, [NUMBERS], {}), (manager.sublocks, [NUMBERS], {}),
         (manager.blockers, [NUMBERS], {}), (manager.locks_of, [(process, None)], {}),
         (process.enq, [NAMES, MODES, BLOCKS], {**REQUEST, "parent": LOCKS}),
-        (process.convert, [LOCKS, MODES, BLOCKS], REQUEST), (tried, [NAMES, MODES], {"flags": tuple(Flags)}),
+        (process.convert, [LOCKS, MODES, BLOCKS], REQUEST),
         (process.deq, [LOCKS], {"flags": tuple(DequeueFlags), "value": TEXTS, "tail": TEXTS}),
         (process.cancel, [LOCKS], {}), (process.set_value, [BLOCKS, TEXTS], {"tail": TEXTS}),
         (process.status_block, [BLOCKS], {}), (process.take, [], {}), (process.pending, [], {}),
         *[(manager.leave, [(1, 2)], {}), (process.rundown, [], {})] * (random.random() < 0.02),
+    ]
+
+
+def calls_of_threads(shared, client):
+    """The same for a lock manager for threads. None waits for long."""
+    def lock(*given, **named):
+        client.lock(*given, timeout=0.001, **named).write(b"B")
+
+    request = {"flags": tuple(Flags), "parent": LOCKS[:9], "blocking": (len, None)}
+    return [
+        (shared.declare, [(1, 2)], {"group": NUMBERS, "quota": NUMBERS, "requests": BLOCKS, "label": NAMES[:1],
+                                    "tied": (True, False), "own_queue": (True, False)}),
+        (shared.search, [], {}), (shared.counters, [], {}), (shared.look, [(len, repr)], {}),
+        (lock, [NAMES, MODES], request), (client.start, [NAMES, MODES, (repr, len)], request),
+        (client.start_convert, [LOCKS[:9], MODES, (repr,)], {"flags": tuple(Flags), "blocking": (len, None)}),
+        (client.deq, [LOCKS[:9]], {"flags": tuple(DequeueFlags), "value": TEXTS, "tail": TEXTS}),
+        (client.cancel, [LOCKS[:9]], {}), (client.cancel_all, [], {}), (client.label, [], {}),
+        *[(shared.leave, [(1, 2)], {}), (client.rundown, [], {})] * (random.random() < 0.02),
     ]
 
 
@@ -63,7 +80,26 @@ class Arguments(unittest.TestCase):
                     except REFUSALS:
                         pass
                 self.shows_all(manager)
-        self.assertEqual(len(made), 23)
+        self.assertEqual(len(made), 20)
+
+    def test_any_argument_is_answered_to_threads(self):
+        random.seed(61)
+        # (callables that make no sense of an event raise an exception)
+        self.addCleanup(setattr, sys, "unraisablehook", sys.unraisablehook)
+        sys.unraisablehook = lambda args: None
+        made = set()
+        for _ in range(ROUNDS // 4):
+            with Shared() as shared:
+                clients = [shared.declare(node, quota=20, requests=3) for node in (1, 1, 2)]
+                for _ in range(CALLS):
+                    call, given, named = random.choice(calls_of_threads(shared, random.choice(clients)))
+                    by_name = {name: chosen(sense) for name, sense in named.items() if random.random() < 0.3}
+                    try:
+                        call(*map(chosen, given), **by_name)
+                        made.add(call.__name__)
+                    except REFUSALS:
+                        pass
+        self.assertEqual(len(made), 13)
 
     def shows_all(self, manager):
         for resource in manager.resources():
@@ -82,8 +118,8 @@ class Arguments(unittest.TestCase):
                     call()
             with self.assertRaisesRegex(ValueError, "^the value has 17 bytes: it has 16 at most$"):
                 process.deq(1, value=bytes(17))
-            self.assertRaises(AccVio, process.deq, InBlock(0))
-            self.assertRaises(AccVio, process.deq, InBlock(2))
+            self.assertRaises(AccVioError, process.deq, InBlock(0))
+            self.assertRaises(AccVioError, process.deq, InBlock(2))
 
     def test_resources_that_are_gone(self):
         with LockManager() as manager:
@@ -100,10 +136,9 @@ class Arguments(unittest.TestCase):
     def test_a_process_that_nobody_declared(self):
         with LockManager() as manager:
             for pid in (0, 1, (1 << 32) - 1):
-                stranger = Process(manager, pid, 1)
-                for call in (stranger.pending, stranger.take, stranger.rundown, stranger.wait_for_ast):
+                stranger = Process(manager, pid)
+                for call in (stranger.pending, stranger.take, stranger.rundown):
                     self.assertRaises(VlmError, call)
-                self.assertRaises(VlmError, Held(stranger, 1, Mode.EX, None, Flags.NONE).release)
 
 
 if __name__ == "__main__":

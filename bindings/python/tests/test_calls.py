@@ -1,11 +1,9 @@
 """Each public call once, and what it tells."""
 
-import gc
 import unittest
-import weakref
 
-from vlm import (Accepted, Ast, AstKind, BadParam, Condition, DequeueFlags, Flags, InBlock, LockManager, LockView,
-                 Mode, ProcessView, Queue)
+from vlm import (Accepted, Ast, AstKind, BadParamError, ClosedError, Condition, DequeueFlags, Flags, InBlock,
+                 LockManager, LockView, Mode, ProcessView, Queue)
 
 EMPTY = bytes(16)
 
@@ -112,49 +110,19 @@ class Calls(unittest.TestCase):
         self.assertEqual([it.serial for it in self.manager.resources()], list(range(1, 20_001)))
 
     def test_asts_of_any_process_are_taken(self):
-        told = []
-        self.q.enq("A", Mode.NL, 1, completion=told.append, param=1)
+        self.q.enq("A", Mode.NL, 1, completion=7, param=1)
         self.p.enq("A", Mode.NL, 1, completion=8, param=2)
         self.assertEqual(self.manager.take_any(), (self.p.pid, Ast(AstKind.COMPLETION, 8, 2, 2)))
-        self.p.enq("A", Mode.NL, 1, completion=told.append, param=3)
-        self.assertEqual(self.manager.deliver(), 2)
-        self.assertEqual([it.param for it in told], [3, 1])
-        self.assertEqual((self.manager.take_any(), self.manager.deliver()), (None, 0))
+        self.assertEqual(self.manager.take_any(), (self.q.pid, Ast(AstKind.COMPLETION, 7, 1, 1)))
+        self.assertEqual(self.manager.take_any(), None)
 
-    def test_routines_are_called(self):
-        told = []
-        self.p.enq("A", Mode.EX, 1, completion=told.append, blocking=told.append, param=5)
-        number = self.p.take().routine
-        self.assertEqual(self.p.pending(), 0)
+    def test_asts_of_a_process_are_taken(self):
+        self.p.enq("A", Mode.EX, 1, completion=4, blocking=9, param=5)
+        self.assertEqual((self.p.pending(), self.p.take().routine, self.p.pending()), (1, 4, 0))
         self.q.enq("A", Mode.EX, 1, completion=8, param=6)
-        self.assertEqual(self.p.pending(), 1)
-        self.assertTrue(self.p.wait_for_ast(0))
-        self.assertEqual(self.manager.deliver(self.p), 1)
-        self.assertEqual(told, [Ast(AstKind.BLOCKING, number, 5, 1)])
+        self.assertEqual(self.p.take(), Ast(AstKind.BLOCKING, 9, 5, 1))
         self.p.deq(1)
-        self.assertRaises(LookupError, self.manager.deliver, self.q)
-        self.assertEqual(self.q.take(), None)
-        self.assertFalse(self.q.wait_for_ast(0))
-
-    def test_a_routine_calls_the_manager(self):
-        self.p.enq("A", Mode.EX, 1, blocking=lambda ast: self.p.deq(ast.lock))
-        self.q.enq("A", Mode.EX, 1)
-        self.assertEqual(self.manager.deliver(self.p), 1)
-        self.assertEqual(self.q.status_block(1).status, Condition.NORMAL)
-
-    def test_a_callable_is_kept_until_it_is_forgotten(self):
-        class Routine:
-            def __call__(self, ast):
-                pass
-
-        routine = Routine()
-        known = weakref.ref(routine)
-        self.p.enq("A", Mode.NL, 1, completion=routine)
-        self.manager.forget(routine)
-        del routine
-        gc.collect()
-        self.assertIsNone(known())
-        self.assertRaises(LookupError, self.manager.deliver, self.p)
+        self.assertEqual((self.p.take(), self.q.take()), (None, Ast(AstKind.COMPLETION, 8, 6, 2)))
 
     def test_a_deadlock_has_a_victim(self):
         self.p.enq("A", Mode.PR, 1)
@@ -171,63 +139,19 @@ class Calls(unittest.TestCase):
         self.manager.leave(2)
         self.assertEqual(list(self.manager.processes()), [])
 
-    def test_a_lock_is_held_in_a_with_block(self):
-        with self.p.lock("A", Mode.NL) as kept, self.p.lock("A", Mode.EX, value=b"one") as held:
-            self.assertEqual((held.mode, held.value, held.tail, held.is_valid), (Mode.EX, EMPTY, None, True))
-            self.assertEqual(repr(held), "<lock 2 at EX>")
-            held.release()
-            held.release()
-            self.assertEqual(repr(held), "<lock 2 at EX, given up>")
-            kept.convert(Mode.PW)
-            self.assertEqual((kept.mode, kept.value), (Mode.PW, b"one".ljust(16, b"\0")))
-            kept.write(b"two", b"more")
-            kept.convert(Mode.CR)
-            kept.convert(Mode.PR, flags=Flags.WIDE)
-            self.assertEqual((kept.value, kept.tail), (b"two".ljust(16, b"\0"), b"more".ljust(48, b"\0")))
-            self.assertTrue(kept.is_tail_valid)
-        self.assertEqual(list(self.manager.resources()), [])
-
-    def test_a_short_write_leaves_no_tail(self):
-        with self.p.lock("A", Mode.NL) as kept, self.q.lock("A", Mode.EX) as held:
-            held.write(b"one", b"tail")
-            held.convert(Mode.PW)
-            held.write(b"two")
-            held.convert(Mode.NL, flags=Flags.WIDE)
-            kept.convert(Mode.PR, flags=Flags.WIDE)
-            self.assertEqual(kept.value, b"two".ljust(16, b"\0"))
-            self.assertEqual((kept.is_valid, kept.is_tail_valid), (True, False))
-
-    def test_a_lock_after_an_exception_writes_nothing(self):
-        with self.p.lock("A", Mode.NL) as kept:
-            with self.assertRaises(KeyError), self.p.lock("A", Mode.EX, value=b"one"):
-                raise KeyError
-            kept.convert(Mode.PR)
-            self.assertEqual(kept.value, EMPTY)
-
-    def test_an_ended_writer_leaves_an_invalid_value(self):
-        with self.p.lock("A", Mode.NL) as kept:
-            with self.q.lock("A", Mode.EX):
-                self.q.rundown()
-            kept.convert(Mode.PR)
-            self.assertFalse(kept.is_valid)
-            self.assertFalse(kept.is_tail_valid)
-
     def test_a_manager_is_closed(self):
         with LockManager() as manager:
             process = manager.declare(blocks=1)
-            with process.lock("A", Mode.EX):
-                manager.close()
+            process.enq("A", Mode.EX, 1)
+            self.assertEqual(repr(manager), "<LockManager with 1 locks>")
         manager.close()
-        self.assertTrue(manager.is_closed)
-        self.assertRaises(BadParam, process.pending)
-        self.assertRaises(BadParam, manager.declare)
-        self.assertRaises(BadParam, manager.deliver)
-        self.assertRaises(BadParam, manager.take_any)
-        self.assertEqual(manager.find("A"), None)
-        self.assertEqual(list(manager.processes()), list(manager.resources()))
+        self.assertEqual((manager.is_closed, repr(manager)), (True, "<LockManager, closed>"))
+        for call in (process.pending, manager.declare, manager.take_any, manager.processes, manager.resources,
+                     lambda: manager.find("A")):
+            self.assertRaises(ClosedError, call)
 
     def test_keys_have_16_bytes(self):
-        self.assertRaises(BadParam, LockManager, keys=b"short")
+        self.assertRaises(BadParamError, LockManager, keys=b"short")
         self.assertRaises(TypeError, LockManager, keys=16)
 
 

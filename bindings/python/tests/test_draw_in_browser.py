@@ -10,7 +10,7 @@ import unittest
 from pathlib import Path
 from urllib.request import ProxyHandler, Request, build_opener
 
-from vlm import BadParam, Condition, LockManager, Process
+from vlm import BadParamError, Condition, LockManager, Process
 from vlm.draw.page import page
 from vlm.draw.recorder import Recorder
 from vlm.script import Session, lines_of, read_line
@@ -221,8 +221,8 @@ def blocks(session):
     for name, pid in sorted(session.names.pids.items(), key=lambda it: it[1]):
         for number in range(1, 256):
             try:
-                block = Process(session.manager, pid, 0).status_block(number)
-            except BadParam:
+                block = Process(session.manager, pid).status_block(number)
+            except BadParamError:
                 break
             if block.status or block.lock or any(block.value + block.tail):
                 status = Condition(block.status).name if block.status else "pending" if block.lock else "none"

@@ -13,7 +13,7 @@ from vlm import Condition, DequeueFlags, Flags, InBlock, LockManager, Mode, VlmE
 # Fills the lock manager until memory is refused. The program itself needs little more.
 FILLS = """
 import resource
-from vlm import InsfMem, LockManager, Mode
+from vlm import InsfMemError, LockManager, Mode
 with open("/proc/self/statm") as statm:
     taken = int(statm.read().split()[0]) * resource.getpagesize()
 manager = LockManager()
@@ -23,7 +23,7 @@ try:
         process = manager.declare(node, blocks=1)
         for number in range(65535):
             process.enq(b"%d" % number, Mode.NL, 1)
-except InsfMem:
+except InsfMemError:
     print("refused")
 """
 
@@ -38,60 +38,58 @@ class Errors(unittest.TestCase):
     def refused(self, error, call, *arguments, **named):
         with self.assertRaises(error) as raised:
             call(*arguments, **named)
-        self.assertEqual(raised.exception.condition.name.lower(), error.__name__.lower())
+        self.assertEqual(raised.exception.condition.name.lower() + "error", error.__name__.lower())
 
     def test_not_queued(self):
         self.p.enq("A", Mode.EX, 1)
-        self.refused(vlm.NotQueued, self.q.enq, "A", Mode.EX, 1, Flags.NOQUEUE)
-        self.refused(vlm.NotQueued, self.q.lock, "A", Mode.EX, flags=Flags.NOQUEUE)
+        self.refused(vlm.NotQueuedError, self.q.enq, "A", Mode.EX, 1, Flags.NOQUEUE)
 
     def test_cancel_grant(self):
-        self.refused(vlm.CancelGrant, self.p.cancel, self.p.enq("A", Mode.EX, 1).lock)
+        self.refused(vlm.CancelGrantError, self.p.cancel, self.p.enq("A", Mode.EX, 1).lock)
 
     def test_sub_locks(self):
         root = self.p.enq("A", Mode.EX, 1).lock
         self.p.enq("B", Mode.EX, 2, parent=root)
-        self.refused(vlm.SubLocks, self.p.deq, root)
+        self.refused(vlm.SubLocksError, self.p.deq, root)
 
     def test_iv_lock_id(self):
-        self.refused(vlm.IvLockId, self.p.deq, 77)
-        self.refused(vlm.IvLockId, self.p.convert, self.q.enq("A", Mode.NL, 1).lock, Mode.EX, 1)
+        self.refused(vlm.IvLockIdError, self.p.deq, 77)
+        self.refused(vlm.IvLockIdError, self.p.convert, self.q.enq("A", Mode.NL, 1).lock, Mode.EX, 1)
 
     def test_waiting_locks(self):
         self.p.enq("A", Mode.EX, 1)
         waiting = self.q.enq("A", Mode.EX, 1).lock
-        self.refused(vlm.CvtUngrant, self.q.convert, waiting, Mode.PR, 1)
-        self.refused(vlm.ParNotGrant, self.q.enq, "B", Mode.EX, 2, parent=InBlock(1))
+        self.refused(vlm.CvtUngrantError, self.q.convert, waiting, Mode.PR, 1)
+        self.refused(vlm.ParNotGrantError, self.q.enq, "B", Mode.EX, 2, parent=InBlock(1))
 
     def test_ex_depth(self):
         lock = 0
         for level in range(16):
             lock = self.p.enq(f"{level}", Mode.NL, 1, parent=lock).lock
-        self.refused(vlm.ExDepth, self.p.enq, "16", Mode.NL, 1, parent=lock)
+        self.refused(vlm.ExDepthError, self.p.enq, "16", Mode.NL, 1, parent=lock)
 
     def test_ex_enq_lm(self):
-        self.refused(vlm.ExEnqLm, self.manager.declare(quota=0, blocks=1).enq, "A", Mode.NL, 1)
+        self.refused(vlm.ExEnqLmError, self.manager.declare(quota=0, blocks=1).enq, "A", Mode.NL, 1)
 
     def test_malformed_requests(self):
-        self.refused(vlm.IvBufLen, self.p.enq, "", Mode.EX, 1)
-        self.refused(vlm.IvBufLen, self.p.enq, 32 * "x", Mode.EX, 1)
-        self.refused(vlm.Unsupported, self.p.enq, "A", Mode.EX, 1, Flags.EXPEDITE)
-        self.refused(vlm.NoSysLck, self.p.enq, "A", Mode.EX, 1, Flags.SYSTEM)
-        self.refused(vlm.AccVio, self.p.enq, "A", Mode.EX, 3)
-        self.refused(vlm.BadParam, self.p.enq, "A", 6, 1)
-        self.refused(vlm.BadParam, self.p.enq, "A", Mode.EX, 1, 1 << 15)
-        self.refused(vlm.BadParam, self.p.deq, 0, DequeueFlags.DEQALL | DequeueFlags.CANCEL)
-        self.refused(vlm.BadParam, self.manager.declare, 9)
-        self.refused(vlm.BadParam, self.manager.declare, blocks=256)
+        self.refused(vlm.IvBufLenError, self.p.enq, "", Mode.EX, 1)
+        self.refused(vlm.IvBufLenError, self.p.enq, 32 * "x", Mode.EX, 1)
+        self.refused(vlm.UnsupportedError, self.p.enq, "A", Mode.EX, 1, Flags.EXPEDITE)
+        self.refused(vlm.NoSysLckError, self.p.enq, "A", Mode.EX, 1, Flags.SYSTEM)
+        self.refused(vlm.AccVioError, self.p.enq, "A", Mode.EX, 3)
+        self.refused(vlm.BadParamError, self.p.enq, "A", 6, 1)
+        self.refused(vlm.BadParamError, self.p.enq, "A", Mode.EX, 1, 1 << 15)
+        self.refused(vlm.BadParamError, self.p.deq, 0, DequeueFlags.DEQALL | DequeueFlags.CANCEL)
+        self.refused(vlm.BadParamError, self.manager.declare, 9)
+        self.refused(vlm.BadParamError, self.manager.declare, blocks=256)
 
     def test_ended_processes(self):
         self.p.rundown()
         self.manager.leave(2)
-        self.refused(vlm.NonExpr, self.p.enq, "A", Mode.EX, 1)
-        self.refused(vlm.NonExpr, self.p.wait_for_ast)
-        self.refused(vlm.Departed, self.q.take)
-        self.refused(vlm.Departed, self.manager.search, 2)
-        self.refused(vlm.BadParam, self.p.pending)
+        self.refused(vlm.NonExprError, self.p.enq, "A", Mode.EX, 1)
+        self.refused(vlm.DepartedError, self.q.take)
+        self.refused(vlm.DepartedError, self.manager.search, 2)
+        self.refused(vlm.BadParamError, self.p.pending)
 
     def test_insf_mem(self):
         ended = subprocess.run([sys.executable, "-c", FILLS], capture_output=True, text=True, timeout=120,
@@ -108,11 +106,11 @@ class Errors(unittest.TestCase):
             self.assertIs(type(pickle.loads(pickle.dumps(error()))), error)
 
     def test_a_program_names_its_own(self):
-        class Busy(vlm.NotQueued):
+        class Busy(vlm.NotQueuedError):
             pass
 
         self.assertEqual(Busy.condition, Condition.NOTQUEUED)
-        self.assertIs(VlmError.by_condition[Condition.NOTQUEUED], vlm.NotQueued)
+        self.assertIs(VlmError.by_condition[Condition.NOTQUEUED], vlm.NotQueuedError)
 
 
 if __name__ == "__main__":

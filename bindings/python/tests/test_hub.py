@@ -12,15 +12,15 @@ from pathlib import Path
 
 import vlm
 from test_arguments import ANY, REFUSALS
-from vlm import (Answer, Ast, AstItem, AstKind, BadParam, Condition, Departed, DequeueFlags, Flags, Full, Hub, InBlock,
-                 InsfMem, IvLockId, Mode, StepKind, TurnEnded)
+from vlm import (Answer, Ast, AstItem, AstKind, BadParamError, ClosedError, Condition, DepartedError, DequeueFlags,
+                 Flags, FullError, Hub, InBlock, InsfMemError, IvLockIdError, Mode, StepKind, TurnEndedError)
 
 SECONDS = 30
 NODES, ROUNDS = 4, 50
 # Fills the journal until memory is refused, to the turns and then to a cut. With memory again nothing is lost.
 FILLS = """
 import resource
-from vlm import Hub, TurnEnded
+from vlm import Hub, TurnEndedError
 with open("/proc/self/statm") as statm:
     taken = int(statm.read().split()[0]) * resource.getpagesize()
 hub, made = Hub(1), 0
@@ -31,7 +31,7 @@ try:
         port.search()
         made += hub.turn()
         port.take()
-except TurnEnded as ended:
+except TurnEndedError as ended:
     print("refused", made + ended.made == hub.entry_count())
 try:
     hub.cut()
@@ -81,10 +81,10 @@ class Calls(unittest.TestCase):
         self.assertEqual(self.made(first, first.search), 2)
         self.assertEqual(self.made(first, first.search), 0)
         self.assertEqual(self.made(second, second.deq, q, 0, DequeueFlags.DEQALL), 0)
-        self.assertRaises(IvLockId, self.made, second, second.deq, q, 2)
+        self.assertRaises(IvLockIdError, self.made, second, second.deq, q, 2)
         self.assertEqual(self.made(first, first.rundown, p), 0)
         self.assertEqual(self.made(second, second.bye), 0)
-        self.assertRaises(Departed, self.made, second, second.rundown, q)
+        self.assertRaises(DepartedError, self.made, second, second.rundown, q)
 
     def test_asts_are_items(self):
         p, q = self.declared()
@@ -99,8 +99,8 @@ class Calls(unittest.TestCase):
     def test_the_rings_have_64_places(self):
         for _ in range(PLACES):
             self.first.search()
-        self.assertRaises(Full, self.first.search)
-        self.assertRaises(BadParam, self.hub.waiting, 3)
+        self.assertRaises(FullError, self.first.search)
+        self.assertRaises(BadParamError, self.hub.waiting, 3)
         self.assertEqual((self.hub.waiting(1), self.first.waiting()), (PLACES, 0))
         self.assertEqual(self.hub.turn(), 1)
         self.assertEqual((self.hub.waiting(1), self.first.waiting()), (PLACES - 1, 1))
@@ -109,10 +109,10 @@ class Calls(unittest.TestCase):
 
     def test_a_step_of_another_node_or_a_malformed_one_is_refused(self):
         p, q = self.declared()
-        self.assertRaises(BadParam, self.first.rundown, q)
-        self.assertRaises(BadParam, self.second.enq, p, "A", Mode.EX, 1)
-        self.assertRaises(BadParam, self.first.enq, p, "A", 6, 1)
-        self.assertRaises(BadParam, self.first.declare, blocks=256)
+        self.assertRaises(BadParamError, self.first.rundown, q)
+        self.assertRaises(BadParamError, self.second.enq, p, "A", Mode.EX, 1)
+        self.assertRaises(BadParamError, self.first.enq, p, "A", 6, 1)
+        self.assertRaises(BadParamError, self.first.declare, blocks=256)
         self.assertRaises(ValueError, self.first.rundown, 1 << 32)
         self.assertRaises(TypeError, self.first.enq, p, "A", Mode.EX, 1, completion=repr)
         self.assertEqual(self.hub.turn(), 0)
@@ -120,24 +120,24 @@ class Calls(unittest.TestCase):
     def test_a_port_is_given_once(self):
         self.assertEqual((self.hub.nodes(), self.first.node(), self.second.node()), (2, 1, 2))
         for node in (0, 1, 2, 3):
-            self.assertRaises(BadParam, self.hub.port, node)
+            self.assertRaises(BadParamError, self.hub.port, node)
         for nodes in (0, 9):
-            self.assertRaises(BadParam, Hub, nodes)
-        self.assertRaises(BadParam, Hub, 1, keys=b"short")
+            self.assertRaises(BadParamError, Hub, nodes)
+        self.assertRaises(BadParamError, Hub, 1, keys=b"short")
 
     def test_a_node_is_lost(self):
         p, _ = self.declared()
         self.first.rundown(p)
         self.hub.lost(1)
         self.assertEqual(self.answer(self.first), Answer(Condition.DEPARTED, 0))
-        self.assertRaises(Departed, self.hub.lost, 1)
-        self.assertRaises(BadParam, self.hub.lost, 9)
+        self.assertRaises(DepartedError, self.hub.lost, 1)
+        self.assertRaises(BadParamError, self.hub.lost, 9)
 
     def test_a_journal_is_cut(self):
         p, q = self.declared()
         self.made(self.first, self.first.enq, p, b"\0\xff", Mode.EX, 1, completion=8)
         self.made(self.first, self.first.deq, p, 1, value=b"one")
-        self.assertRaises(IvLockId, self.made, self.second, self.second.convert, q, 3, Mode.NL, 1)
+        self.assertRaises(IvLockIdError, self.made, self.second, self.second.convert, q, 3, Mode.NL, 1)
         self.hub.lost(2)
         count = self.hub.entry_count()
         entries = self.hub.entries()
@@ -159,11 +159,11 @@ class Calls(unittest.TestCase):
             hub.close()
             self.assertEqual(port.take(), None)
             for call in (hub.turn, hub.cut):
-                self.assertRaises(BadParam, call)
-            self.assertEqual((hub.nodes(), hub.entries()), (0, []))
-        self.assertEqual(port.node(), 0)
-        self.assertRaises(BadParam, port.take)
-        self.assertRaises(BadParam, port.search)
+                self.assertRaises(ClosedError, call)
+            self.assertRaises(ClosedError, hub.nodes)
+            self.assertRaises(ClosedError, hub.entries)
+        for call in (port.node, port.take, port.search):
+            self.assertRaises(ClosedError, call)
         port.close()
 
     def test_any_argument_is_answered(self):
@@ -181,7 +181,7 @@ class Calls(unittest.TestCase):
             try:
                 call(*given, **by_name)
                 made.add(call.__name__)
-            except (Full, *REFUSALS):
+            except (FullError, *REFUSALS):
                 pass
             self.hub.turn()
             port.take()
@@ -189,9 +189,9 @@ class Calls(unittest.TestCase):
         self.assertGreater(len(self.hub.cut()), 100)
 
     def test_errors(self):
-        error = pickle.loads(pickle.dumps(TurnEnded(3)))
-        self.assertEqual((error.made, error.condition, isinstance(error, InsfMem)), (3, Condition.INSFMEM, True))
-        self.assertIs(vlm.VlmError.by_condition[Condition.INSFMEM], InsfMem)
+        error = pickle.loads(pickle.dumps(TurnEndedError(3)))
+        self.assertEqual((error.made, error.condition, isinstance(error, InsfMemError)), (3, Condition.INSFMEM, True))
+        self.assertIs(vlm.VlmError.by_condition[Condition.INSFMEM], InsfMemError)
 
 
 class Memory(unittest.TestCase):

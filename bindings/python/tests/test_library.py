@@ -7,6 +7,7 @@ import tempfile
 import unittest
 from pathlib import Path
 
+import vlm
 from vlm._library import LIBRARY
 
 FOLDER = Path(__file__).resolve().parents[1]
@@ -27,6 +28,7 @@ class Library(unittest.TestCase):
         self.addCleanup(self.room.cleanup)
         self.lib = Path(self.room.name) / "lib"
         self.lib.mkdir()
+        vlm.LockManager().close()
         self.file = Path(LIBRARY._name)
         if not self.file.is_absolute():
             self.skipTest("the library is where the loader looks, and these tests need its file")
@@ -43,6 +45,12 @@ class Library(unittest.TestCase):
         (self.lib / "libvlm.so.0.2").symlink_to(self.file)
         self.assertEqual(imported(LD_LIBRARY_PATH=str(self.lib)), "imported\n")
         self.assertEqual(imported(LD_LIBRARY_PATH=str(self.lib), VLM_PREFIX="/nowhere"), "imported\n")
+
+    def test_a_program_that_makes_no_call_needs_no_library(self):
+        program = "import vlm.script, vlm.draw.command; print(vlm.script.lines_of(b'show'))"
+        ended = subprocess.run([sys.executable, "-c", program], capture_output=True, text=True, timeout=60, cwd="/",
+                               env={**os.environ, "PYTHONPATH": str(FOLDER), "VLM_LIBRARY": "/nowhere/libvlm.so"})
+        self.assertEqual((ended.stdout, ended.stderr), ("[b'show']\n", ""))
 
     def test_it_is_not_there(self):
         text = imported(VLM_LIBRARY="/nowhere/libvlm.so.0.2")

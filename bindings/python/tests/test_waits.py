@@ -11,130 +11,126 @@ from concurrent.futures import ThreadPoolExecutor
 from contextlib import suppress
 from pathlib import Path
 
-from vlm import (Abort, BadParam, Cancel, Deadlock, Departed, LockManager, Mode, NonExpr, Queue, TimedOut)
-from vlm._wakes import Wait
+from vlm import (AbortError, CancelError, ClosedError, DeadlockError, DepartedError, ExEnqLmError, Mode, NonExprError,
+                 Shared, TimedOutError)
 
 EXAMPLES = Path(__file__).resolve().parents[1] / "examples"
 SECONDS = 30
 # A wait that is woken ends by then. One that is not ends late, with the same result.
 SOON = SECONDS / 2
 # How often a time-out races with a grant.
-RACES = 3000
+RACES = 1000
 
 
 class Waits(unittest.TestCase):
     def setUp(self):
         self.pool = ThreadPoolExecutor(4)
         self.addCleanup(self.pool.shutdown)
-        self.manager = LockManager()
+        self.shared = Shared()
         # (it comes before the shutdown, and ends waits)
-        self.addCleanup(self.manager.close)
-        self.p = self.manager.declare(node=1, blocks=4)
-        self.q = self.manager.declare(node=2, blocks=4)
+        self.addCleanup(self.shared.close)
+        self.p = self.shared.declare(node=1)
+        self.q = self.shared.declare(node=2)
 
-    def waiting_on(self, resource):
-        """The locks that wait on a resource."""
-        return list(self.manager.rows(resource, Queue.WAITING))
+    def count(self, name="waiting"):
+        return self.shared.counters()[name]
 
-    def waiting(self, *arguments, **named):
-        """Asks for a lock in another thread. Returns when it waits."""
-        asked = self.pool.submit(self.q.lock, *arguments, **named)
-        while not asked.done() and not any(self.waiting_on(it) for it in self.manager.resources()):
+    def waiting(self, call, *arguments, **named):
+        """Makes a call in another thread. Returns when one more request waits."""
+        count = self.count()
+        asked = self.pool.submit(call, *arguments, **named)
+        while not asked.done() and self.count() == count:
             time.sleep(0.001)
         return asked
 
+    def lock_of(self, client):
+        """The last lock of a process."""
+        return self.shared.look(lambda manager: [it.lock for it in manager.locks_of(client)][-1])
+
     def test_a_wait_ends_with_the_grant(self):
         with self.p.lock("A", Mode.NL), self.p.lock("A", Mode.EX, value=b"handed over"):
-            asked = self.waiting("A", Mode.PR, SECONDS)
+            asked = self.waiting(self.q.lock, "A", Mode.PR, SECONDS)
         with asked.result(SOON) as held:
             self.assertEqual(held.value, b"handed over".ljust(16, b"\0"))
 
     def test_a_wait_ends_with_the_time(self):
         with self.p.lock("A", Mode.EX):
-            self.assertRaises(TimedOut, self.q.lock, "A", Mode.EX, 0.01)
+            self.assertRaises(TimedOutError, self.q.lock, "A", Mode.EX, 0.01)
             self.assertRaises(TimeoutError, self.q.lock, "A", Mode.EX, 0)
-            resource, = self.manager.resources()
-            self.assertEqual(self.waiting_on(resource), [])
+            self.assertEqual((self.count(), self.count("locks")), (0, 1))
 
     def test_a_conversion_that_waits_too_long_leaves_the_lock_as_it_was(self):
         with self.p.lock("A", Mode.PR), self.q.lock("A", Mode.PR) as held:
-            self.assertRaises(TimedOut, held.convert, Mode.EX, 0.01)
-            self.assertEqual(held.mode, Mode.PR)
-            resource, = self.manager.resources()
-            self.assertEqual({it.held for it in self.manager.rows(resource, Queue.GRANTED)}, {Mode.PR})
+            self.assertRaises(TimedOutError, held.convert, Mode.EX, 0.01)
+            self.assertEqual((held.mode, self.count(), self.count("locks")), (Mode.PR, 0, 2))
 
     def test_a_conversion_waits_for_its_grant(self):
         with self.q.lock("A", Mode.PR) as held:
             with self.p.lock("A", Mode.PR):
-                asked = self.pool.submit(held.convert, Mode.EX, SECONDS)
-                while not self.manager.queued_count():
-                    time.sleep(0.001)
+                asked = self.waiting(held.convert, Mode.EX, SECONDS)
             asked.result(SOON)
             self.assertEqual(held.mode, Mode.EX)
 
     def test_a_deadlock_ends_a_wait(self):
         with self.p.lock("A", Mode.EX), self.q.lock("B", Mode.EX):
-            asked = self.waiting("A", Mode.EX, SECONDS)
+            asked = self.waiting(self.q.lock, "A", Mode.EX, SECONDS)
             other = self.pool.submit(self.p.lock, "B", Mode.EX, SECONDS)
-            while not self.manager.search(1):
+            while not self.shared.search():
                 time.sleep(0.001)
-            self.assertRaises(Deadlock, other.result, SOON)
+            self.assertRaises(DeadlockError, other.result, SOON)
             self.assertFalse(asked.done())
         asked.result(SOON).release()
 
     def test_a_lock_that_is_given_up_ends_its_wait(self):
         with self.p.lock("A", Mode.EX):
-            asked = self.waiting("A", Mode.EX)
-            self.q.deq(self.q.status_block(4).lock)
-            self.assertRaises(Abort, asked.result, SOON)
+            asked = self.waiting(self.q.lock, "A", Mode.EX)
+            self.q.deq(self.lock_of(self.q))
+            self.assertRaises(AbortError, asked.result, SOON)
 
     def test_a_lock_behind_another_is_given_up(self):
         with self.p.lock("A", Mode.EX):
-            first, second = [self.waiting_also("A", Mode.EX, SECONDS) for _ in range(2)]
-            resource, = self.manager.resources()
-            self.q.deq(self.waiting_on(resource)[1].lock)
-            self.assertRaises(Abort, second.result, SOON)
+            first, second = [self.waiting(self.q.lock, "A", Mode.EX, SECONDS) for _ in range(2)]
+            self.q.deq(self.lock_of(self.q))
+            self.assertRaises(AbortError, second.result, SOON)
         first.result(SOON).release()
 
     def test_a_cancelled_conversion_ends_its_wait(self):
         with self.p.lock("A", Mode.PR), self.q.lock("A", Mode.PR) as held:
-            asked = self.pool.submit(held.convert, Mode.EX, SECONDS)
-            resource, = self.manager.resources()
-            while not list(self.manager.rows(resource, Queue.CONVERSION)):
-                time.sleep(0.001)
+            asked = self.waiting(held.convert, Mode.EX, SECONDS)
             self.q.cancel(held.lock)
-            self.assertRaises(Cancel, asked.result, SOON)
+            self.assertRaises(CancelError, asked.result, SOON)
 
     def test_the_end_of_the_process_ends_a_wait(self):
-        for end, error in ((self.q.rundown, NonExpr), (lambda: self.manager.leave(2), Departed)):
+        for end, error in ((self.q.rundown, NonExprError), (lambda: self.shared.leave(2), DepartedError)):
             with self.p.lock("A", Mode.EX):
-                asked = self.waiting("A", Mode.EX)
+                asked = self.waiting(self.q.lock, "A", Mode.EX)
                 end()
                 self.assertRaises(error, asked.result, SOON)
-            if error is NonExpr:
-                self.q = self.manager.declare(node=2, blocks=4)
+            if error is NonExprError:
+                self.q = self.shared.declare(node=2)
+
+    def test_all_waits_of_a_process_end_at_once(self):
+        with self.p.lock("A", Mode.EX):
+            asked = [self.waiting(self.q.lock, "A", Mode.EX) for _ in range(3)]
+            self.assertEqual(self.q.cancel_all(), 3)
+            for one in asked:
+                self.assertRaises(AbortError, one.result, SOON)
 
     def test_closing_ends_a_wait(self):
-        self.p.lock("A", Mode.EX)
-        asked = self.waiting("A", Mode.EX)
-        told = self.pool.submit(self.p.wait_for_ast)
-        self.manager.close()
-        self.assertRaises(BadParam, asked.result, SOON)
-        self.assertRaises(BadParam, told.result, SOON)
+        held = self.p.lock("A", Mode.EX)
+        asked = self.waiting(self.q.lock, "A", Mode.EX)
+        self.shared.close()
+        self.assertRaises(DepartedError, asked.result, SOON)
+        self.assertRaises(ClosedError, self.p.lock, "A", Mode.EX)
+        self.assertRaises(ClosedError, held.release)
+        self.assertEqual(repr(self.shared), "<Shared, closed>")
 
-    def test_an_ast_ends_a_wait(self):
-        told = []
-        with self.p.lock("A", Mode.EX, blocking=told.append) as held:
-            wait = self.pool.submit(self.p.wait_for_ast, SECONDS)
-            asked = self.waiting("A", Mode.EX, SECONDS)
-            self.assertTrue(wait.result(SOON))
-            self.manager.deliver(self.p)
-            self.assertEqual([it.lock for it in told], [held.lock])
+    def test_a_process_has_as_many_requests_as_it_declared(self):
+        client = self.shared.declare(requests=1)
+        with self.p.lock("A", Mode.EX):
+            asked = self.waiting(client.lock, "A", Mode.EX)
+            self.assertRaises(ExEnqLmError, client.lock, "B", Mode.EX)
         asked.result(SOON).release()
-
-    def test_each_wait_takes_a_status_block(self):
-        process = self.manager.declare(blocks=0)
-        self.assertRaises(RuntimeError, process.lock, "A", Mode.EX)
 
     def test_time_outs_that_are_no_times(self):
         for timeout in (-1, float("nan"), -0.5):
@@ -150,23 +146,36 @@ class Waits(unittest.TestCase):
         with self.p.lock("A", Mode.EX):
             signal.setitimer(signal.ITIMER_REAL, 0.05)
             self.assertRaises(KeyboardInterrupt, self.q.lock, "A", Mode.EX, SECONDS)
-            resource, = self.manager.resources()
-            self.assertEqual(self.waiting_on(resource), [])
+            self.assertEqual((self.count(), self.count("locks")), (0, 1))
+
+    def test_the_main_thread_waits(self):
+        for end, error in ((lambda: self.q.rundown(), NonExprError), (lambda: self.q.cancel_all(), AbortError)):
+            with self.p.lock("A", Mode.EX):
+                later = self.pool.submit(lambda: (time.sleep(0.02), end()))
+                self.assertRaises(error, self.q.lock, "A", Mode.EX, SECONDS)
+                later.result(SOON)
+            self.q = self.shared.declare(node=2)
+        held = self.p.lock("A", Mode.EX)
+        later = self.pool.submit(lambda: (time.sleep(0.02), held.release()))
+        with self.q.lock("A", Mode.PR, SECONDS) as other, self.p.lock("A", Mode.PR):
+            self.assertRaises(TimedOutError, other.convert, Mode.EX, 0.01)
+        later.result(SOON)
+        self.assertEqual((self.count(), self.count("locks")), (0, 0))
 
     def test_a_time_out_races_with_a_grant(self):
         granted = timed_out = 0
         for _ in range(RACES):
             held = self.p.lock("A", Mode.EX)
-            timeout = random.uniform(0, 0.0006)
+            timeout, seconds = 0.001, random.uniform(0, 0.0024)
             asked = self.pool.submit(self.q.lock, "A", Mode.EX, timeout)
-            time.sleep(timeout)
+            time.sleep(seconds)
             held.release()
             try:
                 asked.result(SOON).release()
                 granted += 1
-            except TimedOut:
+            except TimedOutError:
                 timed_out += 1
-            self.assertEqual(list(self.manager.resources()), [])
+            self.assertEqual(self.count("locks"), 0)
         self.assertGreater(granted, 0)
         self.assertGreater(timed_out, 0)
 
@@ -174,7 +183,7 @@ class Waits(unittest.TestCase):
         counted = [0]
 
         def count():
-            process = self.manager.declare(blocks=1)
+            process = self.shared.declare()
             for _ in range(300):
                 with process.lock("counter", Mode.EX, SECONDS):
                     before = counted[0]
@@ -200,41 +209,18 @@ class Waits(unittest.TestCase):
         for made in [self.pool.submit(use) for _ in range(4)]:
             made.result()
 
-    def test_a_step_wakes_those_alone_whose_waits_are_over(self):
-        looks = []
-        is_woken = Wait.is_woken
-        self.addCleanup(setattr, Wait, "is_woken", is_woken)
-        Wait.is_woken = lambda wait: looks.append(is_woken(wait)) or looks[-1]
-        held = self.p.lock("A", Mode.EX)
-        asked = [self.waiting_also("A", Mode.EX, SECONDS) for _ in range(3)]
-        looks.clear()
-        self.p.lock("B", Mode.EX).release()
-        self.assertEqual(looks, [])
-        held.release()
-        self.assertEqual(looks[:2], [True, False])
-        for one in asked:
-            one.result(SOON).release()
-
-    def waiting_also(self, *arguments):
-        """Asks for a lock in another thread. Returns when one more request waits."""
-        count = self.manager.queued_count()
-        asked = self.pool.submit(self.q.lock, *arguments)
-        while self.manager.queued_count() == count:
-            time.sleep(0.001)
-        return asked
-
     def test_no_wait_is_forgotten(self):
         def use(seed):
-            process, chance = self.manager.declare(blocks=2), random.Random(seed)
+            process, chance = self.shared.declare(), random.Random(seed)
             for _ in range(150):
                 with process.lock(f"{chance.randrange(3)}", chance.choice(list(Mode)), SECONDS) as held:
-                    with suppress(TimedOut):
+                    with suppress(TimedOutError):
                         held.convert(chance.choice(list(Mode)), chance.choice((0, 0.002)))
 
         with ThreadPoolExecutor(12) as pool:
             for made in [pool.submit(use, seed) for seed in range(12)]:
                 made.result()
-        self.assertEqual(self.manager.lock_count(), 0)
+        self.assertEqual(self.count("locks"), 0)
 
     def test_the_cache_protocol(self):
         ended = subprocess.run([sys.executable, EXAMPLES / "cache.py"], capture_output=True, text=True, timeout=120,

@@ -1,27 +1,35 @@
 """The lock manager of OpenVMS ($ENQ, $DEQ): its proved library, for Python. Nothing of this package is proved.
 
-    with LockManager() as manager:
-        process = manager.declare(node=1, quota=9, blocks=1)
-        with process.lock("A", Mode.EX, timeout=1.0) as held:
+    with Shared() as shared:
+        client = shared.declare()
+        with client.lock("A", Mode.EX, timeout=1.0) as held:
             held.write(b"version 7")
 
-docs/LIBRARY.md of the repository says what each call answers. Importing this finds the shared library: the file that
+`Shared` is for threads and asyncio, `LockManager` has the calls of the library, `Hub` is for threads that never wait.
+docs/LIBRARY.md of the repository says what each call answers. The first call finds the shared library: the file that
 the environment variable VLM_LIBRARY names, else libvlm.so.0.2 in the folder lib of VLM_PREFIX, else where the loader
 looks.
 """
 
-from .errors import (Abort, AccVio, BadParam, Cancel, CancelGrant, CvtUngrant, Deadlock, Departed, ExDepth, ExEnqLm,
-                     Full, InsfMem, IvBufLen, IvLockId, NoLockId, NoSysLck, NonExpr, NotQueued, ParNotGrant, SubLocks,
-                     TimedOut, TurnEnded, Unsupported, VlmError)
+from .clients import AsyncLock, Client
+from .errors import (AbortError, AccVioError, BadParamError, CancelError, CancelGrantError, ClosedError,
+                     CvtUngrantError, DeadlockError, DepartedError, ExDepthError, ExEnqLmError, FullError,
+                     InsfMemError, IvBufLenError, IvLockIdError, NoLockIdError, NoSysLckError, NonExprError,
+                     NotQueuedError, ParNotGrantError, SubLocksError, TimedOutError, TurnEndedError, UnsupportedError,
+                     VlmError)
 from .held import Held
 from .hub import Answer, AstItem, Entry, Hub, Port, StepKind
 from .manager import LockManager
 from .process import Process
-from .values import (Accepted, Ast, AstKind, Condition, DequeueFlags, Flags, InBlock, LockView, Mode, ProcessView,
-                     Queue, Resource, StatusBlock)
+from .shared import Deadlock, Shared, Wait
+from .values import (Accepted, Ast, AstKind, Condition, DequeueFlags, Event, Flags, InBlock, LockView, Mode,
+                     ProcessView, Queue, Resource, StatusBlock)
 
-__all__ = ["Abort", "AccVio", "Accepted", "Answer", "Ast", "AstItem", "AstKind", "BadParam", "Cancel", "CancelGrant",
-           "Condition", "CvtUngrant", "Deadlock", "Departed", "DequeueFlags", "Entry", "ExDepth", "ExEnqLm", "Flags",
-           "Full", "Held", "Hub", "InBlock", "InsfMem", "IvBufLen", "IvLockId", "LockManager", "LockView", "Mode",
-           "NoLockId", "NoSysLck", "NonExpr", "NotQueued", "ParNotGrant", "Port", "Process", "ProcessView", "Queue",
-           "Resource", "StatusBlock", "StepKind", "SubLocks", "TimedOut", "TurnEnded", "Unsupported", "VlmError"]
+__all__ = ["AbortError", "AccVioError", "Accepted", "Answer", "Ast", "AstItem", "AstKind", "AsyncLock",
+           "BadParamError", "CancelError", "CancelGrantError", "Client", "ClosedError", "Condition", "CvtUngrantError",
+           "Deadlock", "DeadlockError", "DepartedError", "DequeueFlags", "Entry", "Event", "ExDepthError",
+           "ExEnqLmError", "Flags", "FullError", "Held", "Hub", "InBlock", "InsfMemError", "IvBufLenError",
+           "IvLockIdError", "LockManager", "LockView", "Mode", "NoLockIdError", "NoSysLckError", "NonExprError",
+           "NotQueuedError", "ParNotGrantError", "Port", "Process", "ProcessView", "Queue", "Resource", "Shared",
+           "StatusBlock", "StepKind", "SubLocksError", "TimedOutError", "TurnEndedError", "UnsupportedError",
+           "VlmError", "Wait"]

@@ -1,8 +1,8 @@
-"""Finds the shared library, and declares its structs and calls as include/vlm.h and include/vlm_hub.h have them."""
+"""Finds the shared library at its first call, and declares its structs and calls as its headers have them."""
 
 import ctypes
 import os
-from ctypes import POINTER, c_bool, c_char_p, c_size_t, c_uint8, c_uint32, c_uint64, c_void_p
+from ctypes import CFUNCTYPE, POINTER, c_bool, c_char_p, c_int, c_size_t, c_uint8, c_uint32, c_uint64, c_void_p
 from pathlib import Path
 from typing import TYPE_CHECKING, Any, Dict, List, Tuple, Type
 
@@ -69,8 +69,38 @@ Line = _struct("Line", 464, *_words("kind fault number name_len resource_len"), 
                ("resource", c_uint8 * 32), ("declaration", Declaration), ("setting", Setting), ("request", Request),
                ("dequeue", Dequeue), _reserved(2))
 Cut = _struct("Cut", 32, *_words("entry_size"), ("base", c_uint64), ("count", c_uint64), _reserved(2))
-# What a post answers that found no free place.
-FULL = 256
+# What a post answers that found no free place, and a wait that has lasted as long as it may.
+FULL, TIMEOUT = 256, 100
+
+# The layer for threads: the functions that it calls, and its structs.
+# 64 bytes of a value block, and a label.
+Value: Any = c_uint8 * 64
+Label: Any = c_uint8 * 32
+ThreadsEvent = _struct("ThreadsEvent", 92, *_words("kind pid lkid status value_len"), ("value", c_uint8 * 64),
+                       *_words("wanted"))
+ThreadsWait = _struct("ThreadsWait", 236, *_words("milliseconds"), ("waits", Lock), ("blocks", Lock),
+                      *_words("name_len"), ("name", c_uint8 * 32), ("waits_label", Label), ("blocks_label", Label))
+ThreadsDeadlock = _struct("ThreadsDeadlock", 3792, *_words("victim pid length"), ("waits", ThreadsWait * 16))
+ROUTINE: Any = CFUNCTYPE(None, c_void_p, POINTER(ThreadsEvent))
+RELEASED: Any = CFUNCTYPE(None, c_void_p, c_void_p)
+WAIT_HOOK: Any = CFUNCTYPE(None, c_void_p, POINTER(ThreadsWait))
+DEADLOCK_HOOK: Any = CFUNCTYPE(None, c_void_p, POINTER(ThreadsDeadlock))
+READER: Any = CFUNCTYPE(None, c_void_p, POINTER(Handle))
+ThreadsOptions = _struct("ThreadsOptions", 72, *_words("delivery search_milliseconds has_keys"), ("keys", c_uint8 * 16),
+                         *_words("victim_milliseconds long_milliseconds"), ("deadlock", DEADLOCK_HOOK),
+                         ("deadlock_context", c_void_p), ("long_wait", WAIT_HOOK), ("long_wait_context", c_void_p))
+ThreadsDeclaration = _struct("ThreadsDeclaration", 64, *_words("node group syslck quota requests tied own_queue"),
+                             ("label", Label))
+ThreadsRequest = _struct("ThreadsRequest", 80, *_words("pid mode flags lock milliseconds"), ("value", c_void_p),
+                         ("completion", ROUTINE), ("completion_context", c_void_p), ("blocking", ROUTINE),
+                         ("blocking_context", c_void_p), *_words("lkid status"), ("released", RELEASED))
+ThreadsDequeue = _struct("ThreadsDequeue", 32, *_words("pid flags lock"), ("value", c_void_p), *_words("wide"))
+# The counters, in their order. Those of refused requests and of times have 32 entries.
+COUNTERS = ("requests granted_at_once waited refused granted_later timed_out cancelled victims run_down dequeues"
+            " searches completions blockings dropped times microseconds processes locks events waiting"
+            " most_waiting").split()
+ThreadsCounters = _struct("ThreadsCounters", 672, *_words("reserved"),
+                          *((it, c_uint64 * 32 if it in ("refused", "times") else c_uint64) for it in COUNTERS))
 
 _NUMBER = POINTER(c_uint32)
 # What each call takes after the handle. Each answers a condition value, except those in _ANSWERS.
@@ -129,6 +159,38 @@ _CALLS: Dict[str, List[Any]] = {
     "vlm_port_take": [POINTER(Item)],
     "vlm_port_close": [],
 }
+# The calls of the layer, which take it first, and those that print, which take a stream last.
+_LAYER_CALLS: Dict[str, List[Any]] = {
+    "vlm_threads_open": [POINTER(c_void_p)],
+    "vlm_threads_stop": [],
+    "vlm_threads_close": [],
+    "vlm_threads_declare": [POINTER(ThreadsDeclaration), _NUMBER],
+    "vlm_threads_rundown": [c_uint32],
+    "vlm_threads_leave": [c_uint32],
+    "vlm_threads_label": [c_uint32, POINTER(Label)],
+    "vlm_threads_enq": [POINTER(ThreadsRequest), c_char_p, c_size_t],
+    "vlm_threads_convert": [POINTER(ThreadsRequest)],
+    "vlm_threads_start_enq": [POINTER(ThreadsRequest), c_char_p, c_size_t],
+    "vlm_threads_start_convert": [POINTER(ThreadsRequest)],
+    "vlm_threads_deq": [POINTER(ThreadsDequeue)],
+    "vlm_threads_cancel": [c_uint32, _NUMBER],
+    "vlm_threads_fd": [POINTER(c_int)],
+    "vlm_threads_dispatch": [_NUMBER],
+    "vlm_threads_process_fd": [c_uint32, POINTER(c_int)],
+    "vlm_threads_process_dispatch": [c_uint32, _NUMBER],
+    "vlm_threads_settle": [],
+    "vlm_threads_search": [_NUMBER],
+    "vlm_threads_look": [READER, c_void_p],
+    "vlm_threads_read_counters": [POINTER(ThreadsCounters)],
+    "vlm_threads_print": [c_void_p],
+    "vlm_threads_print_prometheus": [c_void_p],
+    "vlm_threads_print_wait": [c_void_p],
+    "vlm_threads_print_deadlock": [c_void_p],
+}
+# What stands in the place of the layer.
+_FIRST = {"vlm_threads_open": POINTER(ThreadsOptions), "vlm_threads_print": POINTER(ThreadsCounters),
+          "vlm_threads_print_prometheus": POINTER(ThreadsCounters), "vlm_threads_print_wait": POINTER(ThreadsWait),
+          "vlm_threads_print_deadlock": POINTER(ThreadsDeadlock)}
 _ANSWERS = {"vlm_close": None, "vlm_process_count": c_size_t, "vlm_resource_count": c_size_t,
             "vlm_lock_count": c_size_t, "vlm_queued_count": c_size_t, "vlm_hub_nodes": c_size_t,
             "vlm_hub_entries": c_size_t, "vlm_hub_close": None, "vlm_port_close": None}
@@ -147,6 +209,9 @@ def _declared(library: ctypes.CDLL) -> ctypes.CDLL:
         call = getattr(library, name)
         call.argtypes = [POINTER(Handle), *arguments]
         call.restype = _ANSWERS.get(name, c_uint32)
+    for name, arguments in _LAYER_CALLS.items():
+        call = getattr(library, name)
+        call.argtypes, call.restype = [_FIRST.get(name, c_void_p), *arguments], c_uint32
     # (it has no handle)
     library.vlm_read_line.argtypes = [c_char_p, c_size_t, POINTER(Line)]
     return library
@@ -162,4 +227,18 @@ def _loaded() -> ctypes.CDLL:
             f"name the folder PREFIX by VLM_PREFIX, or the file itself by VLM_LIBRARY") from None
 
 
-LIBRARY = _loaded()
+class _Library:
+    """The calls of the library, which is found at the first one."""
+
+    def __getattr__(self, name: str) -> Any:
+        library = _loaded()
+        for call in (*_CALLS, *_LAYER_CALLS, "vlm_read_line"):
+            setattr(self, call, getattr(library, call))
+        self._name = library._name
+        return getattr(self, name) if name in self.__dict__ else getattr(library, name)
+
+
+LIBRARY = _Library()
+# The C library, whose streams the library prints to.
+C = ctypes.CDLL(None)
+address_of = ctypes.addressof

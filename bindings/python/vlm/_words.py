@@ -5,7 +5,7 @@ from typing import Optional
 
 from . import _library as raw
 from ._arguments import lock_named, mark, part, word
-from .errors import BadParam
+from .errors import BadParamError
 from .values import DequeueFlags, Which
 
 # How many bytes a value part and a tail have.
@@ -16,7 +16,7 @@ def options(keys: Optional[bytes]) -> raw.Sized:
     """The options of a lock manager that hashes names by these 16 bytes of keys, or without them by random ones."""
     keys = os.urandom(16) if keys is None else bytes(memoryview(keys))
     if len(keys) != 16:
-        raise BadParam
+        raise BadParamError
     words = raw.Options(version=raw.VERSION, has_keys=1)
     words.keys[:] = keys
     return words

@@ -21,67 +21,71 @@ class VlmError(Exception):
         return f"{self.condition.name}: {self.__doc__ or ''}"
 
 
-class TimedOut(TimeoutError):
+class TimedOutError(TimeoutError):
     """A wait for a grant took too long. The request was cancelled."""
 
 
-class Full(Exception):
+class ClosedError(ValueError):
+    """The lock manager, hub or port is closed."""
+
+
+class FullError(Exception):
     """The port knows no free place, and nothing was posted. Take items, and post again."""
 
 
-class NotQueued(VlmError, condition=Condition.NOTQUEUED):
+class NotQueuedError(VlmError, condition=Condition.NOTQUEUED):
     """With NOQUEUE, the request cannot be granted at once."""
 
 
-class Abort(VlmError, condition=Condition.ABORT):
+class AbortError(VlmError, condition=Condition.ABORT):
     """The lock was given up while its request was queued."""
 
 
-class Cancel(VlmError, condition=Condition.CANCEL):
+class CancelError(VlmError, condition=Condition.CANCEL):
     """The conversion was cancelled."""
 
 
-class Deadlock(VlmError, condition=Condition.DEADLOCK):
+class DeadlockError(VlmError, condition=Condition.DEADLOCK):
     """The request was the victim of a search for a deadlock."""
 
 
-class CancelGrant(VlmError, condition=Condition.CANCELGRANT):
+class CancelGrantError(VlmError, condition=Condition.CANCELGRANT):
     """The lock is granted: there is no request to cancel."""
 
 
-class SubLocks(VlmError, condition=Condition.SUBLOCKS):
+class SubLocksError(VlmError, condition=Condition.SUBLOCKS):
     """The lock has sublocks."""
 
 
-class IvLockId(VlmError, condition=Condition.IVLOCKID):
+class IvLockIdError(VlmError, condition=Condition.IVLOCKID):
     """No lock of the process has this identification."""
 
 
-class CvtUngrant(VlmError, condition=Condition.CVTUNGRANT):
+class CvtUngrantError(VlmError, condition=Condition.CVTUNGRANT):
     """The lock waits or converts already."""
 
 
-class ParNotGrant(VlmError, condition=Condition.PARNOTGRANT):
+class ParNotGrantError(VlmError, condition=Condition.PARNOTGRANT):
     """The parent lock waits."""
 
 
-class ExDepth(VlmError, condition=Condition.EXDEPTH):
+class ExDepthError(VlmError, condition=Condition.EXDEPTH):
     """The parent lock's resource is at the lowest level."""
 
 
-class ExEnqLm(VlmError, condition=Condition.EXENQLM):
+class ExEnqLmError(VlmError, condition=Condition.EXENQLM):
     """The process has as many locks as its quota."""
 
 
-class NoLockId(VlmError, condition=Condition.NOLOCKID):
+class NoLockIdError(VlmError, condition=Condition.NOLOCKID):
     """The numbers of locks or requests are used up."""
 
 
-class InsfMem(VlmError, condition=Condition.INSFMEM):
+class InsfMemError(VlmError, condition=Condition.INSFMEM):
     """Memory was refused."""
 
 
-class TurnEnded(InsfMem):
+class TurnEndedError(InsfMemError):
     """The journal got no more memory after `made` entries of a turn. No post is lost, and another turn may go on."""
 
     def __init__(self, made: int) -> None:
@@ -89,45 +93,49 @@ class TurnEnded(InsfMem):
         self.made = made
 
 
-class IvBufLen(VlmError, condition=Condition.IVBUFLEN):
+class IvBufLenError(VlmError, condition=Condition.IVBUFLEN):
     """The name has no byte, or more than 31."""
 
 
-class BadParam(VlmError, condition=Condition.BADPARAM):
-    """An argument is malformed, there is no such thing, or the lock manager is closed."""
+class BadParamError(VlmError, condition=Condition.BADPARAM):
+    """An argument is malformed, or there is no such thing."""
 
 
-class Unsupported(VlmError, condition=Condition.UNSUPPORTED):
+class UnsupportedError(VlmError, condition=Condition.UNSUPPORTED):
     """EXPEDITE goes with mode NL alone."""
 
 
-class NoSysLck(VlmError, condition=Condition.NOSYSLCK):
+class NoSysLckError(VlmError, condition=Condition.NOSYSLCK):
     """The process lacks the privilege SYSLCK."""
 
 
-class AccVio(VlmError, condition=Condition.ACCVIO):
+class AccVioError(VlmError, condition=Condition.ACCVIO):
     """The process has no such status block."""
 
 
-class NonExpr(VlmError, condition=Condition.NONEXPR):
+class NonExprError(VlmError, condition=Condition.NONEXPR):
     """No living process has this identification."""
 
 
-class Departed(VlmError, condition=Condition.DEPARTED):
+class DepartedError(VlmError, condition=Condition.DEPARTED):
     """The node has departed."""
 
 
 _SUCCESSES = {it.value: it for it in (Condition.NORMAL, Condition.SYNCH)}
+# What waits and posts answer beside the condition values.
+_TIMEOUT, _FULL = 100, 256
 
 
-def error_of(condition: Condition) -> VlmError:
-    """The exception of a condition that is not a success."""
-    return VlmError.by_condition[condition]()
+def error_of(status: int) -> Exception:
+    """The exception of an answer that is not a success."""
+    if status in (_TIMEOUT, _FULL):
+        return TimedOutError() if status == _TIMEOUT else FullError()
+    return VlmError.by_condition[Condition(status)]()
 
 
 def checked(status: int) -> Condition:
     """The condition of an answer. Raises its exception if it is a refusal."""
     condition = _SUCCESSES.get(status)
     if condition is None:
-        raise error_of(Condition(status))
+        raise error_of(status)
     return condition

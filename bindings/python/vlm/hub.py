@@ -1,22 +1,17 @@
 """A hub and its ports: threads of several nodes share one lock manager, and no call of a node waits."""
 
-import threading
-import weakref
 from ctypes import Structure, c_size_t
 from dataclasses import dataclass
 from enum import IntEnum
-from types import TracebackType
-from typing import Any, Dict, Iterable, List, Optional, Type, TypeVar, Union
+from typing import Any, Dict, Iterable, List, Optional, Union
 
 from . import _library as raw
 from . import _words
 from ._arguments import name_bytes, word
-from .errors import Full, TurnEnded, checked
+from ._owner import Owner
+from .errors import TurnEndedError, checked
 from .process import ast_of
 from .values import Ast, Condition, DequeueFlags, Flags, Mode, Name, Which
-
-_T = TypeVar("_T", bound="_Owner")
-
 
 class StepKind(IntEnum):
     """A kind of step in a journal."""
@@ -68,35 +63,7 @@ class Entry:
     ast: Optional[Ast]
 
 
-class _Owner:
-    """Owns a handle. Each call takes its mutex."""
-
-    def __init__(self, close: str) -> None:
-        self._handle = raw.Handle()
-        self._mutex = threading.RLock()
-        self._closing = weakref.finalize(self, getattr(raw.LIBRARY, close), self._handle)
-        # At the end of the program a thread may still be in a call, so nothing is freed then.
-        self._closing.atexit = False
-
-    def _call(self, name: str, *arguments: Any) -> int:
-        with self._mutex:
-            answer: int = getattr(raw.LIBRARY, name)(self._handle, *arguments)
-            return answer
-
-    def close(self) -> None:
-        """Frees it. A second call does nothing. After it other calls raise BadParam."""
-        with self._mutex:
-            self._closing()
-
-    def __enter__(self: _T) -> _T:
-        return self
-
-    def __exit__(self, kind: Optional[Type[BaseException]], error: Optional[BaseException],
-                 trace: Optional[TracebackType]) -> None:
-        self.close()
-
-
-class Hub(_Owner):
+class Hub(Owner):
     """A hub of 1 to 8 nodes with its lock manager and its journal. Its turns make the steps that the ports post.
 
     Closing it frees both; leaving a `with` block closes it. Ports that it has given live on, and nobody answers them.
@@ -115,16 +82,17 @@ class Hub(_Owner):
 
     def turn(self) -> int:
         """Attends to each node once: sends it one of its pending ASTs, and makes and answers one of its posts. Returns
-        how many entries it made: 0 says that there was nothing to do. Raises TurnEnded without memory."""
+        how many entries it made: 0 says that there was nothing to do. Raises TurnEndedError without memory."""
         made = c_size_t()
         status = self._call("vlm_hub_turn", made)
         if status == Condition.INSFMEM:
-            raise TurnEnded(made.value)
+            raise TurnEndedError(made.value)
         checked(status)
         return made.value
 
     def lost(self, node: int) -> None:
-        """A node departs whose thread is gone: all its processes end. Departed says that it had departed before."""
+        """A node departs whose thread is gone: all its processes end. It had departed before if this raises
+        DepartedError."""
         checked(self._call("vlm_hub_lost", word(node, "the node")))
 
     def waiting(self, node: int) -> int:
@@ -159,25 +127,22 @@ class Hub(_Owner):
         return _entries(words)
 
 
-class Port(_Owner):
+class Port(Owner):
     """The port of a node: `Hub.port` gives it. It posts steps of the node, and takes items.
 
-    No call waits. A post raises Full if the port knows no free place, and BadParam if an argument is malformed or a
-    process is not of the node. All else is answered by an item.
+    No call waits. A post raises FullError if the port knows no free place, and BadParamError if an argument is
+    malformed or a process is not of the node. All else is answered by an item.
     """
 
     def __init__(self) -> None:
         super().__init__("vlm_port_close")
 
     def node(self) -> int:
-        """Its node, or 0 after it was closed."""
+        """Its node."""
         return self._call("vlm_port_node")
 
     def _post(self, name: str, *arguments: Any) -> None:
-        status = self._call(name, *arguments)
-        if status == raw.FULL:
-            raise Full
-        checked(status)
+        checked(self._call(name, *arguments))
 
     def declare(self, *, group: int = 0, quota: int = 65_535, blocks: int = 16, syslck: bool = False) -> None:
         """Posts a declaration of a process of the node."""

@@ -1,90 +1,48 @@
 """The lock manager."""
 
-import threading
-import weakref
 from ctypes import c_uint32
-from types import TracebackType
-from typing import Any, Callable, Iterator, Optional, Sequence, Tuple, Type
+from typing import Any, Iterator, Optional, Sequence, Tuple
 
 from . import _library as raw
 from . import _words
 from ._arguments import mark, name_bytes, word
-from ._routines import Routines
-from ._wakes import Wakes
+from ._owner import Owner
 from .errors import checked
 from .process import Process, ast_of
-from .values import Ast, Condition, LockView, Mode, Name, ProcessView, Queue, Resource, Which
+from .values import Ast, Condition, LockView, Mode, Name, ProcessView, Queue, Resource
 
 
-class LockManager:
+class LockManager(Owner):
     """A lock manager of its own: two of them share nothing. Threads may share it, since each call takes a mutex.
 
-    No call waits, except those with a time-out. Closing it frees all that it has; leaving a `with` block closes it.
+    No call waits: `Shared` has calls that do. Closing it frees all that it has; leaving a `with` block closes it.
     """
 
     def __init__(self, keys: Optional[bytes] = None) -> None:
         """Opens a lock manager. 16 bytes of keys hash its names; without them they are random."""
-        self._handle = raw.Handle()
-        # Who has it may make a call.
-        self._mutex = threading.RLock()
-        self._wakes = Wakes(self._handle, self._mutex)
-        self._routines = Routines()
-        self._quiet_step("vlm_open", _words.options(keys))
-        self._closing = weakref.finalize(self, raw.LIBRARY.vlm_close, self._handle)
-        # At the end of the program a thread may still be in a call, so nothing is freed then.
-        self._closing.atexit = False
+        super().__init__("vlm_close")
+        self._step("vlm_open", _words.options(keys))
 
-    def close(self) -> None:
-        """Frees the lock manager. A second call does nothing. After it steps raise BadParam, and lists are empty."""
-        with self._mutex:
-            self._closing()
-            self._wakes.after_step()
+    @classmethod
+    def _over(cls, handle: raw.Handle) -> "LockManager":
+        """A lock manager that somebody else closes."""
+        made = cls.__new__(cls)
+        made._own(handle, lambda: None)
+        return made
 
-    @property
-    def is_closed(self) -> bool:
-        """Whether `close` was called."""
-        return not self._closing.alive
-
-    def __enter__(self) -> "LockManager":
-        return self
-
-    def __exit__(self, kind: Optional[Type[BaseException]], error: Optional[BaseException],
-                 trace: Optional[TracebackType]) -> None:
-        self.close()
-
-    def _call(self, name: str, *arguments: Any) -> int:
-        with self._mutex:
-            answer: int = getattr(raw.LIBRARY, name)(self._handle, *arguments)
-            return answer
+    def __repr__(self) -> str:
+        return "<LockManager, closed>" if self.is_closed else f"<LockManager with {self.lock_count()} locks>"
 
     def _step(self, name: str, *arguments: Any) -> Condition:
-        """Makes a call that may end any request, and wakes those whose waits are over."""
-        with self._mutex:
-            condition = checked(self._call(name, *arguments))
-            self._wakes.after_step()
-            return condition
-
-    def _step_at(self, which: Which, name: str, *arguments: Any) -> Condition:
-        """The same for a step at a lock."""
-        with self._mutex:
-            place = self._wakes.place_of(which)
-            condition = checked(self._call(name, *arguments))
-            self._wakes.after_step_at(which, place)
-            return condition
-
-    def _quiet_step(self, name: str, *arguments: Any) -> Condition:
-        """The same for a step that ends no request which was there before."""
-        with self._mutex:
-            condition = checked(self._call(name, *arguments))
-            self._wakes.after_quiet_step()
-            return condition
+        """Makes a call that answers a condition value. Raises its exception if it is a refusal."""
+        return checked(self._call(name, *arguments))
 
     def declare(self, node: int = 1, *, group: int = 0, quota: int = 65_535, blocks: int = 16,
                 syslck: bool = False) -> Process:
         """Declares a process of a node from 1 to 8: how many locks it may have, and how many status blocks it has."""
         words, pid = _words.declaration(node, group, quota, blocks, syslck), c_uint32()
-        self._quiet_step("vlm_declare", words, pid)
-        return Process(self, pid.value, blocks)
+        self._step("vlm_declare", words, pid)
+        return Process(self, pid.value)
 
     def leave(self, node: int) -> None:
         """A node departs, with all its processes. It stays departed."""
@@ -103,29 +61,6 @@ class LockManager:
         pid, words = c_uint32(), raw.Ast()
         checked(self._call("vlm_take_any", pid, words))
         return (pid.value, ast_of(words)) if words.kind else None
-
-    def deliver(self, process: Optional[Process] = None) -> int:
-        """Calls the routine of each pending AST of a process with that AST, oldest first; without a process those of
-        all processes. Returns how many it took.
-
-        A routine may call the lock manager. If it raises an exception, later ASTs stay pending. An AST whose routine
-        is a number of the program's own raises LookupError: use `process.take` or `take_any` for these."""
-        taken = 0
-        while True:
-            ast = self._next_ast() if process is None else process.take()
-            if ast is None:
-                return taken
-            taken += 1
-            self._routines.callable_of(ast.routine)(ast)
-
-    def _next_ast(self) -> Optional[Ast]:
-        taken = self.take_any()
-        return taken[1] if taken else None
-
-    def forget(self, routine: Callable[[Ast], object]) -> None:
-        """Frees a callable that no lock and no pending AST names any more. All are kept until then."""
-        with self._mutex:
-            self._routines.forget(routine)
 
     def processes(self) -> Iterator[ProcessView]:
         """The living processes, as they are at the call."""
@@ -195,7 +130,7 @@ class LockManager:
             yield words
 
     def _goes_on(self, name: str, *arguments: Any) -> bool:
-        """Makes a step of a walk. A closed lock manager has nothing to walk over."""
+        """Makes a step of a walk."""
         return self._call(name, *arguments) == Condition.NORMAL
 
     def _resource_by(self, name: str, words: raw.Sized, *arguments: Any) -> Optional[Resource]:
@@ -208,7 +143,7 @@ class LockManager:
         words = raw.Lock()
         goes_on = self._goes_on(first, *arguments, words)
         while goes_on and words.lkid:
-            yield _lock(words)
+            yield lock_of(words)
             goes_on = following is not None and self._goes_on(following, *also, words.lkid, words)
 
     def _walk_locks(self, first: str, following: str, *arguments: Any, also: Sequence[int] = ()) -> Iterator[LockView]:
@@ -221,7 +156,8 @@ def _mode(number: int) -> Optional[Mode]:
     return None if number == 255 else Mode(number)
 
 
-def _lock(words: raw.Sized) -> LockView:
+def lock_of(words: raw.Sized) -> LockView:
+    """The lock of these words."""
     return LockView(words.lkid, words.pid, _mode(words.held), _mode(words.want), Queue(words.queue), words.resource,
                     words.parent or None, words.block)
 

@@ -18,7 +18,7 @@ from ._lines import (LONGEST_LINE, LONGEST_SCRIPT, STEPS, Convert, Declare, Deq,
                      read_line)
 from ._texts import (ast_text, block_text, lock_text, mode_text, name_text, resource_text, show_lines, tail_text,
                      tails_lines)
-from .errors import BadParam, VlmError
+from .errors import BadParamError, VlmError
 from .manager import LockManager
 from .process import Process
 from .values import (Accepted, Ast, Condition, DequeueFlags, Flags, InBlock, LockView, Mode, Queue, Resource,
@@ -129,7 +129,7 @@ def play(manager: LockManager, script: bytes) -> Iterator[str]:
 def make(manager: LockManager, pid: int, step: Step) -> Outcome:
     """Makes a step of this process. A step of a node or a declaration has none, and `pid` does not matter."""
     try:
-        return _MAKERS[type(step)](Process(manager, pid, 0), step)
+        return _MAKERS[type(step)](Process(manager, pid), step)
     except VlmError as refusal:
         return Outcome(refusal.condition)
 
@@ -231,8 +231,8 @@ def _with_locks(manager: LockManager) -> Iterator[Tuple[Resource, List[LockView]
 def _status_block(manager: LockManager, pid: int, number: int) -> Optional[StatusBlock]:
     """A status block of a process, if there is one."""
     try:
-        return Process(manager, pid, 0).status_block(number)
-    except BadParam:
+        return Process(manager, pid).status_block(number)
+    except BadParamError:
         return None
 
 

@@ -2,7 +2,7 @@
 
 from dataclasses import dataclass
 from enum import IntEnum, IntFlag
-from typing import Callable, Optional, Union
+from typing import Optional, Union
 
 
 class Condition(IntEnum):
@@ -111,6 +111,24 @@ class Ast:
 
 
 @dataclass(frozen=True)
+class Event:
+    """What a routine of the layer for threads is told."""
+
+    # Why: a request has ended, or a lock is in the way.
+    kind: AstKind
+    pid: int
+    # The lock. It may have gone since.
+    lock: int
+    # Of a completion: how the request ended.
+    status: Optional[Condition]
+    # Of a completion: the value block that the grant returned, and with WIDE its tail.
+    value: Optional[bytes]
+    tail: Optional[bytes]
+    # Of a warning: the mode that the first request wants that the lock is in the way of, if there still is one.
+    wanted: Optional[Mode]
+
+
+@dataclass(frozen=True)
 class StatusBlock:
     """A status block."""
 
@@ -178,5 +196,3 @@ class LockView:
 Name = Union[str, bytes]
 # A lock, by its identification or by a status block.
 Which = Union[int, InBlock]
-# A routine: a callable that manager.deliver calls, or a number of the program's own.
-Routine = Union[int, Callable[[Ast], object]]

@@ -9,7 +9,7 @@ from dataclasses import replace
 from typing import Dict, List, Optional, Set, Tuple
 
 from .._lines import STEPS
-from ..errors import BadParam
+from ..errors import BadParamError
 from ..manager import LockManager
 from ..process import Process
 from ..script import Convert, Declare, Deq, Enq, Leave, Line, Outcome, Rundown, Search, SetValue, Step, Take, make
@@ -140,8 +140,8 @@ class Tracer:
 
     def _note_block(self, pid: int, number: int) -> None:
         try:
-            self.state.set_block(pid, number, Process(self.manager, pid, 0).status_block(number))
-        except BadParam:
+            self.state.set_block(pid, number, Process(self.manager, pid).status_block(number))
+        except BadParamError:
             # The process has ended, and its status blocks go with it.
             return
 

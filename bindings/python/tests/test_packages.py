@@ -1,0 +1,49 @@
+"""What pip is given: a wheel, an editable installation, and the sources."""
+
+import sys
+import tarfile
+import tempfile
+import unittest
+from pathlib import Path
+from zipfile import ZipFile
+
+FOLDER = Path(__file__).resolve().parents[1]
+sys.path.insert(0, str(FOLDER))
+
+import wheels  # noqa: E402
+
+
+class Packages(unittest.TestCase):
+    def setUp(self):
+        room = tempfile.TemporaryDirectory()
+        self.addCleanup(room.cleanup)
+        self.room = Path(room.name)
+
+    def content(self, wheel):
+        with ZipFile(self.room / wheel) as packed:
+            return {name: packed.read(name) for name in packed.namelist()}
+
+    def test_a_wheel_has_the_package(self):
+        content = self.content(wheels.build_wheel(str(self.room)))
+        self.assertEqual(content["vlm/__init__.py"], (FOLDER / "vlm" / "__init__.py").read_bytes())
+        self.assertIn("vlm/py.typed", content)
+        self.assertIn(b"vlm-draw = vlm.draw.command:main\n", content["vlm-0.2.0.dist-info/entry_points.txt"])
+
+    def test_an_editable_installation_leads_to_the_sources(self):
+        content = self.content(wheels.build_editable(str(self.room)))
+        self.assertEqual(content["vlm.pth"].decode(), f"{FOLDER}\n")
+        self.assertEqual([name for name in content if name.startswith("vlm/")], [])
+
+    def test_the_sources_have_all_that_a_wheel_needs(self):
+        with tarfile.open(self.room / wheels.build_sdist(str(self.room))) as packed:
+            packed.extractall(self.room)
+        left = self.room / "vlm-0.2.0"
+        needed = {"pyproject.toml", "wheels.py", "README.md", "vlm/__init__.py", "vlm/draw/page.css"}
+        names = {it.relative_to(left).as_posix() for it in left.rglob("*") if it.is_file()}
+        self.assertLessEqual(needed, names)
+        for name in names:
+            self.assertEqual((left / name).read_bytes(), (FOLDER / name).read_bytes())
+
+
+if __name__ == "__main__":
+    unittest.main()

@@ -1,0 +1,111 @@
+"""Requests to the layer for threads, and waits for their ends."""
+
+import threading
+from math import ceil
+from typing import TYPE_CHECKING, Any, Callable, Optional
+
+from . import _library as raw
+from ._arguments import seconds
+from ._contexts import Call, Context, forget, give
+from .values import Condition, Event, Flags
+
+if TYPE_CHECKING:
+    from .clients import Client
+
+_NORMAL, _SYNCH, _NOTQUEUED = int(Condition.NORMAL), int(Condition.SYNCH), int(Condition.NOTQUEUED)
+
+
+def milliseconds(timeout: Optional[float]) -> int:
+    """The longest wait in milliseconds, rounded up; 0 for one without an end."""
+    longest = seconds(timeout)
+    count = 0 if longest is None else max(1, ceil(longest * 1000))
+    return count if count < 1 << 32 else 0
+
+
+class Asked:
+    """A request: for a new lock if it has a name, or for another mode of a lock."""
+
+    def __init__(self, client: "Client", words: raw.Sized, name: Optional[bytes], blocking: Optional[Call]) -> None:
+        self.client, self.words, self.name, self.blocking = client, words, name, blocking
+        # (the words refer to it by its address)
+        self.value = raw.Value()
+        words.value = raw.address_of(self.value)
+
+    def wait(self, timeout: Optional[float]) -> int:
+        """Makes the request and waits for its end: the answer, NORMAL for a grant.
+
+        A wait in the library can't be interrupted. So the main thread, which gets Python's signals, waits for the
+        completion routine, if that is called by another thread."""
+        shared, words = self.client.shared, self.words
+        if not self.client._is_called or threading.current_thread() is not threading.main_thread():
+            words.milliseconds = milliseconds(timeout)
+            return self._make(shared._call("enq" if self.name is not None else "convert"), None)
+        longest, flags = seconds(timeout), words.flags
+        words.flags = flags | Flags.NOQUEUE
+        status = self._make(shared._call("enq" if self.name is not None else "convert"), None)
+        words.flags = flags
+        if status != _NOTQUEUED or flags & Flags.NOQUEUE:
+            return status
+        return Waiting(self, longest).wait()
+
+    def start(self, completion: Call, released: Optional[Callable[[], object]] = None) -> int:
+        """Makes the request, and does not wait: NORMAL if the completion routine is called."""
+        call = self.client.shared._call("start_enq" if self.name is not None else "start_convert")
+        return self._make(call, Context(completion, self.blocking, released))
+
+    def _make(self, call: Any, context: Optional[Context]) -> int:
+        words, layer, number = self.words, self.client.shared._open_layer(), 0
+        if context is not None or self.blocking is not None:
+            number = give(context or Context(None, self.blocking), words)
+        status: int = (call(layer, words) if self.name is None else
+                       call(layer, words, self.name, len(self.name)))
+        # (a request that was accepted has a status, or a success as its answer)
+        if number and not words.status and status not in (_NORMAL, _SYNCH):
+            forget(number)
+        return _NORMAL if status == _SYNCH else status
+
+    def end(self, event: Optional[Event]) -> int:
+        """The answer to a request that ended so; without an event its process did."""
+        if event is None:
+            return int(Condition.NONEXPR)
+        status = self.words.status = int(event.status or 0)
+        self.value[:] = (event.value or bytes(16)) + (event.tail or bytes(48))
+        return _NORMAL if status in (_NORMAL, Condition.VALNOTVALID, Condition.WIDENOTVALID) else status
+
+    def cancel(self) -> bool:
+        """Cancels the request: whether it has not been granted."""
+        status = self.client._deq(self.words.lkid, 2)
+        return status != Condition.CANCELGRANT
+
+    def undo(self) -> None:
+        """Cancels the request. A new lock that was granted meanwhile is given up."""
+        if not self.cancel() and self.name is not None:
+            self.client._deq(self.words.lkid, 0)
+
+
+class Waiting:
+    """A wait of this thread for a request that another thread ends."""
+
+    def __init__(self, asked: Asked, longest: Optional[float]) -> None:
+        self._asked, self._longest = asked, longest
+        self._ended = threading.Event()
+        self._event: Optional[Event] = None
+
+    def wait(self) -> int:
+        try:
+            status = self._asked.start(self._tell, self._ended.set)
+            if status != _NORMAL:
+                return status
+            is_late = not self._ended.wait(self._longest) and self._asked.cancel()
+            self._ended.wait()
+        except BaseException:
+            if self._asked.words.lkid:
+                self._asked.undo()
+            raise
+        ended = self._asked.end(self._event)
+        is_cancelled = ended in (Condition.ABORT, Condition.CANCEL)
+        return raw.TIMEOUT if is_late and is_cancelled else ended
+
+    def _tell(self, event: Event) -> None:
+        self._event = event
+        self._ended.set()
