@@ -10,6 +10,7 @@ import shutil
 import signal
 import subprocess
 import sys
+import tempfile
 import time
 from functools import partial
 from pathlib import Path
@@ -22,6 +23,7 @@ from harness import PLAY, ROOM, TOP, Test, difference
 HERE = Path(__file__).resolve().parent / "service"
 # The files of the dispatcher, without the daemon around it.
 DAEMON = ("vlmd.c", "config.c", "start.c")
+CLIENT = sorted((TOP / "bindings" / "c").glob("vlm_client*.c"))
 DISPATCHER = [it for it in SOURCES if it.name not in DAEMON]
 # How long the mutated lines run.
 MUTATED_SECONDS = 8
@@ -595,6 +597,17 @@ def fuzzed(_program):
     yield from wrong or library.ran(made, f"-max_total_time={MUTATED_SECONDS}", "-max_len=4000", "-timeout=10", corpus)
 
 
+def clients(compiler, sanitizer, _program):
+    """What is wrong with the client in C, by a compiler and a sanitizer."""
+    made, folder = Path(ROOM().name) / f"client {compiler} {sanitizer}", tempfile.mkdtemp(dir=ROOM().name)
+    config = Path(folder) / "conf"
+    config.write_text("search 200\ngrace 300\n")
+    wrong = list(library.ran(compiler, "-std=gnu11", *library.STRICT, "-O1", "-g", "-pthread",
+                             f"-fsanitize={sanitizer}", f"-I{TOP}/include", HERE / "client.c", *CLIENT,
+                             library.prefix() / "lib" / "libvlm.a", "-o", made))
+    yield from wrong or library.ran(made, PLAIN(), config, Path(folder) / "socket")
+
+
 BEHAVIOURS = {"the first session of the page": shown_talk,
               "random scripts over the socket": random_lines, "half lines": half_lines, "killed clients": killed,
               "a client that reads no answers": deaf,
@@ -622,5 +635,9 @@ def once():
     found += [Test(name, check) for name, check in BEHAVIOURS.items()]
     found += [Test("other users", other_users)] * (os.getuid() == 0)
     found += [Test("lines under libFuzzer", fuzzed)] * bool(shutil.which("clang"))
+    found += [Test(f"the client in C by {compiler} with the sanitizer {sanitizer}",
+                   partial(clients, compiler, sanitizer))
+              for compiler in library.COMPILERS for sanitizer in library.SANITIZERS[1:]
+              if library.links(compiler, sanitizer)]
     found += service_commands.tests()
     return [] if missing() else found
