@@ -133,9 +133,15 @@ def enough_worked(_program):
 def random_script(seed):
     """A script of random lines of three processes on few names, and what the library's player prints for it."""
     pick = random.Random(seed)
-    lines = [f"declare {name} node=1 group=1 quota=20 blocks=9" for name in "PQR"]
+    names = ["P", "Q", "R"]
+    lines = [f"declare {name} node=1 group=1 quota=20 blocks=9" for name in names]
     for number in range(300):
-        name, block = pick.choice("PQR"), pick.randint(1, 9)
+        name, block = pick.choice(names), pick.randint(1, 9)
+        if number % 20 == 19:
+            # (another process takes its place: in the daemon the same process of the manager)
+            names[names.index(name)] = f"P{number}"
+            lines += [f"end {name}", f"declare P{number} node=1 group=1 quota=20 blocks=9"]
+            continue
         flags = " ".join(pick.sample(["valblk", "noqueue", "syncsts", "wide", "ast=1", "bast=2", "param=3"], 3))
         lines.append(pick.choice([
             f"enq {name} {pick.choice(MODES)} name={pick.choice('AB')} block={block} {flags}",
@@ -146,14 +152,15 @@ def random_script(seed):
             f"deq {name} {pick.randint(1, 60)} value={number:032x}",
             f"set {name} block={block} value={number:032x}", f"block {name} {block}", f"tail {name} {block}",
             f"ast {name}", "show", "tails"]))
-    return "".join(f"{it}\n" for it in [*lines, *(f"ast {name}" for name in "PQR" for _ in range(300))])
+    return "".join(f"{it}\n" for it in [*lines, *(f"ast {name}" for name in names for _ in range(300))])
 
 
 MODES = ("NL", "CR", "CW", "PR", "PW", "EX")
 
 
 def random_lines(_program):
-    """What is wrong with random scripts over the socket: they print what the library's player prints."""
+    """What is wrong with random scripts over the socket: they print what the library's player prints. That one ends
+    processes by a rundown; the daemon keeps them for reuse."""
     player = Path(ROOM().name) / "player of random scripts"
     wrong = list(library.ran("cc", "-std=gnu11", "-O2", f"-I{library.prefix()}/include", library.PLAYER,
                              library.prefix() / "lib" / "libvlm.a", "-pthread", "-o", player))
@@ -582,8 +589,10 @@ def over_dispatcher(name, compiler, *words):
 
 
 def mutated(_program):
-    """What is wrong with the dispatcher when clients send mutated lines: no sanitizer finds anything."""
-    made, wrong = over_dispatcher("mutated", "cc", "-fsanitize=address,undefined", "-fno-sanitize-recover=all")
+    """What is wrong with the dispatcher when clients send mutated lines, also while allocations are refused: no sanitizer
+    finds anything."""
+    refused = [f"-Wl,--wrap={name}" for name in ("malloc", "calloc", "realloc")]
+    made, wrong = over_dispatcher("mutated", "cc", "-fsanitize=address,undefined", "-fno-sanitize-recover=all", *refused)
     scripts = [it.with_suffix("") for it in sorted(PLAY.glob("*.stdout"))]
     yield from wrong or library.ran(made, MUTATED_SECONDS, *scripts, HERE / "lines")
 

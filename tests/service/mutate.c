@@ -1,6 +1,6 @@
 /* Strange bytes for the dispatcher: mutate SECONDS FILE.. changes the lines of some files at random and has four
- * clients send them, who also close, stay away, do not read and let time pass. The sanitizers judge, and each count has
- * to be 0 at the end. Compiled with FUZZER it is a program of libFuzzer, which chooses the bytes. */
+ * clients send them, who also close, stay away, do not read and let time pass. In every other run some allocations are
+ * refused. The sanitizers judge, and each count has to be 0 at the end. Compiled with FUZZER it is a program of libFuzzer, which chooses the bytes. */
 #include "parts.h"
 
 #include <stdio.h>
@@ -30,9 +30,9 @@ static void be_silent(const char *text) { (void)text; }
 
 static void join(uint32_t at) {
     struct rights rights = {.uid = at / 2, .pid = at, .group = at % 2, .has_syslck = at == 0, .is_admin = at == 0};
-    clients[at] = client_open(dispatcher, &rights, NULL);
-    if (clients[at] == NULL)
-        abort();
+    do
+        clients[at] = client_open(dispatcher, &rights, NULL);
+    while (clients[at] == NULL);
 }
 
 static void part(uint32_t at) {
@@ -78,9 +78,9 @@ static void play(const uint8_t *line, size_t len, bool is_whole) {
 static void begin(void) {
     static const uint8_t keys[KEYS] = {1, 2, 3};
     now = 1;
-    dispatcher = dispatcher_open(&limits, 0, keys, be_silent);
-    if (dispatcher == NULL)
-        abort();
+    do
+        dispatcher = dispatcher_open(&limits, 0, keys, be_silent);
+    while (dispatcher == NULL);
     dispatcher_tick(dispatcher, now);
     for (uint32_t at = 0; at < CLIENTS; at++)
         join(at);
@@ -131,6 +131,26 @@ static size_t below(size_t most) {
     return (size_t)(random_state % most);
 }
 
+static bool is_refusing;
+
+void *__real_malloc(size_t size);
+void *__real_calloc(size_t count, size_t size);
+void *__real_realloc(void *old, size_t size);
+void *__wrap_malloc(size_t size);
+void *__wrap_calloc(size_t count, size_t size);
+void *__wrap_realloc(void *old, size_t size);
+
+/* The allocations of the dispatcher and the library. */
+void *__wrap_malloc(size_t size) { return is_refusing && below(16) == 0 ? NULL : __real_malloc(size); }
+
+void *__wrap_calloc(size_t count, size_t size) {
+    return is_refusing && below(16) == 0 ? NULL : __real_calloc(count, size);
+}
+
+void *__wrap_realloc(void *old, size_t size) {
+    return is_refusing && below(16) == 0 ? NULL : __real_realloc(old, size);
+}
+
 /* The next line of a file, from some byte on. */
 static size_t line_at(size_t file, size_t from) {
     const uint8_t *feed = memchr(files[file].bytes + from, '\n', files[file].len - from);
@@ -173,8 +193,10 @@ int main(int count, char **words) {
     }
     time_t until = time(NULL) + strtol(words[1], NULL, 10);
     size_t runs = 0;
-    for (; time(NULL) < until; runs++)
+    for (; time(NULL) < until; runs++) {
+        is_refusing = runs % 2 == 1;
         LLVMFuzzerTestOneInput(bytes, mix(bytes));
+    }
     printf("%zu runs\n", runs);
     return 0;
 }
