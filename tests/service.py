@@ -589,10 +589,11 @@ def over_dispatcher(name, compiler, *words):
 
 
 def mutated(_program):
-    """What is wrong with the dispatcher when clients send mutated lines, also while allocations are refused: no sanitizer
-    finds anything."""
+    """What is wrong with the dispatcher when clients send mutated lines, also while allocations are refused: no
+    sanitizer finds anything."""
     refused = [f"-Wl,--wrap={name}" for name in ("malloc", "calloc", "realloc")]
-    made, wrong = over_dispatcher("mutated", "cc", "-fsanitize=address,undefined", "-fno-sanitize-recover=all", *refused)
+    made, wrong = over_dispatcher("mutated", "cc", "-fsanitize=address,undefined", "-fno-sanitize-recover=all",
+                                  *refused)
     scripts = [it.with_suffix("") for it in sorted(PLAY.glob("*.stdout"))]
     yield from wrong or library.ran(made, MUTATED_SECONDS, *scripts, HERE / "lines")
 

@@ -1,6 +1,7 @@
 /* Strange bytes for the dispatcher: mutate SECONDS FILE.. changes the lines of some files at random and has four
  * clients send them, who also close, stay away, do not read and let time pass. In every other run some allocations are
- * refused. The sanitizers judge, and each count has to be 0 at the end. Compiled with FUZZER it is a program of libFuzzer, which chooses the bytes. */
+ * refused. The sanitizers judge, and each count has to be 0 at the end. Compiled with FUZZER it is a program of
+ * libFuzzer, which chooses the bytes. */
 #include "parts.h"
 
 #include <stdio.h>
