@@ -55,6 +55,19 @@ static void send_all(uint32_t deaf) {
     }
 }
 
+/* What is counted for users is what the manager counts. */
+static void check_counts(void) {
+    uint64_t locks = 0, waiting = 0;
+    for (uint32_t bucket = 0; bucket < USER_BUCKETS; bucket++)
+        for (const struct user *user = dispatcher->users[bucket]; user != NULL; user = user->next) {
+            locks += user->locks;
+            waiting += user->waiting;
+        }
+    if (locks != vlm_lock_count(&dispatcher->manager) || waiting != vlm_queued_count(&dispatcher->manager)
+        || waiting != dispatcher->waiting_count)
+        abort();
+}
+
 /* A line of a client. Its first byte chooses the client, and what happens besides. */
 static void play(const uint8_t *line, size_t len, bool is_whole) {
     uint32_t at = line[0] % CLIENTS, what = line[0] / CLIENTS % 8;
@@ -70,6 +83,7 @@ static void play(const uint8_t *line, size_t len, bool is_whole) {
     while (dispatcher_run(dispatcher))
         continue;
     send_all(what == 3 ? at : CLIENTS);
+    check_counts();
     if (what == 4)
         client_hear(clients[at], line, 0);
     if (what == 5)
