@@ -81,8 +81,9 @@ enum {
 };
 
 /* What calls of the other headers answer beside these. VLM_TIMEOUT: the wait for a grant has lasted as long as it may.
- * VLM_FULL, of a post: the port knows no free place, and nothing was posted; take items, and post again. */
-enum { VLM_TIMEOUT = 100, VLM_FULL = 256 };
+ * VLM_LOST: the lock service or the session has ended, and its locks are gone. VLM_FULL, of a post: the port knows no
+ * free place, and nothing was posted; take items, and post again. */
+enum { VLM_TIMEOUT = 100, VLM_LOST = 101, VLM_FULL = 256 };
 
 /* Modes. */
 enum { VLM_NL = 0, VLM_CR = 1, VLM_CW = 2, VLM_PR = 3, VLM_PW = 4, VLM_EX = 5, VLM_NO_MODE = 255 };
@@ -604,6 +605,7 @@ static inline const char *vlm_condition_name(uint32_t status) {
     case VLM_DEPARTED: return "DEPARTED";
     case VLM_WIDENOTVALID: return "WIDENOTVALID";
     case VLM_TIMEOUT: return "TIMEOUT";
+    case VLM_LOST: return "LOST";
     case VLM_FULL: return "FULL";
     default: return NULL;
     }

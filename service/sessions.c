@@ -176,6 +176,8 @@ void end_session(struct session *session) {
         session->client->session = NULL;
     else
         unlink_left(session);
+    /* (what its processes grant to each other, nobody hears) */
+    session->client = NULL;
     for (uint32_t at = 0; at < session->binding_count; at++)
         if (session->bindings[at].process != NULL)
             release_process(session->bindings[at].process);

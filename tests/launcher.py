@@ -42,8 +42,8 @@ esac
 
 
 def put_program(path, text):
-    """Writes a program by a process of its own: no system runs a program that is open for writing, as it would be in what
-    another thread starts meanwhile."""
+    """Writes a program by a process of its own: the system runs no program that is open for writing, as it would be in
+    what another thread starts meanwhile."""
     subprocess.run(["install", "-m", "755", "/dev/stdin", path], input=text.encode(), check=True)
 
 

@@ -48,7 +48,7 @@ SERVICE_FILES = ("bin/vlmd", "lib/systemd/system/vlmd.service", "lib/systemd/sys
 VALGRIND = ["valgrind", "-q", "--leak-check=full", "--show-leak-kinds=all", "--error-exitcode=9"]
 HELGRIND = ["valgrind", "-q", "--tool=helgrind", f"--suppressions={TOP}/tests/c/helgrind.supp", "--error-exitcode=9"]
 # The layers for threads and for the threads of a hub, and the functions that some tests put their own in the place of.
-LAYER_SOURCES = sorted((TOP / "bindings" / "c").glob("*.c"))
+LAYER_SOURCES = [it for it in sorted((TOP / "bindings" / "c").glob("*.c")) if not it.stem.startswith("vlm_client")]
 WRAPPED = {"growths": ("malloc", "realloc"),
            "refused": ("malloc", "realloc", "free"),
            "hub_refused": ("malloc", "realloc"),

@@ -10,6 +10,7 @@ import shutil
 import signal
 import subprocess
 import sys
+import tempfile
 import time
 from functools import partial
 from pathlib import Path
@@ -22,6 +23,7 @@ from harness import PLAY, ROOM, TOP, Test, difference
 HERE = Path(__file__).resolve().parent / "service"
 # The files of the dispatcher, without the daemon around it.
 DAEMON = ("vlmd.c", "config.c", "start.c")
+CLIENT = sorted((TOP / "bindings" / "c").glob("vlm_client*.c"))
 DISPATCHER = [it for it in SOURCES if it.name not in DAEMON]
 # How long the mutated lines run.
 MUTATED_SECONDS = 8
@@ -131,9 +133,15 @@ def enough_worked(_program):
 def random_script(seed):
     """A script of random lines of three processes on few names, and what the library's player prints for it."""
     pick = random.Random(seed)
-    lines = [f"declare {name} node=1 group=1 quota=20 blocks=9" for name in "PQR"]
+    names = ["P", "Q", "R"]
+    lines = [f"declare {name} node=1 group=1 quota=20 blocks=9" for name in names]
     for number in range(300):
-        name, block = pick.choice("PQR"), pick.randint(1, 9)
+        name, block = pick.choice(names), pick.randint(1, 9)
+        if number % 20 == 19:
+            # (another process takes its place: in the daemon the same process of the manager)
+            names[names.index(name)] = f"P{number}"
+            lines += [f"end {name}", f"declare P{number} node=1 group=1 quota=20 blocks=9"]
+            continue
         flags = " ".join(pick.sample(["valblk", "noqueue", "syncsts", "wide", "ast=1", "bast=2", "param=3"], 3))
         lines.append(pick.choice([
             f"enq {name} {pick.choice(MODES)} name={pick.choice('AB')} block={block} {flags}",
@@ -144,14 +152,15 @@ def random_script(seed):
             f"deq {name} {pick.randint(1, 60)} value={number:032x}",
             f"set {name} block={block} value={number:032x}", f"block {name} {block}", f"tail {name} {block}",
             f"ast {name}", "show", "tails"]))
-    return "".join(f"{it}\n" for it in [*lines, *(f"ast {name}" for name in "PQR" for _ in range(300))])
+    return "".join(f"{it}\n" for it in [*lines, *(f"ast {name}" for name in names for _ in range(300))])
 
 
 MODES = ("NL", "CR", "CW", "PR", "PW", "EX")
 
 
 def random_lines(_program):
-    """What is wrong with random scripts over the socket: they print what the library's player prints."""
+    """What is wrong with random scripts over the socket: they print what the library's player prints. That one ends
+    processes by a rundown; the daemon keeps them for reuse."""
     player = Path(ROOM().name) / "player of random scripts"
     wrong = list(library.ran("cc", "-std=gnu11", "-O2", f"-I{library.prefix()}/include", library.PLAYER,
                              library.prefix() / "lib" / "libvlm.a", "-pthread", "-o", player))
@@ -580,8 +589,11 @@ def over_dispatcher(name, compiler, *words):
 
 
 def mutated(_program):
-    """What is wrong with the dispatcher when clients send mutated lines: no sanitizer finds anything."""
-    made, wrong = over_dispatcher("mutated", "cc", "-fsanitize=address,undefined", "-fno-sanitize-recover=all")
+    """What is wrong with the dispatcher when clients send mutated lines, also while allocations are refused: no
+    sanitizer finds anything."""
+    refused = [f"-Wl,--wrap={name}" for name in ("malloc", "calloc", "realloc")]
+    made, wrong = over_dispatcher("mutated", "cc", "-fsanitize=address,undefined", "-fno-sanitize-recover=all",
+                                  *refused)
     scripts = [it.with_suffix("") for it in sorted(PLAY.glob("*.stdout"))]
     yield from wrong or library.ran(made, MUTATED_SECONDS, *scripts, HERE / "lines")
 
@@ -593,6 +605,17 @@ def fuzzed(_program):
     corpus.mkdir()
     shutil.copy(HERE / "lines", corpus)
     yield from wrong or library.ran(made, f"-max_total_time={MUTATED_SECONDS}", "-max_len=4000", "-timeout=10", corpus)
+
+
+def clients(compiler, sanitizer, _program):
+    """What is wrong with the client in C, by a compiler and a sanitizer."""
+    made, folder = Path(ROOM().name) / f"client {compiler} {sanitizer}", tempfile.mkdtemp(dir=ROOM().name)
+    config = Path(folder) / "conf"
+    config.write_text("search 200\ngrace 300\n")
+    wrong = list(library.ran(compiler, "-std=gnu11", *library.STRICT, "-O1", "-g", "-pthread",
+                             f"-fsanitize={sanitizer}", f"-I{TOP}/include", HERE / "client.c", *CLIENT,
+                             library.prefix() / "lib" / "libvlm.a", "-o", made))
+    yield from wrong or library.ran(made, PLAIN(), config, Path(folder) / "socket")
 
 
 BEHAVIOURS = {"the first session of the page": shown_talk,
@@ -622,5 +645,9 @@ def once():
     found += [Test(name, check) for name, check in BEHAVIOURS.items()]
     found += [Test("other users", other_users)] * (os.getuid() == 0)
     found += [Test("lines under libFuzzer", fuzzed)] * bool(shutil.which("clang"))
+    found += [Test(f"the client in C by {compiler} with the sanitizer {sanitizer}",
+                   partial(clients, compiler, sanitizer))
+              for compiler in library.COMPILERS for sanitizer in library.SANITIZERS[1:]
+              if library.links(compiler, sanitizer)]
     found += service_commands.tests()
     return [] if missing() else found

@@ -13,7 +13,8 @@ from project import MISSING, TOP, fail
 
 # The layers in C, and the sources of each. An object for each, so a program links only what it calls.
 SOURCES = sorted((TOP / "bindings" / "c").glob("*.c"))
-LAYERS = {layer: [it for it in SOURCES if it.stem.startswith(layer)] for layer in ("vlm_threads", "vlm_hub_wait")}
+LAYERS = {layer: [it for it in SOURCES if it.stem.startswith(layer)]
+          for layer in ("vlm_threads", "vlm_hub_wait", "vlm_client")}
 LAYER = sorted((TOP / "bindings" / "c").glob("*.c"))
 # The names that both libraries show. All others are local to them.
 SHOWN = "vlm_*"

@@ -1,6 +1,7 @@
 /* Strange bytes for the dispatcher: mutate SECONDS FILE.. changes the lines of some files at random and has four
- * clients send them, who also close, stay away, do not read and let time pass. The sanitizers judge, and each count has
- * to be 0 at the end. Compiled with FUZZER it is a program of libFuzzer, which chooses the bytes. */
+ * clients send them, who also close, stay away, do not read and let time pass. In every other run some allocations are
+ * refused. The sanitizers judge, and each count has to be 0 at the end. Compiled with FUZZER it is a program of
+ * libFuzzer, which chooses the bytes. */
 #include "parts.h"
 
 #include <stdio.h>
@@ -30,9 +31,9 @@ static void be_silent(const char *text) { (void)text; }
 
 static void join(uint32_t at) {
     struct rights rights = {.uid = at / 2, .pid = at, .group = at % 2, .has_syslck = at == 0, .is_admin = at == 0};
-    clients[at] = client_open(dispatcher, &rights, NULL);
-    if (clients[at] == NULL)
-        abort();
+    do
+        clients[at] = client_open(dispatcher, &rights, NULL);
+    while (clients[at] == NULL);
 }
 
 static void part(uint32_t at) {
@@ -54,6 +55,19 @@ static void send_all(uint32_t deaf) {
     }
 }
 
+/* What is counted for users is what the manager counts. */
+static void check_counts(void) {
+    uint64_t locks = 0, waiting = 0;
+    for (uint32_t bucket = 0; bucket < USER_BUCKETS; bucket++)
+        for (const struct user *user = dispatcher->users[bucket]; user != NULL; user = user->next) {
+            locks += user->locks;
+            waiting += user->waiting;
+        }
+    if (locks != vlm_lock_count(&dispatcher->manager) || waiting != vlm_queued_count(&dispatcher->manager)
+        || waiting != dispatcher->waiting_count)
+        abort();
+}
+
 /* A line of a client. Its first byte chooses the client, and what happens besides. */
 static void play(const uint8_t *line, size_t len, bool is_whole) {
     uint32_t at = line[0] % CLIENTS, what = line[0] / CLIENTS % 8;
@@ -69,6 +83,7 @@ static void play(const uint8_t *line, size_t len, bool is_whole) {
     while (dispatcher_run(dispatcher))
         continue;
     send_all(what == 3 ? at : CLIENTS);
+    check_counts();
     if (what == 4)
         client_hear(clients[at], line, 0);
     if (what == 5)
@@ -78,9 +93,9 @@ static void play(const uint8_t *line, size_t len, bool is_whole) {
 static void begin(void) {
     static const uint8_t keys[KEYS] = {1, 2, 3};
     now = 1;
-    dispatcher = dispatcher_open(&limits, 0, keys, be_silent);
-    if (dispatcher == NULL)
-        abort();
+    do
+        dispatcher = dispatcher_open(&limits, 0, keys, be_silent);
+    while (dispatcher == NULL);
     dispatcher_tick(dispatcher, now);
     for (uint32_t at = 0; at < CLIENTS; at++)
         join(at);
@@ -131,6 +146,26 @@ static size_t below(size_t most) {
     return (size_t)(random_state % most);
 }
 
+static bool is_refusing;
+
+void *__real_malloc(size_t size);
+void *__real_calloc(size_t count, size_t size);
+void *__real_realloc(void *old, size_t size);
+void *__wrap_malloc(size_t size);
+void *__wrap_calloc(size_t count, size_t size);
+void *__wrap_realloc(void *old, size_t size);
+
+/* The allocations of the dispatcher and the library. */
+void *__wrap_malloc(size_t size) { return is_refusing && below(16) == 0 ? NULL : __real_malloc(size); }
+
+void *__wrap_calloc(size_t count, size_t size) {
+    return is_refusing && below(16) == 0 ? NULL : __real_calloc(count, size);
+}
+
+void *__wrap_realloc(void *old, size_t size) {
+    return is_refusing && below(16) == 0 ? NULL : __real_realloc(old, size);
+}
+
 /* The next line of a file, from some byte on. */
 static size_t line_at(size_t file, size_t from) {
     const uint8_t *feed = memchr(files[file].bytes + from, '\n', files[file].len - from);
@@ -173,8 +208,10 @@ int main(int count, char **words) {
     }
     time_t until = time(NULL) + strtol(words[1], NULL, 10);
     size_t runs = 0;
-    for (; time(NULL) < until; runs++)
+    for (; time(NULL) < until; runs++) {
+        is_refusing = runs % 2 == 1;
         LLVMFuzzerTestOneInput(bytes, mix(bytes));
+    }
     printf("%zu runs\n", runs);
     return 0;
 }

@@ -1,0 +1,253 @@
+/* Opening, closing and processes of a client of the lock service. */
+#include "vlm_client_parts.h"
+
+#include <signal.h>
+#include <stdio.h>
+#include <stdlib.h>
+#include <string.h>
+#include <sys/eventfd.h>
+#include <sys/socket.h>
+#include <unistd.h>
+
+enum { FIRST_QUEUE = 16 };
+
+/* A forked child may not use its parent's connection. */
+bool vlmc_is_usable(const vlm_client *client) { return client->owner == getpid(); }
+
+static bool are_zeros(const uint32_t *words, size_t count) {
+    for (size_t at = 0; at < count; at++)
+        if (words[at] != 0)
+            return false;
+    return true;
+}
+
+static bool is_valid(const vlm_client_options *options) {
+    return options->size == sizeof *options && options->delivery <= VLM_THREADS_BY_PROGRAM
+           && are_zeros(options->reserved, sizeof options->reserved / sizeof *options->reserved);
+}
+
+/* Frees what a client has, whose threads have ended. */
+static void free_client(vlm_client *client) {
+    if (client->descriptor >= 0)
+        close(client->descriptor);
+    if (client->event_descriptor >= 0)
+        close(client->event_descriptor);
+    vlmc_drop_events(client);
+    pthread_cond_destroy(&client->events);
+    pthread_cond_destroy(&client->settled);
+    pthread_mutex_destroy(&client->state);
+    pthread_mutex_destroy(&client->sending);
+    free(client->queue);
+    free(client->records);
+    free(client->hashed);
+    free(client->processes);
+    free(client->path);
+    free(client);
+}
+
+static vlm_client *made(const vlm_client_options *options) {
+    vlm_client *client = calloc(1, sizeof *client);
+    if (client == NULL)
+        return NULL;
+    pthread_mutex_init(&client->state, NULL);
+    pthread_mutex_init(&client->sending, NULL);
+    pthread_cond_init(&client->events, NULL);
+    pthread_cond_init(&client->settled, NULL);
+    client->owner = getpid();
+    client->options = *options;
+    client->last_event = &client->first_event;
+    client->free_record = NO_RECORD;
+    client->room = FIRST_QUEUE;
+    client->queue = malloc(FIRST_QUEUE * sizeof *client->queue);
+    client->path = options->socket != NULL ? strdup(options->socket) : NULL;
+    bool is_by_program = options->delivery == VLM_THREADS_BY_PROGRAM;
+    client->descriptor = -1;
+    client->event_descriptor = is_by_program ? eventfd(0, EFD_CLOEXEC | EFD_NONBLOCK) : -1;
+    if (client->queue != NULL && (options->socket == NULL || client->path != NULL)
+        && (!is_by_program || client->event_descriptor >= 0))
+        return client;
+    free_client(client);
+    return NULL;
+}
+
+/* Starts a thread to which no signal is delivered. */
+static bool start(pthread_t *thread, void *(*routine)(void *), vlm_client *client) {
+    sigset_t all, before;
+    sigfillset(&all);
+    pthread_sigmask(SIG_SETMASK, &all, &before);
+    bool is_started = pthread_create(thread, NULL, routine, client) == 0;
+    pthread_sigmask(SIG_SETMASK, &before, NULL);
+    return is_started;
+}
+
+/* Ends the connection and the threads. */
+static void stop(vlm_client *client) {
+    pthread_mutex_lock(&client->state);
+    client->is_ending = true;
+    pthread_cond_broadcast(&client->events);
+    pthread_mutex_unlock(&client->state);
+    if (client->descriptor >= 0)
+        shutdown(client->descriptor, SHUT_RDWR);
+    if (client->has_reader)
+        pthread_join(client->reader, NULL);
+    if (client->has_deliverer)
+        pthread_join(client->deliverer, NULL);
+    client->has_reader = client->has_deliverer = false;
+}
+
+uint32_t vlm_client_open(const vlm_client_options *options, vlm_client **client) {
+    *client = NULL;
+    if (!is_valid(options))
+        return VLM_BADPARAM;
+    vlm_client *opened = made(options);
+    if (opened == NULL)
+        return VLM_INSFMEM;
+    uint32_t status = vlmc_connect(opened);
+    if (status == VLM_NORMAL) {
+        opened->has_reader = start(&opened->reader, vlmc_read, opened);
+        if (options->delivery == VLM_THREADS_BY_LAYER)
+            opened->has_deliverer = start(&opened->deliverer, vlmc_deliver, opened);
+        if (!opened->has_reader || (options->delivery == VLM_THREADS_BY_LAYER && !opened->has_deliverer))
+            status = VLM_INSFMEM;
+    }
+    if (status != VLM_NORMAL) {
+        stop(opened);
+        free_client(opened);
+        return status;
+    }
+    *client = opened;
+    return VLM_NORMAL;
+}
+
+static bool is_own_routine(vlm_client *client) {
+    pthread_mutex_lock(&client->state);
+    bool is_own = client->is_running && pthread_equal(client->runner, pthread_self());
+    pthread_mutex_unlock(&client->state);
+    return is_own;
+}
+
+/* Forgets all locks and processes of a session that is lost. */
+static void forget(vlm_client *client) {
+    pthread_mutex_lock(&client->state);
+    for (uint32_t place = 0; place < client->record_room; place++)
+        if (client->records[place].is_used)
+            vlmc_free_record(client, place);
+    for (uint32_t at = 0; at < client->process_count; at++)
+        client->processes[at].is_living = false;
+    client->is_lost = false;
+    pthread_mutex_unlock(&client->state);
+}
+
+uint32_t vlm_client_reopen(vlm_client *client) {
+    if (!vlmc_is_usable(client) || is_own_routine(client))
+        return VLM_BADPARAM;
+    pthread_mutex_lock(&client->state);
+    bool is_lost = client->is_lost;
+    pthread_mutex_unlock(&client->state);
+    if (!is_lost)
+        return VLM_BADPARAM;
+    if (client->has_reader)
+        pthread_join(client->reader, NULL);
+    client->has_reader = false;
+    if (client->descriptor >= 0)
+        close(client->descriptor);
+    client->descriptor = -1;
+    if (vlmc_connect(client) != VLM_NORMAL)
+        return VLM_LOST;
+    forget(client);
+    client->has_reader = start(&client->reader, vlmc_read, client);
+    if (client->has_reader)
+        return VLM_NORMAL;
+    client->is_lost = true;
+    return VLM_INSFMEM;
+}
+
+uint32_t vlm_client_close(vlm_client *client) {
+    if (client == NULL)
+        return VLM_NORMAL;
+    if (!vlmc_is_usable(client) || is_own_routine(client))
+        return VLM_BADPARAM;
+    stop(client);
+    free_client(client);
+    return VLM_NORMAL;
+}
+
+/* Gives a process a number that no other has had. 0 without memory. */
+static uint32_t new_process(vlm_client *client, uint32_t requests) {
+    struct process *processes = realloc(client->processes, (client->process_count + 1) * sizeof *processes);
+    if (processes == NULL)
+        return 0;
+    client->processes = processes;
+    processes[client->process_count] = (struct process){.requests = requests};
+    return ++client->process_count;
+}
+
+static bool is_declaration(const vlm_threads_declaration *declaration) {
+    size_t first = offsetof(vlm_threads_declaration, own_queue);
+    return is_sized(declaration->size, first, sizeof *declaration) && declaration->tied == 0
+           && declaration->quota <= VLM_MAX_QUOTA && declaration->requests != 0
+           && declaration->requests <= MOST_REQUESTS && (declaration->size == first || declaration->own_queue == 0);
+}
+
+uint32_t vlm_client_declare(vlm_client *client, const vlm_threads_declaration *declaration, uint32_t *pid) {
+    char line[LINE_ROOM];
+    *pid = 0;
+    if (!vlmc_is_usable(client) || !is_declaration(declaration))
+        return VLM_BADPARAM;
+    pthread_mutex_lock(&client->state);
+    uint32_t made = client->is_lost ? 0 : new_process(client, declaration->requests);
+    uint32_t status = client->is_lost ? VLM_LOST : VLM_INSFMEM;
+    pthread_mutex_unlock(&client->state);
+    if (made == 0)
+        return status;
+    snprintf(line, sizeof line, "declare p%u quota=%u blocks=%u\n", made, declaration->quota, declaration->requests);
+    struct call call;
+    vlmc_begin_call(&call, 1);
+    status = vlmc_ask(client, line, &call, STATUS);
+    pthread_cond_destroy(&call.changed);
+    if (status == VLM_NORMAL) {
+        pthread_mutex_lock(&client->state);
+        client->processes[made - 1].is_living = true;
+        pthread_mutex_unlock(&client->state);
+        *pid = made;
+    }
+    return status;
+}
+
+/* Ends the requests of a process that wait, and forgets its locks. */
+static void forget_process(vlm_client *client, uint32_t pid) {
+    pthread_mutex_lock(&client->state);
+    for (uint32_t place = 0; place < client->record_room; place++) {
+        struct record *record = &client->records[place];
+        /* (one that is not answered yet is refused by the service) */
+        if (!record->is_used || record->pid != pid || record->lkid == 0)
+            continue;
+        record->completion = NULL;
+        if (record->status == 0 && !record->is_granted && record->call != NULL)
+            vlmc_end(client, place, VLM_NONEXPR);
+        else
+            vlmc_free_record(client, place);
+    }
+    pthread_mutex_unlock(&client->state);
+}
+
+uint32_t vlm_client_rundown(vlm_client *client, uint32_t pid) {
+    char line[LINE_ROOM];
+    if (!vlmc_is_usable(client))
+        return VLM_BADPARAM;
+    pthread_mutex_lock(&client->state);
+    bool is_living = pid != 0 && pid <= client->process_count && client->processes[pid - 1].is_living;
+    uint32_t status = client->is_lost ? VLM_LOST : VLM_NONEXPR;
+    if (is_living && !client->is_lost)
+        client->processes[pid - 1].is_living = false;
+    pthread_mutex_unlock(&client->state);
+    if (!is_living || status == VLM_LOST)
+        return status;
+    snprintf(line, sizeof line, "end p%u\n", pid);
+    struct call call;
+    vlmc_begin_call(&call, 1);
+    status = vlmc_ask(client, line, &call, STATUS);
+    pthread_cond_destroy(&call.changed);
+    forget_process(client, pid);
+    return status;
+}

@@ -1,0 +1,71 @@
+/* Lines that are sent, and calls that wait for their answers. */
+#include "vlm_client_parts.h"
+
+#include <errno.h>
+#include <stdlib.h>
+#include <string.h>
+#include <sys/socket.h>
+#include <time.h>
+
+static bool make_room(vlm_client *client, uint32_t more) {
+    if (client->count + more <= client->room)
+        return true;
+    uint32_t room = 2 * client->room + more;
+    struct pending *queue = malloc(room * sizeof *queue);
+    if (queue == NULL)
+        return false;
+    for (uint32_t at = 0; at < client->count; at++)
+        queue[at] = client->queue[(client->first + at) % client->room];
+    free(client->queue);
+    client->queue = queue;
+    client->first = 0;
+    client->room = room;
+    return true;
+}
+
+static void note(vlm_client *client, const struct pending *wanted) {
+    client->queue[(client->first + client->count++) % client->room] = *wanted;
+}
+
+uint32_t vlmc_send(vlm_client *client, const char *lines, const struct pending *wanted, uint32_t count) {
+    pthread_mutex_lock(&client->sending);
+    pthread_mutex_lock(&client->state);
+    uint32_t status = client->is_lost ? VLM_LOST : make_room(client, count) ? VLM_NORMAL : VLM_INSFMEM;
+    for (uint32_t at = 0; status == VLM_NORMAL && at < count; at++)
+        note(client, &wanted[at]);
+    pthread_mutex_unlock(&client->state);
+    for (size_t len = strlen(lines); status == VLM_NORMAL && len > 0;) {
+        ssize_t sent = send(client->descriptor, lines, len, MSG_NOSIGNAL);
+        if (sent < 0 && errno == EINTR)
+            continue;
+        if (sent < 0)
+            break; /* the reader sees the end of the connection, and answers for it */
+        lines += sent;
+        len -= (size_t)sent;
+    }
+    pthread_mutex_unlock(&client->sending);
+    return status;
+}
+
+/* A call that waits for so many answers. Its times are of the monotonic clock. */
+void vlmc_begin_call(struct call *call, uint32_t answers) {
+    pthread_condattr_t attributes;
+    memset(call, 0, sizeof *call);
+    call->left = answers;
+    pthread_condattr_init(&attributes);
+    pthread_condattr_setclock(&attributes, CLOCK_MONOTONIC);
+    pthread_cond_init(&call->changed, &attributes);
+    pthread_condattr_destroy(&attributes);
+}
+
+uint32_t vlmc_ask(vlm_client *client, const char *line, struct call *call, uint32_t taken) {
+    const struct pending wanted = {taken, call, NO_RECORD};
+    uint32_t status = vlmc_send(client, line, &wanted, 1);
+    if (status != VLM_NORMAL)
+        return status;
+    pthread_mutex_lock(&client->state);
+    while (call->left > 0)
+        pthread_cond_wait(&call->changed, &client->state);
+    pthread_mutex_unlock(&client->state);
+    return call->answer;
+}

@@ -1,0 +1,154 @@
+/* What the files of the client share. Not a header of programs.
+ *
+ * Answers of the service come in the order of the lines. So a call notes in a queue what it waits for, and sends its
+ * line; one thread reads and hands each answer to the first of the queue. ASTs come between answers and name a record.
+ * A request has a record from its line on; a granted lock keeps it, for its blocking ASTs.
+ *
+ * vlm_client.c           opening, closing, processes
+ * vlm_client_reader.c    the thread that reads: answers, ASTs, the loss of the session
+ * vlm_client_calls.c     lines that are sent, and calls that wait for answers
+ * vlm_client_lines.c     lines and answers as text
+ * vlm_client_requests.c  enq, convert, deq
+ * vlm_client_records.c   records of requests and locks, and how a request ends
+ * vlm_client_events.c    calls of routines
+ *
+ * Two mutexes: `sending` is taken first and orders queue and lines; `state` guards everything else. A thread that sends
+ * may wait for the service with `sending`, never with `state`: so the reader always goes on. Functions that are
+ * declared here want `state` held, except where they say otherwise.
+ */
+#ifndef VLM_CLIENT_PARTS_H
+#define VLM_CLIENT_PARTS_H
+
+#define _GNU_SOURCE
+
+#include "vlm_client.h"
+
+#include <pthread.h>
+#include <sys/types.h>
+
+enum { MOST_REQUESTS = 255, SHORT_VALUE = 16, WHOLE_VALUE = 64, LINE_ROOM = 512, LINES_ROOM = 1024 };
+
+#define NO_RECORD UINT32_MAX
+
+/* What is taken from an answer: its status and lock, a value, the tail of a value, or nothing. */
+enum { STATUS, VALUE, TAIL, NOTHING };
+
+/* A call that waits: on its thread's stack. */
+struct call {
+    pthread_cond_t changed;
+    uint32_t left;   /* answers that have not come */
+    uint32_t answer; /* of the line whose status is taken */
+    uint64_t handle;
+    bool is_ended; /* the request has, with this status and value */
+    uint32_t status;
+    uint8_t value[WHOLE_VALUE];
+};
+
+struct pending {
+    uint32_t taken;
+    struct call *call;
+    uint32_t record; /* of the request that is asked for, or NO_RECORD */
+};
+
+/* A request, and then its lock. */
+struct record {
+    uint32_t next; /* of the free ones, or of those with the same hash of their lock */
+    uint32_t generation;
+    uint32_t pid;
+    uint32_t lkid; /* 0 until it is accepted */
+    uint32_t block;
+    uint32_t flags;
+    uint32_t status; /* how the request ended, or 0 */
+    uint32_t lock;   /* of a conversion: the record of its lock, else NO_RECORD */
+    uint32_t parent; /* of a lock: its parent lock, or 0 */
+    bool is_used, is_granted;
+    struct call *call; /* waits for the end, or null */
+    vlm_threads_routine completion, blocking;
+    void *completion_context, *blocking_context;
+    uint8_t value[WHOLE_VALUE];
+};
+
+struct process {
+    bool is_living;
+    uint32_t requests;
+    uint8_t blocks[MOST_REQUESTS + 1]; /* 1: a request under way has it */
+};
+
+struct event {
+    struct event *next;
+    uint32_t record, generation; /* of a warning */
+    bool is_loss;
+    vlm_threads_routine routine;
+    void *context;
+    uint32_t tail_of; /* the status block of a completion whose value has a tail, which is read before, or 0 */
+    vlm_threads_event told;
+};
+
+struct vlm_client {
+    pthread_mutex_t sending, state;
+    pid_t owner; /* the process that opened it */
+    vlm_client_options options;
+    char *path;
+    int descriptor;
+    uint64_t epoch;
+    bool is_lost, is_ending, has_reader, has_deliverer;
+    pthread_t reader, deliverer, runner;
+    struct pending *queue; /* a ring */
+    uint32_t first, count, room;
+    struct record *records;
+    uint32_t record_room, free_record;
+    uint32_t *hashed; /* record_room places: the first lock of each hash */
+    struct process *processes;
+    uint32_t process_count;
+    struct event *first_event, **last_event;
+    struct event loss; /* needs no memory when it comes */
+    bool is_running;   /* a routine, in the thread `runner` */
+    pthread_cond_t events, settled;
+    int event_descriptor;
+};
+
+/* vlm_client.c: takes no mutex. */
+bool vlmc_is_usable(const vlm_client *client);
+
+/* vlm_client_reader.c. vlmc_connect and vlmc_read take no mutex held; vlmc_connect gives VLM_NORMAL or VLM_LOST. */
+uint32_t vlmc_connect(vlm_client *client);
+void *vlmc_read(void *client);
+
+/* vlm_client_calls.c. Notes what is waited for, and sends lines. Takes no mutex held. NORMAL; VLM_LOST and INSFMEM:
+ * nothing was sent. */
+uint32_t vlmc_send(vlm_client *client, const char *lines, const struct pending *wanted, uint32_t count);
+
+/* vlm_client_lines.c: none takes a mutex. */
+uint32_t vlmc_status(const char *answer, uint64_t *handle);
+int vlmc_write_hex(char *text, const uint8_t *bytes, size_t len);
+void vlmc_read_value(const char *line, uint8_t *value, size_t len);
+
+/* vlm_client_calls.c. vlmc_ask sends a line and waits for its answer; it takes no mutex held. */
+void vlmc_begin_call(struct call *call, uint32_t answers);
+uint32_t vlmc_ask(vlm_client *client, const char *line, struct call *call, uint32_t taken);
+
+/* vlm_client_records.c */
+uint32_t vlmc_new_record(vlm_client *client);
+uint32_t vlmc_find_lock(const vlm_client *client, uint32_t pid, uint32_t lkid);
+void vlmc_free_block(vlm_client *client, uint32_t pid, uint32_t block);
+void vlmc_free_record(vlm_client *client, uint32_t place);
+void vlmc_accept(vlm_client *client, uint32_t place, uint32_t lkid);
+void vlmc_grant_at_once(vlm_client *client, uint32_t place);
+void vlmc_end(vlm_client *client, uint32_t place, uint32_t status);
+bool vlmc_is_grant(uint32_t status);
+
+/* vlm_client_requests.c. Reads the tail of an event's value from a status block, and frees the block. Takes no mutex
+ * held. */
+void vlmc_read_tail(vlm_client *client, vlm_threads_event *told, uint32_t block);
+
+/* vlm_client_events.c */
+void vlmc_tell_end(vlm_client *client, const struct record *record);
+void vlmc_warn(vlm_client *client, uint32_t place);
+void vlmc_tell_loss(vlm_client *client);
+void *vlmc_deliver(void *client);
+void vlmc_drop_events(vlm_client *client);
+
+/* Whether the size of a struct of vlm_threads.h is right. An older header may have made it shorter. */
+static inline bool is_sized(uint32_t size, size_t first, size_t whole) { return size >= first && size <= whole; }
+
+#endif

@@ -1,0 +1,367 @@
+/* Requests: enq, convert and deq. */
+#include "vlm_client_parts.h"
+
+#include <errno.h>
+#include <inttypes.h>
+#include <stdio.h>
+#include <string.h>
+#include <time.h>
+
+enum { MOST_LINES = 4, MOST_BITS = 65535, NAME_BYTES = 32 };
+
+/* The lines of a request, and what is taken from each answer. */
+struct lines {
+    char text[LINES_ROOM];
+    int len;
+    struct pending wanted[MOST_LINES];
+    uint32_t count;
+};
+
+static bool is_valid(const vlm_threads_request *request, bool is_start) {
+    size_t first = offsetof(vlm_threads_request, released);
+    return is_sized(request->size, first, sizeof *request) && request->mode <= VLM_EX && request->flags <= MOST_BITS
+           && ((request->flags & VLM_VALBLK) == 0 || request->value != NULL)
+           && (request->completion != NULL) == is_start && (request->size == first || request->released == NULL);
+}
+
+/* Whether a process may make calls: NORMAL, VLM_LOST, NONEXPR. */
+static uint32_t standing(const vlm_client *client, uint32_t pid) {
+    if (client->is_lost)
+        return VLM_LOST;
+    bool is_living = pid != 0 && pid <= client->process_count && client->processes[pid - 1].is_living;
+    return is_living ? VLM_NORMAL : VLM_NONEXPR;
+}
+
+/* A status block that no request under way has, or 0. */
+static uint32_t take_block(struct process *process) {
+    for (uint32_t block = 1; block <= process->requests; block++) {
+        if (process->blocks[block] != 0)
+            continue;
+        process->blocks[block] = 1;
+        return block;
+    }
+    return 0;
+}
+
+static void fill(vlm_client *client, uint32_t place, const vlm_threads_request *request, struct call *call) {
+    struct record *record = &client->records[place];
+    bool writes_value = (request->flags & VLM_VALBLK) != 0;
+    record->pid = request->pid;
+    record->flags = request->flags;
+    record->call = call;
+    record->completion = request->completion;
+    record->completion_context = request->completion_context;
+    record->blocking = request->blocking;
+    record->blocking_context = request->blocking_context;
+    if (writes_value)
+        memcpy(record->value, request->value, (request->flags & VLM_WIDE) != 0 ? WHOLE_VALUE : SHORT_VALUE);
+}
+
+/* Makes a record for a request, with a status block. `lock` is the record of the lock that is converted. */
+static uint32_t prepare(vlm_client *client, const vlm_threads_request *request, struct call *call, bool is_conversion,
+                        uint32_t *place) {
+    uint32_t status = standing(client, request->pid), lock = NO_RECORD;
+    if (status == VLM_NORMAL && is_conversion) {
+        lock = vlmc_find_lock(client, request->pid, request->lock);
+        status = lock == NO_RECORD ? VLM_IVLOCKID : VLM_NORMAL;
+    }
+    if (status != VLM_NORMAL)
+        return status;
+    *place = vlmc_new_record(client);
+    if (*place == NO_RECORD)
+        return VLM_INSFMEM;
+    uint32_t block = take_block(&client->processes[request->pid - 1]);
+    if (block == 0) {
+        vlmc_free_record(client, *place);
+        return VLM_EXENQLM;
+    }
+    fill(client, *place, request, call);
+    client->records[*place].block = block;
+    client->records[*place].lock = lock;
+    client->records[*place].parent = is_conversion ? 0 : request->lock;
+    return VLM_NORMAL;
+}
+
+static void want(struct lines *lines, struct call *call, uint32_t taken, uint32_t record) {
+    lines->wanted[lines->count++] = (struct pending){taken, call, record};
+}
+
+static uint64_t handle_of(const vlm_client *client, uint32_t lkid) {
+    return lkid == 0 ? 0 : client->epoch << 32 | lkid;
+}
+
+/* A conversion may write the value block from the status block, which gets the value before. */
+static void write_value(struct lines *lines, const struct record *record, struct call *call) {
+    lines->len += snprintf(lines->text + lines->len, LINES_ROOM, "set p%u block=%u value=", record->pid, record->block);
+    lines->len += vlmc_write_hex(lines->text + lines->len, record->value, SHORT_VALUE);
+    lines->len += snprintf(lines->text + lines->len, 8, " tail=");
+    lines->len += vlmc_write_hex(lines->text + lines->len, record->value + SHORT_VALUE, WHOLE_VALUE - SHORT_VALUE);
+    lines->len += snprintf(lines->text + lines->len, 2, "\n");
+    want(lines, call, NOTHING, NO_RECORD);
+}
+
+static void write_end(vlm_client *client, struct lines *lines, const vlm_threads_request *request, uint32_t place) {
+    const struct record *record = &client->records[place];
+    struct call *call = record->call;
+    char *text = lines->text;
+    lines->len +=
+        snprintf(text + lines->len, LINE_ROOM, " block=%u ast=%u bits=%u", record->block, place, request->flags);
+    if (request->blocking != NULL)
+        lines->len +=
+            snprintf(text + lines->len, LINE_ROOM, " bast=%u", record->lock != NO_RECORD ? record->lock : place);
+    lines->len += snprintf(text + lines->len, 2, "\n");
+    want(lines, call, STATUS, place);
+    /* (a request that is granted at once with SYNCSTS has no completion, which would bring the value) */
+    if ((request->flags & VLM_SYNCSTS) != 0 && (request->flags & VLM_VALBLK) != 0) {
+        lines->len += snprintf(text + lines->len, LINE_ROOM, "block p%u %u\ntail p%u %u\n", record->pid, record->block,
+                               record->pid, record->block);
+        want(lines, call, VALUE, NO_RECORD);
+        want(lines, call, TAIL, NO_RECORD);
+    }
+}
+
+static const char *const modes[] = {"NL", "CR", "CW", "PR", "PW", "EX"};
+
+static void write_enq(vlm_client *client, struct lines *lines, const vlm_threads_request *request, const uint8_t *name,
+                      size_t name_len) {
+    lines->len = snprintf(lines->text, LINES_ROOM, "enq p%u %s name=", request->pid, modes[request->mode]);
+    if (name_len > 0) {
+        lines->len += snprintf(lines->text + lines->len, 3, "x:");
+        lines->len += vlmc_write_hex(lines->text + lines->len, name, name_len < NAME_BYTES ? name_len : NAME_BYTES);
+    }
+    if (request->lock != 0)
+        lines->len +=
+            snprintf(lines->text + lines->len, LINE_ROOM, " parent=%" PRIu64, handle_of(client, request->lock));
+}
+
+static void write_cvt(vlm_client *client, struct lines *lines, const vlm_threads_request *request, uint32_t place) {
+    const struct record *record = &client->records[place];
+    if ((request->flags & VLM_VALBLK) != 0)
+        write_value(lines, record, record->call);
+    lines->len += snprintf(lines->text + lines->len, LINE_ROOM, "cvt p%u %" PRIu64 " %s", request->pid,
+                           handle_of(client, request->lock), modes[request->mode]);
+}
+
+/* Waits until the request of a call has ended, or until a moment. */
+static bool wait_for_end(vlm_client *client, struct call *call, const struct timespec *until) {
+    int waited = 0;
+    while (!call->is_ended && waited != ETIMEDOUT)
+        waited = until != NULL ? pthread_cond_timedwait(&call->changed, &client->state, until)
+                               : pthread_cond_wait(&call->changed, &client->state);
+    return call->is_ended;
+}
+
+static struct timespec moment_after(uint32_t milliseconds) {
+    struct timespec moment;
+    clock_gettime(CLOCK_MONOTONIC, &moment);
+    moment.tv_sec += milliseconds / 1000;
+    moment.tv_nsec += (long)(milliseconds % 1000) * 1000000;
+    if (moment.tv_nsec >= 1000000000) {
+        moment.tv_sec++;
+        moment.tv_nsec -= 1000000000;
+    }
+    return moment;
+}
+
+static void cancel(vlm_client *client, const vlm_threads_request *request, uint64_t handle) {
+    char line[LINE_ROOM];
+    struct call call;
+    snprintf(line, sizeof line, "deq p%u %" PRIu64 " cancel\n", request->pid, handle);
+    vlmc_begin_call(&call, 1);
+    vlmc_ask(client, line, &call, STATUS);
+    pthread_cond_destroy(&call.changed);
+}
+
+/* Waits for the end of an accepted request. A wait that is too long cancels it; a grant that came before counts. */
+static uint32_t await_end(vlm_client *client, const vlm_threads_request *request, struct call *call) {
+    struct timespec until = moment_after(request->milliseconds);
+    pthread_mutex_lock(&client->state);
+    bool is_ended = wait_for_end(client, call, request->milliseconds != 0 ? &until : NULL);
+    pthread_mutex_unlock(&client->state);
+    if (!is_ended) {
+        cancel(client, request, call->handle);
+        pthread_mutex_lock(&client->state);
+        wait_for_end(client, call, NULL);
+        pthread_mutex_unlock(&client->state);
+    }
+    if (vlmc_is_grant(call->status))
+        return VLM_NORMAL;
+    return is_ended || call->status == VLM_LOST ? call->status : VLM_TIMEOUT;
+}
+
+/* Reads the tail of a value from a status block, and frees the block. */
+static void read_tail(vlm_client *client, uint32_t pid, uint32_t block, uint8_t *value) {
+    char line[LINE_ROOM];
+    struct call call;
+    snprintf(line, sizeof line, "tail p%u %u\n", pid, block);
+    vlmc_begin_call(&call, 1);
+    vlmc_ask(client, line, &call, TAIL);
+    memcpy(value + SHORT_VALUE, call.value + SHORT_VALUE, WHOLE_VALUE - SHORT_VALUE);
+    pthread_cond_destroy(&call.changed);
+    pthread_mutex_lock(&client->state);
+    vlmc_free_block(client, pid, block);
+    pthread_mutex_unlock(&client->state);
+}
+
+void vlmc_read_tail(vlm_client *client, vlm_threads_event *told, uint32_t block) {
+    read_tail(client, told->pid, block, told->value);
+}
+
+/* Writes what a request returns. */
+static void give(vlm_threads_request *request, const struct call *call, bool is_conversion) {
+    bool is_grant = vlmc_is_grant(call->status),
+         is_gone = call->status == VLM_ABORT || call->status == VLM_LOST || call->status == VLM_NONEXPR;
+    request->status = call->status;
+    request->lkid = is_grant || (is_conversion && !is_gone) ? (uint32_t)call->handle : 0;
+    if (is_grant && (request->flags & VLM_VALBLK) != 0)
+        memcpy(request->value, call->value, (request->flags & VLM_WIDE) != 0 ? WHOLE_VALUE : SHORT_VALUE);
+}
+
+/* What a request that was sent comes to. `block` is its status block. */
+static uint32_t follow(vlm_client *client, vlm_threads_request *request, struct call *call, uint32_t block,
+                       bool is_conversion) {
+    pthread_mutex_lock(&client->state);
+    while (call->left > 0)
+        pthread_cond_wait(&call->changed, &client->state);
+    if (call->answer == VLM_SYNCH)
+        vlmc_free_block(client, request->pid, block);
+    pthread_mutex_unlock(&client->state);
+    if (call->answer == VLM_SYNCH) {
+        call->status = (request->flags & VLM_VALBLK) != 0 ? call->status : VLM_NORMAL;
+        give(request, call, is_conversion);
+        return VLM_SYNCH;
+    }
+    if (call->answer != VLM_NORMAL)
+        return call->answer;
+    if (request->completion != NULL) {
+        request->lkid = (uint32_t)call->handle;
+        return VLM_NORMAL;
+    }
+    uint32_t answer = await_end(client, request, call);
+    bool is_wide = (request->flags & VLM_VALBLK) != 0 && (request->flags & VLM_WIDE) != 0;
+    if (answer == VLM_NORMAL && is_wide)
+        read_tail(client, request->pid, block, call->value);
+    give(request, call, is_conversion);
+    return answer;
+}
+
+/* Makes a request: `name` is null for a conversion. */
+static uint32_t make(vlm_client *client, vlm_threads_request *request, const uint8_t *name, size_t name_len) {
+    struct lines lines = {.len = 0};
+    struct call call;
+    uint32_t place = NO_RECORD, block = 0;
+    request->lkid = request->status = 0;
+    vlmc_begin_call(&call, 0);
+    pthread_mutex_lock(&client->state);
+    uint32_t status = prepare(client, request, &call, name == NULL, &place);
+    if (status == VLM_NORMAL) {
+        block = client->records[place].block;
+        if (name != NULL)
+            write_enq(client, &lines, request, name, name_len);
+        else
+            write_cvt(client, &lines, request, place);
+        write_end(client, &lines, request, place);
+        call.left = lines.count;
+        if (request->completion != NULL)
+            client->records[place].call = NULL;
+    }
+    pthread_mutex_unlock(&client->state);
+    if (status == VLM_NORMAL) {
+        status = vlmc_send(client, lines.text, lines.wanted, lines.count);
+        if (status == VLM_NORMAL) {
+            status = follow(client, request, &call, block, name == NULL);
+        } else {
+            pthread_mutex_lock(&client->state);
+            vlmc_free_block(client, request->pid, block);
+            vlmc_free_record(client, place);
+            pthread_mutex_unlock(&client->state);
+        }
+    }
+    pthread_cond_destroy(&call.changed);
+    return status;
+}
+
+uint32_t vlm_client_enq(vlm_client *client, vlm_threads_request *request, const uint8_t *name, size_t name_len) {
+    if (!vlmc_is_usable(client) || !is_valid(request, false))
+        return VLM_BADPARAM;
+    return make(client, request, name, name_len);
+}
+
+uint32_t vlm_client_convert(vlm_client *client, vlm_threads_request *request) {
+    if (!vlmc_is_usable(client) || !is_valid(request, false))
+        return VLM_BADPARAM;
+    return make(client, request, NULL, 0);
+}
+
+uint32_t vlm_client_start_enq(vlm_client *client, vlm_threads_request *request, const uint8_t *name, size_t name_len) {
+    if (!vlmc_is_usable(client) || !is_valid(request, true))
+        return VLM_BADPARAM;
+    return make(client, request, name, name_len);
+}
+
+uint32_t vlm_client_start_convert(vlm_client *client, vlm_threads_request *request) {
+    if (!vlmc_is_usable(client) || !is_valid(request, true))
+        return VLM_BADPARAM;
+    return make(client, request, NULL, 0);
+}
+
+static bool is_valid_dequeue(const vlm_threads_dequeue *dequeue) {
+    return dequeue->size == sizeof *dequeue && dequeue->flags <= MOST_BITS && dequeue->wide <= 1;
+}
+
+/* Forgets the granted locks of a process below a lock, or all of them. Trees have at most 16 levels. */
+static void forget_below(vlm_client *client, uint32_t pid, uint32_t lock) {
+    for (uint32_t place = 0; place < client->record_room; place++) {
+        const struct record *record = &client->records[place];
+        if (!record->is_used || record->pid != pid || !record->is_granted || (lock != 0 && record->parent != lock))
+            continue;
+        if (lock != 0)
+            forget_below(client, pid, record->lkid);
+        vlmc_free_record(client, place);
+    }
+}
+
+/* Forgets the locks that a dequeue has given up. */
+static void forget(vlm_client *client, const vlm_threads_dequeue *dequeue) {
+    if ((dequeue->flags & VLM_DEQ_CANCEL) != 0)
+        return;
+    if ((dequeue->flags & VLM_DEQALL) != 0) {
+        forget_below(client, dequeue->pid, dequeue->lock);
+        return;
+    }
+    uint32_t place = vlmc_find_lock(client, dequeue->pid, dequeue->lock);
+    if (place != NO_RECORD && client->records[place].is_granted)
+        vlmc_free_record(client, place);
+}
+
+uint32_t vlm_client_deq(vlm_client *client, const vlm_threads_dequeue *dequeue) {
+    char line[LINE_ROOM];
+    if (!vlmc_is_usable(client) || !is_valid_dequeue(dequeue))
+        return VLM_BADPARAM;
+    pthread_mutex_lock(&client->state);
+    uint32_t status = standing(client, dequeue->pid);
+    int len = snprintf(line, sizeof line, "deq p%u %" PRIu64 " bits=%u", dequeue->pid, handle_of(client, dequeue->lock),
+                       dequeue->flags);
+    pthread_mutex_unlock(&client->state);
+    if (status != VLM_NORMAL)
+        return status;
+    if (dequeue->value != NULL) {
+        len += snprintf(line + len, 8, " value=");
+        len += vlmc_write_hex(line + len, dequeue->value, SHORT_VALUE);
+    }
+    if (dequeue->value != NULL && dequeue->wide != 0) {
+        len += snprintf(line + len, 8, " tail=");
+        len += vlmc_write_hex(line + len, dequeue->value + SHORT_VALUE, WHOLE_VALUE - SHORT_VALUE);
+    }
+    snprintf(line + len, 2, "\n");
+    struct call call;
+    vlmc_begin_call(&call, 1);
+    status = vlmc_ask(client, line, &call, STATUS);
+    pthread_cond_destroy(&call.changed);
+    if (status != VLM_NORMAL)
+        return status;
+    pthread_mutex_lock(&client->state);
+    forget(client, dequeue);
+    pthread_mutex_unlock(&client->state);
+    return status;
+}

@@ -1,0 +1,88 @@
+/* A client of the lock service vlmd, with the structs and answers of vlm_threads.h: a program goes from threads to
+ * processes by other names of its calls. docs/SERVICE.md teaches the service. The layer is not proved. It uses POSIX
+ * threads and Linux's eventfd.
+ *
+ *     vlm_client_options options = {.size = sizeof options};
+ *     vlm_client *client;
+ *     uint32_t pid;
+ *     vlm_client_open(&options, &client);
+ *     vlm_threads_declaration declaration = {.size = sizeof declaration, .quota = 9, .requests = 1};
+ *     vlm_client_declare(client, &declaration, &pid);
+ *     vlm_threads_request request = {.size = sizeof request, .pid = pid, .mode = VLM_EX, .milliseconds = 500};
+ *     if (vlm_client_enq(client, &request, (const uint8_t *)"A", 1) == VLM_NORMAL) {
+ *         ... this thread holds A alone, among all processes of the machine ...
+ *         vlm_client_deq(client, &(vlm_threads_dequeue){.size = sizeof(vlm_threads_dequeue), .pid = pid,
+ *                                                       .lock = request.lkid});
+ *     }
+ *     vlm_client_close(client);
+ *
+ * What differs from vlm_threads.h:
+ * - Every call may answer VLM_LOST: the service or the session has ended, and the locks are gone. The program must stop
+ *   what it does under them. Each later call answers the same until vlm_client_reopen.
+ * - Group and privilege come from the connection: `node`, `group` and `syslck` of a declaration are not looked at.
+ *   `tied` and `own_queue` are 0, `released` of a request is null, and nobody is told the label of a process. A warning
+ *   does not tell the wanted mode: it is VLM_NO_MODE.
+ * - A limit of the service is answered EXENQLM, and a want of identifications NOLOCKID.
+ * - The service searches for deadlocks. There are no calls to search, to look, to count, or for nodes.
+ * - A call of a forked child answers VLM_BADPARAM: the connection is its parent's.
+ *
+ * Threads, routines, memory and what the caller owes are as there, except that each call sends a line and waits for the
+ * answer. A call takes two ways through the socket, some 20 microseconds. */
+#ifndef VLM_CLIENT_H
+#define VLM_CLIENT_H
+
+#include "vlm_threads.h"
+
+#ifdef __cplusplus
+extern "C" {
+#endif
+
+/* A connection with its session, its processes and its threads. */
+typedef struct vlm_client vlm_client;
+
+typedef struct vlm_client_options {
+    uint32_t size;
+    uint32_t delivery;              /* VLM_THREADS_BY_LAYER or VLM_THREADS_BY_PROGRAM */
+    const char *socket;             /* null: that of VLM_SOCKET in the environment, or /run/vlm/lock.sock */
+    void (*on_lost)(void *context); /* called as a routine once the locks are lost; or null */
+    void *lost_context;
+    uint32_t reserved[8];
+} vlm_client_options;
+
+/* Connects and begins a session. Starts a thread that reads, and one that runs routines (VLM_THREADS_BY_LAYER).
+ * *client is null unless the answer is NORMAL.
+ * VLM_LOST: there is no service, it speaks another protocol, or it refuses the connection.
+ * INSFMEM: memory, a thread or an eventfd was refused. BADPARAM: the options are malformed. */
+uint32_t vlm_client_open(const vlm_client_options *options, vlm_client **client);
+
+/* Begins a new session after VLM_LOST, without processes. Wait for no call of another thread meanwhile.
+ * VLM_LOST: as vlm_client_open; the call may be made again. BADPARAM: nothing is lost, or a routine calls it. */
+uint32_t vlm_client_reopen(vlm_client *client);
+
+/* Ends the session with all its locks, waits for the routine that runs, and frees everything. No other call may be
+ * under way. NORMAL, also with a null client. BADPARAM: a routine calls it, or a forked child; nothing happens. */
+uint32_t vlm_client_close(vlm_client *client);
+
+/* Declare a process and run it down, as vlm_threads_declare and vlm_threads_rundown do. */
+uint32_t vlm_client_declare(vlm_client *client, const vlm_threads_declaration *declaration, uint32_t *pid);
+uint32_t vlm_client_rundown(vlm_client *client, uint32_t pid);
+
+/* Ask for a lock, convert it and give it up, as the calls of vlm_threads.h with the same ends do. A request that waits when the locks are lost ends with VLM_LOST. */
+uint32_t vlm_client_enq(vlm_client *client, vlm_threads_request *request, const uint8_t *name, size_t name_len);
+uint32_t vlm_client_convert(vlm_client *client, vlm_threads_request *request);
+uint32_t vlm_client_start_enq(vlm_client *client, vlm_threads_request *request, const uint8_t *name, size_t name_len);
+uint32_t vlm_client_start_convert(vlm_client *client, vlm_threads_request *request);
+uint32_t vlm_client_deq(vlm_client *client, const vlm_threads_dequeue *dequeue);
+
+/* Deliver events, as the calls of vlm_threads.h with the same ends do. The completion routine of a request that is under way
+ * when the locks are lost is called with the status VLM_LOST, before on_lost. */
+uint32_t vlm_client_fd(vlm_client *client, int *descriptor);
+uint32_t vlm_client_dispatch(vlm_client *client, uint32_t *delivered);
+uint32_t vlm_client_settle(vlm_client *client);
+
+VLM_ASSERT(sizeof(struct vlm_client_options) == 64);
+
+#ifdef __cplusplus
+}
+#endif
+#endif

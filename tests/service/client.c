@@ -1,0 +1,354 @@
+/* The client of the lock service: client VLMD CONFIG SOCKET starts daemons and makes each call of vlm_client.h. */
+#define _GNU_SOURCE
+#include "vlm_client.h"
+
+#include <poll.h>
+#include <pthread.h>
+#include <signal.h>
+#include <stdatomic.h>
+#include <stdio.h>
+#include <stdlib.h>
+#include <string.h>
+#include <sys/wait.h>
+#include <unistd.h>
+
+enum { THREADS = 4, ROUNDS = 200, WAIT = 20000 };
+
+static const char *vlmd, *config, *path;
+static pid_t daemon_pid;
+
+#define CHECK(fact) check(fact, __LINE__, #fact)
+
+static void check(bool fact, int line, const char *text) {
+    if (fact)
+        return;
+    fprintf(stderr, "line %d: %s\n", line, text);
+    kill(daemon_pid, SIGKILL);
+    exit(1);
+}
+
+static void start_daemon(void) {
+    daemon_pid = fork();
+    if (daemon_pid == 0) {
+        execl(vlmd, vlmd, "-s", path, "-c", config, (char *)NULL);
+        _exit(1);
+    }
+}
+
+static void kill_daemon(void) {
+    kill(daemon_pid, SIGKILL);
+    waitpid(daemon_pid, NULL, 0);
+}
+
+static vlm_client *opened(vlm_client_options options) {
+    vlm_client *client;
+    options.size = sizeof options;
+    options.socket = path;
+    for (int tries = 0; tries < 1000; tries++) {
+        if (vlm_client_open(&options, &client) == VLM_NORMAL)
+            return client;
+        usleep(10000);
+    }
+    CHECK(false);
+    return NULL;
+}
+
+static uint32_t declared(vlm_client *client) {
+    vlm_threads_declaration declaration = {.size = sizeof declaration, .quota = 9, .requests = 4};
+    uint32_t pid;
+    CHECK(vlm_client_declare(client, &declaration, &pid) == VLM_NORMAL && pid != 0);
+    return pid;
+}
+
+static vlm_threads_request wanted(uint32_t pid, uint32_t mode, uint32_t flags) {
+    return (vlm_threads_request){
+        .size = sizeof(vlm_threads_request), .pid = pid, .mode = mode, .flags = flags, .milliseconds = WAIT};
+}
+
+static uint32_t enq(vlm_client *client, vlm_threads_request *request, const char *name) {
+    return vlm_client_enq(client, request, (const uint8_t *)name, strlen(name));
+}
+
+static uint32_t deq(vlm_client *client, uint32_t pid, uint32_t lock, uint32_t flags) {
+    vlm_threads_dequeue dequeue = {.size = sizeof dequeue, .pid = pid, .lock = lock, .flags = flags};
+    return vlm_client_deq(client, &dequeue);
+}
+
+static void test_answers(void) {
+    vlm_client *client = opened((vlm_client_options){0});
+    uint32_t pid = declared(client), other = declared(client);
+    vlm_threads_request held = wanted(pid, VLM_EX, 0), late = wanted(other, VLM_PR, 0);
+    CHECK(enq(client, &held, "A") == VLM_NORMAL && held.lkid == 1 && held.status == VLM_NORMAL);
+    late.milliseconds = 50;
+    CHECK(enq(client, &late, "A") == VLM_TIMEOUT && late.lkid == 0 && late.status == VLM_ABORT);
+    late.flags = VLM_NOQUEUE;
+    CHECK(enq(client, &late, "A") == VLM_NOTQUEUED && late.status == 0);
+    held.lock = held.lkid;
+    held.mode = VLM_PR;
+    CHECK(vlm_client_convert(client, &held) == VLM_NORMAL && held.lkid == 1);
+    CHECK(enq(client, &late, "A") == VLM_NORMAL);
+    held.mode = VLM_EX;
+    held.milliseconds = 50;
+    CHECK(vlm_client_convert(client, &held) == VLM_TIMEOUT && held.lkid == 1 && held.status == VLM_CANCEL);
+    CHECK(deq(client, other, 1, 0) == VLM_IVLOCKID && deq(client, 77, 1, 0) == VLM_NONEXPR);
+    CHECK(deq(client, pid, 1, VLM_DEQ_CANCEL) == VLM_CANCELGRANT);
+    vlm_threads_request below = wanted(pid, VLM_NL, 0);
+    below.lock = 1;
+    CHECK(enq(client, &below, "below") == VLM_NORMAL && deq(client, pid, 1, 0) == VLM_SUBLOCKS);
+    CHECK(deq(client, pid, 1, VLM_DEQALL) == VLM_NORMAL && deq(client, pid, below.lkid, 0) == VLM_IVLOCKID);
+    CHECK(enq(client, &below, "") == VLM_IVBUFLEN);
+    CHECK(deq(client, pid, 0, VLM_DEQALL) == VLM_NORMAL && deq(client, pid, 1, 0) == VLM_IVLOCKID);
+    held.lock = 1;
+    CHECK(vlm_client_convert(client, &held) == VLM_IVLOCKID);
+    vlm_threads_request many = wanted(pid, VLM_NL, 0);
+    for (int count = 0; count < 9; count++)
+        CHECK(enq(client, &many, "B") == VLM_NORMAL);
+    CHECK(enq(client, &many, "B") == VLM_EXENQLM);
+    CHECK(vlm_client_rundown(client, pid) == VLM_NORMAL && enq(client, &many, "B") == VLM_NONEXPR);
+    CHECK(vlm_client_rundown(client, pid) == VLM_NONEXPR && vlm_client_rundown(client, 0) == VLM_NONEXPR);
+    CHECK(vlm_client_close(client) == VLM_NORMAL && vlm_client_close(NULL) == VLM_NORMAL);
+}
+
+static void test_malformed(void) {
+    vlm_client *client = opened((vlm_client_options){0}), *none;
+    uint32_t pid = declared(client), made;
+    vlm_client_options options = {.size = sizeof options, .delivery = 9};
+    CHECK(vlm_client_open(&options, &none) == VLM_BADPARAM && none == NULL);
+    options = (vlm_client_options){.size = sizeof options, .socket = "/nowhere"};
+    CHECK(vlm_client_open(&options, &none) == VLM_LOST && none == NULL);
+    vlm_threads_declaration declaration = {.size = sizeof declaration, .quota = 9, .requests = 0};
+    CHECK(vlm_client_declare(client, &declaration, &made) == VLM_BADPARAM && made == 0);
+    vlm_threads_request request = wanted(pid, VLM_EX, VLM_VALBLK);
+    CHECK(enq(client, &request, "A") == VLM_BADPARAM);
+    request = wanted(pid, 6, 0);
+    CHECK(enq(client, &request, "A") == VLM_BADPARAM);
+    request = wanted(pid, VLM_EX, 0);
+    CHECK(vlm_client_start_enq(client, &request, (const uint8_t *)"A", 1) == VLM_BADPARAM);
+    int descriptor;
+    uint32_t delivered;
+    CHECK(vlm_client_fd(client, &descriptor) == VLM_BADPARAM
+          && vlm_client_dispatch(client, &delivered) == VLM_BADPARAM);
+    CHECK(vlm_client_reopen(client) == VLM_BADPARAM);
+    vlm_client_close(client);
+}
+
+static void test_values(void) {
+    vlm_client *client = opened((vlm_client_options){0});
+    uint32_t pid = declared(client);
+    uint8_t value[64], read[64] = {0};
+    for (int at = 0; at < 64; at++)
+        value[at] = (uint8_t)(3 * at + 1);
+    vlm_threads_request keeper = wanted(pid, VLM_NL, 0), held = wanted(pid, VLM_EX, 0);
+    CHECK(enq(client, &keeper, "A") == VLM_NORMAL && enq(client, &held, "A") == VLM_NORMAL);
+    vlm_threads_dequeue dequeue = {.size = sizeof dequeue, .pid = pid, .lock = held.lkid, .value = value, .wide = 1};
+    CHECK(vlm_client_deq(client, &dequeue) == VLM_NORMAL);
+    for (uint32_t flags = 0; flags <= VLM_SYNCSTS; flags += VLM_SYNCSTS) {
+        vlm_threads_request reader = wanted(pid, VLM_PR, VLM_VALBLK | VLM_WIDE | flags);
+        reader.value = memset(read, 0, sizeof read);
+        CHECK(enq(client, &reader, "A") == (flags == 0 ? VLM_NORMAL : VLM_SYNCH) && reader.status == VLM_NORMAL);
+        CHECK(memcmp(read, value, 64) == 0 && deq(client, pid, reader.lkid, 0) == VLM_NORMAL);
+    }
+    vlm_threads_request writer = wanted(pid, VLM_EX, VLM_VALBLK);
+    writer.value = memset(read, 0, sizeof read);
+    CHECK(enq(client, &writer, "A") == VLM_NORMAL && memcmp(read, value, 16) == 0 && read[16] == 0);
+    read[0] = 99;
+    writer.lock = writer.lkid;
+    writer.mode = VLM_NL;
+    CHECK(vlm_client_convert(client, &writer) == VLM_NORMAL);
+    writer.mode = VLM_PR;
+    read[0] = 0;
+    CHECK(vlm_client_convert(client, &writer) == VLM_NORMAL && read[0] == 99);
+    vlm_client_close(client);
+}
+
+/* What routines were told. */
+static struct {
+    atomic_int blockings, completions, losses;
+    atomic_uint status;
+    uint8_t value[64];
+} told;
+
+static void on_blocking(void *context, const vlm_threads_event *event) {
+    CHECK(event->kind == VLM_BLOCKING && *(uint32_t *)context == event->pid);
+    told.blockings++;
+}
+
+static void on_completion(void *context, const vlm_threads_event *event) {
+    CHECK(event->kind == VLM_COMPLETION && context == &told);
+    memcpy(told.value, event->value, sizeof told.value);
+    told.status = event->status;
+    told.completions++;
+}
+
+static void on_lost(void *context) {
+    CHECK(context == &told);
+    told.losses++;
+}
+
+static bool until(const atomic_int *count, int value) {
+    for (int tries = 0; tries < 2000 && *count != value; tries++)
+        usleep(5000);
+    return *count == value;
+}
+
+static void test_routines(void) {
+    vlm_client *client = opened((vlm_client_options){.delivery = VLM_THREADS_BY_PROGRAM});
+    vlm_client *other = opened((vlm_client_options){0});
+    uint32_t pid = declared(client), second = declared(other), delivered;
+    uint8_t value[64] = {1};
+    vlm_threads_request held = wanted(pid, VLM_EX, 0), late = wanted(second, VLM_PR, VLM_VALBLK | VLM_WIDE);
+    held.blocking = on_blocking;
+    held.blocking_context = &pid;
+    late.value = value;
+    late.completion = on_completion;
+    late.completion_context = &told;
+    memset(&told, 0, sizeof told);
+    CHECK(enq(client, &held, "A") == VLM_NORMAL);
+    CHECK(vlm_client_start_enq(other, &late, (const uint8_t *)"A", 1) == VLM_NORMAL && late.lkid != 0);
+    struct pollfd ready = {.events = POLLIN};
+    CHECK(vlm_client_fd(client, &ready.fd) == VLM_NORMAL && poll(&ready, 1, WAIT) == 1);
+    CHECK(vlm_client_dispatch(client, &delivered) == VLM_NORMAL && delivered == 1 && told.blockings == 1);
+    value[0] = 7;
+    value[63] = 8;
+    vlm_threads_dequeue dequeue = {.size = sizeof dequeue, .pid = pid, .lock = held.lkid, .value = value, .wide = 1};
+    CHECK(told.completions == 0 && vlm_client_deq(client, &dequeue) == VLM_NORMAL && until(&told.completions, 1));
+    CHECK(vlm_client_settle(other) == VLM_NORMAL);
+    CHECK(told.status == VLM_NORMAL && told.value[0] == 7 && told.value[63] == 8);
+    CHECK(poll(&ready, 1, 0) == 0 && vlm_client_dispatch(client, &delivered) == VLM_NORMAL && delivered == 0);
+    vlm_client_close(client);
+    vlm_client_close(other);
+}
+
+struct waiter {
+    vlm_client *client;
+    uint32_t pid, answer;
+    const char *name;
+};
+
+static void *wait_for(void *argument) {
+    struct waiter *waiter = argument;
+    vlm_threads_request request = wanted(waiter->pid, VLM_EX, 0);
+    waiter->answer = enq(waiter->client, &request, waiter->name);
+    return NULL;
+}
+
+/* Two processes lock A and B in turn: one of them is the victim. A rundown ends the wait of the other. */
+static void test_ends(void) {
+    vlm_client *client = opened((vlm_client_options){0}), *other = opened((vlm_client_options){0});
+    struct waiter one = {client, declared(client), 0, "B"}, two = {other, declared(other), 0, "A"};
+    vlm_threads_request first = wanted(one.pid, VLM_EX, 0), second = wanted(two.pid, VLM_EX, 0);
+    CHECK(enq(client, &first, "A") == VLM_NORMAL && enq(other, &second, "B") == VLM_NORMAL);
+    pthread_t threads[2];
+    pthread_create(&threads[0], NULL, wait_for, &one);
+    usleep(100000);
+    pthread_create(&threads[1], NULL, wait_for, &two);
+    pthread_join(threads[1], NULL);
+    CHECK(two.answer == VLM_DEADLOCK);
+    CHECK(vlm_client_rundown(client, one.pid) == VLM_NORMAL);
+    pthread_join(threads[0], NULL);
+    CHECK(one.answer == VLM_NONEXPR);
+    vlm_client_close(client);
+    vlm_client_close(other);
+}
+
+static int counter; /* under the lock "count" */
+
+static void *count_up(void *argument) {
+    struct waiter *waiter = argument;
+    for (int round = 0; round < ROUNDS; round++) {
+        vlm_threads_request request = wanted(waiter->pid, VLM_EX, 0);
+        request.milliseconds = round % 3 == 0 ? 1 : WAIT;
+        uint32_t answer = enq(waiter->client, &request, "count");
+        CHECK(answer == VLM_NORMAL || (answer == VLM_TIMEOUT && round % 3 == 0));
+        if (answer != VLM_NORMAL)
+            continue;
+        __atomic_store_n(&counter, __atomic_load_n(&counter, __ATOMIC_RELAXED) + 1, __ATOMIC_RELAXED);
+        waiter->answer++;
+        CHECK(deq(waiter->client, waiter->pid, request.lkid, 0) == VLM_NORMAL);
+    }
+    return NULL;
+}
+
+/* Threads of two clients count under a lock, while some of their waits end too early: no count is lost. */
+static void test_race(void) {
+    vlm_client *clients[] = {opened((vlm_client_options){0}), opened((vlm_client_options){0})};
+    struct waiter waiters[THREADS];
+    pthread_t threads[THREADS];
+    for (int at = 0; at < THREADS; at++) {
+        waiters[at] = (struct waiter){clients[at % 2], declared(clients[at % 2]), 0, NULL};
+        pthread_create(&threads[at], NULL, count_up, &waiters[at]);
+    }
+    int all = 0;
+    for (int at = 0; at < THREADS; at++) {
+        pthread_join(threads[at], NULL);
+        all += (int)waiters[at].answer;
+    }
+    CHECK(all == counter && all > ROUNDS);
+    vlm_client_close(clients[0]);
+    vlm_client_close(clients[1]);
+}
+
+static void test_fork(void) {
+    vlm_client *client = opened((vlm_client_options){0});
+    uint32_t pid = declared(client);
+    pid_t child = fork();
+    if (child == 0) {
+        vlm_threads_request request = wanted(pid, VLM_EX, 0);
+        _exit(enq(client, &request, "A") == VLM_BADPARAM && vlm_client_close(client) == VLM_BADPARAM ? 0 : 1);
+    }
+    int status;
+    CHECK(waitpid(child, &status, 0) == child && status == 0);
+    vlm_threads_request request = wanted(pid, VLM_EX, 0);
+    CHECK(enq(client, &request, "A") == VLM_NORMAL);
+    vlm_client_close(client);
+}
+
+/* The daemon is killed while a lock is held, a call waits and a start form is under way. */
+static void test_loss(void) {
+    vlm_client *client = opened((vlm_client_options){.on_lost = on_lost, .lost_context = &told});
+    struct waiter waiter = {client, declared(client), 0, "A"};
+    uint32_t pid = declared(client);
+    vlm_threads_request held = wanted(pid, VLM_EX, 0), started = wanted(declared(client), VLM_EX, 0);
+    memset(&told, 0, sizeof told);
+    started.completion = on_completion;
+    started.completion_context = &told;
+    CHECK(enq(client, &held, "A") == VLM_NORMAL);
+    CHECK(vlm_client_start_enq(client, &started, (const uint8_t *)"A", 1) == VLM_NORMAL);
+    pthread_t thread;
+    pthread_create(&thread, NULL, wait_for, &waiter);
+    usleep(100000);
+    kill_daemon();
+    pthread_join(thread, NULL);
+    CHECK(waiter.answer == VLM_LOST && until(&told.completions, 1) && told.status == VLM_LOST);
+    CHECK(until(&told.losses, 1) && deq(client, pid, held.lkid, 0) == VLM_LOST);
+    CHECK(enq(client, &held, "A") == VLM_LOST && vlm_client_reopen(client) == VLM_LOST);
+    start_daemon();
+    int tries = 0;
+    while (vlm_client_reopen(client) != VLM_NORMAL && tries++ < 1000)
+        usleep(10000);
+    CHECK(enq(client, &held, "A") == VLM_NONEXPR);
+    held.pid = declared(client);
+    CHECK(enq(client, &held, "A") == VLM_NORMAL && deq(client, held.pid, held.lkid, 0) == VLM_NORMAL);
+    CHECK(told.losses == 1 && vlm_client_close(client) == VLM_NORMAL);
+}
+
+int main(int count, char **words) {
+    if (count != 4)
+        return 2;
+    vlmd = words[1];
+    config = words[2];
+    path = words[3];
+    start_daemon();
+    test_answers();
+    test_malformed();
+    test_values();
+    test_routines();
+    test_ends();
+    test_race();
+    test_fork();
+    test_loss();
+    kill(daemon_pid, SIGTERM);
+    waitpid(daemon_pid, NULL, 0);
+    puts("all calls answer as they should");
+    return 0;
+}
