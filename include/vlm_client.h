@@ -67,15 +67,16 @@ uint32_t vlm_client_close(vlm_client *client);
 uint32_t vlm_client_declare(vlm_client *client, const vlm_threads_declaration *declaration, uint32_t *pid);
 uint32_t vlm_client_rundown(vlm_client *client, uint32_t pid);
 
-/* Ask for a lock, convert it and give it up, as the calls of vlm_threads.h with the same ends do. A request that waits when the locks are lost ends with VLM_LOST. */
+/* Ask for a lock, convert it and give it up, as the calls of vlm_threads.h with the same ends do. A request that waits
+ * when the locks are lost ends with VLM_LOST. */
 uint32_t vlm_client_enq(vlm_client *client, vlm_threads_request *request, const uint8_t *name, size_t name_len);
 uint32_t vlm_client_convert(vlm_client *client, vlm_threads_request *request);
 uint32_t vlm_client_start_enq(vlm_client *client, vlm_threads_request *request, const uint8_t *name, size_t name_len);
 uint32_t vlm_client_start_convert(vlm_client *client, vlm_threads_request *request);
 uint32_t vlm_client_deq(vlm_client *client, const vlm_threads_dequeue *dequeue);
 
-/* Deliver events, as the calls of vlm_threads.h with the same ends do. The completion routine of a request that is under way
- * when the locks are lost is called with the status VLM_LOST, before on_lost. */
+/* Deliver events, as the calls of vlm_threads.h with the same ends do. The completion routine of a request that is
+ * under way when the locks are lost is called with the status VLM_LOST, before on_lost. */
 uint32_t vlm_client_fd(vlm_client *client, int *descriptor);
 uint32_t vlm_client_dispatch(vlm_client *client, uint32_t *delivered);
 uint32_t vlm_client_settle(vlm_client *client);
