@@ -493,6 +493,10 @@ uint32_t vlm_leave(vlm *handle, uint32_t node);
  * DEPARTED. */
 uint32_t vlm_search(vlm *handle, uint32_t node, uint32_t *victim);
 
+/* Finds the lock whose request a search would end now: *victim is that lock, or 0. Nothing changes. It takes as long as
+ * a search that finds a victim. NORMAL, or BADPARAM and nothing is written. */
+uint32_t vlm_find_victim(vlm *handle, uint32_t *victim);
+
 /* Read a status block, or count. Nothing changes, and each call takes constant time. NORMAL, or BADPARAM and nothing is
  * written. */
 uint32_t vlm_block(vlm *handle, uint32_t pid, uint32_t block, vlm_lksb *lksb);

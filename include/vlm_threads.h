@@ -334,8 +334,9 @@ uint32_t vlm_threads_settle(vlm_threads *layer);
  * deadlock, by cancelling a request of its choice say, there is no victim. If two threads search at once, one may end
  * the victim while the other is in the hook.
  *
- * With victim_milliseconds or a hook, the layer reads all waits before each search, under the mutex. It takes time for
- * each pair of a request and a lock that it waits for: 1,000 requests in one queue have 500,000.
+ * With victim_milliseconds or a hook, the layer first looks for the victim, which takes as long as the search. For the
+ * hook it follows waits from the victim until they lead back: that takes time for each pair of a request and a lock
+ * that it waits for, and 1,000 requests in one queue have 500,000 of them.
  * DEPARTED: all nodes have departed. */
 uint32_t vlm_threads_search(vlm_threads *layer, uint32_t *victims);
 

@@ -7,7 +7,7 @@
  *
  * vlm_threads.c            opening, closing, counters
  * vlm_threads_watch.c      searches, the thread that watches, and the hooks
- * vlm_threads_circles.c    who is deadlocked, read from the core before a search
+ * vlm_threads_circles.c    the victim of a search, and its circle
  * vlm_threads_processes.c  declare, rundown, leave, the ends of threads
  * vlm_threads_requests.c   enq, convert, deq, and the wait for a grant
  * vlm_threads_delivery.c   calls of routines
@@ -165,15 +165,10 @@ struct lock {
     struct request *queued;    /* the one that waits, or null */
 };
 
-/* What a reading of all waits knows of a process. vlm_threads_circles.c says what for. */
+/* What a walk over waits knows of a process that it has reached: by a wait of a request for a lock. */
 struct visit {
-    uint32_t reading; /* of the last reading that came here */
-    uint32_t order, lowest, circle;
-    bool is_open, is_caught;
-    struct process *below, *came_from;
-    struct request *request; /* the one whose waits are read */
-    uint32_t blocker;
-    uint32_t walk; /* of the last walk that came here, by this wait of a request for a lock */
+    uint32_t walk;         /* the last one that came here */
+    struct process *below; /* the next one that it reached */
     struct request *reached_by;
     uint32_t reached_for;
 };
@@ -215,7 +210,7 @@ struct vlm_threads {
 
     struct request *oldest, *newest; /* all queued requests, in the order in which they were made */
     struct request *untold;          /* the oldest one whose wait was not told as a long one, or null */
-    uint32_t reading, walk;          /* how many readings of all waits there were, and walks of one circle */
+    uint32_t walk;                   /* how many walks over waits there were */
 
     struct queue queue;      /* of the processes without one */
     struct running *running; /* the calls of routines and hooks that run */

@@ -122,6 +122,19 @@ static void blockers(void) {
     HOLD(vlm_next_blocker(&handle, 5, 9, &lock) == VLM_BADPARAM);
 }
 
+/* A search ends the request that a look for a victim has found. The look changes nothing. P waits for itself too. */
+static void victims(void) {
+    const uint32_t expected[] = {4, 3, 2, 0};
+    for (size_t i = 0; i < sizeof expected / sizeof *expected; i++) {
+        uint32_t found = 99, ended = 99;
+        size_t queued = vlm_queued_count(&handle);
+        MADE(vlm_find_victim(&handle, &found));
+        HOLD(found == expected[i] && vlm_queued_count(&handle) == queued);
+        MADE(vlm_search(&handle, 1, &ended));
+        HOLD(ended == found);
+    }
+}
+
 int main(void) {
     vlm_options options = VLM_OPTIONS;
     MADE(vlm_open(&handle, &options));
@@ -141,6 +154,7 @@ int main(void) {
     rows(p, q, r);
     kin(p, q, r);
     blockers();
+    victims();
     vlm_close(&handle);
     printf("%u checks, %u wrong\n", calls, wrong);
     return wrong != 0;

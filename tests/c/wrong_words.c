@@ -209,6 +209,9 @@ static void closed_calls(vlm *handle) {
     EXPECT(vlm_rundown(handle, p), VLM_BADPARAM);
     EXPECT(vlm_leave(handle, 1), VLM_BADPARAM);
     EXPECT(vlm_search(handle, 1, &number), VLM_BADPARAM);
+    number = 7;
+    EXPECT(vlm_find_victim(handle, &number), VLM_BADPARAM);
+    HOLD(number == 7);
     EXPECT(vlm_block(handle, p, 1, &lksb), VLM_BADPARAM);
     EXPECT(vlm_pending(handle, p, &count), VLM_BADPARAM);
     EXPECT(vlm_next_process(handle, 0, &process), VLM_BADPARAM);
