@@ -68,6 +68,7 @@ Entry = _struct("Entry", 512, *_words("sender step pid node status number name_l
 Line = _struct("Line", 464, *_words("kind fault number name_len resource_len"), ("name", c_uint8 * 16),
                ("resource", c_uint8 * 32), ("declaration", Declaration), ("setting", Setting), ("request", Request),
                ("dequeue", Dequeue), _reserved(2))
+Text = _struct("Text", 256, *_words("len"), ("bytes", c_uint8 * 248))
 Cut = _struct("Cut", 32, *_words("entry_size"), ("base", c_uint64), ("count", c_uint64), _reserved(2))
 # What a post answers that found no free place, and a wait that has lasted as long as it may.
 FULL, TIMEOUT = 256, 100
@@ -136,6 +137,10 @@ _CALLS: Dict[str, List[Any]] = {
     "vlm_next_sublock": [c_uint32, POINTER(Lock)],
     "vlm_first_blocker": [c_uint32, POINTER(Lock)],
     "vlm_next_blocker": [c_uint32, c_uint32, POINTER(Lock)],
+    "vlm_print_block": [c_uint32, POINTER(Line), POINTER(Text)],
+    "vlm_print_tail": [c_uint32, POINTER(Line), POINTER(Text)],
+    "vlm_print_resource": [POINTER(Resource), POINTER(Text)],
+    "vlm_print_resource_tail": [POINTER(Resource), POINTER(Text)],
     "vlm_hub_open": [c_uint32, POINTER(Options)],
     "vlm_hub_port": [c_uint32, POINTER(Handle)],
     "vlm_hub_turn": [POINTER(c_size_t)],
@@ -158,6 +163,13 @@ _CALLS: Dict[str, List[Any]] = {
     "vlm_port_bye": [],
     "vlm_port_take": [POINTER(Item)],
     "vlm_port_close": [],
+}
+# The calls that take no handle.
+_FREE_CALLS: Dict[str, List[Any]] = {
+    "vlm_read_line": [c_char_p, c_size_t, POINTER(Line)],
+    "vlm_print_answer": [POINTER(Line), c_uint32, c_uint32, POINTER(Text)],
+    "vlm_print_ast": [POINTER(Line), c_uint32, POINTER(Ast), POINTER(Text)],
+    "vlm_print_lock": [POINTER(Lock), POINTER(Text)],
 }
 # The calls of the layer, which take it first, and those that print, which take a stream last.
 _LAYER_CALLS: Dict[str, List[Any]] = {
@@ -212,8 +224,8 @@ def _declared(library: ctypes.CDLL) -> ctypes.CDLL:
     for name, arguments in _LAYER_CALLS.items():
         call = getattr(library, name)
         call.argtypes, call.restype = [_FIRST.get(name, c_void_p), *arguments], c_uint32
-    # (it has no handle)
-    library.vlm_read_line.argtypes = [c_char_p, c_size_t, POINTER(Line)]
+    for name, arguments in _FREE_CALLS.items():
+        getattr(library, name).argtypes = arguments
     return library
 
 
@@ -232,7 +244,7 @@ class _Library:
 
     def __getattr__(self, name: str) -> Any:
         library = _loaded()
-        for call in (*_CALLS, *_LAYER_CALLS, "vlm_read_line"):
+        for call in (*_CALLS, *_LAYER_CALLS, *_FREE_CALLS):
             setattr(self, call, getattr(library, call))
         self._name = library._name
         return getattr(self, name) if name in self.__dict__ else getattr(library, name)

@@ -88,7 +88,7 @@ class LockManager(Owner):
 
     def find_lock(self, lock: int) -> Optional[LockView]:
         """The lock of this identification. It takes constant time."""
-        return next(self._locks("vlm_find_lock", None, word(lock, "the lock")), None)
+        return next(map(lock_of, self._lock_words("vlm_find_lock", None, word(lock, "the lock"))), None)
 
     def resource_of(self, lock: int) -> Optional[Resource]:
         """The resource of a lock. It takes constant time."""
@@ -137,18 +137,19 @@ class LockManager(Owner):
         """The resource that a call reads, if there is one."""
         return _resource(words) if self._goes_on(name, *arguments, words) else None
 
-    def _locks(self, first: str, following: Optional[str], *arguments: Any,
-               also: Sequence[int] = ()) -> Iterator[LockView]:
-        """The locks of a walk, by its first call and its following calls, which also take these numbers."""
+    def _lock_words(self, first: str, following: Optional[str], *arguments: Any,
+                    also: Sequence[int] = ()) -> Iterator[raw.Sized]:
+        """The words of each lock of a walk, by its first call and its following calls, which also take these numbers.
+        The same words serve for all."""
         words = raw.Lock()
         goes_on = self._goes_on(first, *arguments, words)
         while goes_on and words.lkid:
-            yield lock_of(words)
+            yield words
             goes_on = following is not None and self._goes_on(following, *also, words.lkid, words)
 
     def _walk_locks(self, first: str, following: str, *arguments: Any, also: Sequence[int] = ()) -> Iterator[LockView]:
         with self._mutex:
-            return iter(list(self._locks(first, following, *arguments, also=also)))
+            return iter(list(map(lock_of, self._lock_words(first, following, *arguments, also=also))))
 
 
 def _mode(number: int) -> Optional[Mode]:

@@ -1,5 +1,5 @@
 """Reads and runs the lines of a script, and prints what `vlm play` prints: docs/SCRIPT.md of the repository has the
-language. The library's proved `vlm_read_line` reads a line; nothing else of this is proved.
+language. The library's proved `vlm_read_line` reads a line, and its `vlm_print` calls print; nothing else is proved.
 
     with LockManager() as manager:
         for text in play(manager, script):
@@ -11,24 +11,21 @@ JSON can hold, and `step_of` turns it back. Managers that make the same steps in
 """
 
 from dataclasses import dataclass, fields
-from typing import Any, Callable, Dict, Iterator, List, Optional, Tuple, Union
+from typing import Any, Callable, Dict, Iterator, List, Optional, Union
 
 from ._lines import (LONGEST_LINE, LONGEST_SCRIPT, STEPS, Convert, Declare, Deq, Enq, Fault, Leave, Line, LineFault,
                      Rundown, Search, SetValue, Show, ShowBlock, ShowTail, ShowTails, Step, Take, View, lines_of,
                      read_line)
-from ._texts import (ast_text, block_text, lock_text, mode_text, name_text, resource_text, show_lines, tail_text,
-                     tails_lines)
-from .errors import BadParamError, VlmError
+from . import _library as raw
+from .errors import VlmError
 from .manager import LockManager
 from .process import Process
-from .values import (Accepted, Ast, Condition, DequeueFlags, Flags, InBlock, LockView, Mode, Queue, Resource,
-                     StatusBlock)
+from .values import Accepted, Ast, Condition, DequeueFlags, Flags, InBlock, Mode
 
-__all__ = ["LONGEST_LINE", "LONGEST_SCRIPT", "Convert", "Declare", "Deq", "Enq", "Fault", "Leave", "Line", "LineFault",
-           "Names", "Outcome", "Ran", "Rundown", "ScriptFault", "Search", "Session", "SetValue", "Show", "ShowBlock",
-           "ShowTail", "ShowTails", "Step", "Take", "View", "answer_text", "ast_text", "block_text", "lines_of",
-           "lock_text", "make", "makes_step", "mode_text", "name_text", "plain", "play", "printed", "read_line",
-           "resource_text", "show_lines", "shown", "step_of", "tail_text", "tails_lines"]
+__all__ = ["LONGEST_LINE", "LONGEST_SCRIPT", "Convert", "Declare", "Deq", "Enq", "Fault", "Leave", "Line",
+           "LineFault", "Names", "Outcome", "Ran", "Rundown", "ScriptFault", "Search", "Session", "SetValue", "Show",
+           "ShowBlock", "ShowTail", "ShowTails", "Step", "Take", "View", "ast_text", "lines_of", "make", "makes_step",
+           "name_text", "plain", "play", "printed", "read_line", "show_lines", "shown", "step_of", "tails_lines"]
 
 
 @dataclass(frozen=True)
@@ -187,53 +184,89 @@ _MAKERS: Dict[type, Callable[[Process, Any], Outcome]] = {
     Search: _search, Take: _take}
 
 
+# The kinds of lines, by their numbers from 1.
+_KINDS = {it: kind for kind, it in enumerate((*STEPS, ShowBlock, ShowTail), 1)}
+
+
+def _line_words(line: Line) -> raw.Sized:
+    """The words of a line, as far as a text needs them."""
+    name, does = (line.name or "").encode(), line.does
+    number = does.node if isinstance(does, (Leave, Search)) else getattr(does, "number", 0)
+    words = raw.Line(kind=_KINDS[type(does)], name_len=len(name), number=number)
+    words.name[:len(name)] = name
+    return words
+
+
+def _told(text: raw.Sized) -> str:
+    """The line that the library has printed, with its line feed."""
+    return bytes(text.bytes)[:text.len].decode("ascii")
+
+
 def printed(line: Line, outcome: Outcome) -> str:
     """What a line prints for the answer to its step."""
-    step = line.does
-    if isinstance(step, Leave):
-        return f"node {step.node}: {outcome.condition.name}\n"
-    return f"{'search' if isinstance(step, Search) else line.name}: {answer_text(step, outcome)}\n"
+    words, text, ast = _line_words(line), raw.Text(), outcome.ast
+    if isinstance(line.does, Take):
+        taken = raw.Ast()
+        if ast is not None:
+            taken = raw.Ast(kind=ast.kind, routine=ast.routine, param=ast.param, lkid=ast.lock)
+        raw.LIBRARY.vlm_print_ast(words, outcome.condition, taken, text)
+    else:
+        raw.LIBRARY.vlm_print_answer(words, outcome.condition, outcome.number, text)
+    return _told(text)
 
 
-def answer_text(step: Union[Step, View], outcome: Outcome) -> str:
-    """An answer, without the name before it."""
-    if outcome.is_refusal:
-        return outcome.condition.name
-    if isinstance(step, Declare):
-        return f"process {outcome.number}"
-    if isinstance(step, (Enq, Convert)):
-        return f"{outcome.condition.name} lock {outcome.number}"
-    if isinstance(step, Search):
-        return f"victim {outcome.number or 'none'}"
-    return ast_text(outcome.ast) if isinstance(step, Take) else outcome.condition.name
+def ast_text(ast: Optional[Ast]) -> str:
+    """An AST that was taken, or that none was pending, as a line prints it after the name."""
+    return printed(Line("P", Take()), Outcome(Condition.NORMAL, ast=ast))[len("P: "):-1]
+
+
+def name_text(name: bytes) -> str:
+    """The name of a resource: as it is, if a script can have it as a word, else in hexadecimal digits."""
+    is_word = all(33 <= byte <= 126 for byte in name) and not name.startswith(b"x:")
+    return name.decode("ascii") if is_word else "x:" + name.hex()
 
 
 def shown(manager: LockManager, pid: int, line: Line) -> str:
     """What a line without a step prints. `pid` is its process, if it names one."""
-    view = line.does
-    if isinstance(view, ShowBlock):
-        lines = [f"{line.name}: {block_text(view.number, _status_block(manager, pid, view.number))}"]
-    elif isinstance(view, ShowTail):
-        lines = [f"{line.name}: {tail_text(view.number, _status_block(manager, pid, view.number))}"]
-    elif isinstance(view, Show):
-        lines = list(show_lines(_with_locks(manager)))
-    else:
-        lines = list(tails_lines(manager.resources()))
-    return "".join(line + "\n" for line in lines)
+    if isinstance(line.does, (Show, ShowTails)):
+        return "".join(show_lines(manager) if isinstance(line.does, Show) else tails_lines(manager))
+    call, text = "vlm_print_block" if isinstance(line.does, ShowBlock) else "vlm_print_tail", raw.Text()
+    manager._call(call, pid, _line_words(line), text)
+    return _told(text)
 
 
-def _with_locks(manager: LockManager) -> Iterator[Tuple[Resource, List[LockView]]]:
-    """Each resource with the locks in its queues."""
-    for resource in manager.resources():
-        yield resource, [lock for queue in Queue for lock in manager.rows(resource, queue)]
+def show_lines(manager: LockManager) -> Iterator[str]:
+    """What `show` prints: every resource, with the locks in its queues."""
+    def lines(resource: raw.Sized) -> Iterator[str]:
+        text = raw.Text()
+        manager._call("vlm_print_resource", resource, text)
+        yield _told(text)
+        for queue in range(3):
+            for lock in manager._lock_words("vlm_first_row", "vlm_next_row", resource, queue):
+                raw.LIBRARY.vlm_print_lock(lock, text)
+                yield _told(text)
+
+    return _of_resources(manager, lines)
 
 
-def _status_block(manager: LockManager, pid: int, number: int) -> Optional[StatusBlock]:
-    """A status block of a process, if there is one."""
-    try:
-        return Process(manager, pid).status_block(number)
-    except BadParamError:
-        return None
+def tails_lines(manager: LockManager) -> Iterator[str]:
+    """What `tails` prints: the tail of every resource's value block."""
+    def lines(resource: raw.Sized) -> Iterator[str]:
+        text = raw.Text()
+        manager._call("vlm_print_resource_tail", resource, text)
+        yield _told(text)
+
+    return _of_resources(manager, lines)
+
+
+def _of_resources(manager: LockManager, lines: Callable[[raw.Sized], Iterator[str]]) -> Iterator[str]:
+    """The lines of each resource."""
+    is_there = False
+    for resource in manager._walk_resources():
+        is_there = True
+        yield from lines(resource)
+    if not is_there:
+        yield "no resources\n"
 
 
 def plain(step: Step) -> Dict[str, Any]:

@@ -84,14 +84,13 @@ class Recorder:
         return circle_of(self.manager, self.state, victim) if victim else None
 
     def _run(self, line: Line) -> Ran:
-        """Runs a line. What `show` and `tails` print is taken from the state, and cut after some lines."""
+        """Runs a line. What `show` and `tails` print is cut after some lines."""
         if not isinstance(line.does, (Show, ShowTails)):
             return self._session.run_read(line)
         state, is_show = self.state, isinstance(line.does, Show)
-        texts = show_lines(state.with_locks()) if is_show else tails_lines(state.resources.values())
-        printed = list(islice(texts, MOST_PRINTED))
+        printed = list(islice(show_lines(self.manager) if is_show else tails_lines(self.manager), MOST_PRINTED))
         more = len(state.resources) + (len(state.locks) if is_show else 0) - len(printed)
-        return Ran("".join(text + "\n" for text in printed) + (f"... and {more} more lines\n" if more > 0 else ""))
+        return Ran("".join(printed) + (f"... and {more} more lines\n" if more > 0 else ""))
 
 
 def shown_line(line: bytes) -> str:

@@ -17,7 +17,7 @@ A group is None in the domain of the system. Bytes are hexadecimal digits, and z
 
 from dataclasses import dataclass
 from sys import maxsize
-from typing import Any, Dict, FrozenSet, Iterable, Iterator, List, Optional, Set, Tuple
+from typing import Any, Dict, FrozenSet, List, Optional, Set
 
 from ..script import name_text
 from ..values import Ast, AstKind, LockView, Queue, Resource, StatusBlock
@@ -179,11 +179,6 @@ class State:
             found += lower
             rest += lower
         return found
-
-    def with_locks(self) -> Iterator[Tuple[Resource, Iterable[LockView]]]:
-        """Each resource by rising serial, with the locks in its queues."""
-        for serial, resource in self.resources.items():
-            yield resource, [self.locks[lock] for queue in Queue for lock in self.queues[serial][queue]]
 
 
 def _hex(value: bytes) -> str:
