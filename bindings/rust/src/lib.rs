@@ -72,7 +72,7 @@ mod walks;
 pub use condition::{Condition, Error};
 pub use flags::{DeqFlags, EnqFlags};
 pub use manager::LockManager;
-pub use names::{Domain, LockId, Mode, ProcessId, Queue, Which};
+pub use names::{Domain, LockId, Mode, ProcessId, Queue, ResourceId, Which};
 pub use requests::{Accepted, Declaration, Dequeue, Request, Setting};
 pub use shared::{
     Client, Counters, Deadlock, Event, Guard, LockFuture, Options, Shared, Terms, Wait,

@@ -2,7 +2,7 @@
 
 use crate::condition::answered;
 use crate::manager::LockManager;
-use crate::names::{Domain, LockId, ProcessId};
+use crate::names::{Domain, LockId, ProcessId, ResourceId};
 use crate::raw;
 use crate::views::{Lock, Resource, StatusBlock};
 
@@ -50,13 +50,12 @@ impl LockManager {
         self.found(0, is_system, group, name)
     }
 
-    /// The resource of this name below the resource with the serial `parent`. None where there is none. It takes
-    /// constant time.
-    pub fn find_below(&self, parent: u32, name: &[u8]) -> Option<Resource> {
-        if parent == 0 {
+    /// The resource of this name below another resource. None where there is none. It takes constant time.
+    pub fn find_below(&self, parent: ResourceId, name: &[u8]) -> Option<Resource> {
+        if parent.0 == 0 {
             return None;
         }
-        self.found(parent, 0, 0, name)
+        self.found(parent.0, 0, 0, name)
     }
 
     fn found(&self, parent: u32, is_system: u32, group: u32, name: &[u8]) -> Option<Resource> {

@@ -1,7 +1,7 @@
 //! What a lock manager shows.
 
 use crate::condition::Condition;
-use crate::names::{mode_of, Domain, LockId, Mode, ProcessId, Queue};
+use crate::names::{mode_of, Domain, LockId, Mode, ProcessId, Queue, ResourceId};
 use crate::raw;
 
 /// A kind of AST.
@@ -68,10 +68,10 @@ pub struct Process {
 #[derive(Clone, Debug, PartialEq, Eq)]
 #[non_exhaustive]
 pub struct Resource {
-    /// Its number, from 1, in order of making.
-    pub serial: u32,
-    /// The serial of its parent resource; a root has none.
-    pub parent: Option<u32>,
+    /// Its identification.
+    pub id: ResourceId,
+    /// Its parent resource; a root has none.
+    pub parent: Option<ResourceId>,
     /// Its domain; a resource below another has its root's.
     pub domain: Domain,
     /// Its name.
@@ -100,8 +100,8 @@ pub struct Lock {
     pub want: Option<Mode>,
     /// The queue in which it is.
     pub queue: Queue,
-    /// The serial of its resource.
-    pub resource: u32,
+    /// Its resource.
+    pub resource: ResourceId,
     /// Its parent lock; a lock on a root has none.
     pub parent: Option<LockId>,
     /// The status block of its last accepted request.
@@ -168,8 +168,8 @@ impl Resource {
     pub(crate) fn of(words: &raw::Resource) -> Resource {
         let name = words.name.iter().take(words.name_len as usize);
         Resource {
-            serial: words.serial,
-            parent: (words.parent != 0).then_some(words.parent),
+            id: ResourceId(words.serial),
+            parent: (words.parent != 0).then_some(ResourceId(words.parent)),
             domain: match words.is_system {
                 1 => Domain::System,
                 _ => Domain::Group(words.group as u16),
@@ -187,7 +187,12 @@ impl Resource {
     /// The words that name it. None where its name does not fit.
     pub(crate) fn key(&self) -> Option<raw::Resource> {
         let (is_system, group) = self.domain.words();
-        raw::Resource::named(self.parent.unwrap_or(0), is_system, group, &self.name)
+        raw::Resource::named(
+            self.parent.map_or(0, |it| it.0),
+            is_system,
+            group,
+            &self.name,
+        )
     }
 }
 
@@ -203,7 +208,7 @@ impl Lock {
                 2 => Queue::Waiting,
                 _ => Queue::Granted,
             },
-            resource: words.resource,
+            resource: ResourceId(words.resource),
             parent: (words.parent != 0).then_some(LockId(words.parent)),
             block: words.block as u8,
         }

@@ -144,6 +144,23 @@ fn the_watchdog_ends_a_deadlock_and_tells_of_it() {
 }
 
 #[test]
+fn a_panic_of_a_hook_goes_on_from_the_search() {
+    let shared = Options::new()
+        .on_deadlock(|_| std::panic::resume_unwind(Box::new(())))
+        .open()
+        .expect("memory");
+    let p = declared(&shared, "P");
+    let _guard = shared.lock(p, b"A", Mode::Ex).expect("a lock");
+    let future = asked(&shared, p);
+    let searching = shared.clone();
+    thread::spawn(move || searching.search())
+        .join()
+        .expect_err("a panic");
+    assert_eq!(block_on(future).err(), Some(Error::Deadlock));
+    assert_eq!(shared.search(), Ok(0));
+}
+
+#[test]
 fn long_waits_are_told() {
     let (tell, told) = channel();
     let shared = Options::new()

@@ -2,6 +2,7 @@
 
 use vlm::{
     Declaration, DeqFlags, Dequeue, Domain, LockId, LockManager, Mode, ProcessId, Queue, Request,
+    ResourceId,
 };
 
 /// A lock manager with a process of node 1 and one of node 2.
@@ -50,7 +51,7 @@ fn resources_are_walked() {
     );
     assert_eq!(
         (walked[1].parent, &walked[1].name[..]),
-        (Some(1), &b"\0\xff"[..])
+        (Some(ResourceId(1)), &b"\0\xff"[..])
     );
 }
 
@@ -62,20 +63,23 @@ fn resources_are_found() {
         manager.find(Domain::Group(7), b"A").as_ref(),
         Some(&walked[0])
     );
-    assert_eq!(manager.find_below(1, b"\0\xff").as_ref(), Some(&walked[1]));
+    assert_eq!(
+        manager.find_below(ResourceId(1), b"\0\xff").as_ref(),
+        Some(&walked[1])
+    );
     for name in [&b""[..], b"B", &[1; 31], &[1; 32], &[1; 33], &[1; 1000]] {
         assert_eq!(
             (
                 manager.find(Domain::System, name),
-                manager.find_below(1, name)
+                manager.find_below(ResourceId(1), name)
             ),
             (None, None)
         );
     }
     assert_eq!(
         (
-            manager.find_below(0, b"A"),
-            manager.find_below(u32::MAX, b"A")
+            manager.find_below(ResourceId(0), b"A"),
+            manager.find_below(ResourceId(u32::MAX), b"A")
         ),
         (None, None)
     );
@@ -172,7 +176,7 @@ fn single_locks_are_found() {
     );
     assert_eq!(
         (found.process, found.resource, found.parent, found.block),
-        (it.q, 1, None, 1)
+        (it.q, ResourceId(1), None, 1)
     );
     assert_eq!(
         manager.lock(it.first).and_then(|lock| lock.parent),
@@ -203,6 +207,6 @@ fn a_walk_takes_constant_time_a_step() {
             .expect("a lock");
     }
     // (a walk by place would take minutes)
-    let serials = manager.resources().map(|resource| resource.serial);
+    let serials = manager.resources().map(|resource| resource.id.0);
     assert!(serials.eq(1..=20_000));
 }

@@ -2,7 +2,7 @@
 //! here.
 //!
 //! A closure is given to the layer as a pointer to a box. The layer gives the pointer back once, to `released`, when it
-//! uses it no more. A panic does not leave a closure: it is kept for the delivery that called it.
+//! uses it no more. A panic does not leave a closure: it is kept for the call of this crate that called it.
 
 use std::any::Any;
 use std::cell::RefCell;
@@ -48,7 +48,6 @@ layer_calls! {
     fd = vlm_threads_fd(descriptor: &mut c_int);
     process_fd = vlm_threads_process_fd(pid: u32, descriptor: &mut c_int);
     settle = vlm_threads_settle();
-    search = vlm_threads_search(victims: &mut u32);
     read_counters = vlm_threads_read_counters(counters: &mut Counters);
 }
 
@@ -123,6 +122,14 @@ impl Layer {
         status
     }
 
+    /// Searches for deadlocks. A panic of a hook goes on from here.
+    pub fn search(&self, victims: &mut u32) -> u32 {
+        // SAFETY: as for the other calls.
+        let status = unsafe { vlm_threads_search(self.pointer.as_ptr(), victims) };
+        go_on();
+        status
+    }
+
     /// Lets a closure read the lock manager.
     pub fn look<T, F: FnOnce(&LockManager) -> T>(&self, reader: F) -> T {
         let mut look = (Some(reader), None);
@@ -156,6 +163,8 @@ fn is_closed(layer: &Pointer<vlm_sys::threads::Layer>, hooks: &Pointer<Hooks>) -
     if is_closed {
         // SAFETY: the layer, which called them, is gone.
         drop(unsafe { Box::from_raw(hooks.0) });
+        // (a panic of a closure that the close dropped has nowhere to go on)
+        PANIC.with(|kept| kept.borrow_mut().take());
     }
     is_closed
 }
