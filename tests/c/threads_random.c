@@ -1,5 +1,6 @@
 /* A million random calls by four threads, which write down what they hold. No two incompatible modes are ever held
- * together, no version in a value block is lost, and the counters add up. */
+ * together, no version in a value block is lost, the contexts of each accepted request are released once, and the
+ * counters add up. Some processes have queues of their own, and hooks are told of deadlocks and long waits. */
 #include "threads_test.h"
 
 enum { THREADS = 4, RESOURCES = 6, SLOTS = 4, CALLS = 1000000 };
@@ -35,6 +36,7 @@ struct slot {
 struct worker {
     uint64_t random;
     uint32_t pid;
+    bool has_queue; /* of its own, which this thread dispatches */
     struct slot slots[SLOTS];
 };
 
@@ -93,8 +95,58 @@ static void ended(void *context, const vlm_threads_event *event) {
 }
 
 static void warned(void *context, const vlm_threads_event *event) {
-    (void)context;
-    HOLD(event->kind == VLM_BLOCKING);
+    HOLD(context == &guard && event->kind == VLM_BLOCKING);
+}
+
+/* Requests that were accepted, and whose contexts were released. */
+static atomic_uint accepted, released_count, told_deadlocks;
+
+static void released(void *completion_context, void *blocking_context) {
+    (void)completion_context;
+    HOLD(blocking_context == &guard);
+    atomic_fetch_add(&released_count, 1);
+}
+
+static uint32_t counted(uint32_t status) {
+    HOLD(status != VLM_BADPARAM && status != VLM_INSFMEM);
+    atomic_fetch_add(&accepted, status != VLM_NOTQUEUED);
+    return status;
+}
+
+static void note_deadlock(void *context, const vlm_threads_deadlock *deadlock) {
+    HOLD(context == &guard && deadlock->length > 0 && deadlock->waits[0].waits.lkid == deadlock->victim);
+    atomic_fetch_add(&told_deadlocks, 1);
+}
+
+static void note_long_wait(void *context, const vlm_threads_wait *wait) {
+    HOLD(context == &guard && wait->milliseconds >= 1 && wait->name_len == 1);
+}
+
+static vlm_threads *opened_with_hooks(void) {
+    vlm_threads_options options = {.size = sizeof options,
+                                   .search_milliseconds = 3,
+                                   .deadlock = note_deadlock,
+                                   .deadlock_context = &guard,
+                                   .long_milliseconds = 1,
+                                   .long_wait = note_long_wait,
+                                   .long_wait_context = &guard};
+    vlm_threads *made;
+    EXPECT(vlm_threads_open(&options, &made), VLM_NORMAL);
+    return made;
+}
+
+/* Declares the process of a worker. */
+static void declare_any(struct worker *worker) {
+    vlm_threads_declaration declaration = {
+        .size = sizeof declaration, .node = 1 + below(worker, 8), .group = 1, .quota = 100, .requests = 100};
+    declaration.own_queue = worker->has_queue = below(worker, 2);
+    EXPECT(vlm_threads_declare(layer, &declaration, &worker->pid), VLM_NORMAL);
+}
+
+static void dispatch(const struct worker *worker) {
+    uint32_t delivered;
+    if (worker->has_queue)
+        EXPECT(vlm_threads_process_dispatch(layer, worker->pid, &delivered), VLM_NORMAL);
 }
 
 /* What a request of a random kind may answer besides NORMAL. */
@@ -109,6 +161,8 @@ static vlm_threads_request any_request(struct worker *worker, uint32_t mode) {
     request.milliseconds = 1 + below(worker, 2);
     if (below(worker, 2))
         request.blocking = warned;
+    request.blocking_context = &guard;
+    request.released = released;
     return request;
 }
 
@@ -119,7 +173,7 @@ static void take_lock(struct worker *worker, struct slot *slot) {
     vlm_threads_request request = any_request(worker, slot->mode);
     request.flags |= VLM_VALBLK;
     request.value = (uint8_t *)value;
-    uint32_t status = enq(layer, &request, name_of(slot));
+    uint32_t status = counted(enq(layer, &request, name_of(slot)));
     if (status != VLM_NORMAL) {
         expect_no_grant(status);
         return;
@@ -136,7 +190,7 @@ static void start_lock(struct worker *worker, struct slot *slot) {
     request.completion = ended;
     request.completion_context = slot;
     set_state(slot, PENDING);
-    bool is_accepted = start_enq(layer, &request, name_of(slot)) == VLM_NORMAL;
+    bool is_accepted = counted(start_enq(layer, &request, name_of(slot))) == VLM_NORMAL;
     slot->started = request.lkid;
     if (is_accepted)
         return;
@@ -149,7 +203,7 @@ static void convert_lock(struct worker *worker, struct slot *slot) {
     vlm_threads_request request = any_request(worker, mode);
     request.lock = slot->lkid;
     leave(slot);
-    uint32_t status = vlm_threads_convert(layer, &request);
+    uint32_t status = counted(vlm_threads_convert(layer, &request));
     if (status == VLM_NORMAL)
         slot->mode = mode;
     else
@@ -180,13 +234,15 @@ static void run_down(struct worker *worker) {
         set_state(&worker->slots[i], EMPTY);
     }
     EXPECT(vlm_threads_rundown(layer, worker->pid), VLM_NORMAL);
-    worker->pid = declared(layer, 1 + below(worker, 8));
+    declare_any(worker);
 }
 
 static void act(struct worker *worker) {
     struct slot *slot = &worker->slots[below(worker, SLOTS)];
     enum state state = state_of(slot);
     uint32_t choice = below(worker, 1000);
+    if (choice % 8 == 1)
+        dispatch(worker);
     if (choice == 0)
         run_down(worker);
     else if (state == EMPTY && choice < 700)
@@ -208,6 +264,7 @@ static void cancel_pending(struct worker *worker) {
     for (int i = 0; i < SLOTS; i++)
         while (state_of(&worker->slots[i]) == PENDING) {
             deq(layer, worker->pid, worker->slots[i].started, VLM_DEQ_CANCEL);
+            dispatch(worker);
             nanosleep(&(struct timespec){.tv_nsec = 50000}, NULL);
         }
 }
@@ -222,26 +279,30 @@ static void *work(void *given) {
 int main(void) {
     struct worker workers[THREADS] = {{0}};
     pthread_t threads[THREADS];
-    layer = opened(VLM_THREADS_BY_LAYER, 3);
+    layer = opened_with_hooks();
     vlm_threads_request keep = asked(declared(layer, 1), VLM_NL);
     for (uint32_t i = 0; i < RESOURCES; i++)
         EXPECT(enq(layer, &keep, name_of(&(struct slot){.resource = i})), VLM_NORMAL);
     for (uint32_t i = 0; i < THREADS; i++) {
         workers[i].random = 88172645463325252u + i;
-        workers[i].pid = declared(layer, 1 + i);
+        declare_any(&workers[i]);
         threads[i] = started(work, &workers[i]);
     }
     for (uint32_t i = 0; i < THREADS; i++)
         pthread_join(threads[i], NULL);
     for (uint32_t i = 0; i < THREADS; i++)
         EXPECT(vlm_threads_rundown(layer, workers[i].pid), VLM_NORMAL);
+    while (counters_of(layer).events)
+        nanosleep(&(struct timespec){.tv_nsec = 50000}, NULL);
     EXPECT(vlm_threads_settle(layer), VLM_NORMAL);
     vlm_threads_counters counters = counters_of(layer);
-    HOLD(counters.waiting == 0 && counters.events == 0 && counters.processes == 1 && counters.locks == RESOURCES);
+    HOLD(counters.waiting == 0 && told_deadlocks >= counters.victims && counters.processes == 1
+         && counters.locks == RESOURCES);
     expect_sums(layer);
     if (getenv("VLM_TEST_PRINT"))
         vlm_threads_print(&counters, stderr);
     EXPECT(vlm_threads_close(layer), VLM_NORMAL);
+    HOLD(accepted > 0 && accepted == released_count);
     printf("four threads, random calls: %u wrong\n", wrong);
     return wrong != 0;
 }
