@@ -145,7 +145,7 @@ static atomic_uint long_waits;
 
 static void note_long(void *context, const vlm_threads_wait *wait) {
     const uint32_t *holder = context;
-    HOLD(wait->size == sizeof *wait && wait->milliseconds >= 20 && wait->waits.want == VLM_EX);
+    HOLD(wait->size == sizeof *wait && wait->milliseconds >= 200 && wait->waits.want == VLM_EX);
     HOLD(wait->blocks.pid == *holder && wait->blocks.held == VLM_EX && strcmp((char *)wait->blocks_label, "held") == 0);
     HOLD(wait->name_len == 1 && wait->name[0] == 'L');
     FILE *file = fopen("/dev/null", "w");
@@ -167,7 +167,7 @@ static void test_long_waits(void) {
     uint32_t holder = 0;
     pthread_t threads[3];
     open_with((vlm_threads_options){
-        .long_milliseconds = 20, .long_wait = note_long, .long_wait_context = &holder, .search_milliseconds = 7});
+        .long_milliseconds = 200, .long_wait = note_long, .long_wait_context = &holder, .search_milliseconds = 7});
     holder = declared_as("held");
     hold(holder, "L");
     vlm_threads_request request = asked(declared_as("short"), VLM_EX);

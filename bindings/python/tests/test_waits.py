@@ -148,15 +148,20 @@ class Waits(unittest.TestCase):
             self.assertRaises(KeyboardInterrupt, self.q.lock, "A", Mode.EX, SECONDS)
             self.assertEqual((self.count(), self.count("locks")), (0, 1))
 
+    def do_once_it_waits(self, call):
+        while not self.count():
+            time.sleep(0.001)
+        call()
+
     def test_the_main_thread_waits(self):
         for end, error in ((lambda: self.q.rundown(), NonExprError), (lambda: self.q.cancel_all(), AbortError)):
             with self.p.lock("A", Mode.EX):
-                later = self.pool.submit(lambda: (time.sleep(0.02), end()))
+                later = self.pool.submit(self.do_once_it_waits, end)
                 self.assertRaises(error, self.q.lock, "A", Mode.EX, SECONDS)
                 later.result(SOON)
             self.q = self.shared.declare(node=2)
         held = self.p.lock("A", Mode.EX)
-        later = self.pool.submit(lambda: (time.sleep(0.02), held.release()))
+        later = self.pool.submit(self.do_once_it_waits, held.release)
         with self.q.lock("A", Mode.PR, SECONDS) as other, self.p.lock("A", Mode.PR):
             self.assertRaises(TimedOutError, other.convert, Mode.EX, 0.01)
         later.result(SOON)
