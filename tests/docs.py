@@ -204,6 +204,7 @@ def version(_program):
     """One version, in the program, the packages, the changes and the manual pages, and its number in the libraries."""
     wanted = help_texts()["VERSION"]
     for name, pattern in (("bindings/rust/Cargo.toml", r'^version = "([^"]+)"'), ("CHANGELOG.md", r"^## ([\d.]+)"),
+                          ("bindings/rust/vlm-sys/Cargo.toml", r'^version = "([^"]+)"'),
                           ("bindings/python/pyproject.toml", r'^version = "([^"]+)"'),
                           ("man/vlm.1", r'^\.TH VLM 1 "[^"]*" "vlm ([^"]+)"'),
                           ("man/vlm.3", r'^\.TH VLM 3 "[^"]*" "vlm ([^"]+)"')):

@@ -167,7 +167,7 @@ struct lock {
 
 /* What a walk over waits knows of a process that it has reached: by a wait of a request for a lock. */
 struct visit {
-    uint32_t walk;         /* the last one that came here */
+    uint64_t walk;         /* the last one that came here */
     struct process *below; /* the next one that it reached */
     struct request *reached_by;
     uint32_t reached_for;
@@ -210,7 +210,7 @@ struct vlm_threads {
 
     struct request *oldest, *newest; /* all queued requests, in the order in which they were made */
     struct request *untold;          /* the oldest one whose wait was not told as a long one, or null */
-    uint32_t walk;                   /* how many walks over waits there were */
+    uint64_t walk;                   /* how many walks over waits there were */
 
     struct queue queue;      /* of the processes without one */
     struct running *running; /* the calls of routines and hooks that run */

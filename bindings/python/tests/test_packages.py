@@ -12,6 +12,8 @@ sys.path.insert(0, str(FOLDER))
 
 import wheels  # noqa: E402
 
+NAME = "vlm-" + wheels._table("project")["version"]
+
 
 class Packages(unittest.TestCase):
     def setUp(self):
@@ -27,7 +29,7 @@ class Packages(unittest.TestCase):
         content = self.content(wheels.build_wheel(str(self.room)))
         self.assertEqual(content["vlm/__init__.py"], (FOLDER / "vlm" / "__init__.py").read_bytes())
         self.assertIn("vlm/py.typed", content)
-        self.assertIn(b"vlm-draw = vlm.draw.command:main\n", content["vlm-0.2.0.dist-info/entry_points.txt"])
+        self.assertIn(b"vlm-draw = vlm.draw.command:main\n", content[f"{NAME}.dist-info/entry_points.txt"])
 
     def test_an_editable_installation_leads_to_the_sources(self):
         content = self.content(wheels.build_editable(str(self.room)))
@@ -37,7 +39,7 @@ class Packages(unittest.TestCase):
     def test_the_sources_have_all_that_a_wheel_needs(self):
         with tarfile.open(self.room / wheels.build_sdist(str(self.room))) as packed:
             packed.extractall(self.room)
-        left = self.room / "vlm-0.2.0"
+        left = self.room / NAME
         needed = {"pyproject.toml", "wheels.py", "README.md", "vlm/__init__.py", "vlm/draw/page.css"}
         names = {it.relative_to(left).as_posix() for it in left.rglob("*") if it.is_file()}
         self.assertLessEqual(needed, names)
