@@ -156,7 +156,9 @@ class Calls(unittest.TestCase):
     def test_handles_are_closed(self):
         with Hub(1) as hub, hub.port(1) as port:
             port.search()
+            self.assertEqual((repr(hub), repr(port)), ("<Hub of 1 nodes>", "<Port of node 1>"))
             hub.close()
+            self.assertEqual(repr(hub), "<Hub, closed>")
             self.assertEqual(port.take(), None)
             for call in (hub.turn, hub.cut):
                 self.assertRaises(ClosedError, call)

@@ -24,6 +24,13 @@ class Owner:
         # At the end of the program a thread may still be in a call, so nothing is freed then.
         self._closing.atexit = False
 
+    def __repr__(self) -> str:
+        return f"<{type(self).__name__}{', closed' if self.is_closed else self._told()}>"
+
+    def _told(self) -> str:
+        """What a repr tells of it while it is open."""
+        return ""
+
     def _call(self, name: str, *arguments: Any) -> int:
         with self._mutex:
             if not self._closing.alive:

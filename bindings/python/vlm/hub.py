@@ -74,6 +74,9 @@ class Hub(Owner):
         super().__init__("vlm_hub_close")
         checked(self._call("vlm_hub_open", word(nodes, "the number of nodes"), _words.options(keys)))
 
+    def _told(self) -> str:
+        return f" of {self.nodes()} nodes"
+
     def port(self, node: int) -> "Port":
         """The port of a node. The hub gives it once."""
         port = Port()
@@ -136,6 +139,9 @@ class Port(Owner):
 
     def __init__(self) -> None:
         super().__init__("vlm_port_close")
+
+    def _told(self) -> str:
+        return f" of node {self.node()}"
 
     def node(self) -> int:
         """Its node."""

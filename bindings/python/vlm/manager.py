@@ -30,8 +30,8 @@ class LockManager(Owner):
         made._own(handle, lambda: None)
         return made
 
-    def __repr__(self) -> str:
-        return "<LockManager, closed>" if self.is_closed else f"<LockManager with {self.lock_count()} locks>"
+    def _told(self) -> str:
+        return f" with {self.lock_count()} locks"
 
     def _step(self, name: str, *arguments: Any) -> Condition:
         """Makes a call that answers a condition value. Raises its exception if it is a refusal."""
