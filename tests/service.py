@@ -8,6 +8,7 @@ import re
 import resource
 import shutil
 import signal
+import socket
 import subprocess
 import sys
 import tempfile
@@ -17,7 +18,7 @@ from pathlib import Path
 
 import library
 import service_commands
-from daemons import NOBODY, PLAIN, SOURCES, Daemon
+from daemons import CHECKED, NOBODY, PLAIN, SOURCES, Client, Daemon
 from harness import PLAY, ROOM, TOP, Test, difference
 
 HERE = Path(__file__).resolve().parent / "service"
@@ -493,6 +494,34 @@ def configured(_program):
             yield from difference((setting, answer), (setting, "P: EXENQLM"))
 
 
+def under_systemd(_program):
+    """What systemd gives and is told: a listening socket, a folder for the state, readiness, a watchdog, the end."""
+    folder = Path(tempfile.mkdtemp(dir=ROOM().name))
+    with socket.socket(socket.AF_UNIX) as listener, socket.socket(socket.AF_UNIX, socket.SOCK_DGRAM) as notices:
+        listener.bind(f"{folder}/lock")
+        listener.listen()
+        notices.bind(f"{folder}/notices")
+        notices.settimeout(20)
+        env = {**os.environ, "LISTEN_FDS": "1", "NOTIFY_SOCKET": f"{folder}/notices", "WATCHDOG_USEC": "100000",
+               "RUNTIME_DIRECTORY": str(folder)}
+        words = ["sh", "-c", f'LISTEN_PID=$$ exec "$0" -c /dev/null 3<&{listener.fileno()}', CHECKED()]
+        daemon = subprocess.Popen(words, env=env, pass_fds=[listener.fileno()], stderr=subprocess.DEVNULL)
+        told = [notices.recv(100) for _ in range(3)]
+        yield from difference(told, [b"READY=1", b"WATCHDOG=1", b"WATCHDOG=1"])
+        with Client(f"{folder}/lock") as client:
+            yield from difference(client.ask("alive"), "no session")
+        daemon.send_signal(signal.SIGTERM)
+        yield from difference(daemon.wait(20), 0)
+        yield from difference((folder / "state").read_text(), "0000000000 ended  \n")
+        yield from difference((folder / "lock").exists(), True)
+
+
+def sandboxed(_program):
+    """The unit is as closed as systemd can tell."""
+    yield from library.ran("systemd-analyze", "security", "--offline=yes", "--threshold=6",
+                           TOP / "service" / "systemd" / "vlmd.service")
+
+
 def deadlocked(_program):
     """A deadlock of two clients ends, with its most recent request, and the circle is logged."""
     with Daemon("search 200") as daemon, daemon.client().begin("P") as one, daemon.client().begin("Q") as other:
@@ -624,6 +653,7 @@ BEHAVIOURS = {"the first session of the page": shown_talk,
               "a client that reads no ASTs": cut_off, "limits of a user": limits, "what show and who print": shown,
               "sessions that are resumed": resumed, "processes of another session": hidden,
               "a daemon that ends": restarted, "a second daemon": one_daemon, "configurations": configured,
+              "a daemon of systemd": under_systemd,
               "a deadlock": deadlocked, "a change of managers": changed, "no identifications left": drained,
               "10,000 idle connections": idle, "mutated lines": mutated}
 
@@ -644,6 +674,7 @@ def once():
     found += [Test(f"lines: {name}", partial(talk, name)) for name in TALKS]
     found += [Test(name, check) for name, check in BEHAVIOURS.items()]
     found += [Test("other users", other_users)] * (os.getuid() == 0)
+    found += [Test("the unit for systemd", sandboxed)] * bool(shutil.which("systemd-analyze"))
     found += [Test("lines under libFuzzer", fuzzed)] * bool(shutil.which("clang"))
     found += [Test(f"the client in C by {compiler} with the sanitizer {sanitizer}",
                    partial(clients, compiler, sanitizer))

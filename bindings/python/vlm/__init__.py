@@ -10,18 +10,20 @@ the environment variable VLM_LIBRARY names, else libvlm.so.0.2 in the folder lib
 looks.
 """
 
+from .connection import Connection, ServedLock, ServedProcess, connect
 from .errors import (Abort, AccVio, BadParam, Cancel, CancelGrant, CvtUngrant, Deadlock, Departed, ExDepth, ExEnqLm,
-                     Full, InsfMem, IvBufLen, IvLockId, NoLockId, NoSysLck, NonExpr, NotQueued, ParNotGrant, SubLocks,
-                     TimedOut, TurnEnded, Unsupported, VlmError)
+                     Full, InsfMem, IvBufLen, IvLockId, Lost, NoLockId, NoSysLck, NonExpr, NotQueued, ParNotGrant,
+                     SubLocks, TimedOut, TurnEnded, Unsupported, VlmError)
 from .held import Held
 from .hub import Answer, AstItem, Entry, Hub, Port, StepKind
 from .manager import LockManager
 from .process import Process
-from .values import (Accepted, Ast, AstKind, Condition, DequeueFlags, Flags, InBlock, LockView, Mode, ProcessView,
-                     Queue, Resource, StatusBlock)
+from .values import (Accepted, Ast, AstKind, Condition, DequeueFlags, Event, Flags, InBlock, LockView, Mode,
+                     ProcessView, Queue, Resource, StatusBlock)
 
 __all__ = ["Abort", "AccVio", "Accepted", "Answer", "Ast", "AstItem", "AstKind", "BadParam", "Cancel", "CancelGrant",
-           "Condition", "CvtUngrant", "Deadlock", "Departed", "DequeueFlags", "Entry", "ExDepth", "ExEnqLm", "Flags",
-           "Full", "Held", "Hub", "InBlock", "InsfMem", "IvBufLen", "IvLockId", "LockManager", "LockView", "Mode",
-           "NoLockId", "NoSysLck", "NonExpr", "NotQueued", "ParNotGrant", "Port", "Process", "ProcessView", "Queue",
-           "Resource", "StatusBlock", "StepKind", "SubLocks", "TimedOut", "TurnEnded", "Unsupported", "VlmError"]
+           "Condition", "Connection", "CvtUngrant", "Deadlock", "Departed", "DequeueFlags", "Entry", "Event", "ExDepth",
+           "ExEnqLm", "Flags", "Full", "Held", "Hub", "InBlock", "InsfMem", "IvBufLen", "IvLockId", "LockManager",
+           "LockView", "Lost", "Mode", "NoLockId", "NoSysLck", "NonExpr", "NotQueued", "ParNotGrant", "Port", "Process",
+           "ProcessView", "Queue", "Resource", "ServedLock", "ServedProcess", "StatusBlock", "StepKind", "SubLocks",
+           "TimedOut", "TurnEnded", "Unsupported", "VlmError", "connect"]

@@ -25,6 +25,10 @@ class TimedOut(TimeoutError):
     """A wait for a grant took too long. The request was cancelled."""
 
 
+class Lost(ConnectionError):
+    """The lock service or the session has ended: its locks are gone. A new session holds nothing."""
+
+
 class Full(Exception):
     """The port knows no free place, and nothing was posted. Take items, and post again."""
 

@@ -111,6 +111,20 @@ class Ast:
 
 
 @dataclass(frozen=True)
+class Event:
+    """What a routine of a connection is told: how its request ended, or that its lock is in the way of another."""
+
+    pid: int
+    lock: int
+    is_blocking: bool
+    # The request ended because the locks are lost. It has no status then.
+    is_lost: bool
+    status: Optional[Condition]
+    # The value block that a grant returned: 16 bytes, or 64 with WIDE.
+    value: Optional[bytes]
+
+
+@dataclass(frozen=True)
 class StatusBlock:
     """A status block."""
 
