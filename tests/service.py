@@ -403,7 +403,7 @@ def other_users(_program):
 def resumed(_program):
     """A session with seconds goes on after its connection, hears the ASTs that it missed, and ends in time."""
     with Daemon() as daemon, daemon.client() as client, daemon.client().begin("Q") as other:
-        name = client.ask("open seconds=1").split()[1]
+        name = client.ask("open seconds=4").split()[1]
         for line in ("1 declare P", "2 enq P EX name=A block=1 bast=5"):
             client.ask(line)
         client.close()
@@ -411,13 +411,13 @@ def resumed(_program):
         with daemon.client() as again:
             again.send(f"resume {name} asts=0", "2 enq P EX name=A block=1 bast=5", "3 deq P @1")
             found = [again.line() for _ in range(4)]
-            yield from difference(found, [f"session {name} seconds 1 number 2 asts 1",
+            yield from difference(found, [f"session {name} seconds 4 number 2 asts 1",
                                           "P: blocking 5 param 0 lock 1", "2 P: NORMAL lock 1", "3 P: NORMAL"])
             yield from difference(other.line(), "Q: completion 1 param 0 lock 2")
             with daemon.client() as third:
                 third.ask(f"resume {name}")
                 yield from difference((again.line(), again.line()), ("session moved", None))
-        time.sleep(2.2)
+        time.sleep(5.2)
         with daemon.client() as late:
             yield from difference((late.ask(f"resume {name}"), late.line()), ("session ended", None))
 
@@ -443,27 +443,27 @@ def hidden(_program):
 def restarted(_program):
     """A daemon that is killed: clients see the end, and the next one grants nothing for the grace time. One that ends
     in order without locks has none; with locks it tells its clients."""
-    with Daemon("grace 1500") as first:
+    with Daemon("grace 3000") as first:
         held = first.client().begin("P")
         held.ask("enq P EX name=A block=1")
         first.kill()
         yield from difference(held.line(), None)
-        with Daemon("grace 1500", folder=first.folder) as second:
+        with Daemon("grace 3000", folder=first.folder) as second:
             began = time.monotonic()
             client = second.client().begin("P")
             yield from difference(client.greeting, "vlm protocol 1 epoch 1")
             answer = client.ask("enq P EX name=A block=1")
-            if time.monotonic() - began < 1 or answer != "P: NORMAL lock 4294967297":
+            if time.monotonic() - began < 0.5 or answer != "P: NORMAL lock 4294967297":
                 yield f"{answer} after {time.monotonic() - began:.2f} seconds"
             yield from difference(client.ask("block P 1"), f"P: block 1 status 1 lock 4294967297 value {ZEROS}")
             second.run.send_signal(signal.SIGTERM)
             yield from difference((client.line(), client.line(), second.run.wait(20)), ("lost", None, 0))
-        with Daemon("grace 1500", folder=first.folder) as third:
+        with Daemon("grace 3000", folder=first.folder) as third:
             client = third.client().begin("P")
             began = time.monotonic()
             client.ask("enq P EX name=A block=1")
             client.ask("deq P @1")
-            if time.monotonic() - began < 0.8:
+            if time.monotonic() - began < 0.5:
                 yield "no grace time after an end with locks"
         with Daemon("grace 60000", folder=first.folder) as fourth:
             answer = fourth.client().begin("P").ask("enq P EX name=A block=1")
@@ -567,7 +567,7 @@ def changed(_program):
 
 def drained(_program):
     """Without such a moment new requests are refused, and at last the epoch ends for all."""
-    with Daemon("identifications 100", "drain 700") as daemon, daemon.client().begin("P") as client:
+    with Daemon("identifications 100", "drain 2500") as daemon, daemon.client().begin("P") as client:
         other = daemon.client().begin("Q")
         other.ask("enq Q NL name=B block=1")
         for _ in range(98):

@@ -96,7 +96,7 @@ class Connections(unittest.TestCase):
         p, q = self.pair()
         with ThreadPoolExecutor(1) as pool, p.lock("A", Mode.EX), q.lock("B", Mode.EX) as other:
             asked = pool.submit(p.lock, "B", Mode.EX, SECONDS)
-            time.sleep(0.05)
+            time.sleep(0.5)
             self.assertRaises(Deadlock, q.lock, "A", Mode.EX, SECONDS)
             other.release()
             asked.result(SECONDS).release()

@@ -63,6 +63,7 @@ mod names;
 mod raw;
 mod readings;
 mod requests;
+pub mod service;
 mod shared;
 mod views;
 mod walks;

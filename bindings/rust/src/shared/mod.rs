@@ -21,6 +21,7 @@ use std::time::Duration;
 
 pub use delivery::Event;
 pub use guard::Guard;
+pub(crate) use state::Run;
 pub use terms::{Terms, WaitError};
 
 use crate::condition::Condition;

@@ -16,7 +16,7 @@ use crate::manager::LockManager;
 use crate::names::{LockId, ProcessId};
 
 /// A closure of the program. Nobody has its mutex for long, except a delivery that calls it.
-pub(super) type Run = Arc<Mutex<dyn FnMut(Event) + Send>>;
+pub(crate) type Run = Arc<Mutex<dyn FnMut(Event) + Send>>;
 
 /// The routine of a number.
 pub(super) enum Routine {

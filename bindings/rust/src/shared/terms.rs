@@ -24,10 +24,10 @@ use crate::names::{LockId, Which};
 /// ```
 #[derive(Default)]
 pub struct Terms {
-    pub(super) flags: EnqFlags,
-    pub(super) parent: Option<Which>,
-    pub(super) longest: Option<Duration>,
-    pub(super) blocking: Option<Run>,
+    pub(crate) flags: EnqFlags,
+    pub(crate) parent: Option<Which>,
+    pub(crate) longest: Option<Duration>,
+    pub(crate) blocking: Option<Run>,
 }
 
 impl Terms {
@@ -77,14 +77,18 @@ pub enum WaitError {
     Condition(Condition),
     /// It has waited as long as it may. The request was cancelled.
     TimedOut,
+    /// The lock service or the session has ended: its locks are gone. Only a
+    /// [`Connection`](crate::service::Connection) answers it.
+    Lost,
 }
 
 impl WaitError {
-    /// The condition. A wait that timed out was cancelled.
+    /// The condition. A wait that timed out was cancelled, and a process whose session is lost is no more.
     pub fn condition(self) -> Condition {
         match self {
             WaitError::Condition(condition) => condition,
             WaitError::TimedOut => Condition::Cancel,
+            WaitError::Lost => Condition::Nonexpr,
         }
     }
 }
@@ -100,6 +104,7 @@ impl fmt::Display for WaitError {
         match self {
             WaitError::Condition(condition) => condition.fmt(f),
             WaitError::TimedOut => f.write_str("timed out"),
+            WaitError::Lost => f.write_str("the locks are lost"),
         }
     }
 }
