@@ -73,6 +73,11 @@ class Daemon:
         with self.client() as client:
             return int(re.search(f"^vlmd_{name} ([0-9]+)$", "\n".join(client.ask_all("metrics")), re.M)[1])
 
+    def processor_time(self):
+        """Seconds that the daemon has had a processor."""
+        words = Path(f"/proc/{self.run.pid}/stat").read_text().rsplit(")", 1)[1].split()
+        return (int(words[11]) + int(words[12])) / os.sysconf("SC_CLK_TCK")
+
     def kill(self):
         self.run.kill()
         self.run.wait()

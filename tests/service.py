@@ -257,6 +257,9 @@ def half_lines(_program):
         while (line := whole.line()) is not None:
             told.append(line)
         yield from difference((len(told), told[-1]), (506, "alive"))
+        client.send(*(500 * ["# nothing is answered"]))
+        yield from difference(client.is_quiet(), True)
+        yield from difference(client.ask("alive"), "alive")
 
 
 # Faults of clients.
@@ -314,12 +317,26 @@ def deaf(_program):
         if sent >= 50 << 20:
             yield "a client that reads no answer is heard for ever"
         yield from difference(other.ask("alive"), "no session")
+        before = daemon.processor_time()
+        time.sleep(1)
+        if daemon.processor_time() - before > 0.5:
+            yield "the daemon is busy while it waits"
         asker.socket.setblocking(True)
         asker.socket.shutdown(1)
         answers = 0
         while asker.line() is not None:
             answers += 1
         yield from difference(answers, sent // 10)
+
+
+def long_answers(_program):
+    """What is wrong with long answers to many lines that a client sends at once: all come."""
+    with Daemon() as daemon, daemon.client().begin("P quota=2000 blocks=1") as client:
+        for number in range(1500):
+            client.ask(f"enq P NL name=N{number} block=1")
+        client.send(*(40 * ["show"]), "alive")
+        yield from difference([len(client.until_blank()) for _ in range(40)], 40 * [3000])
+        yield from difference(client.line(), "alive")
 
 
 def cut_off(_program):
@@ -650,7 +667,7 @@ def clients(compiler, sanitizer, _program):
 BEHAVIOURS = {"the first session of the page": shown_talk,
               "random scripts over the socket": random_lines, "half lines": half_lines, "killed clients": killed,
               "a client that reads no answers": deaf,
-              "a client that reads no ASTs": cut_off, "limits of a user": limits, "what show and who print": shown,
+              "a client that reads no ASTs": cut_off, "many long answers": long_answers, "limits of a user": limits, "what show and who print": shown,
               "sessions that are resumed": resumed, "processes of another session": hidden,
               "a daemon that ends": restarted, "a second daemon": one_daemon, "configurations": configured,
               "a daemon of systemd": under_systemd,
