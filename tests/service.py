@@ -502,7 +502,7 @@ def configured(_program):
         ended = subprocess.run([PLAIN(), *words], capture_output=True, text=True, timeout=20)
         yield from difference((words, ended.returncode), (words, status))
     with Daemon("lines 5", log="/dev/full") as daemon, daemon.client().begin("P") as client:
-        for setting, is_taken in (("locks 1", True), ("locks 0x", False), ("lines 0", False), ("frob 1", False)):
+        for setting, is_taken in (("locks 1", True), ("locks 0x", False), ("lines 0", False), ("identifications 99", False), ("frob 1", False)):
             daemon.config.write_text(f"mode 666\n{setting}\n")
             daemon.run.send_signal(signal.SIGHUP)
             time.sleep(0.2)
@@ -667,7 +667,8 @@ def clients(compiler, sanitizer, _program):
 BEHAVIOURS = {"the first session of the page": shown_talk,
               "random scripts over the socket": random_lines, "half lines": half_lines, "killed clients": killed,
               "a client that reads no answers": deaf,
-              "a client that reads no ASTs": cut_off, "many long answers": long_answers, "limits of a user": limits, "what show and who print": shown,
+              "a client that reads no ASTs": cut_off, "many long answers": long_answers, "limits of a user": limits,
+              "what show and who print": shown,
               "sessions that are resumed": resumed, "processes of another session": hidden,
               "a daemon that ends": restarted, "a second daemon": one_daemon, "configurations": configured,
               "a daemon of systemd": under_systemd,
