@@ -48,7 +48,7 @@ class Daemon:
         os.chmod(self.folder, 0o755)
         self.socket = f"{self.folder}/socket"
         self.config = Path(self.folder) / "conf"
-        self.config.write_text("".join(f"{it}\n" for it in ("mode 666", *settings)))
+        self.config.write_text("".join(f"{it}\n" for it in ("mode 666", f"admin {os.getgid()}", *settings)))
         self.log = Path(self.folder) / "log"
         with open(log or self.log, "w") as told:
             self.run = subprocess.Popen([made(), "-c", self.config, "-s", self.socket], stderr=told)

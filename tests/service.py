@@ -116,7 +116,8 @@ def worked(script, _program):
     """What is wrong with a worked script over the socket."""
     printed = iter(script.with_suffix(".stdout").read_text().splitlines())
     other = NOBODY if "NOSYSLCK" in script.with_suffix(".stdout").read_text() else None
-    with Daemon("group root 1", f"group {NOBODY} 1") as daemon, daemon.client(other) as client:
+    settings = (f"group {os.getgid()} 1", f"group {NOBODY} 1", f"syslck {os.getgid()}")
+    with Daemon(*settings) as daemon, daemon.client(other) as client:
         client.ask("open")
         player = Player(client, printed)
         for number, line in enumerate(script.read_bytes().decode("latin-1").splitlines(), 1):
@@ -498,11 +499,19 @@ def one_daemon(_program):
 def configured(_program):
     """Wrong words and configurations are refused, SIGHUP reads the configuration again, and a full disk for the log
     holds up nobody."""
-    for words, status in ((["-x"], 2), (["-c", "/nowhere"], 2), (["here"], 2), (["-s", "/nowhere/socket"], 4)):
+    for words, status in ((["-x"], 2), (["-c", "/nowhere"], 2), (["here"], 2), (["-s", "/nowhere/to/socket"], 4)):
         ended = subprocess.run([PLAIN(), *words], capture_output=True, text=True, timeout=20)
         yield from difference((words, ended.returncode), (words, status))
+    made = Path(ROOM().name) / "made by the daemon"
+    daemon = subprocess.Popen([PLAIN(), "-s", made / "socket"], stderr=subprocess.DEVNULL)
+    until = time.monotonic() + 20
+    while not (made / "socket").exists() and time.monotonic() < until:
+        time.sleep(0.02)
+    yield from difference((made / "socket").exists(), True)
+    daemon.terminate()
+    yield from difference((daemon.wait(20), [it.name for it in made.iterdir()]), (0, ["socket.state"]))
     with Daemon("lines 5", log="/dev/full") as daemon, daemon.client().begin("P") as client:
-        for setting, is_taken in (("locks 1", True), ("locks 0x", False), ("lines 0", False), ("identifications 99", False), ("frob 1", False)):
+        for setting in ("locks 1", "locks 0x", "lines 0", "identifications 99", "frob 1"):
             daemon.config.write_text(f"mode 666\n{setting}\n")
             daemon.run.send_signal(signal.SIGHUP)
             time.sleep(0.2)
