@@ -19,7 +19,7 @@ struct limits {
     uint32_t names;           /* of a session */
     uint32_t lines;           /* of a client in a turn */
     uint32_t shown;           /* locks that `show`, `tails` and `who` print */
-    uint32_t search;          /* milliseconds that a request waits before a search for deadlocks */
+    uint32_t search;          /* milliseconds that a request waits before a search for deadlocks; 0: none is made */
     uint32_t drain;           /* milliseconds from the last identification to the end of the epoch */
     uint32_t identifications; /* of locks, of one lock manager */
 };

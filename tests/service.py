@@ -548,13 +548,28 @@ def sandboxed(_program):
                            TOP / "service" / "systemd" / "vlmd.service")
 
 
+def circle(one, other):
+    """P of a client and Q of another wait for each other: the request for lock 4 came last."""
+    one.ask("enq P EX name=A block=1")
+    other.ask("enq Q EX name=B block=1")
+    one.ask("enq P EX name=B block=2 ast=1")
+    other.ask("enq Q EX name=A block=2 ast=2")
+
+
+def not_searched(_program):
+    """A daemon that is to search for no deadlocks lets one stand, and is idle."""
+    with Daemon("search 0") as daemon, daemon.client().begin("P") as one, daemon.client().begin("Q") as other:
+        circle(one, other)
+        before = daemon.processor_time()
+        yield from difference((one.is_quiet(0.7), other.is_quiet(0.7)), (True, True))
+        if daemon.processor_time() - before > 0.5:
+            yield "the daemon is busy while requests wait"
+
+
 def deadlocked(_program):
     """A deadlock of two clients ends, with its most recent request, and the circle is logged."""
     with Daemon("search 200") as daemon, daemon.client().begin("P") as one, daemon.client().begin("Q") as other:
-        one.ask("enq P EX name=A block=1")
-        other.ask("enq Q EX name=B block=1")
-        one.ask("enq P EX name=B block=2 ast=1")
-        other.ask("enq Q EX name=A block=2 ast=2")
+        circle(one, other)
         yield from difference(other.line(), "Q: completion 2 param 0 lock 4")
         yield from difference(other.line(), f"Q: block 2 status 6 lock 4 value {ZEROS}")
         yield from difference(one.is_quiet(), True)
@@ -673,15 +688,13 @@ def clients(compiler, sanitizer, _program):
     yield from wrong or library.ran(made, PLAIN(), config, Path(folder) / "socket")
 
 
-BEHAVIOURS = {"the first session of the page": shown_talk,
-              "random scripts over the socket": random_lines, "half lines": half_lines, "killed clients": killed,
-              "a client that reads no answers": deaf,
+BEHAVIOURS = {"the first session of the page": shown_talk, "random scripts over the socket": random_lines,
+              "half lines": half_lines, "killed clients": killed, "a client that reads no answers": deaf,
               "a client that reads no ASTs": cut_off, "many long answers": long_answers, "limits of a user": limits,
-              "what show and who print": shown,
-              "sessions that are resumed": resumed, "processes of another session": hidden,
-              "a daemon that ends": restarted, "a second daemon": one_daemon, "configurations": configured,
-              "a daemon of systemd": under_systemd,
-              "a deadlock": deadlocked, "a change of managers": changed, "no identifications left": drained,
+              "what show and who print": shown, "sessions that are resumed": resumed,
+              "processes of another session": hidden, "a daemon that ends": restarted, "a second daemon": one_daemon,
+              "configurations": configured, "a daemon of systemd": under_systemd, "a deadlock": deadlocked,
+              "no searches": not_searched, "a change of managers": changed, "no identifications left": drained,
               "10,000 idle connections": idle, "mutated lines": mutated}
 
 
