@@ -13,13 +13,16 @@ import subprocess
 import sys
 import tempfile
 import time
+from concurrent.futures import ThreadPoolExecutor
 from functools import partial
 from pathlib import Path
 
 import library
 import service_commands
+import service_scripts
 from daemons import CHECKED, NOBODY, PLAIN, SOURCES, Client, Daemon
 from harness import PLAY, ROOM, TOP, Test, difference
+from service_scripts import MODES
 
 HERE = Path(__file__).resolve().parent / "service"
 # The files of the dispatcher, without the daemon around it.
@@ -28,153 +31,14 @@ CLIENT = sorted((TOP / "bindings" / "c").glob("vlm_client*.c"))
 DISPATCHER = [it for it in SOURCES if it.name not in DAEMON]
 # How long the mutated lines run.
 MUTATED_SECONDS = 8
+# How long clients come and go.
+STORM_SECONDS = 6
 ZEROS = 32 * "0"
 
 
 def missing():
     """What is not there that these tests need."""
     return ["uv.h of libuv1-dev"] * (not library.has_uv()) + ["cc"] * (not shutil.which("cc"))
-
-
-# Worked scripts over the socket.
-
-def reason_to_skip(script):
-    """Why a client can't send a script, or None."""
-    text = script.read_text()
-    if re.search(r"^(leave|search)\b", text, re.M):
-        return "a client may not send leave or search"
-    declared = re.findall(r"^declare .*", text, re.M)
-    if len({re.search(r"group=\d+|$", it)[0] for it in declared}) > 1:
-        return "all processes of a connection have one group"
-    if len({"syslck" in it for it in declared}) > 1:
-        return "all processes of a connection have one privilege"
-    if "NONEXPR" in script.with_suffix(".stdout").read_text() and re.search(r"node=[09]", text):
-        return "a client names no node"
-    if re.search(r"^declare .*node=(0|9|10)\b", text, re.M):
-        return "a client names no node"
-    if script.name == "first-of-two-refusals":
-        return "the service looks at the quota first"
-    if "NOSYSLCK" in script.with_suffix(".stdout").read_text() and os.getuid() != 0:
-        return "another user's connection takes root"
-    return None
-
-
-def playable():
-    return [it.with_suffix("") for it in sorted(PLAY.glob("*.stdout")) if reason_to_skip(it.with_suffix("")) is None]
-
-
-class Player:
-    """Plays a script over a connection, against what `vlm play` prints for it."""
-
-    def __init__(self, client, printed):
-        self.client, self.printed = client, printed
-        self.numbers, self.nodes, self.asts = {}, {}, {}
-
-    def declared(self, line):
-        """A `declare` line as a client sends it. Notes the process that `vlm play` makes, by its number here."""
-        node = int(re.search(r"node=(\d+)", line)[1])
-        self.nodes[node] = self.nodes.get(node, 0) + 1
-        self.numbers[str(65536 * node + self.nodes[node])] = str(65536 + sum(self.nodes.values()))
-        return re.sub(r" (node=\d+|group=\d+|syslck\b)", "", line)
-
-    def wanted(self, line):
-        """A printed line with the process numbers of the service."""
-        return re.sub(r"(process )(\d+)", lambda it: it[1] + self.numbers[it[2]], line)
-
-    def answer(self):
-        """The next line that is no AST. An AST is kept, and its block line, which ends it, left out."""
-        while True:
-            line = self.client.line()
-            ast = re.match(r"(\w+): (completion|blocking) ", line)
-            if not ast:
-                return line
-            self.asts.setdefault(ast[1], []).append(line)
-            if ast[2] == "completion":
-                self.client.line()
-
-    def play(self, line):
-        """What is wrong with the answer to a line."""
-        words = line.split()
-        if not words or words[0].startswith("#"):
-            self.client.send(line)
-        elif words[0] == "ast":
-            # (all ASTs of the steps before have come once this is answered)
-            self.client.send("alive")
-            self.answer()
-            taken = self.asts.get(words[1], [])
-            yield from difference(taken.pop(0) if taken else f"{words[1]}: none", next(self.printed))
-        elif words[0] in ("show", "tails"):
-            self.client.send(line)
-            while found := self.answer():
-                yield from difference(found, self.wanted(next(self.printed)))
-        else:
-            self.client.send(self.declared(line) if words[0] == "declare" else line)
-            yield from difference(self.answer(), self.wanted(next(self.printed)))
-
-
-def worked(script, _program):
-    """What is wrong with a worked script over the socket."""
-    printed = iter(script.with_suffix(".stdout").read_text().splitlines())
-    other = NOBODY if "NOSYSLCK" in script.with_suffix(".stdout").read_text() else None
-    settings = (f"group {os.getgid()} 1", f"group {NOBODY} 1", f"syslck {os.getgid()}")
-    with Daemon(*settings) as daemon, daemon.client(other) as client:
-        client.ask("open")
-        player = Player(client, printed)
-        for number, line in enumerate(script.read_bytes().decode("latin-1").splitlines(), 1):
-            yield from (f"line {number}, {line}: {it}" for it in player.play(line))
-    if rest := list(printed):
-        yield f"not printed: {rest}"
-
-
-def enough_worked(_program):
-    """Most worked scripts are playable."""
-    if len(playable()) < 45:
-        yield f"only {len(playable())} worked scripts are played"
-
-
-def random_script(seed):
-    """A script of random lines of three processes on few names, and what the library's player prints for it."""
-    pick = random.Random(seed)
-    names = ["P", "Q", "R"]
-    lines = [f"declare {name} node=1 group=1 quota=20 blocks=9" for name in names]
-    for number in range(300):
-        name, block = pick.choice(names), pick.randint(1, 9)
-        if number % 20 == 19:
-            # (another process takes its place: in the daemon the same process of the manager)
-            names[names.index(name)] = f"P{number}"
-            lines += [f"end {name}", f"declare P{number} node=1 group=1 quota=20 blocks=9"]
-            continue
-        flags = " ".join(pick.sample(["valblk", "noqueue", "syncsts", "wide", "ast=1", "bast=2", "param=3"], 3))
-        lines.append(pick.choice([
-            f"enq {name} {pick.choice(MODES)} name={pick.choice('AB')} block={block} {flags}",
-            f"enq {name} {pick.choice(MODES)} name=S parent=@{pick.randint(1, 9)} block={block} {flags}",
-            f"cvt {name} @{pick.randint(1, 9)} {pick.choice(MODES)} block={block} {flags}",
-            f"cvt {name} {pick.randint(1, 60)} {pick.choice(MODES)} block={block} {flags}",
-            f"deq {name} @{pick.randint(1, 9)} {pick.choice(['', 'cancel', 'deqall', 'invvalblk'])}",
-            f"deq {name} {pick.randint(1, 60)} value={number:032x}",
-            f"set {name} block={block} value={number:032x}", f"block {name} {block}", f"tail {name} {block}",
-            f"ast {name}", "show", "tails"]))
-    return "".join(f"{it}\n" for it in [*lines, *(f"ast {name}" for name in names for _ in range(300))])
-
-
-MODES = ("NL", "CR", "CW", "PR", "PW", "EX")
-
-
-def random_lines(_program):
-    """What is wrong with random scripts over the socket: they print what the library's player prints. That one ends
-    processes by a rundown; the daemon keeps them for reuse."""
-    player = Path(ROOM().name) / "player of random scripts"
-    wrong = list(library.ran("cc", "-std=gnu11", "-O2", f"-I{library.prefix()}/include", library.PLAYER,
-                             library.prefix() / "lib" / "libvlm.a", "-pthread", "-o", player))
-    yield from wrong
-    for seed in range(0 if wrong else 12):
-        script = random_script(seed)
-        printed = subprocess.run([player], input=script, capture_output=True, text=True, check=True).stdout
-        with Daemon("search 100000000") as daemon, daemon.client() as client:
-            client.ask("open")
-            playing = Player(client, iter(printed.splitlines()))
-            for line in script.splitlines():
-                yield from (f"seed {seed}, {line}: {it}" for it in playing.play(line))
 
 
 # What each line answers.
@@ -658,6 +522,52 @@ def over_dispatcher(name, compiler, *words):
                                   library.prefix() / "lib" / "libvlm.a", "-pthread", "-o", made))
 
 
+def asked_at_random(pick):
+    """A request of P or Q."""
+    return f"enq {pick.choice('PQ')} {pick.choice(MODES)} name={pick.choice('ABC')} block=1 bast=1 ast=2"
+
+
+def storm(daemon, seed, until):
+    """A client that comes and goes, asks much at once, reads little, and ends in each way."""
+    pick = random.Random(seed)
+    lines = [it for it in (HERE / "lines").read_text().splitlines() if not it.startswith(("resume", "kill", "close"))]
+    while time.monotonic() < until:
+        client = daemon.client()
+        client.send("open seconds=1" if pick.random() < 0.2 else "open", "declare P", "declare Q")
+        for _ in range(pick.randint(1, 20)):
+            asked = [asked_at_random(pick) if pick.random() < 0.7 else pick.choice(lines)
+                     for _ in range(pick.randint(1, 150))]
+            client.socket.setblocking(False)
+            try:
+                client.send(*asked)
+            except OSError:
+                break
+            if pick.random() < 0.5:
+                client.socket.settimeout(0.01)
+                try:
+                    client.socket.recv(1 << pick.randint(1, 18))
+                except OSError:
+                    pass
+        if pick.random() < 0.3:
+            client.socket.shutdown(pick.randint(0, 2))
+        client.close()
+
+
+def stormy(_program):
+    """After many clients that come and go in each way nothing of them is left, and a client is served."""
+    settings = ("search 50", "locks 3000", "connections 30", "waiting 50", "names 200")
+    with Daemon(*settings) as daemon, ThreadPoolExecutor(8) as pool:
+        until = time.monotonic() + STORM_SECONDS
+        for done in [pool.submit(storm, daemon, seed, until) for seed in range(8)]:
+            done.result()
+        names = ("sessions", "locks", "waiting_requests")
+        end = time.monotonic() + 20
+        while any(map(daemon.metric, names)) and time.monotonic() < end:
+            time.sleep(0.1)
+        yield from difference([daemon.metric(it) for it in (*names, "connections")], [0, 0, 0, 1])
+        yield from difference(daemon.client().begin("P").ask("enq P EX name=A block=1").split(" lock")[0], "P: NORMAL")
+
+
 def mutated(_program):
     """What is wrong with the dispatcher when clients send mutated lines, also while allocations are refused: no
     sanitizer finds anything."""
@@ -688,14 +598,14 @@ def clients(compiler, sanitizer, _program):
     yield from wrong or library.ran(made, PLAIN(), config, Path(folder) / "socket")
 
 
-BEHAVIOURS = {"the first session of the page": shown_talk, "random scripts over the socket": random_lines,
-              "half lines": half_lines, "killed clients": killed, "a client that reads no answers": deaf,
-              "a client that reads no ASTs": cut_off, "many long answers": long_answers, "limits of a user": limits,
-              "what show and who print": shown, "sessions that are resumed": resumed,
-              "processes of another session": hidden, "a daemon that ends": restarted, "a second daemon": one_daemon,
-              "configurations": configured, "a daemon of systemd": under_systemd, "a deadlock": deadlocked,
-              "no searches": not_searched, "a change of managers": changed, "no identifications left": drained,
-              "10,000 idle connections": idle, "mutated lines": mutated}
+BEHAVIOURS = {"the first session of the page": shown_talk, "half lines": half_lines, "killed clients": killed,
+              "a client that reads no answers": deaf, "a client that reads no ASTs": cut_off,
+              "many long answers": long_answers, "limits of a user": limits, "what show and who print": shown,
+              "sessions that are resumed": resumed, "processes of another session": hidden,
+              "a daemon that ends": restarted, "a second daemon": one_daemon, "configurations": configured,
+              "a daemon of systemd": under_systemd, "a deadlock": deadlocked, "no searches": not_searched,
+              "a change of managers": changed, "no identifications left": drained, "10,000 idle connections": idle,
+              "a storm of clients": stormy, "mutated lines": mutated}
 
 
 def installed(_program):
@@ -709,9 +619,7 @@ def first():
 
 
 def once():
-    found = [Test("enough worked scripts", enough_worked)]
-    found += [Test(f"worked script {it.name} over the socket", partial(worked, it)) for it in playable()]
-    found += [Test(f"lines: {name}", partial(talk, name)) for name in TALKS]
+    found = [Test(f"lines: {name}", partial(talk, name)) for name in TALKS]
     found += [Test(name, check) for name, check in BEHAVIOURS.items()]
     found += [Test("other users", other_users)] * (os.getuid() == 0)
     found += [Test("the unit for systemd", sandboxed)] * bool(shutil.which("systemd-analyze"))
@@ -720,5 +628,5 @@ def once():
                    partial(clients, compiler, sanitizer))
               for compiler in library.COMPILERS for sanitizer in library.SANITIZERS[1:]
               if library.links(compiler, sanitizer)]
-    found += service_commands.tests()
+    found += service_scripts.tests() + service_commands.tests()
     return [] if missing() else found
