@@ -23,7 +23,7 @@ struct waits {
 
 /* When a search is due: a request has waited long enough, and the last search is as long ago. */
 uint64_t search_due(const struct dispatcher *dispatcher) {
-    if (dispatcher->first_waiting == NOBODY)
+    if (dispatcher->first_waiting == NOBODY || dispatcher->limits.search == 0)
         return UINT64_MAX;
     uint64_t since = dispatcher->requests[dispatcher->first_waiting].since;
     return (since > dispatcher->searched ? since : dispatcher->searched) + dispatcher->limits.search;

@@ -9,7 +9,7 @@
 #include <string.h>
 #include <sys/socket.h>
 
-enum { LINE = 512, WORDS = 3, MOST_GIDS = 4096 };
+enum { LINE = 512, WORDS = 3, MOST_GIDS = 4096, FEWEST_IDENTIFICATIONS = 100 };
 
 static bool number_of(const char *word, unsigned long most, uint32_t *number) {
     char *end;
@@ -71,7 +71,8 @@ static bool set_words(struct config *config, char *const *words, size_t count) {
         return false;
     uint32_t *limit = limit_of(config, words[0]);
     if (limit != NULL)
-        return number_of(words[1], UINT32_MAX, limit) && (limit != &config->limits.lines || *limit != 0);
+        return number_of(words[1], UINT32_MAX, limit) && config->limits.lines != 0
+               && config->limits.identifications >= FEWEST_IDENTIFICATIONS;
     if (strcmp(words[0], "socket") == 0)
         return snprintf(config->socket, PATH, "%s", words[1]) < PATH;
     if (strcmp(words[0], "syslck") == 0)

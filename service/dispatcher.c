@@ -107,7 +107,7 @@ void make_ready(struct client *client) {
     client->dispatcher->ready_end = &client->next_ready;
 }
 
-bool dispatcher_run(struct dispatcher *dispatcher) {
+void dispatcher_run(struct dispatcher *dispatcher) {
     struct client *client = dispatcher->ready;
     dispatcher->ready = NULL;
     dispatcher->ready_end = &dispatcher->ready;
@@ -115,9 +115,12 @@ bool dispatcher_run(struct dispatcher *dispatcher) {
         next = client->next_ready;
         client->is_ready = false;
         run_heard(client);
+        /* (it may be heard again, also if nothing was answered) */
+        note_change(client);
     }
-    return dispatcher->ready != NULL;
 }
+
+bool dispatcher_is_busy(const struct dispatcher *dispatcher) { return dispatcher->ready != NULL; }
 
 uint32_t dispatcher_epoch(const struct dispatcher *dispatcher) { return dispatcher->epoch; }
 
@@ -170,7 +173,7 @@ bool client_is_cut(const struct client *client) { return client->is_cut; }
 
 /* No more lines of a client are run. Its session ends, or waits for a resume. */
 void client_end(struct client *client) {
-    put(client, "", 0);
+    note_change(client);
     client->is_over = true;
     leave_session(client);
 }

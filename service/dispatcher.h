@@ -19,7 +19,7 @@ struct limits {
     uint32_t names;           /* of a session */
     uint32_t lines;           /* of a client in a turn */
     uint32_t shown;           /* locks that `show`, `tails` and `who` print */
-    uint32_t search;          /* milliseconds that a request waits before a search for deadlocks */
+    uint32_t search;          /* milliseconds that a request waits before a search for deadlocks; 0: none is made */
     uint32_t drain;           /* milliseconds from the last identification to the end of the epoch */
     uint32_t identifications; /* of locks, of one lock manager */
 };
@@ -61,8 +61,11 @@ void dispatcher_tick(struct dispatcher *dispatcher, uint64_t now);
 /* When something is due next, or UINT64_MAX. */
 uint64_t dispatcher_due(const struct dispatcher *dispatcher);
 
-/* Runs lines that were heard and not run yet. Returns whether some are left. */
-bool dispatcher_run(struct dispatcher *dispatcher);
+/* Runs lines that were heard and not run yet. */
+void dispatcher_run(struct dispatcher *dispatcher);
+
+/* Whether such lines are left. Sent output may let more lines run. */
+bool dispatcher_is_busy(const struct dispatcher *dispatcher);
 
 /* The epoch of the lock manager, and whether a client holds a lock or waits for one. */
 uint32_t dispatcher_epoch(const struct dispatcher *dispatcher);

@@ -51,7 +51,8 @@ static size_t run_lines(struct client *client, const uint8_t *bytes, size_t len)
             return done;
         done += line + 1;
     }
-    if (!client->is_over && !client->is_waiting && len > done && memchr(bytes + done, '\n', len - done) != NULL)
+    /* (a client that has to read first becomes ready when it has) */
+    if (may_run(client) && len > done && memchr(bytes + done, '\n', len - done) != NULL)
         make_ready(client);
     return done;
 }

@@ -18,7 +18,8 @@ void say(const struct dispatcher *dispatcher, const char *format, ...) {
     dispatcher->log(text);
 }
 
-static void note_change(struct client *client) {
+/* The daemon is to look at a client. */
+void note_change(struct client *client) {
     if (client->is_changed)
         return;
     client->is_changed = true;

@@ -257,6 +257,7 @@ void check_identifications(struct dispatcher *dispatcher);
 uint64_t handle_of(const struct dispatcher *dispatcher, uint32_t lkid);
 
 /* output.c */
+void note_change(struct client *client);
 void put(struct client *client, const void *bytes, size_t len);
 void put_text(struct client *client, const char *text);
 void put_format(struct client *client, const char *format, ...) __attribute__((format(printf, 2, 3)));

@@ -66,6 +66,18 @@ int open_listener(const struct config *config, bool *is_own) {
     return made;
 }
 
+/* Makes the folder of a socket, if it is not there and the one above is. */
+static void make_folder(const char *socket) {
+    char folder[PATH];
+    snprintf(folder, sizeof folder, "%s", socket);
+    char *slash = strrchr(folder, '/');
+    if (slash == NULL || slash == folder)
+        return;
+    *slash = 0;
+    if (mkdir(folder, 0755) != 0 && errno != EEXIST)
+        fail("can't be made", folder);
+}
+
 int take_state(const char *socket, uint32_t *epoch, bool *was_unclean) {
     char name[LONGEST_PATH], text[STATE + 1] = "";
     const char *folder = getenv("RUNTIME_DIRECTORY");
@@ -74,6 +86,8 @@ int take_state(const char *socket, uint32_t *epoch, bool *was_unclean) {
         snprintf(name, sizeof name, "%s/state", folder);
     else
         snprintf(name, sizeof name, "%s.state", socket);
+    if (folder == NULL)
+        make_folder(socket);
     int descriptor = open(name, O_RDWR | O_CREAT | O_CLOEXEC, 0600);
     if (descriptor < 0)
         return fail("can't be opened", name);

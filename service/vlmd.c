@@ -188,9 +188,9 @@ static void on_turn(uv_check_t *check) {
     (void)check;
     uint64_t now = uv_now(&vlmd.loop);
     dispatcher_tick(vlmd.dispatcher, now);
-    bool is_busy = dispatcher_run(vlmd.dispatcher);
+    dispatcher_run(vlmd.dispatcher);
     flush_all();
-    if (is_busy)
+    if (dispatcher_is_busy(vlmd.dispatcher))
         uv_idle_start(&vlmd.busy, on_busy);
     else
         uv_idle_stop(&vlmd.busy);

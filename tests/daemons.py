@@ -48,7 +48,7 @@ class Daemon:
         os.chmod(self.folder, 0o755)
         self.socket = f"{self.folder}/socket"
         self.config = Path(self.folder) / "conf"
-        self.config.write_text("".join(f"{it}\n" for it in ("mode 666", *settings)))
+        self.config.write_text("".join(f"{it}\n" for it in ("mode 666", f"admin {os.getgid()}", *settings)))
         self.log = Path(self.folder) / "log"
         with open(log or self.log, "w") as told:
             self.run = subprocess.Popen([made(), "-c", self.config, "-s", self.socket], stderr=told)
@@ -72,6 +72,11 @@ class Daemon:
     def metric(self, name):
         with self.client() as client:
             return int(re.search(f"^vlmd_{name} ([0-9]+)$", "\n".join(client.ask_all("metrics")), re.M)[1])
+
+    def processor_time(self):
+        """Seconds that the daemon has had a processor."""
+        words = Path(f"/proc/{self.run.pid}/stat").read_text().rsplit(")", 1)[1].split()
+        return (int(words[11]) + int(words[12])) / os.sysconf("SC_CLK_TCK")
 
     def kill(self):
         self.run.kill()

@@ -379,7 +379,7 @@ def is_shown_of(lines, source):
 
 def shown_code(_program):
     """Each paragraph of Rust and Rattle that a page shows is in a source, where tests or proofs try it."""
-    files = [*sources(), *(TOP / "bindings" / "rust" / "src").glob("*.rs")]
+    files = [*sources(), *(TOP / "bindings" / "rust" / "src").rglob("*.rs")]
     texts = [stripped(file.read_text()) for file in files]
     for page in PAGES:
         for block, _ in fenced(page, "rust"):

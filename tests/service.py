@@ -8,17 +8,21 @@ import re
 import resource
 import shutil
 import signal
+import socket
 import subprocess
 import sys
 import tempfile
 import time
+from concurrent.futures import ThreadPoolExecutor
 from functools import partial
 from pathlib import Path
 
 import library
 import service_commands
-from daemons import NOBODY, PLAIN, SOURCES, Daemon
+import service_scripts
+from daemons import CHECKED, NOBODY, PLAIN, SOURCES, Client, Daemon
 from harness import PLAY, ROOM, TOP, Test, difference
+from service_scripts import MODES
 
 HERE = Path(__file__).resolve().parent / "service"
 # The files of the dispatcher, without the daemon around it.
@@ -27,152 +31,14 @@ CLIENT = sorted((TOP / "bindings" / "c").glob("vlm_client*.c"))
 DISPATCHER = [it for it in SOURCES if it.name not in DAEMON]
 # How long the mutated lines run.
 MUTATED_SECONDS = 8
+# How long clients come and go.
+STORM_SECONDS = 6
 ZEROS = 32 * "0"
 
 
 def missing():
     """What is not there that these tests need."""
     return ["uv.h of libuv1-dev"] * (not library.has_uv()) + ["cc"] * (not shutil.which("cc"))
-
-
-# Worked scripts over the socket.
-
-def reason_to_skip(script):
-    """Why a client can't send a script, or None."""
-    text = script.read_text()
-    if re.search(r"^(leave|search)\b", text, re.M):
-        return "a client may not send leave or search"
-    declared = re.findall(r"^declare .*", text, re.M)
-    if len({re.search(r"group=\d+|$", it)[0] for it in declared}) > 1:
-        return "all processes of a connection have one group"
-    if len({"syslck" in it for it in declared}) > 1:
-        return "all processes of a connection have one privilege"
-    if "NONEXPR" in script.with_suffix(".stdout").read_text() and re.search(r"node=[09]", text):
-        return "a client names no node"
-    if re.search(r"^declare .*node=(0|9|10)\b", text, re.M):
-        return "a client names no node"
-    if script.name == "first-of-two-refusals":
-        return "the service looks at the quota first"
-    if "NOSYSLCK" in script.with_suffix(".stdout").read_text() and os.getuid() != 0:
-        return "another user's connection takes root"
-    return None
-
-
-def playable():
-    return [it.with_suffix("") for it in sorted(PLAY.glob("*.stdout")) if reason_to_skip(it.with_suffix("")) is None]
-
-
-class Player:
-    """Plays a script over a connection, against what `vlm play` prints for it."""
-
-    def __init__(self, client, printed):
-        self.client, self.printed = client, printed
-        self.numbers, self.nodes, self.asts = {}, {}, {}
-
-    def declared(self, line):
-        """A `declare` line as a client sends it. Notes the process that `vlm play` makes, by its number here."""
-        node = int(re.search(r"node=(\d+)", line)[1])
-        self.nodes[node] = self.nodes.get(node, 0) + 1
-        self.numbers[str(65536 * node + self.nodes[node])] = str(65536 + sum(self.nodes.values()))
-        return re.sub(r" (node=\d+|group=\d+|syslck\b)", "", line)
-
-    def wanted(self, line):
-        """A printed line with the process numbers of the service."""
-        return re.sub(r"(process )(\d+)", lambda it: it[1] + self.numbers[it[2]], line)
-
-    def answer(self):
-        """The next line that is no AST. An AST is kept, and its block line, which ends it, left out."""
-        while True:
-            line = self.client.line()
-            ast = re.match(r"(\w+): (completion|blocking) ", line)
-            if not ast:
-                return line
-            self.asts.setdefault(ast[1], []).append(line)
-            if ast[2] == "completion":
-                self.client.line()
-
-    def play(self, line):
-        """What is wrong with the answer to a line."""
-        words = line.split()
-        if not words or words[0].startswith("#"):
-            self.client.send(line)
-        elif words[0] == "ast":
-            # (all ASTs of the steps before have come once this is answered)
-            self.client.send("alive")
-            self.answer()
-            taken = self.asts.get(words[1], [])
-            yield from difference(taken.pop(0) if taken else f"{words[1]}: none", next(self.printed))
-        elif words[0] in ("show", "tails"):
-            self.client.send(line)
-            while found := self.answer():
-                yield from difference(found, self.wanted(next(self.printed)))
-        else:
-            self.client.send(self.declared(line) if words[0] == "declare" else line)
-            yield from difference(self.answer(), self.wanted(next(self.printed)))
-
-
-def worked(script, _program):
-    """What is wrong with a worked script over the socket."""
-    printed = iter(script.with_suffix(".stdout").read_text().splitlines())
-    other = NOBODY if "NOSYSLCK" in script.with_suffix(".stdout").read_text() else None
-    with Daemon("group root 1", f"group {NOBODY} 1") as daemon, daemon.client(other) as client:
-        client.ask("open")
-        player = Player(client, printed)
-        for number, line in enumerate(script.read_bytes().decode("latin-1").splitlines(), 1):
-            yield from (f"line {number}, {line}: {it}" for it in player.play(line))
-    if rest := list(printed):
-        yield f"not printed: {rest}"
-
-
-def enough_worked(_program):
-    """Most worked scripts are playable."""
-    if len(playable()) < 45:
-        yield f"only {len(playable())} worked scripts are played"
-
-
-def random_script(seed):
-    """A script of random lines of three processes on few names, and what the library's player prints for it."""
-    pick = random.Random(seed)
-    names = ["P", "Q", "R"]
-    lines = [f"declare {name} node=1 group=1 quota=20 blocks=9" for name in names]
-    for number in range(300):
-        name, block = pick.choice(names), pick.randint(1, 9)
-        if number % 20 == 19:
-            # (another process takes its place: in the daemon the same process of the manager)
-            names[names.index(name)] = f"P{number}"
-            lines += [f"end {name}", f"declare P{number} node=1 group=1 quota=20 blocks=9"]
-            continue
-        flags = " ".join(pick.sample(["valblk", "noqueue", "syncsts", "wide", "ast=1", "bast=2", "param=3"], 3))
-        lines.append(pick.choice([
-            f"enq {name} {pick.choice(MODES)} name={pick.choice('AB')} block={block} {flags}",
-            f"enq {name} {pick.choice(MODES)} name=S parent=@{pick.randint(1, 9)} block={block} {flags}",
-            f"cvt {name} @{pick.randint(1, 9)} {pick.choice(MODES)} block={block} {flags}",
-            f"cvt {name} {pick.randint(1, 60)} {pick.choice(MODES)} block={block} {flags}",
-            f"deq {name} @{pick.randint(1, 9)} {pick.choice(['', 'cancel', 'deqall', 'invvalblk'])}",
-            f"deq {name} {pick.randint(1, 60)} value={number:032x}",
-            f"set {name} block={block} value={number:032x}", f"block {name} {block}", f"tail {name} {block}",
-            f"ast {name}", "show", "tails"]))
-    return "".join(f"{it}\n" for it in [*lines, *(f"ast {name}" for name in names for _ in range(300))])
-
-
-MODES = ("NL", "CR", "CW", "PR", "PW", "EX")
-
-
-def random_lines(_program):
-    """What is wrong with random scripts over the socket: they print what the library's player prints. That one ends
-    processes by a rundown; the daemon keeps them for reuse."""
-    player = Path(ROOM().name) / "player of random scripts"
-    wrong = list(library.ran("cc", "-std=gnu11", "-O2", f"-I{library.prefix()}/include", library.PLAYER,
-                             library.prefix() / "lib" / "libvlm.a", "-pthread", "-o", player))
-    yield from wrong
-    for seed in range(0 if wrong else 12):
-        script = random_script(seed)
-        printed = subprocess.run([player], input=script, capture_output=True, text=True, check=True).stdout
-        with Daemon("search 100000000") as daemon, daemon.client() as client:
-            client.ask("open")
-            playing = Player(client, iter(printed.splitlines()))
-            for line in script.splitlines():
-                yield from (f"seed {seed}, {line}: {it}" for it in playing.play(line))
 
 
 # What each line answers.
@@ -256,6 +122,9 @@ def half_lines(_program):
         while (line := whole.line()) is not None:
             told.append(line)
         yield from difference((len(told), told[-1]), (506, "alive"))
+        client.send(*(500 * ["# nothing is answered"]))
+        yield from difference(client.is_quiet(), True)
+        yield from difference(client.ask("alive"), "alive")
 
 
 # Faults of clients.
@@ -313,12 +182,26 @@ def deaf(_program):
         if sent >= 50 << 20:
             yield "a client that reads no answer is heard for ever"
         yield from difference(other.ask("alive"), "no session")
+        before = daemon.processor_time()
+        time.sleep(1)
+        if daemon.processor_time() - before > 0.5:
+            yield "the daemon is busy while it waits"
         asker.socket.setblocking(True)
         asker.socket.shutdown(1)
         answers = 0
         while asker.line() is not None:
             answers += 1
         yield from difference(answers, sent // 10)
+
+
+def long_answers(_program):
+    """What is wrong with long answers to many lines that a client sends at once: all come."""
+    with Daemon() as daemon, daemon.client().begin("P quota=2000 blocks=1") as client:
+        for number in range(1500):
+            client.ask(f"enq P NL name=N{number} block=1")
+        client.send(*(40 * ["show"]), "alive")
+        yield from difference([len(client.until_blank()) for _ in range(40)], 40 * [3000])
+        yield from difference(client.line(), "alive")
 
 
 def cut_off(_program):
@@ -402,7 +285,7 @@ def other_users(_program):
 def resumed(_program):
     """A session with seconds goes on after its connection, hears the ASTs that it missed, and ends in time."""
     with Daemon() as daemon, daemon.client() as client, daemon.client().begin("Q") as other:
-        name = client.ask("open seconds=1").split()[1]
+        name = client.ask("open seconds=4").split()[1]
         for line in ("1 declare P", "2 enq P EX name=A block=1 bast=5"):
             client.ask(line)
         client.close()
@@ -410,13 +293,13 @@ def resumed(_program):
         with daemon.client() as again:
             again.send(f"resume {name} asts=0", "2 enq P EX name=A block=1 bast=5", "3 deq P @1")
             found = [again.line() for _ in range(4)]
-            yield from difference(found, [f"session {name} seconds 1 number 2 asts 1",
+            yield from difference(found, [f"session {name} seconds 4 number 2 asts 1",
                                           "P: blocking 5 param 0 lock 1", "2 P: NORMAL lock 1", "3 P: NORMAL"])
             yield from difference(other.line(), "Q: completion 1 param 0 lock 2")
             with daemon.client() as third:
                 third.ask(f"resume {name}")
                 yield from difference((again.line(), again.line()), ("session moved", None))
-        time.sleep(2.2)
+        time.sleep(5.2)
         with daemon.client() as late:
             yield from difference((late.ask(f"resume {name}"), late.line()), ("session ended", None))
 
@@ -442,27 +325,27 @@ def hidden(_program):
 def restarted(_program):
     """A daemon that is killed: clients see the end, and the next one grants nothing for the grace time. One that ends
     in order without locks has none; with locks it tells its clients."""
-    with Daemon("grace 1500") as first:
+    with Daemon("grace 3000") as first:
         held = first.client().begin("P")
         held.ask("enq P EX name=A block=1")
         first.kill()
         yield from difference(held.line(), None)
-        with Daemon("grace 1500", folder=first.folder) as second:
+        with Daemon("grace 3000", folder=first.folder) as second:
             began = time.monotonic()
             client = second.client().begin("P")
             yield from difference(client.greeting, "vlm protocol 1 epoch 1")
             answer = client.ask("enq P EX name=A block=1")
-            if time.monotonic() - began < 1 or answer != "P: NORMAL lock 4294967297":
+            if time.monotonic() - began < 0.5 or answer != "P: NORMAL lock 4294967297":
                 yield f"{answer} after {time.monotonic() - began:.2f} seconds"
             yield from difference(client.ask("block P 1"), f"P: block 1 status 1 lock 4294967297 value {ZEROS}")
             second.run.send_signal(signal.SIGTERM)
             yield from difference((client.line(), client.line(), second.run.wait(20)), ("lost", None, 0))
-        with Daemon("grace 1500", folder=first.folder) as third:
+        with Daemon("grace 3000", folder=first.folder) as third:
             client = third.client().begin("P")
             began = time.monotonic()
             client.ask("enq P EX name=A block=1")
             client.ask("deq P @1")
-            if time.monotonic() - began < 0.8:
+            if time.monotonic() - began < 0.5:
                 yield "no grace time after an end with locks"
         with Daemon("grace 60000", folder=first.folder) as fourth:
             answer = fourth.client().begin("P").ask("enq P EX name=A block=1")
@@ -480,11 +363,19 @@ def one_daemon(_program):
 def configured(_program):
     """Wrong words and configurations are refused, SIGHUP reads the configuration again, and a full disk for the log
     holds up nobody."""
-    for words, status in ((["-x"], 2), (["-c", "/nowhere"], 2), (["here"], 2), (["-s", "/nowhere/socket"], 4)):
+    for words, status in ((["-x"], 2), (["-c", "/nowhere"], 2), (["here"], 2), (["-s", "/nowhere/to/socket"], 4)):
         ended = subprocess.run([PLAIN(), *words], capture_output=True, text=True, timeout=20)
         yield from difference((words, ended.returncode), (words, status))
+    made = Path(ROOM().name) / "made by the daemon"
+    daemon = subprocess.Popen([PLAIN(), "-s", made / "socket"], stderr=subprocess.DEVNULL)
+    until = time.monotonic() + 20
+    while not (made / "socket").exists() and time.monotonic() < until:
+        time.sleep(0.02)
+    yield from difference((made / "socket").exists(), True)
+    daemon.terminate()
+    yield from difference((daemon.wait(20), [it.name for it in made.iterdir()]), (0, ["socket.state"]))
     with Daemon("lines 5", log="/dev/full") as daemon, daemon.client().begin("P") as client:
-        for setting, is_taken in (("locks 1", True), ("locks 0x", False), ("lines 0", False), ("frob 1", False)):
+        for setting in ("locks 1", "locks 0x", "lines 0", "identifications 99", "frob 1"):
             daemon.config.write_text(f"mode 666\n{setting}\n")
             daemon.run.send_signal(signal.SIGHUP)
             time.sleep(0.2)
@@ -493,13 +384,56 @@ def configured(_program):
             yield from difference((setting, answer), (setting, "P: EXENQLM"))
 
 
+def under_systemd(_program):
+    """What systemd gives and is told: a listening socket, a folder for the state, readiness, a watchdog, the end."""
+    folder = Path(tempfile.mkdtemp(dir=ROOM().name))
+    with socket.socket(socket.AF_UNIX) as listener, socket.socket(socket.AF_UNIX, socket.SOCK_DGRAM) as notices:
+        listener.bind(f"{folder}/lock")
+        listener.listen()
+        notices.bind(f"{folder}/notices")
+        notices.settimeout(20)
+        env = {**os.environ, "LISTEN_FDS": "1", "NOTIFY_SOCKET": f"{folder}/notices", "WATCHDOG_USEC": "100000",
+               "RUNTIME_DIRECTORY": str(folder)}
+        words = ["sh", "-c", f'LISTEN_PID=$$ exec "$0" -c /dev/null 3<&{listener.fileno()}', CHECKED()]
+        daemon = subprocess.Popen(words, env=env, pass_fds=[listener.fileno()], stderr=subprocess.DEVNULL)
+        told = [notices.recv(100) for _ in range(3)]
+        yield from difference(told, [b"READY=1", b"WATCHDOG=1", b"WATCHDOG=1"])
+        with Client(f"{folder}/lock") as client:
+            yield from difference(client.ask("alive"), "no session")
+        daemon.send_signal(signal.SIGTERM)
+        yield from difference(daemon.wait(20), 0)
+        yield from difference((folder / "state").read_text(), "0000000000 ended  \n")
+        yield from difference((folder / "lock").exists(), True)
+
+
+def sandboxed(_program):
+    """The unit is as closed as systemd can tell."""
+    yield from library.ran("systemd-analyze", "security", "--offline=yes", "--threshold=6",
+                           TOP / "service" / "systemd" / "vlmd.service")
+
+
+def circle(one, other):
+    """P of a client and Q of another wait for each other: the request for lock 4 came last."""
+    one.ask("enq P EX name=A block=1")
+    other.ask("enq Q EX name=B block=1")
+    one.ask("enq P EX name=B block=2 ast=1")
+    other.ask("enq Q EX name=A block=2 ast=2")
+
+
+def not_searched(_program):
+    """A daemon that is to search for no deadlocks lets one stand, and is idle."""
+    with Daemon("search 0") as daemon, daemon.client().begin("P") as one, daemon.client().begin("Q") as other:
+        circle(one, other)
+        before = daemon.processor_time()
+        yield from difference((one.is_quiet(0.7), other.is_quiet(0.7)), (True, True))
+        if daemon.processor_time() - before > 0.5:
+            yield "the daemon is busy while requests wait"
+
+
 def deadlocked(_program):
     """A deadlock of two clients ends, with its most recent request, and the circle is logged."""
     with Daemon("search 200") as daemon, daemon.client().begin("P") as one, daemon.client().begin("Q") as other:
-        one.ask("enq P EX name=A block=1")
-        other.ask("enq Q EX name=B block=1")
-        one.ask("enq P EX name=B block=2 ast=1")
-        other.ask("enq Q EX name=A block=2 ast=2")
+        circle(one, other)
         yield from difference(other.line(), "Q: completion 2 param 0 lock 4")
         yield from difference(other.line(), f"Q: block 2 status 6 lock 4 value {ZEROS}")
         yield from difference(one.is_quiet(), True)
@@ -538,7 +472,7 @@ def changed(_program):
 
 def drained(_program):
     """Without such a moment new requests are refused, and at last the epoch ends for all."""
-    with Daemon("identifications 100", "drain 700") as daemon, daemon.client().begin("P") as client:
+    with Daemon("identifications 100", "drain 2500") as daemon, daemon.client().begin("P") as client:
         other = daemon.client().begin("Q")
         other.ask("enq Q NL name=B block=1")
         for _ in range(98):
@@ -588,6 +522,52 @@ def over_dispatcher(name, compiler, *words):
                                   library.prefix() / "lib" / "libvlm.a", "-pthread", "-o", made))
 
 
+def asked_at_random(pick):
+    """A request of P or Q."""
+    return f"enq {pick.choice('PQ')} {pick.choice(MODES)} name={pick.choice('ABC')} block=1 bast=1 ast=2"
+
+
+def storm(daemon, seed, until):
+    """A client that comes and goes, asks much at once, reads little, and ends in each way."""
+    pick = random.Random(seed)
+    lines = [it for it in (HERE / "lines").read_text().splitlines() if not it.startswith(("resume", "kill", "close"))]
+    while time.monotonic() < until:
+        client = daemon.client()
+        client.send("open seconds=1" if pick.random() < 0.2 else "open", "declare P", "declare Q")
+        for _ in range(pick.randint(1, 20)):
+            asked = [asked_at_random(pick) if pick.random() < 0.7 else pick.choice(lines)
+                     for _ in range(pick.randint(1, 150))]
+            client.socket.setblocking(False)
+            try:
+                client.send(*asked)
+            except OSError:
+                break
+            if pick.random() < 0.5:
+                client.socket.settimeout(0.01)
+                try:
+                    client.socket.recv(1 << pick.randint(1, 18))
+                except OSError:
+                    pass
+        if pick.random() < 0.3:
+            client.socket.shutdown(pick.randint(0, 2))
+        client.close()
+
+
+def stormy(_program):
+    """After many clients that come and go in each way nothing of them is left, and a client is served."""
+    settings = ("search 50", "locks 3000", "connections 30", "waiting 50", "names 200")
+    with Daemon(*settings) as daemon, ThreadPoolExecutor(8) as pool:
+        until = time.monotonic() + STORM_SECONDS
+        for done in [pool.submit(storm, daemon, seed, until) for seed in range(8)]:
+            done.result()
+        names = ("sessions", "locks", "waiting_requests")
+        end = time.monotonic() + 20
+        while any(map(daemon.metric, names)) and time.monotonic() < end:
+            time.sleep(0.1)
+        yield from difference([daemon.metric(it) for it in (*names, "connections")], [0, 0, 0, 1])
+        yield from difference(daemon.client().begin("P").ask("enq P EX name=A block=1").split(" lock")[0], "P: NORMAL")
+
+
 def mutated(_program):
     """What is wrong with the dispatcher when clients send mutated lines, also while allocations are refused: no
     sanitizer finds anything."""
@@ -618,14 +598,14 @@ def clients(compiler, sanitizer, _program):
     yield from wrong or library.ran(made, PLAIN(), config, Path(folder) / "socket")
 
 
-BEHAVIOURS = {"the first session of the page": shown_talk,
-              "random scripts over the socket": random_lines, "half lines": half_lines, "killed clients": killed,
-              "a client that reads no answers": deaf,
-              "a client that reads no ASTs": cut_off, "limits of a user": limits, "what show and who print": shown,
+BEHAVIOURS = {"the first session of the page": shown_talk, "half lines": half_lines, "killed clients": killed,
+              "a client that reads no answers": deaf, "a client that reads no ASTs": cut_off,
+              "many long answers": long_answers, "limits of a user": limits, "what show and who print": shown,
               "sessions that are resumed": resumed, "processes of another session": hidden,
               "a daemon that ends": restarted, "a second daemon": one_daemon, "configurations": configured,
-              "a deadlock": deadlocked, "a change of managers": changed, "no identifications left": drained,
-              "10,000 idle connections": idle, "mutated lines": mutated}
+              "a daemon of systemd": under_systemd, "a deadlock": deadlocked, "no searches": not_searched,
+              "a change of managers": changed, "no identifications left": drained, "10,000 idle connections": idle,
+              "a storm of clients": stormy, "mutated lines": mutated}
 
 
 def installed(_program):
@@ -639,15 +619,14 @@ def first():
 
 
 def once():
-    found = [Test("enough worked scripts", enough_worked)]
-    found += [Test(f"worked script {it.name} over the socket", partial(worked, it)) for it in playable()]
-    found += [Test(f"lines: {name}", partial(talk, name)) for name in TALKS]
+    found = [Test(f"lines: {name}", partial(talk, name)) for name in TALKS]
     found += [Test(name, check) for name, check in BEHAVIOURS.items()]
     found += [Test("other users", other_users)] * (os.getuid() == 0)
+    found += [Test("the unit for systemd", sandboxed)] * bool(shutil.which("systemd-analyze"))
     found += [Test("lines under libFuzzer", fuzzed)] * bool(shutil.which("clang"))
     found += [Test(f"the client in C by {compiler} with the sanitizer {sanitizer}",
                    partial(clients, compiler, sanitizer))
               for compiler in library.COMPILERS for sanitizer in library.SANITIZERS[1:]
               if library.links(compiler, sanitizer)]
-    found += service_commands.tests()
+    found += service_scripts.tests() + service_commands.tests()
     return [] if missing() else found

@@ -80,7 +80,7 @@ def statuses(_program):
         began = time.monotonic()
         for words, wanted in ((["-n"], 1), (["-n", "-E", "9"], 9), (["-w", "0.3"], 1), (["-w", "0", "-E", "0"], 0)):
             yield from difference((words, run(daemon, "lock", *words, "A", "echo", "a")), (words, (wanted, "")))
-        if not 0.3 < time.monotonic() - began < 5:
+        if not 0.3 < time.monotonic() - began < 15:
             yield "the wait was of another length"
         yield from difference(holds(daemon), True)
         holder.terminate()
@@ -105,8 +105,9 @@ def values(_program):
 def blocking(_program):
     """A command that asked for it gets a signal when its lock is in the way."""
     with Daemon() as daemon:
-        holder = start(daemon, "lock", "--on-blocking", "USR1", "A", "sh", "-c", "trap 'exit 5' USR1; sleep 20 & wait")
-        holds(daemon)
+        script = "trap 'exit 5' USR1; echo ready; sleep 20 >/dev/null 2>&1 & wait"
+        holder = start(daemon, "lock", "--on-blocking", "USR1", "A", "sh", "-c", script)
+        holder.stdout.readline()
         yield from difference(run(daemon, "lock", "A", "echo", "a"), (0, "a\n"))
         yield from difference(holder.wait(20), 5)
 
@@ -115,9 +116,9 @@ def lost(_program):
     """If the daemon is killed the command gets SIGTERM, and the status is 75. So it is if the session is killed."""
     with Daemon("grace 0") as daemon:
         for end in (lambda: run(daemon, "kill", run(daemon, "who")[1].splitlines()[1].split()[4]), daemon.kill):
-            script = "trap 'echo told; exit 1' TERM; sleep 20 >/dev/null 2>&1 & wait"
+            script = "trap 'echo told; exit 1' TERM; echo ready; sleep 20 >/dev/null 2>&1 & wait"
             holder = start(daemon, "lock", "A", "sh", "-c", script)
-            holds(daemon)
+            holder.stdout.readline()
             end()
             printed, told = holder.communicate(timeout=20)
             yield from difference((holder.returncode, printed, told), (75, "told\n", "vlm lock: the lock is lost\n"))

@@ -240,7 +240,7 @@ static void test_ends(void) {
     CHECK(enq(client, &first, "A") == VLM_NORMAL && enq(other, &second, "B") == VLM_NORMAL);
     pthread_t threads[2];
     pthread_create(&threads[0], NULL, wait_for, &one);
-    usleep(100000);
+    usleep(500000);
     pthread_create(&threads[1], NULL, wait_for, &two);
     pthread_join(threads[1], NULL);
     CHECK(two.answer == VLM_DEADLOCK);

@@ -80,8 +80,9 @@ static void play(const uint8_t *line, size_t len, bool is_whole) {
         dispatcher_tick(dispatcher, now += 50);
     if (what == 2)
         dispatcher_be_quiet(dispatcher, now + 40);
-    while (dispatcher_run(dispatcher))
-        continue;
+    do
+        dispatcher_run(dispatcher);
+    while (dispatcher_is_busy(dispatcher));
     send_all(what == 3 ? at : CLIENTS);
     check_counts();
     if (what == 4)

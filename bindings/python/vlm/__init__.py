@@ -12,9 +12,10 @@ looks.
 """
 
 from .clients import AsyncLock, Client
+from .connection import Connection, ServedEvent, ServedLock, ServedProcess, connect
 from .errors import (AbortError, AccVioError, BadParamError, CancelError, CancelGrantError, ClosedError,
                      CvtUngrantError, DeadlockError, DepartedError, ExDepthError, ExEnqLmError, FullError,
-                     InsfMemError, IvBufLenError, IvLockIdError, NoLockIdError, NoSysLckError, NonExprError,
+                     InsfMemError, IvBufLenError, IvLockIdError, LostError, NoLockIdError, NoSysLckError, NonExprError,
                      NotQueuedError, ParNotGrantError, SubLocksError, TimedOutError, TurnEndedError, UnsupportedError,
                      VlmError)
 from .held import Held
@@ -26,10 +27,10 @@ from .values import (Accepted, Ast, AstKind, Condition, DequeueFlags, Event, Fla
                      ProcessView, Queue, Resource, StatusBlock)
 
 __all__ = ["AbortError", "AccVioError", "Accepted", "Answer", "Ast", "AstItem", "AstKind", "AsyncLock",
-           "BadParamError", "CancelError", "CancelGrantError", "Client", "ClosedError", "Condition", "CvtUngrantError",
-           "Deadlock", "DeadlockError", "DepartedError", "DequeueFlags", "Entry", "Event", "ExDepthError",
-           "ExEnqLmError", "Flags", "FullError", "Held", "Hub", "InBlock", "InsfMemError", "IvBufLenError",
-           "IvLockIdError", "LockManager", "LockView", "Mode", "NoLockIdError", "NoSysLckError", "NonExprError",
-           "NotQueuedError", "ParNotGrantError", "Port", "Process", "ProcessView", "Queue", "Resource", "Shared",
-           "StatusBlock", "StepKind", "SubLocksError", "TimedOutError", "TurnEndedError", "UnsupportedError",
-           "VlmError", "Wait"]
+           "BadParamError", "CancelError", "CancelGrantError", "Client", "ClosedError", "Condition", "Connection",
+           "CvtUngrantError", "Deadlock", "DeadlockError", "DepartedError", "DequeueFlags", "Entry", "Event",
+           "ExDepthError", "ExEnqLmError", "Flags", "FullError", "Held", "Hub", "InBlock", "InsfMemError",
+           "IvBufLenError", "IvLockIdError", "LockManager", "LockView", "LostError", "Mode", "NoLockIdError",
+           "NoSysLckError", "NonExprError", "NotQueuedError", "ParNotGrantError", "Port", "Process", "ProcessView",
+           "Queue", "Resource", "ServedEvent", "ServedLock", "ServedProcess", "Shared", "StatusBlock", "StepKind",
+           "SubLocksError", "TimedOutError", "TurnEndedError", "UnsupportedError", "VlmError", "Wait", "connect"]

@@ -242,6 +242,8 @@ def _loaded() -> ctypes.CDLL:
 class _Library:
     """The calls of the library, which is found at the first one."""
 
+    _name: str
+
     def __getattr__(self, name: str) -> Any:
         library = _loaded()
         for call in (*_CALLS, *_LAYER_CALLS, *_FREE_CALLS):

@@ -29,6 +29,10 @@ class ClosedError(ValueError):
     """The lock manager, hub or port is closed."""
 
 
+class LostError(ConnectionError):
+    """The lock service or the session has ended: its locks are gone. A new session holds nothing."""
+
+
 class FullError(Exception):
     """The port knows no free place, and nothing was posted. Take items, and post again."""
 
@@ -122,14 +126,14 @@ class DepartedError(VlmError, condition=Condition.DEPARTED):
 
 
 _SUCCESSES = {it.value: it for it in (Condition.NORMAL, Condition.SYNCH)}
-# What waits and posts answer beside the condition values.
-_TIMEOUT, _FULL = 100, 256
+# What waits, connections and posts answer beside the condition values.
+_OTHERS = {100: TimedOutError, 101: LostError, 256: FullError}
 
 
 def error_of(status: int) -> Exception:
     """The exception of an answer that is not a success."""
-    if status in (_TIMEOUT, _FULL):
-        return TimedOutError() if status == _TIMEOUT else FullError()
+    if status in _OTHERS:
+        return _OTHERS[status]()
     return VlmError.by_condition[Condition(status)]()
 
 

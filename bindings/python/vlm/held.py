@@ -1,8 +1,8 @@
-"""A lock that is held, for `with`."""
+"""Locks that are held, for `with`."""
 
 from contextlib import suppress
 from types import TracebackType
-from typing import TYPE_CHECKING, Optional, Type
+from typing import TYPE_CHECKING, Any, Optional, Type
 
 from . import _library as raw
 from ._arguments import part, word
@@ -17,22 +17,19 @@ if TYPE_CHECKING:
 _VALUE_FLAGS = Flags.VALBLK | Flags.WIDE
 
 
-class Held:
-    """A lock that `Client.lock` was granted. Leaving its `with` block gives it up."""
+class HeldLock:
+    """A held lock with its value block."""
 
-    def __init__(self, client: "Client", mode: Mode, asked: Asked) -> None:
-        self.client = client
-        self.lock: int = asked.words.lkid
+    def __init__(self, mode: Mode, granted: Any) -> None:
+        """`granted` is the request that was granted: its words, and the 64 bytes of its value block."""
+        self.lock: int = granted.words.lkid
         self.mode = Mode(mode)
         self._is_held = True
-        # The last request whose grant returned the value block, and the blocking routine.
-        self._granted, self._blocking = asked, asked.blocking
+        # The last request whose grant returned the value block.
+        self._granted = granted
         # What is to be written into the value block.
         self._value: Optional[bytes] = None
         self._tail: Optional[bytes] = None
-
-    def __repr__(self) -> str:
-        return f"<Held lock {self.lock} of {self.client} at {self.mode.name}{'' if self._is_held else ', given up'}>"
 
     @property
     def value(self) -> bytes:
@@ -60,6 +57,35 @@ class Held:
         self._value = part(value, 16, "the value")
         self._tail = None if tail is None else part(tail, 48, "the tail")
 
+    def _is_read_by(self, mode: Mode) -> bool:
+        """Whether a conversion to a mode returns the value block with VALBLK. Others write it, or do neither."""
+        return mode >= self.mode and self.mode < Mode.PW or (self.mode, mode) == (Mode.PW, Mode.EX)
+
+    def _flags_to(self, mode: Mode, flags: Flags) -> int:
+        """The flags of a conversion, by which it returns the value block, or writes the value that was named."""
+        given = word(flags, "flags")
+        if self._is_read_by(mode):
+            return given | Flags.VALBLK
+        if self.mode < Mode.PW or self._value is None:
+            return given & ~_VALUE_FLAGS
+        return given & ~_VALUE_FLAGS | (Flags.VALBLK if self._tail is None else _VALUE_FLAGS)
+
+    def _written(self) -> bytes:
+        """The 64 bytes of what is to be written."""
+        return (self._value or bytes(16)) + (self._tail or bytes(48))
+
+
+class Held(HeldLock):
+    """A lock that `Client.lock` was granted. Leaving its `with` block gives it up."""
+
+    def __init__(self, client: "Client", mode: Mode, asked: Asked) -> None:
+        super().__init__(mode, asked)
+        self.client = client
+        self._blocking = asked.blocking
+
+    def __repr__(self) -> str:
+        return f"<Held lock {self.lock} of {self.client} at {self.mode.name}{'' if self._is_held else ', given up'}>"
+
     def convert(self, mode: Mode, timeout: Optional[float] = None, *, flags: Flags = Flags.NONE,
                 blocking: Optional[Call] = None) -> None:
         """Asks for another mode and waits for the grant. If it fails, the lock holds what it held. Without another
@@ -78,23 +104,6 @@ class Held:
         elif is_written:
             self._value = self._tail = None
         self.mode, self._blocking = Mode(mode), asked.blocking
-
-    def _is_read_by(self, mode: Mode) -> bool:
-        """Whether a conversion to a mode returns the value block with VALBLK. Others write it, or do neither."""
-        return mode >= self.mode and self.mode < Mode.PW or (self.mode, mode) == (Mode.PW, Mode.EX)
-
-    def _flags_to(self, mode: Mode, flags: Flags) -> int:
-        """The flags of a conversion, by which it returns the value block, or writes the value that was named."""
-        given = word(flags, "flags")
-        if self._is_read_by(mode):
-            return given | Flags.VALBLK
-        if self.mode < Mode.PW or self._value is None:
-            return given & ~_VALUE_FLAGS
-        return given & ~_VALUE_FLAGS | (Flags.VALBLK if self._tail is None else _VALUE_FLAGS)
-
-    def _written(self) -> bytes:
-        """The 64 bytes of what is to be written."""
-        return (self._value or bytes(16)) + (self._tail or bytes(48))
 
     def release(self) -> None:
         """Gives the lock up, and writes the value that was named. A second call does nothing."""

@@ -31,6 +31,9 @@ pub enum Error {
     Departed,
     /// A wait has lasted as long as it may. The request was cancelled.
     Timeout,
+    /// The lock service or the session has ended: its locks are gone. Only a
+    /// [`Connection`](crate::service::Connection) answers it.
+    Lost,
     /// A port knows no free place. Take items, and post again.
     Full,
     /// A number that this version does not know.
@@ -63,7 +66,7 @@ pub enum Condition {
 
 // Each known condition value: its number in the headers, and its name in the manual, or the plain one of this project's
 // own.
-const CONDITIONS: [(u32, Condition, &str); 26] = [
+const CONDITIONS: [(u32, Condition, &str); 27] = [
     (1, Condition::Normal, "SS$_NORMAL"),
     (2, Condition::Synch, "SS$_SYNCH"),
     (3, Condition::Failed(Error::Notqueued), "SS$_NOTQUEUED"),
@@ -92,6 +95,11 @@ const CONDITIONS: [(u32, Condition, &str); 26] = [
         vlm_sys::threads::TIMEOUT,
         Condition::Failed(Error::Timeout),
         "TIMEOUT",
+    ),
+    (
+        vlm_sys::client::LOST,
+        Condition::Failed(Error::Lost),
+        "LOST",
     ),
     (vlm_sys::hub::FULL, Condition::Failed(Error::Full), "FULL"),
 ];

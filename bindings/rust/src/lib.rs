@@ -65,6 +65,7 @@ mod raw;
 mod readings;
 mod requests;
 pub mod script;
+pub mod service;
 mod shared;
 mod views;
 mod walks;

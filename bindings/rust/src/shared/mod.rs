@@ -25,6 +25,7 @@ pub use future::LockFuture;
 pub use guard::Guard;
 pub use hooks::{Deadlock, Options, Wait};
 pub use raw::Counters;
+pub(crate) use routines::Blocking;
 pub use routines::Event;
 pub use terms::{Client, Terms};
 
@@ -34,7 +35,7 @@ use crate::manager::LockManager;
 use crate::names::{LockId, Mode, ProcessId, Which};
 use crate::requests::Dequeue;
 use guard::{Granted, Held, Value};
-use routines::{Blocking, Completion, Routines};
+use routines::{Completion, Routines};
 
 /// A lock manager that threads share: its calls wait for grants, wake each other and call routines. A clone is another
 /// name of the same lock manager. The last one that goes, guards included, closes it.

@@ -28,7 +28,7 @@ pub struct Event {
 }
 
 impl Event {
-    fn of(words: &raw::Event) -> Event {
+    pub(crate) fn of(words: &raw::Event) -> Event {
         let is_completion = words.kind == 1;
         Event {
             kind: match is_completion {
@@ -51,7 +51,7 @@ pub(super) fn part<const N: usize>(value: &[u8; 64], first: usize) -> [u8; N] {
 }
 
 /// A blocking routine. The conversions of its lock share it. Its mutex is free except during a call.
-pub(super) type Blocking = Arc<Mutex<dyn FnMut(Event) + Send>>;
+pub(crate) type Blocking = Arc<Mutex<dyn FnMut(Event) + Send>>;
 
 /// A completion routine.
 pub(super) type Completion = Box<dyn FnOnce(Event) + Send>;

@@ -90,13 +90,13 @@ impl Client<'_> {
 /// ```
 #[derive(Default)]
 pub struct Terms {
-    pub(super) flags: EnqFlags,
+    pub(crate) flags: EnqFlags,
     /// The parent lock, or 0.
-    pub(super) parent: u32,
+    pub(crate) parent: u32,
     pub(super) kept: Option<Arc<Held>>,
     /// The longest wait in milliseconds, or 0.
-    pub(super) longest: u32,
-    pub(super) blocking: Option<Blocking>,
+    pub(crate) longest: u32,
+    pub(crate) blocking: Option<Blocking>,
 }
 
 impl Terms {

@@ -1,6 +1,7 @@
 //! The structs and calls of the library of the lock manager of OpenVMS ($ENQ, $DEQ), as its C headers have them. The
 //! headers say what each does and what a caller owes. The crate `vlm` is safe Rust over these.
 
+pub mod client;
 pub mod hub;
 pub mod threads;
 

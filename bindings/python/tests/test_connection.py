@@ -1,0 +1,167 @@
+"""Connections to the lock service, over a vlmd of its own: the one in VLM_PREFIX/bin, or the one that VLMD names."""
+
+import os
+import shutil
+import subprocess
+import tempfile
+import time
+import unittest
+from concurrent.futures import ThreadPoolExecutor
+from pathlib import Path
+
+from vlm import (BadParamError, Condition, DeadlockError, DequeueFlags, Flags, IvLockIdError, LostError, Mode,
+                 NonExprError, NotQueuedError, SubLocksError,
+                 TimedOutError, connect)
+
+VLMD = os.environ.get("VLMD") or os.path.join(os.environ.get("VLM_PREFIX", ""), "bin", "vlmd")
+SECONDS = 30
+
+
+@unittest.skipUnless(shutil.which(VLMD), "there is no vlmd")
+class Connections(unittest.TestCase):
+    def setUp(self):
+        self.room = tempfile.TemporaryDirectory()
+        self.addCleanup(self.room.cleanup)
+        self.socket = str(Path(self.room.name) / "socket")
+        config = Path(self.room.name) / "conf"
+        config.write_text("search 100\ngrace 0\n")
+        self.words = [VLMD, "-s", self.socket, "-c", str(config)]
+        self.start()
+
+    def start(self):
+        self.daemon = subprocess.Popen(self.words, stderr=subprocess.DEVNULL)
+        self.addCleanup(self.kill)
+
+    def kill(self):
+        self.daemon.kill()
+        self.daemon.wait()
+
+    def connection(self, on_lost=None):
+        end = time.monotonic() + SECONDS
+        while True:
+            try:
+                made = connect(self.socket, on_lost)
+                self.addCleanup(made.close)
+                return made
+            except LostError:
+                if time.monotonic() > end:
+                    raise
+                time.sleep(0.01)
+
+    def pair(self):
+        """Processes of two connections."""
+        return self.connection().declare(quota=9), self.connection().declare(quota=9)
+
+    def test_locks_exclude_each_other(self):
+        p, q = self.pair()
+        with p.lock("A", Mode.EX) as held:
+            self.assertEqual((held.lock, held.mode, held.is_valid), (1, Mode.EX, True))
+            self.assertRaises(TimedOutError, q.lock, "A", Mode.EX, 0.02)
+            self.assertRaises(NotQueuedError, q.lock, "A", Mode.EX, flags=Flags.NOQUEUE)
+        with q.lock("A", Mode.PR, 1), p.lock("A", Mode.PR, 1):
+            pass
+
+    def test_a_wait_ends_with_the_grant_and_brings_the_value(self):
+        p, q = self.pair()
+        with ThreadPoolExecutor(1) as pool, p.lock("A", Mode.NL), p.lock("A", Mode.EX) as held:
+            asked = pool.submit(q.lock, "A", Mode.PR, SECONDS, flags=Flags.WIDE)
+            held.write(b"version 7", b"tail")
+            held.release()
+            with asked.result(SECONDS) as other:
+                self.assertEqual(other.value, b"version 7".ljust(16, b"\0"))
+                self.assertEqual(other.tail, b"tail".ljust(48, b"\0"))
+
+    def test_conversions_write_and_read_values(self):
+        p, q = self.pair()
+        with p.lock("A", Mode.EX) as held, q.lock("A", Mode.NL) as other:
+            held.write(b"one")
+            held.convert(Mode.PR)
+            other.convert(Mode.PR, 1)
+            self.assertEqual(other.value, b"one".ljust(16, b"\0"))
+            self.assertRaises(TimedOutError, other.convert, Mode.EX, 0.02)
+            self.assertEqual((other.mode, held.mode), (Mode.PR, Mode.PR))
+
+    def test_refusals(self):
+        p, q = self.pair()
+        with p.lock("A", Mode.EX) as held:
+            self.assertRaises(IvLockIdError, q.deq, held.lock)
+            with p.lock("B", Mode.NL, parent=held.lock):
+                self.assertRaises(SubLocksError, p.deq, held.lock)
+            self.assertRaises(ValueError, p.lock, "A", Mode.EX, -1)
+            self.assertRaises(ValueError, held.write, bytes(17))
+        self.assertRaises(BadParamError, self.connection().declare, requests=0)
+        p.rundown()
+        self.assertRaises(NonExprError, p.lock, "A", Mode.EX)
+
+    def test_a_deadlock_ends(self):
+        p, q = self.pair()
+        with ThreadPoolExecutor(1) as pool, p.lock("A", Mode.EX), q.lock("B", Mode.EX) as other:
+            asked = pool.submit(p.lock, "B", Mode.EX, SECONDS)
+            time.sleep(0.5)
+            self.assertRaises(DeadlockError, q.lock, "A", Mode.EX, SECONDS)
+            other.release()
+            asked.result(SECONDS).release()
+
+    def test_routines_are_called_by_deliver(self):
+        p, q = self.pair()
+        told = []
+        with p.lock("A", Mode.EX, blocking=told.append) as held:
+            self.assertFalse(p.connection.wait(0))
+            lock = q.start("A", Mode.PR, told.append)
+            self.assertTrue(p.connection.wait(SECONDS))
+            self.assertEqual((p.connection.deliver(), told[0].is_blocking, told[0].lock), (1, True, held.lock))
+            held.write(b"x")
+        self.assertTrue(q.connection.wait(SECONDS))
+        self.assertEqual((q.connection.deliver(), told[1].is_blocking, told[1].lock), (1, False, lock))
+        self.assertEqual((told[1].status, told[1].value), (Condition.NORMAL, b"x".ljust(16, b"\0")))
+        q.deq(lock)
+        q.deq(0, DequeueFlags.DEQALL)
+
+    def test_a_loss_is_told(self):
+        losses, told = [], []
+        connection = self.connection(lambda: losses.append(True))
+        p, q = connection.declare(), connection.declare()
+        with self.assertRaises(LostError):
+            with p.lock("A", Mode.EX), ThreadPoolExecutor(1) as pool:
+                q.start("A", Mode.EX, told.append)
+                asked = pool.submit(connection.declare().lock, "A", Mode.EX, SECONDS)
+                time.sleep(0.05)
+                self.kill()
+                self.assertRaises(LostError, asked.result, SECONDS)
+        self.assertTrue(connection.wait(SECONDS))
+        connection.deliver()
+        self.assertEqual((losses, [it.is_lost for it in told]), ([True], [True]))
+        self.assertRaises(LostError, connection.declare)
+        self.assertRaises(LostError, connection.reopen)
+        self.start()
+        self.connection().close()
+        connection.reopen()
+        self.assertRaises(NonExprError, p.lock, "A", Mode.EX)
+        with connection.declare().lock("A", Mode.EX, 1):
+            pass
+
+    def test_an_exception_of_the_program_hides_no_loss(self):
+        p = self.connection().declare()
+        with self.assertRaises(KeyError):
+            with p.lock("A", Mode.EX):
+                self.kill()
+                raise KeyError
+
+    def test_a_closed_connection_and_a_child_are_refused(self):
+        p = self.connection().declare()
+        child = os.fork()
+        if not child:
+            try:
+                p.lock("A", Mode.EX)
+            except BadParamError:
+                os._exit(0)
+            os._exit(1)
+        self.assertEqual(os.waitpid(child, 0)[1], 0)
+        p.connection.close()
+        p.connection.close()
+        self.assertRaises(LostError, p.lock, "A", Mode.EX)
+        self.assertRaises(LostError, connect, "/nowhere")
+
+
+if __name__ == "__main__":
+    unittest.main()

@@ -1,0 +1,269 @@
+"""A connection to vlmd, the lock service for the processes of a machine."""
+
+import os
+import select
+import weakref
+from contextlib import suppress
+from ctypes import byref, c_int, c_uint32, c_void_p
+from dataclasses import dataclass
+from types import TracebackType
+from typing import Any, Callable, Dict, Optional, Type
+
+from . import _client as raw
+from ._arguments import name_bytes, part, seconds, word
+from ._asks import milliseconds
+from ._library import ROUTINE, address_of
+from .errors import DepartedError, LostError, NonExprError, checked
+from .held import HeldLock
+from .values import Condition, DequeueFlags, Flags, Mode, Name
+
+
+@dataclass(frozen=True)
+class ServedEvent:
+    """What a routine of a connection is told: how its request ended, or that its lock is in the way of another."""
+
+    pid: int
+    lock: int
+    is_blocking: bool
+    # The request ended because the locks are lost. It has no status then.
+    is_lost: bool
+    status: Optional[Condition]
+    # The value block that a grant returned: 16 bytes, or 64 with WIDE.
+    value: Optional[bytes]
+
+
+# What a routine of a connection is called with.
+Routine = Callable[[ServedEvent], object]
+
+
+class Connection:
+    """A session of the lock service: `connect` makes it. Threads may share it. A forked child may not use it.
+
+    Once the service or the session has ended, each call raises LostError: the locks are gone. `reopen` begins a new
+    session, in which nothing is held."""
+
+    def __init__(self, socket: Optional[str] = None, on_lost: Optional[Callable[[], object]] = None) -> None:
+        """Connects to the socket, by default that of VLM_SOCKET or /run/vlm/lock.sock. `deliver` calls `on_lost` once
+        the locks are lost."""
+        self._routines: Dict[int, Routine] = {}
+        self._next = 0
+        self._on_lost = on_lost
+        # (C calls these, so they live as long as the connection)
+        self._called = ROUTINE(self._run)
+        self._told = raw.LOSS(self._tell_loss)
+        handle = c_void_p()
+        path = None if socket is None else os.fsencode(socket)
+        options = raw.Options(delivery=raw.BY_PROGRAM, socket=path, on_lost=self._told)
+        checked(raw.call("open")(byref(options), byref(handle)))
+        self._handle = handle
+        self._closing = weakref.finalize(self, raw.call("close"), handle)
+        self._closing.atexit = False
+
+    def call(self, name: str, *arguments: Any) -> Condition:
+        """Makes a call of vlm_client.h."""
+        if self.is_closed:
+            raise LostError
+        return checked(raw.call(name)(self._handle, *arguments))
+
+    def close(self) -> None:
+        """Ends the session with all its locks. A second call does nothing. After it calls raise LostError."""
+        self._closing()
+
+    @property
+    def is_closed(self) -> bool:
+        return not self._closing.alive
+
+    def reopen(self) -> None:
+        """Begins a new session after a loss. The processes of the old one are gone: declare new ones."""
+        self.call("reopen")
+
+    def __enter__(self) -> "Connection":
+        return self
+
+    def __exit__(self, kind: Optional[Type[BaseException]], error: Optional[BaseException],
+                 trace: Optional[TracebackType]) -> None:
+        self.close()
+
+    def declare(self, *, quota: int = 1000, requests: int = 16) -> "ServedProcess":
+        """Gives the session a process: how many locks it may have, and how many requests may be under way at once."""
+        pid = c_uint32()
+        words = raw.Declaration(quota=word(quota, "the quota"), requests=word(requests, "the number of requests"))
+        self.call("declare", byref(words), byref(pid))
+        return ServedProcess(self, pid.value)
+
+    def fileno(self) -> int:
+        """The file descriptor that is readable while a routine is to be called."""
+        descriptor = c_int()
+        self.call("fd", byref(descriptor))
+        return descriptor.value
+
+    def wait(self, timeout: Optional[float] = None) -> bool:
+        """Waits until a routine is to be called, at most for these seconds. Returns whether one is."""
+        return bool(select.select([self.fileno()], [], [], seconds(timeout))[0])
+
+    def deliver(self) -> int:
+        """Calls the routines whose requests have ended or whose locks are in the way, oldest first. Returns how many
+        it called. An exception of a routine is printed."""
+        delivered = c_uint32()
+        self.call("dispatch", byref(delivered))
+        return delivered.value
+
+    def routine_of(self, routine: Routine) -> int:
+        """The number by which C knows a routine."""
+        self._next += 1
+        self._routines[self._next] = routine
+        return self._next
+
+    def forget(self, number: int) -> None:
+        self._routines.pop(number, None)
+
+    def _run(self, context: int, event: Any) -> None:
+        words = event.contents
+        value = bytes(words.value)[:words.value_len] if words.value_len else None
+        is_lost = words.status == raw.LOST
+        status = Condition(words.status) if words.status and not is_lost else None
+        self._routines[context](ServedEvent(words.pid, words.lkid, words.kind == 2, is_lost, status, value))
+
+    def _tell_loss(self, _context: int) -> None:
+        if self._on_lost is not None:
+            self._on_lost()
+
+
+class ServedProcess:
+    """A process of a session, which owns locks. Threads may share it."""
+
+    def __init__(self, connection: Connection, pid: int) -> None:
+        self.connection = connection
+        self.pid = pid
+
+    def __repr__(self) -> str:
+        return f"<process {self.pid} of the lock service>"
+
+    def lock(self, name: Name, mode: Mode, timeout: Optional[float] = None, value: Optional[bytes] = None, *,
+             flags: Flags = Flags.NONE, parent: Optional[int] = None,
+             blocking: Optional[Routine] = None) -> "ServedLock":
+        """Asks for a lock and waits for the grant, at most for these seconds. `with` gives the lock up at its end, and
+        writes the value, if one is given here or by `write`.
+
+        TimedOutError says that the request was cancelled; a grant that came too late counts as granted. DeadlockError
+        says that a search of the service chose the request. LostError says that the service or the session has
+        ended."""
+        text, given = name_bytes(name), None if value is None else part(value, 16, "the value")
+        flags = flags | Flags.VALBLK
+        request = self.request(mode, flags, timeout, lock=0 if parent is None else parent, blocking=blocking)
+        try:
+            self.connection.call("enq", byref(request.words), text, len(text))
+        except BaseException:
+            self.connection.forget(request.routine)
+            raise
+        held = ServedLock(self, request, mode)
+        if given is not None:
+            held.write(given)
+        return held
+
+    def start(self, name: Name, mode: Mode, completion: Routine, *, flags: Flags = Flags.NONE) -> int:
+        """Asks for a lock without waiting, and returns it. `Connection.deliver` calls the routine once the request has
+        ended."""
+        text = name_bytes(name)
+        request = self.request(mode, flags | Flags.VALBLK, None)
+
+        def completed(event: ServedEvent) -> None:
+            self.connection.forget(number)
+            completion(event)
+
+        number = self.connection.routine_of(completed)
+        request.words.completion, request.words.completion_context = self.connection._called, number
+        try:
+            self.connection.call("start_enq", byref(request.words), text, len(text))
+        except BaseException:
+            self.connection.forget(number)
+            raise
+        return int(request.words.lkid)
+
+    def deq(self, lock: int, flags: DequeueFlags = DequeueFlags.NONE, *, value: Optional[bytes] = None,
+            tail: Optional[bytes] = None) -> None:
+        """Gives a lock up, or several with DEQALL, or cancels its request, as `Process.deq`."""
+        words = raw.Dequeue(pid=self.pid, flags=word(flags, "flags"), lock=word(lock, "the lock"))
+        if value is not None:
+            whole = part(value, 16, "the value") + part(tail, 48, "the tail")
+            room = raw.room_of(whole)
+            words.value, words.wide = address_of(room), 0 if tail is None else 1
+        self.connection.call("deq", byref(words))
+
+    def rundown(self) -> None:
+        """Ends the process with all its locks."""
+        self.connection.call("rundown", self.pid)
+
+    def request(self, mode: Mode, flags: int, timeout: Optional[float], *, lock: int = 0,
+                blocking: Optional[Routine] = None, value: bytes = b"") -> "_Request":
+        return _Request(self, mode, flags, timeout, lock, blocking, value)
+
+
+class _Request:
+    """The words of a request, the 64 bytes of its value block, and the number of its blocking routine."""
+
+    def __init__(self, process: ServedProcess, mode: Mode, flags: int, timeout: Optional[float], lock: int,
+                 blocking: Optional[Routine], value: bytes) -> None:
+        self.value = raw.room_of(value)
+        self.routine = 0 if blocking is None else process.connection.routine_of(blocking)
+        self.words = raw.Request(pid=process.pid, mode=word(mode, "mode"), flags=word(flags, "flags"),
+                                 lock=word(lock, "the lock"), milliseconds=milliseconds(timeout),
+                                 value=address_of(self.value))
+        if blocking is not None:
+            self.words.blocking, self.words.blocking_context = process.connection._called, self.routine
+
+
+class ServedLock(HeldLock):
+    """A lock that `ServedProcess.lock` was granted. Leaving its `with` block gives it up; after a loss that raises
+    LostError, since what was done in the block was not done under a lock to its end."""
+
+    def __init__(self, process: ServedProcess, request: _Request, mode: Mode) -> None:
+        super().__init__(mode, request)
+        self.process = process
+        self._routine = request.routine
+
+    def __repr__(self) -> str:
+        given_up = "" if self._is_held else ", given up"
+        return f"<lock {self.lock} of {self.process} at {self.mode.name}{given_up}>"
+
+    def convert(self, mode: Mode, timeout: Optional[float] = None, *, flags: Flags = Flags.NONE,
+                blocking: Optional[Routine] = None) -> None:
+        """Asks for another mode and waits for the grant. If it fails, the lock holds what it held. The blocking routine
+        takes the place of the old one; without one the lock has none."""
+        connection, is_written = self.process.connection, self.mode >= Mode.PW and self._value is not None
+        request = self.process.request(mode, self._flags_to(mode, flags), timeout, lock=self.lock, blocking=blocking,
+                                       value=self._written() if is_written else b"")
+        try:
+            connection.call("convert", byref(request.words))
+        except BaseException:
+            connection.forget(request.routine)
+            raise
+        connection.forget(self._routine)
+        if self._is_read_by(mode):
+            self._granted = request
+        elif is_written:
+            self._value = self._tail = None
+        self._routine, self.mode = request.routine, Mode(mode)
+
+    def release(self) -> None:
+        """Gives the lock up, and writes the value that was named. A second call does nothing."""
+        if self._is_held:
+            self._is_held = False
+            self.process.deq(self.lock, value=self._value, tail=self._tail)
+            self.process.connection.forget(self._routine)
+
+    def __enter__(self) -> "ServedLock":
+        return self
+
+    def __exit__(self, kind: Optional[Type[BaseException]], error: Optional[BaseException],
+                 trace: Optional[TracebackType]) -> None:
+        """Gives the lock up. After an exception it writes nothing, and a loss is not raised beside that."""
+        if kind is not None:
+            self._value = self._tail = None
+        with suppress(NonExprError, DepartedError, *([LostError] if kind is not None else [])):
+            self.release()
+
+
+def connect(socket: Optional[str] = None, on_lost: Optional[Callable[[], object]] = None) -> Connection:
+    """Connects to the lock service of this machine. LostError: there is none."""
+    return Connection(socket, on_lost)

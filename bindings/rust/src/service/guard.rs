@@ -1,0 +1,181 @@
+//! A lock of the service that is given up on drop.
+
+use std::fmt;
+use std::thread;
+
+use super::raw::{self, Answered, Known, Wanted};
+use super::{checked, Connection};
+use crate::{Condition, EnqFlags, Error, LockId, Mode, ProcessId, Terms};
+
+/// A lock of the lock service that is held. Dropping it gives the lock up, and writes the value that
+/// [`ServedGuard::write`] named; a guard that a panic drops writes nothing.
+///
+/// A drop can't tell that the lock was lost meanwhile: [`ServedGuard::release`] does.
+#[must_use = "a guard that is dropped gives its lock up"]
+pub struct ServedGuard {
+    connection: Connection,
+    process: ProcessId,
+    lock: LockId,
+    mode: Mode,
+    // The value block at the last grant that returned it, the status of that grant and the flags of its request.
+    value: [u8; 64],
+    status: u32,
+    flags: EnqFlags,
+    // What is to be written to the value block, and whether with its tail.
+    written: Option<([u8; 64], bool)>,
+    // The number of the blocking routine, or 0.
+    blocking: usize,
+    is_held: bool,
+    was_panicking: bool,
+}
+
+impl ServedGuard {
+    pub(super) fn new(
+        connection: Connection,
+        process: ProcessId,
+        mode: Mode,
+        flags: EnqFlags,
+        found: Answered,
+        blocking: usize,
+    ) -> ServedGuard {
+        ServedGuard {
+            connection,
+            process,
+            lock: LockId(found.lock),
+            mode,
+            value: found.value,
+            status: found.status,
+            flags,
+            written: None,
+            blocking,
+            is_held: true,
+            was_panicking: thread::panicking(),
+        }
+    }
+
+    /// The identification of the lock.
+    pub fn lock(&self) -> LockId {
+        self.lock
+    }
+
+    /// The mode that it holds.
+    pub fn mode(&self) -> Mode {
+        self.mode
+    }
+
+    /// The 16 bytes of the value block at the last grant that returned it, and the other 48 if its request had the flag
+    /// WIDE.
+    pub fn value(&self) -> &[u8] {
+        let is_wide = self.flags.contains(EnqFlags::WIDE);
+        &self.value[..if is_wide { 64 } else { 16 }]
+    }
+
+    /// Whether the value was valid. It is not after its last writer ended without giving its lock up.
+    pub fn is_valid(&self) -> bool {
+        Condition::of(self.status) != Condition::Valnotvalid
+    }
+
+    /// Names what is written to the value block when the lock is given up or goes to a weaker mode. At modes below PW
+    /// nothing is written. The tail becomes invalid.
+    pub fn write(&mut self, value: [u8; 16]) {
+        let mut whole = [0; 64];
+        whole[..16].copy_from_slice(&value);
+        self.written = Some((whole, false));
+    }
+
+    /// The same, with the tail.
+    pub fn write_wide(&mut self, value: [u8; 64]) {
+        self.written = Some((value, true));
+    }
+
+    /// Asks for another mode and waits for the grant. If it fails, the lock holds what it held, unless it is lost. A
+    /// blocking routine among the terms takes the place of the old one; without one the lock has none.
+    pub fn convert(&mut self, mode: Mode, terms: Terms) -> Result<(), Error> {
+        let is_writer = self.mode >= Mode::Pw;
+        let is_read =
+            (mode >= self.mode && !is_writer) || (self.mode, mode) == (Mode::Pw, Mode::Ex);
+        let written = self.written.filter(|_| is_writer && !is_read);
+        let flags = flags_of(terms.flags, is_read, written.map(|(_, is_wide)| is_wide));
+        let blocking = terms
+            .blocking
+            .map_or(0, |it| raw::number_of(Known::Blocking(it)));
+        let wanted = Wanted {
+            process: self.process.0,
+            mode: mode as u32,
+            flags: flags.0.into(),
+            lock: self.lock.0,
+            milliseconds: terms.longest,
+            completion: 0,
+            blocking,
+        };
+        let value = written.map_or([0; 64], |(value, _)| value);
+        let found = self.connection.asked(&wanted, None, value)?;
+        raw::forget(self.blocking);
+        (self.blocking, self.mode) = (blocking, mode);
+        if is_read {
+            (self.value, self.status, self.flags) = (found.value, found.status, flags);
+        } else if written.is_some() {
+            self.written = None;
+        }
+        Ok(())
+    }
+
+    /// Gives the lock up, and writes the value that was named. A second call does nothing. Lost: the lock was lost
+    /// before, so what was done under it may not have been done alone. If it is refused otherwise, the guard has the
+    /// lock still.
+    pub fn release(&mut self) -> Result<(), Error> {
+        if !self.is_held {
+            return Ok(());
+        }
+        let value = self
+            .written
+            .as_ref()
+            .map(|(value, is_wide)| (value, *is_wide));
+        let answer = self
+            .connection
+            .client()
+            .deq(self.process.0, 0, self.lock.0, value);
+        self.is_held = checked(answer).is_err_and(|error| error != Error::Lost);
+        checked(answer)
+    }
+
+    /// Lets the guard go and leaves the lock held. [`Connection::deq`] gives it up.
+    pub fn keep(mut self) -> LockId {
+        self.is_held = false;
+        self.blocking = 0;
+        self.lock
+    }
+}
+
+/// The flags of a conversion, by which it returns the value block or writes what was named.
+fn flags_of(flags: EnqFlags, is_read: bool, written: Option<bool>) -> EnqFlags {
+    let value_flags = EnqFlags::VALBLK | EnqFlags::WIDE;
+    let others = EnqFlags(flags.0 & !(value_flags | EnqFlags::SYNCSTS).0);
+    match written {
+        _ if is_read => EnqFlags(flags.0 & !EnqFlags::SYNCSTS.0) | EnqFlags::VALBLK,
+        Some(true) => others | value_flags,
+        Some(false) => others | EnqFlags::VALBLK,
+        None => others,
+    }
+}
+
+impl Drop for ServedGuard {
+    fn drop(&mut self) {
+        if thread::panicking() && !self.was_panicking {
+            self.written = None;
+        }
+        // A refusal has nobody to tell.
+        let _ = self.release();
+        raw::forget(self.blocking);
+    }
+}
+
+impl fmt::Debug for ServedGuard {
+    fn fmt(&self, f: &mut fmt::Formatter<'_>) -> fmt::Result {
+        f.debug_struct("ServedGuard")
+            .field("process", &self.process)
+            .field("lock", &self.lock)
+            .field("mode", &self.mode)
+            .finish_non_exhaustive()
+    }
+}

@@ -1,0 +1,224 @@
+//! Connections to vlmd, the lock service for the processes of a machine.
+//!
+//! docs/SERVICE.md of the repository teaches the service.
+//!
+//! ```no_run
+//! use std::time::Duration;
+//! use vlm::service::Connection;
+//! use vlm::{Mode, Terms};
+//!
+//! # fn main() -> Result<(), vlm::Error> {
+//! let connection = Connection::open()?;
+//! let p = connection.declare(9, 1)?;
+//! let mut guard = connection.lock_with(p, b"backup", Mode::Ex, Terms::new().within(Duration::from_secs(5)))?;
+//! guard.write(*b"the next version");
+//! guard.release()?; // tells whether the lock was held to the end
+//! # Ok(())
+//! # }
+//! ```
+
+mod guard;
+#[allow(unsafe_code)]
+mod raw;
+
+use std::ffi::CString;
+use std::fmt;
+use std::os::unix::ffi::OsStrExt;
+use std::path::Path;
+use std::sync::{Arc, Mutex};
+
+use crate::condition::answered;
+use crate::{DeqFlags, EnqFlags, Error, Event, LockId, Mode, ProcessId, Terms};
+pub use guard::ServedGuard;
+use raw::{Answered, Connected, Known, Wanted};
+
+/// A session of the lock service. A clone is the same session, and threads may share it. It ends, with all its locks,
+/// when its last clone and guard are dropped.
+///
+/// Once the service or the session has ended, each call answers [`Error::Lost`]: the locks are gone. A forked child
+/// may not use it: BADPARAM.
+#[derive(Clone)]
+pub struct Connection {
+    client: Arc<Session>,
+}
+
+struct Session {
+    client: Connected,
+    loss: usize,
+}
+
+impl Drop for Session {
+    fn drop(&mut self) {
+        raw::forget(self.loss);
+    }
+}
+
+/// What an answer of the library is to a caller.
+fn checked(answer: u32) -> Result<(), Error> {
+    answered(answer).map(|_success| ())
+}
+
+impl Connection {
+    /// Connects to the socket that VLM_SOCKET names, or to /run/vlm/lock.sock. Lost: there is no service.
+    pub fn open() -> Result<Connection, Error> {
+        Connection::opened(None, 0)
+    }
+
+    /// Connects to a socket. `on_lost` is told once by [`Connection::deliver`] that the locks are lost. BADPARAM: the
+    /// path has a byte 0.
+    pub fn open_at(
+        socket: impl AsRef<Path>,
+        on_lost: impl FnMut() + Send + 'static,
+    ) -> Result<Connection, Error> {
+        let path =
+            CString::new(socket.as_ref().as_os_str().as_bytes()).map_err(|_| Error::Badparam)?;
+        Connection::opened(
+            Some(path),
+            raw::number_of(Known::Loss(Arc::new(Mutex::new(on_lost)))),
+        )
+    }
+
+    fn opened(path: Option<CString>, loss: usize) -> Result<Connection, Error> {
+        match Connected::open(path.as_deref(), loss) {
+            Ok(client) => Ok(Connection {
+                client: Arc::new(Session { client, loss }),
+            }),
+            Err(answer) => {
+                raw::forget(loss);
+                checked(answer)?;
+                Err(Error::Lost)
+            }
+        }
+    }
+
+    fn client(&self) -> &Connected {
+        &self.client.client
+    }
+
+    /// Begins a new session after a loss, without processes. Wait for no call of another thread meanwhile.
+    pub fn reopen(&self) -> Result<(), Error> {
+        checked(self.client().reopen())
+    }
+
+    /// Gives the session a process: how many locks it may have, and how many requests may be under way at once.
+    pub fn declare(&self, quota: u16, requests: u8) -> Result<ProcessId, Error> {
+        let mut pid = 0;
+        checked(
+            self.client()
+                .declare(quota.into(), requests.into(), &mut pid),
+        )?;
+        Ok(ProcessId(pid))
+    }
+
+    /// Ends a process with all its locks.
+    pub fn rundown(&self, process: ProcessId) -> Result<(), Error> {
+        checked(self.client().rundown(process.0))
+    }
+
+    /// Asks for a lock and waits for the grant, without an end.
+    pub fn lock(&self, process: ProcessId, name: &[u8], mode: Mode) -> Result<ServedGuard, Error> {
+        self.lock_with(process, name, mode, Terms::new())
+    }
+
+    /// The same, on these terms: see [`Shared::lock_with`](crate::Shared::lock_with).
+    pub fn lock_with(
+        &self,
+        process: ProcessId,
+        name: &[u8],
+        mode: Mode,
+        terms: Terms,
+    ) -> Result<ServedGuard, Error> {
+        let flags = EnqFlags(terms.flags.0 & !EnqFlags::SYNCSTS.0) | EnqFlags::VALBLK;
+        let blocking = terms
+            .blocking
+            .map_or(0, |it| raw::number_of(Known::Blocking(it)));
+        let wanted = Wanted {
+            process: process.0,
+            mode: mode as u32,
+            flags: flags.0.into(),
+            lock: terms.parent,
+            milliseconds: terms.longest,
+            completion: 0,
+            blocking,
+        };
+        let found = self.asked(&wanted, Some(name), [0; 64])?;
+        Ok(ServedGuard::new(
+            self.clone(),
+            process,
+            mode,
+            flags,
+            found,
+            blocking,
+        ))
+    }
+
+    /// Asks for a lock and does not wait. The completion routine is told once how the request ended. A blocking routine
+    /// and a longest wait among the terms are ignored. [`Connection::deq`] gives the lock up.
+    pub fn start(
+        &self,
+        process: ProcessId,
+        name: &[u8],
+        mode: Mode,
+        terms: Terms,
+        completion: impl FnMut(Event) + Send + 'static,
+    ) -> Result<LockId, Error> {
+        let number = raw::number_of(Known::Completion(Arc::new(Mutex::new(completion))));
+        let flags = EnqFlags(terms.flags.0 & !EnqFlags::SYNCSTS.0) | EnqFlags::VALBLK;
+        let wanted = Wanted {
+            process: process.0,
+            mode: mode as u32,
+            flags: flags.0.into(),
+            lock: terms.parent,
+            milliseconds: 0,
+            completion: number,
+            blocking: 0,
+        };
+        let found = self.client().ask(&wanted, Some(name), [0; 64]);
+        if let Err(refused) = checked(found.answer) {
+            raw::forget(number);
+            return Err(refused);
+        }
+        Ok(LockId(found.lock))
+    }
+
+    /// Makes a request that waits. Its blocking routine is forgotten if it has no grant.
+    fn asked(
+        &self,
+        wanted: &Wanted,
+        name: Option<&[u8]>,
+        value: [u8; 64],
+    ) -> Result<Answered, Error> {
+        let found = self.client().ask(wanted, name, value);
+        if let Err(refused) = checked(found.answer) {
+            raw::forget(wanted.blocking);
+            return Err(refused);
+        }
+        Ok(found)
+    }
+
+    /// Gives a lock up, or several with DEQALL, or cancels its request; without a lock and with DEQALL all locks of the
+    /// process.
+    pub fn deq(
+        &self,
+        process: ProcessId,
+        lock: Option<LockId>,
+        flags: DeqFlags,
+    ) -> Result<(), Error> {
+        checked(
+            self.client()
+                .deq(process.0, flags.0.into(), lock.map_or(0, |it| it.0), None),
+        )
+    }
+
+    /// Calls the routines whose requests have ended or whose locks are in the way, oldest first. Returns how many it
+    /// called. A routine may make any call. A panic of a routine goes on in the caller.
+    pub fn deliver(&self) -> u32 {
+        self.client().dispatch()
+    }
+}
+
+impl fmt::Debug for Connection {
+    fn fmt(&self, f: &mut fmt::Formatter<'_>) -> fmt::Result {
+        f.debug_struct("Connection").finish_non_exhaustive()
+    }
+}

@@ -1,0 +1,210 @@
+//! Connections to the lock service, over a vlmd of its own: the one in VLM_PREFIX/bin. Without one nothing is tested.
+
+use std::env;
+use std::fs;
+use std::path::{Path, PathBuf};
+use std::process::{self, Child, Command, Stdio};
+use std::sync::atomic::{AtomicUsize, Ordering};
+use std::sync::mpsc::channel;
+use std::sync::Arc;
+use std::thread;
+use std::time::{Duration, Instant};
+
+use vlm::service::Connection;
+use vlm::{AstKind, Condition, DeqFlags, EnqFlags, Error, Mode, ProcessId, Terms};
+
+const LONG: Duration = Duration::from_secs(30);
+
+/// A daemon with a folder of its own, which goes with it.
+struct Daemon {
+    folder: PathBuf,
+    child: Child,
+}
+
+fn started(folder: &Path) -> Option<Child> {
+    let vlmd = Path::new(&env::var_os("VLM_PREFIX")?)
+        .join("bin")
+        .join("vlmd");
+    if !vlmd.exists() {
+        return None;
+    }
+    let words = [
+        Path::new("-s"),
+        &folder.join("socket"),
+        Path::new("-c"),
+        &folder.join("conf"),
+    ];
+    let made = Command::new(vlmd).args(words).stderr(Stdio::null()).spawn();
+    Some(made.expect("vlmd starts"))
+}
+
+impl Daemon {
+    fn new(name: &str) -> Option<Daemon> {
+        let folder = env::temp_dir().join(format!("vlm-{}-{name}", process::id()));
+        fs::create_dir_all(&folder).expect("a folder");
+        fs::write(folder.join("conf"), "search 100\ngrace 0\n").expect("a file");
+        let child = started(&folder)?;
+        Some(Daemon { folder, child })
+    }
+
+    fn connection(&self, on_lost: impl FnMut() + Send + Clone + 'static) -> Connection {
+        let end = Instant::now() + LONG;
+        loop {
+            match Connection::open_at(self.folder.join("socket"), on_lost.clone()) {
+                Ok(connection) => return connection,
+                Err(error) => assert!(error == Error::Lost && Instant::now() < end),
+            }
+            thread::sleep(Duration::from_millis(10));
+        }
+    }
+
+    fn kill(&mut self) {
+        self.child.kill().expect("a living daemon");
+        self.child.wait().expect("its end");
+    }
+}
+
+impl Drop for Daemon {
+    fn drop(&mut self) {
+        let _ = self.child.kill();
+        let _ = self.child.wait();
+        let _ = fs::remove_dir_all(&self.folder);
+    }
+}
+
+fn within(milliseconds: u64) -> Terms {
+    Terms::new().within(Duration::from_millis(milliseconds))
+}
+
+#[test]
+fn locks_exclude_each_other_and_hand_values_over() {
+    let Some(daemon) = Daemon::new("locks") else {
+        return;
+    };
+    let (one, other) = (daemon.connection(|| ()), daemon.connection(|| ()));
+    let (p, q) = (one.declare(9, 2).unwrap(), other.declare(9, 2).unwrap());
+    let keeper = one.lock(p, b"A", Mode::Nl).unwrap();
+    let mut guard = one.lock(p, b"A", Mode::Ex).unwrap();
+    assert_eq!(
+        other.lock_with(q, b"A", Mode::Ex, within(20)).unwrap_err(),
+        Error::Timeout
+    );
+    let terms = Terms::new().flags(EnqFlags::NOQUEUE);
+    let refused = other.lock_with(q, b"A", Mode::Ex, terms).unwrap_err();
+    assert_eq!(refused, Error::Notqueued);
+    guard.write_wide([7; 64]);
+    guard.release().unwrap();
+    let mut reader = other
+        .lock_with(q, b"A", Mode::Pr, Terms::new().flags(EnqFlags::WIDE))
+        .unwrap();
+    assert!(reader.is_valid() && reader.value() == [7; 64]);
+    reader.convert(Mode::Ex, within(1000)).unwrap();
+    reader.write([8; 16]);
+    reader.convert(Mode::Nl, Terms::new()).unwrap();
+    reader.convert(Mode::Pr, Terms::new()).unwrap();
+    assert_eq!((reader.value(), reader.mode()), (&[8; 16][..], Mode::Pr));
+    let below = other
+        .lock_with(q, b"B", Mode::Nl, Terms::new().below_lock(reader.lock()))
+        .unwrap();
+    assert_eq!(reader.release(), Err(Error::Sublocks));
+    drop((below, reader, keeper));
+    other.rundown(q).unwrap();
+    assert_eq!(other.rundown(q), Err(Error::Nonexpr));
+}
+
+#[test]
+fn routines_are_called_by_a_delivery() {
+    let Some(daemon) = Daemon::new("routines") else {
+        return;
+    };
+    let (one, other) = (daemon.connection(|| ()), daemon.connection(|| ()));
+    let (p, q) = (one.declare(9, 2).unwrap(), other.declare(9, 2).unwrap());
+    let (told, events) = channel();
+    let warned = told.clone();
+    let terms = Terms::new().blocking(move |event| warned.send(event).unwrap());
+    let guard = one.lock_with(p, b"A", Mode::Ex, terms).unwrap();
+    let lock = other
+        .start(q, b"A", Mode::Pr, Terms::new(), move |event| {
+            told.send(event).unwrap()
+        })
+        .unwrap();
+    while one.deliver() == 0 {
+        thread::sleep(Duration::from_millis(1));
+    }
+    let event = events.recv().unwrap();
+    assert_eq!((event.kind, event.lock), (AstKind::Blocking, guard.lock()));
+    assert_eq!(other.deliver(), 0);
+    drop(guard);
+    while other.deliver() == 0 {
+        thread::sleep(Duration::from_millis(1));
+    }
+    let event = events.recv().unwrap();
+    assert_eq!(
+        (event.kind, event.lock, event.status),
+        (AstKind::Completion, lock, Some(Condition::Normal))
+    );
+    other.deq(q, Some(lock), DeqFlags::default()).unwrap();
+    other.deq(q, None, DeqFlags::DEQALL).unwrap();
+}
+
+#[test]
+fn a_loss_is_told_and_a_new_session_holds_nothing() {
+    let Some(mut daemon) = Daemon::new("loss") else {
+        return;
+    };
+    let losses = Arc::new(AtomicUsize::new(0));
+    let counted = losses.clone();
+    let connection = daemon.connection(move || {
+        counted.fetch_add(1, Ordering::SeqCst);
+    });
+    let p = connection.declare(9, 2).unwrap();
+    let mut guard = connection.lock(p, b"A", Mode::Ex).unwrap();
+    let waiting = connection.clone();
+    let q = connection.declare(9, 2).unwrap();
+    let waiter = thread::spawn(move || waiting.lock(q, b"A", Mode::Ex).map(|it| it.lock()));
+    thread::sleep(Duration::from_millis(50));
+    daemon.kill();
+    assert_eq!(waiter.join().unwrap(), Err(Error::Lost));
+    assert_eq!(guard.release(), Err(Error::Lost));
+    while losses.load(Ordering::SeqCst) == 0 {
+        connection.deliver();
+    }
+    assert_eq!(
+        (connection.declare(9, 1), connection.reopen()),
+        (Err(Error::Lost), Err(Error::Lost))
+    );
+    daemon.child = started(&daemon.folder).unwrap();
+    drop(daemon.connection(|| ()));
+    begins_anew(&connection, p);
+    assert_eq!(losses.load(Ordering::SeqCst), 1);
+}
+
+/// A new session of a lost connection holds nothing, and has no process of the old one.
+fn begins_anew(connection: &Connection, old: ProcessId) {
+    connection.reopen().unwrap();
+    let refused = connection.lock(old, b"A", Mode::Ex).unwrap_err();
+    assert_eq!(refused, Error::Nonexpr);
+    let p = connection.declare(9, 1).unwrap();
+    let mut guard = connection
+        .lock_with(p, b"A", Mode::Ex, within(1000))
+        .unwrap();
+    guard.release().unwrap();
+    let absent = Connection::open_at("/nowhere", || ());
+    assert_eq!(absent.unwrap_err(), Error::Lost);
+}
+
+#[test]
+#[should_panic(expected = "of a routine")]
+fn a_panic_of_a_routine_goes_on_in_the_delivery() {
+    let Some(daemon) = Daemon::new("panic") else {
+        panic!("of a routine")
+    };
+    let connection = daemon.connection(|| ());
+    let p = connection.declare(9, 2).unwrap();
+    connection
+        .start(p, b"A", Mode::Ex, Terms::new(), |_| panic!("of a routine"))
+        .unwrap();
+    while connection.deliver() == 0 {
+        thread::sleep(Duration::from_millis(1));
+    }
+}
