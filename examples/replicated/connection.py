@@ -108,12 +108,14 @@ class Connection:
         return await self._step(session, line, text, number or session.number + 1)
 
     async def _step(self, session: Session, line: script.Line, text: bytes, number: int) -> str:
-        """Has a step made, unless the session's step of this number was made already."""
+        """Has a step made, unless the session's step of this number was made already. Another line under that number
+        gets no answer of it."""
+        asked = text.decode("latin-1")
         if number > session.number:
             session.names.pid_of(line)
-            self.replica.submit(Stepped(str(self.name), number, text.decode("latin-1")))
+            self.replica.submit(Stepped(str(self.name), self.owner, number, asked))
             await self._until(lambda: self._session().number >= number)
-        if number < session.number:
+        if (number, asked) != (session.number, session.line):
             raise Refused("old number")
         return session.answer
 

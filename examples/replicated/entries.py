@@ -28,6 +28,8 @@ class Stepped:
     """A client made a step. `line` has one character for each byte of the client's line."""
 
     session: str
+    # The connection that sent it. The step is made only while the session is this connection's.
+    owner: str
     # Counts the steps of the session, so a step that is in the list twice is made once.
     number: int
     line: str

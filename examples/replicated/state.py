@@ -41,8 +41,9 @@ class Session:
         self.owner, self.seconds = owner, seconds
         # The processes that the client has declared, by its names for them.
         self.names = script.Names()
-        # The number of its last step, and what that step printed.
+        # The number of its last step, its line, and what it printed.
         self.number = 0
+        self.line = ""
         self.answer = ""
         # How many times the session took ASTs, how many ASTs these were, and the texts of the last ones.
         self.takes = 0
@@ -108,9 +109,9 @@ class State:
 
     def _step(self, entry: Stepped) -> Effect:
         session = self.sessions.get(entry.session)
-        if session is None or entry.number <= session.number:
+        if session is None or entry.owner != session.owner or entry.number <= session.number:
             return Effect.NOTHING
-        session.number = entry.number
+        session.number, session.line = entry.number, entry.line
         try:
             outcome, session.answer = self._line(session, entry.line.encode("latin-1"))
         except script.LineFault as fault:
@@ -183,7 +184,8 @@ class State:
                 shown.append(self._shown(script.ShowBlock(number), process.pid))
                 shown.append(self._shown(script.ShowTail(number), process.pid))
         for name, it in sorted(self.sessions.items()):
-            shown.append(f"session {name} owner {it.owner} names {it.names.pids} last {it.number} {it.answer!r} "
+            shown.append(f"session {name} owner {it.owner} names {it.names.pids} "
+                         f"last {it.number} {it.line!r} {it.answer!r} "
                          f"taken {it.taken} in {it.takes} {list(it.asts)}\n")
         return "".join(shown)
 

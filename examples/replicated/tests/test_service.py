@@ -1,5 +1,8 @@
 """Two replicas over one member of etcd, as processes, and clients of their lines. README.md has the language."""
 
+import os
+import random
+import re
 import signal
 import socket
 import sys
@@ -8,7 +11,7 @@ import unittest
 from pathlib import Path
 
 sys.path.insert(0, str(Path(__file__).resolve().parents[1]))
-from entries import Ended  # noqa: E402
+from entries import Ended, Opened, Stepped  # noqa: E402
 from etcd_list import EtcdList  # noqa: E402
 from local import Local  # noqa: E402
 
@@ -16,6 +19,8 @@ from local import Local  # noqa: E402
 PATIENCE = 20.0
 CHUNK = 30
 VALUE = "00112233445566778899aabbccddeeff"
+# How often two connections of one session race, and the longest head start of either in seconds.
+RACES, HEAD_START = int(os.environ.get("VLM_RACES", "80")), 0.004
 
 
 class Lines:
@@ -110,9 +115,50 @@ class Service(unittest.TestCase):
         first = p.ask("5 enq P CR name=numbered block=1")
         self.assertRegex(first, "^5 P: NORMAL lock [0-9]+$")
         self.assertEqual(p.ask("5 enq P CR name=numbered block=1"), first)
-        self.assertEqual(p.ask("4 enq P CR name=numbered block=1"), "4 old number")
+        for other in ("5 enq P CR name=another block=1", "5 enq  P CR name=numbered block=1",
+                      "4 enq P CR name=numbered block=1"):
+            self.assertEqual(p.ask(other), f"{other[0]} old number")
         shown = "\n".join(p.texts("show")).partition(" name numbered ")[2].split("resource")[0]
         self.assertEqual(shown.count(" CR"), 1)
+
+    def test_a_step_of_a_replaced_connection_comes_first(self):
+        self.begun(0)
+        session, store = self.session, EtcdList(self.local.members)
+        owner = next(it.owner for it in self.entries() if isinstance(it, Opened) and it.session == session)
+        again = self.lines(1, f"resume {session}")
+        store.append(f"late-{session}", [Stepped(session, owner, 2, "enq P CR name=late block=1")])
+        lock = self.lock_of(again.ask("enq P CR name=own block=1"))
+        self.assertEqual((self.locks_on(again, "late"), self.locks_on(again, "own")), ([], [lock]))
+
+    def locks_on(self, connection, resource):
+        """The locks that `show` has on a resource."""
+        texts = "\n".join(connection.texts("show")).partition(f" name {resource} ")[2].split("resource")[0]
+        return re.findall(r"^  granted ([0-9]+) ", texts, re.M)
+
+    def test_two_connections_of_a_session_race(self):
+        rng = random.Random(RACES)
+        for race in range(RACES):
+            first, then = self.begun(0), self.lines(1)
+            sends = [(first, f"2 enq P CR name=first{race} block=1"), (then, f"resume {self.session}")]
+            for connection, line in rng.sample(sends, 2):
+                connection.send(line)
+                time.sleep(rng.uniform(0.0, HEAD_START))
+            self.end_race(race, then, is_told=race % 2)
+            first.close()
+            then.close()
+
+    def end_race(self, race, then, is_told):
+        """The connection that resumed sends another line, under the number that it is told or under one of its own. It
+        is told a lock on the resource that it named, or that its own number is old."""
+        number = int(then.next().split()[5]) + 1 if is_told else 2
+        then.send(f"{number} enq P CR name=then{race} block=1")
+        if not is_told:
+            self.assertRegex(then.next(), f"^session {self.session} ")
+        answer = then.next()
+        if is_told or answer != "2 old number":
+            lock = self.lock_of(answer[len(f"{number} "):])
+            self.assertEqual(self.locks_on(then, f"then{race}"), [lock], f"race {race} of {RACES}")
+        self.assertEqual(then.ask("close"), "closed")
 
     def test_a_session_goes_on_at_another_replica(self):
         p = self.begun(0)

@@ -16,15 +16,15 @@ SEED = 1
 def begun(state, session, name="P"):
     """A session with a process of node 1."""
     state.apply(Opened(session, "r.1", 5))
-    state.apply(Stepped(session, 1, f"declare {name} node=1 group=1 quota=9 blocks=2"))
+    state.apply(Stepped(session, "r.1", 1, f"declare {name} node=1 group=1 quota=9 blocks=2"))
 
 
 class States(unittest.TestCase):
     def setUp(self):
         self.state = State()
 
-    def answer(self, session, number, line):
-        self.effect = self.state.apply(Stepped(session, number, line))
+    def answer(self, session, number, line, owner="r.1"):
+        self.effect = self.state.apply(Stepped(session, owner, number, line))
         return self.state.sessions[session].answer
 
     def test_a_step_that_is_in_the_list_twice_is_made_once(self):
@@ -35,12 +35,23 @@ class States(unittest.TestCase):
         self.assertIs(self.effect, Effect.NOTHING)
         self.assertEqual(self.state.text(), before)
 
+    def test_a_step_of_a_connection_that_was_replaced_does_nothing(self):
+        begun(self.state, "a")
+        self.state.apply(Resumed("a", "r.2"))
+        before = self.state.text()
+        self.assertEqual(self.answer("a", 2, "enq P EX name=A block=1"), "P: process 65537\n")
+        self.assertIs(self.effect, Effect.NOTHING)
+        self.assertEqual(self.state.text(), before)
+        self.assertEqual(self.answer("a", 2, "deq P 7", "r.2"), "P: IVLOCKID\n")
+        self.assertIs(self.effect, Effect.ANSWER)
+        self.assertEqual(self.state.sessions["a"].line, "deq P 7")
+
     def test_a_session_ends_once_and_nothing_follows(self):
         begun(self.state, "a")
         self.answer("a", 2, "enq P EX name=A block=1")
         self.assertIs(self.state.apply(Ended("a")), Effect.CHANGE)
         self.assertEqual(self.state.manager.lock_count(), 0)
-        for entry in (Ended("a"), Stepped("a", 3, "enq P EX name=A block=1"), Taken("a")):
+        for entry in (Ended("a"), Stepped("a", "r.1", 3, "enq P EX name=A block=1"), Taken("a")):
             self.assertIs(self.state.apply(entry), Effect.NOTHING)
         self.state.apply(Resumed("a", "r.2"))
         self.assertEqual(self.state.sessions, {})
@@ -68,7 +79,8 @@ class States(unittest.TestCase):
             self.assertIs(self.effect, Effect.ANSWER)
 
     def test_entries_are_read_as_they_were_written(self):
-        entries = (Opened("a", "r.1", 5), Stepped("a", 1, "enq P EX name=\xff\"\\ block=1"), Searched(2), Ended("a"))
+        entries = (Opened("a", "r.1", 5), Stepped("a", "r.1", 1, "enq P EX name=\xff\"\\ block=1"), Searched(2),
+                   Ended("a"))
         self.assertEqual(decode(encode(entries)), entries)
 
 
@@ -79,12 +91,12 @@ class Chunks(unittest.TestCase):
         state, log = State(), Log(3)
         lines = ["declare P node=1 group=1 quota=9 blocks=2", "deq P 7", "deq P 8"]
         for number, line in enumerate(lines, 1):
-            entries = [Opened("a", "r.1", 5)] * (number == 1) + [Stepped("a", number, line)]
+            entries = [Opened("a", "r.1", 5)] * (number == 1) + [Stepped("a", "r.1", number, line)]
             log.add(number, [(entry, state.apply(entry)) for entry in entries])
-        for size, last in ((3, Stepped("a", 2, lines[1])), (4, Stepped("a", 3, lines[2]))):
+        for size, last in ((3, Stepped("a", "r.1", 2, lines[1])), (4, Stepped("a", "r.1", 3, lines[2]))):
             log.size = size
             kept = [entry for batch in unpack(log.next_chunk()[0]) for entry in batch.entries]
-            self.assertEqual(kept, [Opened("a", "r.1", 5), Stepped("a", 1, lines[0]), last])
+            self.assertEqual(kept, [Opened("a", "r.1", 5), Stepped("a", "r.1", 1, lines[0]), last])
 
     def test_random_lists(self):
         rng = random.Random(SEED)
@@ -105,17 +117,20 @@ class Chunks(unittest.TestCase):
 
 
 def random_entry(rng, state):
-    """An entry of one of four sessions: mostly a step, now and then one that was in the list before."""
-    session, number = rng.choice("abcd"), rng.choice((0, 1, 1, 1, 1, 1))
-    number += state.sessions[session].number if session in state.sessions else 0
+    """An entry of one of four sessions: mostly a step, now and then one that was in the list before, or one of another
+    connection."""
+    name, number = rng.choice("abcd"), rng.choice((0, 1, 1, 1, 1, 1))
+    session = state.sessions.get(name)
+    number += session.number if session else 0
+    owner = session.owner if session and rng.random() < 0.9 else "r.1"
     lock, mode = f"@{rng.randint(1, 2)}", rng.choice("NL CR CW PR PW EX".split())
     value, flags = f"{rng.randrange(1 << 64):032x}", rng.choice(("", "noqueue", "valblk", "ast=1", "bast=2 valblk"))
     lines = ["declare P node=1 group=1 quota=3 blocks=2"] * 2 + ["end P", f"set P block=1 value={value}", "bad line"]
     lines += [f"enq P {mode} name={rng.choice('AB')} block={rng.randint(1, 3)} {flags}" for _ in range(6)]
     lines += [f"cvt P {lock} {mode} block=1 {flags}", f"deq P {lock} value={value}", f"deq P {lock} cancel"] * 2
-    others = [Opened(session, "r.1", 5), Opened(session, "r.2", 5), Resumed(session, "r.3"), Taken(session),
-              Ended(session), Searched(1), Searched(9)]
-    return rng.choice(others) if rng.random() < 0.25 else Stepped(session, number, rng.choice(lines))
+    others = [Opened(name, "r.1", 5), Opened(name, "r.2", 5), Resumed(name, "r.3"), Taken(name), Ended(name),
+              Searched(1), Searched(9)]
+    return rng.choice(others) if rng.random() < 0.25 else Stepped(name, owner, number, rng.choice(lines))
 
 
 if __name__ == "__main__":

@@ -8,7 +8,7 @@ from typing import NamedTuple
 
 from vlm import LockManager, script
 
-from entries import Ended, Opened, Searched, Stepped, Taken
+from entries import Ended, Opened, Resumed, Searched, Stepped, Taken
 
 VALNOTVALID = 7
 # How many problems of a kind are named.
@@ -149,11 +149,14 @@ class Replay:
 
     def __init__(self, batches):
         self.manager, self.names, self.answers, self._last = LockManager(), {}, {}, defaultdict(int)
+        self._owners = {}
         for batch in batches:
             for entry in batch.entries:
                 self._make(entry)
 
     def _make(self, entry):
+        if isinstance(entry, (Opened, Resumed)):
+            self._owners[entry.session] = entry.owner
         if isinstance(entry, Opened):
             self.names.setdefault(entry.session, script.Names())
         elif isinstance(entry, Searched):
@@ -171,7 +174,7 @@ class Replay:
                     script.make(self.manager, pid, script.Rundown())
 
     def _step(self, names, entry):
-        if entry.number > self._last[entry.session]:
+        if entry.owner == self._owners[entry.session] and entry.number > self._last[entry.session]:
             self._last[entry.session] = entry.number
             line = script.read_line(entry.line.encode("latin-1"))
             outcome = script.make(self.manager, names.pid_of(line), line.does)
