@@ -1,5 +1,6 @@
-"""The replicated lock service of examples/replicated: its states and chunks, two replicas by their lines, and two
-minutes of faults. The last two need etcd and Debian's Python with its package etcd3, and are skipped without them."""
+"""The replicated lock service of examples/replicated: its states and chunks, two replicas by their lines, members of
+etcd that fail, and two minutes of faults. All but the first need etcd and Debian's Python with its package etcd3, and
+are skipped without them."""
 
 import os
 import shutil
@@ -50,6 +51,8 @@ def first():
 def over_etcd():
     """The tests that need etcd."""
     return [Test("replicas by their lines", runs(DEBIAN_PYTHON, "test_service.py")),
+            Test("members of etcd that fail", runs(DEBIAN_PYTHON, "test_members.py")),
+            Test("a leader of etcd that hangs", runs(DEBIAN_PYTHON, "hang.py", "--clients", 12, "--seconds", 5)),
             Test("two minutes of faults", runs(DEBIAN_PYTHON, "faults.py", "--seconds", FAULT_SECONDS))]
 
 

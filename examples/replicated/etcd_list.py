@@ -7,8 +7,9 @@ prefix:
     live/sessions/SESSION   exists while the lease of a session lasts
     packed/N                chunk N of the packed entries
 
-The client library knows one member of etcd. So each call here asks one member after another, each with a time-out. A
-call may have taken effect although its answer is lost: every call below may be repeated.
+The client library knows one member of etcd. So each call here asks one member after another, each with a time-out.
+Appends, reads, calls about leases and watches each have a member of their own, and leave it when it fails. A call may
+have taken effect although its answer is lost: every call below may be repeated.
 """
 
 import logging
@@ -23,10 +24,13 @@ from etcd3.exceptions import (ConnectionFailedError, ConnectionTimeoutError, Int
                               PreconditionFailedError)
 
 from entries import Batch, Entry, Opened, Packed, decode, encode, unpack
+from members import Place
 
 _T = TypeVar("_T")
 # How long a member may take to answer, and the pause after no member did.
 _SECONDS, _PAUSE = 2.0, 0.2
+# How long a member may take to tell what it has itself. It needs no other member for that.
+_PRESENT = 0.5
 # A chunk may have 1.5 MB, and a page of entries several: the library's limit for answers is 4 MB.
 _OPTIONS = [("grpc.max_receive_message_length", 1 << 26), ("grpc.keepalive_time_ms", 10_000),
             ("grpc.keepalive_timeout_ms", 3_000), ("grpc.initial_reconnect_backoff_ms", 200),
@@ -94,27 +98,45 @@ class EtcdList:
         """Members are written HOST:PORT."""
         pairs = [member.rsplit(":", 1) for member in members]
         self._clients = [etcd3.client(host, int(port), timeout=_SECONDS, grpc_options=_OPTIONS) for host, port in pairs]
-        self._at = 0
+        self._places = {kind: Place(len(pairs)) for kind in ("append", "read", "lease", "watch")}
         self._live = prefix + "live/"
         self._entries, self._sessions = self._live + "entries/", self._live + "sessions/"
         self._chunks = prefix + "packed/"
 
-    def call(self, ask: Callable[[Any], _T]) -> _T:
+    def call(self, kind: str, ask: Callable[[Any], _T]) -> _T:
         """Asks one member after another, until one answers."""
+        place = self._places[kind]
         while True:
             for _ in self._clients:
+                at = place.at
                 try:
-                    return ask(self._clients[self._at])
+                    return ask(self._clients[at])
                 except Exception as failed:
                     if not _is_passing(failed):
                         raise
-                    logging.info("etcd's member %d: %s", self._at, _reason(failed))
-                self.turn()
+                    logging.info("%s: etcd's member %d: %s", kind, at, _reason(failed))
+                self.leave(kind, at)
             time.sleep(_PAUSE)
 
-    def turn(self) -> None:
-        """Goes to the next member."""
-        self._at = (self._at + 1) % len(self._clients)
+    def leave(self, kind: str, failed: int) -> None:
+        """Has calls of a kind leave a member that failed. They go on at the next one that is present, so a hung one
+        does not cost a call's whole time again."""
+        place = self._places[kind]
+        place.leave(failed)
+        for _ in self._clients:
+            at = place.at
+            if at == failed or self.is_present(at):
+                return
+            place.leave(at)
+
+    def is_present(self, member: int) -> bool:
+        """Whether a member answers. One that does may still have no leader."""
+        own = etcdrpc.RangeRequest(key=self._live.encode(), serializable=True)
+        try:
+            self._clients[member].kvstub.Range(own, _PRESENT)
+        except grpc.RpcError:
+            return False
+        return True
 
     def append(self, name: str, entries: Sequence[Entry]) -> None:
         """Appends a batch of entries, unless there is one of this name."""
@@ -130,7 +152,7 @@ class EtcdList:
             return client.transaction([make.create(puts[-1][0]) == 0],
                                       [make.put(*words) for words in puts], [])[0]
 
-        return self.call(ask)
+        return self.call("append", ask)
 
     def open_session(self, entry: Opened) -> None:
         """Begins a session: a lease, whose identification is the session's, and a key that lasts as long."""
@@ -142,7 +164,7 @@ class EtcdList:
             except PreconditionFailedError:
                 logging.info("lease %s was granted by an earlier try", session)
 
-        self.call(grant)
+        self.call("lease", grant)
         try:
             self._put_new(f"{self._entries}open-{session}", [entry], (self._sessions + session, b"", lease))
         except grpc.RpcError as failed:
@@ -155,13 +177,13 @@ class EtcdList:
         def ask(client: Any) -> int:
             return max((it.TTL for it in client.refresh_lease(int(session, 16))), default=0)
 
-        if self.call(ask) <= 0:
+        if self.call("lease", ask) <= 0:
             raise LeaseEnded(session)
 
     def end_session(self, session: str) -> None:
         """Ends the lease of a session."""
         try:
-            self.call(lambda client: client.revoke_lease(int(session, 16)))
+            self.call("lease", lambda client: client.revoke_lease(int(session, 16)))
         except grpc.RpcError as failed:
             if not _is_code(failed, grpc.StatusCode.NOT_FOUND):
                 raise
@@ -205,7 +227,7 @@ class EtcdList:
         end = _after(prefix.encode()) if range_end is None else range_end.encode()
         request = etcdrpc.RangeRequest(key=prefix.encode(), range_end=end, **words)
         try:
-            return self.call(lambda client: client.kvstub.Range(request, _SECONDS))
+            return self.call("read", lambda client: client.kvstub.Range(request, _SECONDS))
         except grpc.RpcError as failed:
             if not _is_code(failed, grpc.StatusCode.OUT_OF_RANGE):
                 raise
@@ -215,10 +237,13 @@ class EtcdList:
         """What comes from a revision on."""
         return Watch(self, self._live.encode(), revision)
 
-    def open_watch(self, request: Any) -> Any:
-        """A stream of watch responses of one member. It ends if that member has no leader."""
-        stub = etcdrpc.WatchStub(self._clients[self._at].channel)
-        return stub.Watch(iter([request]), metadata=(("hasleader", "true"),))
+    def open_watch(self, request: Any) -> Tuple[Any, int]:
+        """A stream of watch responses, and the number of its member. It ends if that member has no leader."""
+        def ask(client: Any) -> Tuple[Any, int]:
+            stub = etcdrpc.WatchStub(client.channel)
+            return stub.Watch(iter([request]), metadata=(("hasleader", "true"),)), self._clients.index(client)
+
+        return self.call("watch", ask)
 
     def pack(self, chunk: bytes, entry: Packed) -> bool:
         """Writes a chunk. Returns whether it was written: of several writers of one chunk, one writes it."""
@@ -233,10 +258,11 @@ class EtcdList:
         keys = [it.key for it in self._range(self._entries, keys_only=True, max_create_revision=revision).kvs]
         for at in range(0, len(keys), _DELETED):
             part = keys[at:at + _DELETED]
-            self.call(lambda client: client.transaction([], [client.transactions.delete(key) for key in part], []))
+            self.call("append",
+                      lambda client: client.transaction([], [client.transactions.delete(key) for key in part], []))
         try:
             if forgotten:
-                self.call(lambda client: client.compact(forgotten))
+                self.call("append", lambda client: client.compact(forgotten))
         except grpc.RpcError as failed:
             if not _is_code(failed, grpc.StatusCode.OUT_OF_RANGE):
                 raise
@@ -251,7 +277,9 @@ class Watch:
 
     def __init__(self, store: EtcdList, prefix: bytes, revision: int) -> None:
         self._store, self._prefix, self._revision = store, prefix, revision
+        # The stream of responses, if there is one, and the number of the last one's member.
         self._responses: Any = None
+        self._member = 0
 
     def next(self) -> Events:
         """Waits for the next events. Raises Compacted if etcd has forgotten them."""
@@ -261,7 +289,7 @@ class Watch:
             except (grpc.RpcError, StopIteration) as ended:
                 logging.info("a watch ended: %s", _reason(ended))
                 self._responses = None
-                self._store.turn()
+                self._store.leave("watch", self._member)
                 time.sleep(_PAUSE)
                 continue
             if response.compact_revision:
@@ -277,8 +305,14 @@ class Watch:
         if self._responses is None:
             create = etcdrpc.WatchCreateRequest(key=self._prefix, range_end=_after(self._prefix),
                                                 start_revision=self._revision)
-            self._responses = self._store.open_watch(etcdrpc.WatchRequest(create_request=create))
+            self._responses, self._member = self._store.open_watch(etcdrpc.WatchRequest(create_request=create))
         return self._responses
+
+    def check(self) -> None:
+        """Ends the stream of responses if its member hangs: it would only be silent. Any thread may call it."""
+        responses, member = self._responses, self._member
+        if responses is not None and not self._store.is_present(member):
+            responses.cancel()
 
     def cancel(self) -> None:
         """Ends the stream of responses. `next` opens another one. Any thread may call it."""

@@ -68,9 +68,11 @@ class Local:
             "--listen-peer-urls", peers[number], "--initial-advertise-peer-urls", peers[number],
             "--initial-cluster", ",".join(f"m{at}={url}" for at, url in enumerate(peers))])
 
-    def start_replica(self, number: int) -> None:
+    def start_replica(self, number: int, first: int = 0) -> None:
+        """Starts a replica, which asks this member first."""
+        members = self.members[first:] + self.members[:first]
         self._start(f"replica {number}", [
-            sys.executable, str(HERE / "serve.py"), "--etcd", ",".join(self.members), "--chunk", str(self._chunk),
+            sys.executable, str(HERE / "serve.py"), "--etcd", ",".join(members), "--chunk", str(self._chunk),
             "--listen", f"{HOST}:{self.ports[number]}"])
 
     def _start(self, name: str, words: List[str]) -> None:

@@ -42,8 +42,8 @@ class Replica:
         # The connections of clients, by the name under which each may own a session.
         self.connections: Dict[str, "Connection"] = {}
         self._queue: "asyncio.Queue[Entry]" = asyncio.Queue()
-        self._threads = {role: ThreadPoolExecutor(count, role)
-                         for role, count in (("watch", 1), ("append", 1), ("pack", 1), ("lease", LEASE_CALLS))}
+        counts = {"watch": 1, "check": 1, "append": 1, "pack": 1, "lease": LEASE_CALLS}
+        self._threads = {role: ThreadPoolExecutor(count, role) for role, count in counts.items()}
         self._watch: Optional[Watch] = None
         # How many appends there were, and when each ended that the watch has not shown yet.
         self._appends = 0
@@ -173,6 +173,13 @@ class Replica:
                 del self._owed[name]
             if overdue and self._watch is not None:
                 self._watch.cancel()
+
+    async def check(self) -> None:
+        """Asks the member of the watch now and then whether it hangs."""
+        while True:
+            await asyncio.sleep(LOOK)
+            if self._watch is not None:
+                await self.call("check", self._watch.check)
 
     def _search(self, now: float) -> None:
         """Searches for a deadlock if a request has waited long enough, and something has changed since the last search

@@ -44,7 +44,7 @@ def arguments() -> argparse.Namespace:
 
 async def serve(words: argparse.Namespace) -> None:
     replica, is_ready = Replica(EtcdList(words.etcd, words.prefix), words.chunk), asyncio.Event()
-    for work in (replica.append(), replica.follow(is_ready), replica.look()):
+    for work in (replica.append(), replica.follow(is_ready), replica.look(), replica.check()):
         replica.start(work)
     await is_ready.wait()
     server = await asyncio.start_server(lambda *ends: Connection(replica, *ends).serve(), *words.listen, limit=LINE)

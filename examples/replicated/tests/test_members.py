@@ -1,0 +1,126 @@
+"""Which member of etcd is asked after one has failed, with members that are made up."""
+
+import sys
+import threading
+import time
+import unittest
+from concurrent.futures import ThreadPoolExecutor
+from pathlib import Path
+from types import SimpleNamespace
+from unittest import mock
+
+sys.path.insert(0, str(Path(__file__).resolve().parents[1]))
+import grpc  # noqa: E402
+from etcd3.client import Transactions  # noqa: E402
+from etcd_list import EtcdList  # noqa: E402
+from members import Place  # noqa: E402
+
+# How long threads may take to meet.
+PATIENCE = 10.0
+MEMBERS = 3
+
+
+class Failed(grpc.RpcError):
+    def code(self):
+        return grpc.StatusCode.DEADLINE_EXCEEDED
+
+
+class Member:
+    """Counts what it is asked for, and fails what it is told to fail."""
+
+    def __init__(self):
+        self.transactions, self.kvstub, self.channel = Transactions(), self, self
+        self.fails, self.calls = set(), {"append": 0, "read": 0, "presence": 0}
+        self.before_failure = lambda: None
+
+    def transaction(self, *_):
+        self._call("append")
+        return True, []
+
+    def Range(self, request, *_):
+        self._call("presence" if request.serializable else "read")
+        return SimpleNamespace(header=SimpleNamespace(revision=1), kvs=[])
+
+    def _call(self, kind):
+        self.calls[kind] += 1
+        if kind in self.fails:
+            self.before_failure()
+            raise Failed
+
+
+class Members(unittest.TestCase):
+    def setUp(self):
+        self.members = [Member() for _ in range(MEMBERS)]
+        with mock.patch("etcd_list.etcd3.client", side_effect=self.members):
+            self.store = EtcdList(["127.0.0.1:1"] * MEMBERS)
+
+    def calls(self, kind):
+        return [it.calls[kind] for it in self.members]
+
+    def test_threads_that_fail_together_leave_a_member_once(self):
+        self.members[0].fails = {"append", "presence"}
+        self.members[0].before_failure = threading.Barrier(MEMBERS, timeout=PATIENCE).wait
+        with ThreadPoolExecutor(MEMBERS) as threads:
+            list(threads.map(lambda number: self.store.append(f"a-{number}", []), range(MEMBERS)))
+        self.assertEqual(self.calls("append"), [MEMBERS, MEMBERS, 0])
+
+    def test_appends_that_fail_leave_reads_where_they_are(self):
+        self.members[0].fails = {"append"}
+        self.store.append("a", [])
+        self.store.read(0, 0)
+        self.assertEqual([sum(it.calls[kind] for kind in ("read", "append")) > 0 for it in self.members],
+                         [True, True, False])
+        self.assertEqual(self.calls("read")[1:], [0, 0])
+
+    def test_a_member_that_hangs_is_passed_over(self):
+        self.members[0].fails = {"append"}
+        self.members[1].fails = {"append", "presence"}
+        self.store.append("a", [])
+        self.assertEqual(self.calls("append"), [1, 0, 1])
+
+    def test_a_call_that_fails_late_moves_nothing(self):
+        place = Place(MEMBERS)
+        for failed, at in ((0, 1), (1, 2), (0, 2), (2, 0)):
+            place.leave(failed)
+            self.assertEqual(place.at, at)
+
+    def test_a_watch_leaves_a_member_that_hangs(self):
+        streams, opened = [Silent(), iter([an_end_of("a")])], []
+
+        def stub(member):
+            opened.append(self.members.index(member))
+            return SimpleNamespace(Watch=lambda *_, **__: streams.pop(0))
+
+        self.members[0].fails = {"presence"}
+        watch = self.store.watch(1)
+        with mock.patch("etcd_list.etcdrpc.WatchStub", stub), ThreadPoolExecutor(1) as thread:
+            events = thread.submit(watch.next)
+            while not events.done():
+                watch.check()
+                time.sleep(0.01)
+            self.assertEqual(events.result().ended, ["a"])
+        self.assertEqual(opened, [0, 1])
+
+
+class Silent:
+    """A stream of watch responses, without any until it is cancelled."""
+
+    def __init__(self):
+        self._is_cancelled = threading.Event()
+        self.cancel = self._is_cancelled.set
+
+    def __next__(self):
+        if not self._is_cancelled.wait(PATIENCE):
+            raise AssertionError("nobody cancels a silent watch")
+        raise Failed
+
+
+def an_end_of(session):
+    """A watch response: the lease of a session has ended."""
+    pair = SimpleNamespace(mod_revision=9, key=b"vlm/live/sessions/" + session.encode())
+    return SimpleNamespace(compact_revision=0, canceled=False,
+                           events=[SimpleNamespace(kv=pair, type=1, PUT=0, DELETE=1)])
+
+
+if __name__ == "__main__":
+    unittest.main()
