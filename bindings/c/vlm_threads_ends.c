@@ -60,7 +60,9 @@ void vlmt_free_queue(vlm_threads *layer, struct queue *queue) {
         vlmt_unqueue_event(layer, event);
         append(layer, &layer->queue, event);
     }
+    int before = cancels_off();
     close(queue->descriptor);
+    cancels_back(before);
     free(queue);
 }
 

@@ -260,6 +260,25 @@ static void test_close(void) {
     HOLD(released_count == 2);
 }
 
+/* Runs a process with a queue of its own down, while the thread is to be cancelled. */
+static void *run_down(void *given) {
+    pthread_cancel(pthread_self());
+    EXPECT(vlm_threads_rundown(layer, *(uint32_t *)given), VLM_NORMAL);
+    pthread_testcancel();
+    return given;
+}
+
+/* A thread that is cancelled ends after its call, and leaves the layer to others. */
+static void test_cancelled(void) {
+    uint32_t pid = declared_with(1);
+    pthread_t thread;
+    void *ended;
+    pthread_create(&thread, NULL, run_down, &pid);
+    pthread_join(thread, &ended);
+    HOLD(ended == PTHREAD_CANCELED);
+    EXPECT(vlm_threads_rundown(layer, pid), VLM_NONEXPR);
+}
+
 int main(void) {
     pthread_barrier_init(&both, NULL, 2);
     layer = opened(VLM_THREADS_BY_PROGRAM, 0);
@@ -268,6 +287,7 @@ int main(void) {
     test_released();
     test_wanted();
     test_two_pollers();
+    test_cancelled();
     expect_sums(layer);
     test_close();
     layer = opened(VLM_THREADS_BY_LAYER, 0);
