@@ -7,7 +7,7 @@
 #include <stdlib.h>
 #include <string.h>
 
-enum { DIGITS = 16, FIRST_SESSIONS = 64 };
+enum { DIGITS = 16, FIRST_SESSIONS = 64, MOST_WORDS = 3 };
 
 static const char wrong_word[] = "wrong word\n";
 
@@ -69,6 +69,10 @@ static bool is_label(struct word word) {
 static void run_open(struct client *client, const struct word *words, size_t count) {
     struct word rest, label = {"", 0};
     uint64_t seconds = 0;
+    if (count > MOST_WORDS) {
+        answer_text(client, wrong_word);
+        return;
+    }
     for (size_t at = 1; at < count; at++) {
         bool is_seconds = keyed(words[at], "seconds=", &rest);
         if (is_seconds ? !decimal(rest, UINT64_MAX, &seconds) : !keyed(words[at], "command=", &label)) {
@@ -144,7 +148,8 @@ static void move(struct client *client, struct session *session) {
 static void run_resume(struct client *client, const struct word *words, size_t count) {
     struct word rest;
     uint64_t got = UINT64_MAX;
-    if (count < 2 || (count > 2 && (!keyed(words[2], "asts=", &rest) || !decimal(rest, UINT64_MAX, &got)))) {
+    if (count < 2 || count > MOST_WORDS
+        || (count > 2 && (!keyed(words[2], "asts=", &rest) || !decimal(rest, UINT64_MAX, &got)))) {
         answer_text(client, wrong_word);
         return;
     }
@@ -258,9 +263,9 @@ bool run_session_line(struct client *client, const struct word *words, size_t co
     if (is_single && count > 1)
         answer_text(client, wrong_word);
     else if (is_word(words[0], "open"))
-        run_open(client, words, count > 3 ? 3 : count);
+        run_open(client, words, count);
     else if (is_word(words[0], "resume"))
-        run_resume(client, words, count > 3 ? 3 : count);
+        run_resume(client, words, count);
     else if (is_word(words[0], "alive"))
         answer_text(client, client->session != NULL ? "alive\n" : "no session\n");
     else if (is_word(words[0], "close"))
