@@ -44,7 +44,7 @@ typedef struct vlm_client_options {
     uint32_t size;
     uint32_t delivery;              /* VLM_THREADS_BY_LAYER or VLM_THREADS_BY_PROGRAM */
     const char *socket;             /* null: that of VLM_SOCKET in the environment, or /run/vlm/lock.sock */
-    void (*on_lost)(void *context); /* called as a routine once the locks are lost; or null */
+    void (*on_lost)(void *context); /* called as a routine after the locks are lost; or null */
     void *lost_context;
     uint32_t reserved[8];
 } vlm_client_options;
@@ -55,15 +55,21 @@ typedef struct vlm_client_options {
  * INSFMEM: memory, a thread or an eventfd was refused. BADPARAM: the options are malformed. */
 uint32_t vlm_client_open(const vlm_client_options *options, vlm_client **client);
 
-/* Begins a new session after VLM_LOST, without processes. Wait for no call of another thread meanwhile.
- * VLM_LOST: as vlm_client_open; the call may be made again. BADPARAM: nothing is lost, or a routine calls it. */
+/* Begins a new session after VLM_LOST, without processes. A call of another thread for the lost session answers
+ * VLM_LOST or NONEXPR. Routines of the lost session that are pending run as usual.
+ * VLM_LOST: as vlm_client_open; the call may be made again. INSFMEM: a thread was refused; the call may be made again.
+ * BADPARAM: nothing is lost, or a routine calls it. */
 uint32_t vlm_client_reopen(vlm_client *client);
 
 /* Ends the session with all its locks, waits for the routine that runs, and frees everything. No other call may be
  * under way. NORMAL, also with a null client. BADPARAM: a routine calls it, or a forked child; nothing happens. */
 uint32_t vlm_client_close(vlm_client *client);
 
-/* Declare a process and run it down, as vlm_threads_declare and vlm_threads_rundown do. */
+/* Declare a process and run it down, as vlm_threads_declare and vlm_threads_rundown do. The service keeps the name of a
+ * process that is run down. So a session declares no more processes in all than the limit `names` of the service,
+ * usually 1024: then a declaration answers EXENQLM until vlm_client_reopen or a new client.
+ * INSFMEM of a rundown: memory was refused, and the process lives on. If a rundown answers VLM_LOST, pending completion
+ * routines are called. */
 uint32_t vlm_client_declare(vlm_client *client, const vlm_threads_declaration *declaration, uint32_t *pid);
 uint32_t vlm_client_rundown(vlm_client *client, uint32_t pid);
 
@@ -76,7 +82,8 @@ uint32_t vlm_client_start_convert(vlm_client *client, vlm_threads_request *reque
 uint32_t vlm_client_deq(vlm_client *client, const vlm_threads_dequeue *dequeue);
 
 /* Deliver events, as the calls of vlm_threads.h with the same ends do. The completion routine of a request that is
- * under way when the locks are lost is called with the status VLM_LOST, before on_lost. */
+ * under way when the locks are lost is called with the status VLM_LOST, before on_lost. If the locks of a next session
+ * are lost before on_lost is called, one call tells both, after the completions of both. */
 uint32_t vlm_client_fd(vlm_client *client, int *descriptor);
 uint32_t vlm_client_dispatch(vlm_client *client, uint32_t *delivered);
 uint32_t vlm_client_settle(vlm_client *client);

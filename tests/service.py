@@ -595,8 +595,8 @@ def clients(compiler, sanitizer, _program):
     config = Path(folder) / "conf"
     config.write_text("search 200\ngrace 300\n")
     wrong = list(library.ran(compiler, "-std=gnu11", *library.STRICT, "-O1", "-g", "-pthread",
-                             f"-fsanitize={sanitizer}", f"-I{TOP}/include", HERE / "client.c", *CLIENT,
-                             library.prefix() / "lib" / "libvlm.a", "-o", made))
+                             f"-fsanitize={sanitizer}", "-Wl,--wrap=malloc", f"-I{TOP}/include", HERE / "client.c",
+                             *CLIENT, library.prefix() / "lib" / "libvlm.a", "-o", made))
     yield from wrong or library.ran(made, PLAIN(), config, Path(folder) / "socket")
 
 

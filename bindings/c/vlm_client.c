@@ -95,10 +95,7 @@ static void stop(vlm_client *client) {
     client->has_reader = client->has_deliverer = false;
 }
 
-uint32_t vlm_client_open(const vlm_client_options *options, vlm_client **client) {
-    *client = NULL;
-    if (!is_valid(options))
-        return VLM_BADPARAM;
+static uint32_t open_session(const vlm_client_options *options, vlm_client **client) {
     vlm_client *opened = made(options);
     if (opened == NULL)
         return VLM_INSFMEM;
@@ -119,6 +116,16 @@ uint32_t vlm_client_open(const vlm_client_options *options, vlm_client **client)
     return VLM_NORMAL;
 }
 
+uint32_t vlm_client_open(const vlm_client_options *options, vlm_client **client) {
+    *client = NULL;
+    if (!is_valid(options))
+        return VLM_BADPARAM;
+    int before = cancels_off();
+    uint32_t status = open_session(options, client);
+    cancels_back(before);
+    return status;
+}
+
 static bool is_own_routine(vlm_client *client) {
     pthread_mutex_lock(&client->state);
     bool is_own = client->is_running && pthread_equal(client->runner, pthread_self());
@@ -126,21 +133,21 @@ static bool is_own_routine(vlm_client *client) {
     return is_own;
 }
 
-/* Forgets all locks and processes of a session that is lost. */
+/* Forgets all locks and processes of a session that is lost. Calls that have sent nothing for it answer VLM_LOST. */
 static void forget(vlm_client *client) {
     pthread_mutex_lock(&client->state);
     for (uint32_t place = 0; place < client->record_room; place++)
-        if (client->records[place].is_used)
+        if (client->records[place].is_sent)
             vlmc_free_record(client, place);
     for (uint32_t at = 0; at < client->process_count; at++)
         client->processes[at].is_living = false;
+    client->session++;
     client->is_lost = false;
     pthread_mutex_unlock(&client->state);
 }
 
-uint32_t vlm_client_reopen(vlm_client *client) {
-    if (!vlmc_is_usable(client) || is_own_routine(client))
-        return VLM_BADPARAM;
+/* Begins a new session instead of a lost one. Wants `sending` held. */
+static uint32_t begin_again(vlm_client *client) {
     pthread_mutex_lock(&client->state);
     bool is_lost = client->is_lost;
     pthread_mutex_unlock(&client->state);
@@ -158,8 +165,21 @@ uint32_t vlm_client_reopen(vlm_client *client) {
     client->has_reader = start(&client->reader, vlmc_read, client);
     if (client->has_reader)
         return VLM_NORMAL;
+    pthread_mutex_lock(&client->state);
     client->is_lost = true;
+    pthread_mutex_unlock(&client->state);
     return VLM_INSFMEM;
+}
+
+uint32_t vlm_client_reopen(vlm_client *client) {
+    if (!vlmc_is_usable(client) || is_own_routine(client))
+        return VLM_BADPARAM;
+    int before = cancels_off();
+    pthread_mutex_lock(&client->sending);
+    uint32_t status = begin_again(client);
+    pthread_mutex_unlock(&client->sending);
+    cancels_back(before);
+    return status;
 }
 
 uint32_t vlm_client_close(vlm_client *client) {
@@ -167,8 +187,10 @@ uint32_t vlm_client_close(vlm_client *client) {
         return VLM_NORMAL;
     if (!vlmc_is_usable(client) || is_own_routine(client))
         return VLM_BADPARAM;
+    int before = cancels_off();
     stop(client);
     free_client(client);
+    cancels_back(before);
     return VLM_NORMAL;
 }
 
@@ -189,34 +211,39 @@ static bool is_declaration(const vlm_threads_declaration *declaration) {
            && declaration->requests <= MOST_REQUESTS && (declaration->size == first || declaration->own_queue == 0);
 }
 
-uint32_t vlm_client_declare(vlm_client *client, const vlm_threads_declaration *declaration, uint32_t *pid) {
+static uint32_t declare(vlm_client *client, const vlm_threads_declaration *declaration, uint32_t *pid) {
     char line[LINE_ROOM];
-    *pid = 0;
-    if (!vlmc_is_usable(client) || !is_declaration(declaration))
-        return VLM_BADPARAM;
+    struct call call = {0};
     pthread_mutex_lock(&client->state);
     uint32_t made = client->is_lost ? 0 : new_process(client, declaration->requests);
     uint32_t status = client->is_lost ? VLM_LOST : VLM_INSFMEM;
+    call.session = client->session;
     pthread_mutex_unlock(&client->state);
     if (made == 0)
         return status;
     snprintf(line, sizeof line, "declare p%u quota=%u blocks=%u\n", made, declaration->quota, declaration->requests);
-    struct call call;
-    vlmc_begin_call(&call, 1);
-    status = vlmc_ask(client, line, &call, STATUS);
-    pthread_cond_destroy(&call.changed);
-    if (status == VLM_NORMAL) {
-        pthread_mutex_lock(&client->state);
-        client->processes[made - 1].is_living = true;
-        pthread_mutex_unlock(&client->state);
-        *pid = made;
-    }
+    status = vlmc_ask(client, &call, line, STATUS);
+    if (status != VLM_NORMAL)
+        return status;
+    pthread_mutex_lock(&client->state);
+    client->processes[made - 1].is_living = call.session == client->session;
+    pthread_mutex_unlock(&client->state);
+    *pid = made;
+    return VLM_NORMAL;
+}
+
+uint32_t vlm_client_declare(vlm_client *client, const vlm_threads_declaration *declaration, uint32_t *pid) {
+    *pid = 0;
+    if (!vlmc_is_usable(client) || !is_declaration(declaration))
+        return VLM_BADPARAM;
+    int before = cancels_off();
+    uint32_t status = declare(client, declaration, pid);
+    cancels_back(before);
     return status;
 }
 
-/* Ends the requests of a process that wait, and forgets its locks. */
+/* Ends the requests of a process that wait, and forgets its locks and its pending events. */
 static void forget_process(vlm_client *client, uint32_t pid) {
-    pthread_mutex_lock(&client->state);
     for (uint32_t place = 0; place < client->record_room; place++) {
         struct record *record = &client->records[place];
         /* (one that is not answered yet is refused by the service) */
@@ -228,26 +255,37 @@ static void forget_process(vlm_client *client, uint32_t pid) {
         else
             vlmc_free_record(client, place);
     }
+    vlmc_drop_events_of(client, pid);
+}
+
+/* A loss ends the requests of the process by itself. Without memory the process lives on. */
+static uint32_t run_down(vlm_client *client, uint32_t pid) {
+    char line[LINE_ROOM];
+    struct call call = {0};
+    pthread_mutex_lock(&client->state);
+    uint32_t status = vlmc_standing(client, pid);
+    call.session = client->session;
+    if (status == VLM_NORMAL)
+        client->processes[pid - 1].is_living = false;
     pthread_mutex_unlock(&client->state);
+    if (status != VLM_NORMAL)
+        return status;
+    snprintf(line, sizeof line, "end p%u\n", pid);
+    status = vlmc_ask(client, &call, line, STATUS);
+    pthread_mutex_lock(&client->state);
+    if (status == VLM_NORMAL)
+        forget_process(client, pid);
+    else if (status == VLM_INSFMEM)
+        client->processes[pid - 1].is_living = call.session == client->session;
+    pthread_mutex_unlock(&client->state);
+    return status;
 }
 
 uint32_t vlm_client_rundown(vlm_client *client, uint32_t pid) {
-    char line[LINE_ROOM];
     if (!vlmc_is_usable(client))
         return VLM_BADPARAM;
-    pthread_mutex_lock(&client->state);
-    bool is_living = pid != 0 && pid <= client->process_count && client->processes[pid - 1].is_living;
-    uint32_t status = client->is_lost ? VLM_LOST : VLM_NONEXPR;
-    if (is_living && !client->is_lost)
-        client->processes[pid - 1].is_living = false;
-    pthread_mutex_unlock(&client->state);
-    if (!is_living || status == VLM_LOST)
-        return status;
-    snprintf(line, sizeof line, "end p%u\n", pid);
-    struct call call;
-    vlmc_begin_call(&call, 1);
-    status = vlmc_ask(client, line, &call, STATUS);
-    pthread_cond_destroy(&call.changed);
-    forget_process(client, pid);
+    int before = cancels_off();
+    uint32_t status = run_down(client, pid);
+    cancels_back(before);
     return status;
 }

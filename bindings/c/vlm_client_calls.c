@@ -25,12 +25,23 @@ static bool make_room(vlm_client *client, uint32_t more) {
 
 static void note(vlm_client *client, const struct pending *wanted) {
     client->queue[(client->first + client->count++) % client->room] = *wanted;
+    if (wanted->record != NO_RECORD)
+        client->records[wanted->record].is_sent = true;
+}
+
+/* Whether lines may be sent: NORMAL, VLM_LOST, INSFMEM. A place stays free for a line of each caller, and for a line of
+ * the thread that runs routines. */
+static uint32_t may_send(vlm_client *client, const struct call *call, uint32_t count) {
+    if (client->is_lost || call->session != client->session)
+        return VLM_LOST;
+    uint32_t kept = call->is_reserved ? 0 : client->callers + 1;
+    return make_room(client, count + kept) ? VLM_NORMAL : VLM_INSFMEM;
 }
 
 uint32_t vlmc_send(vlm_client *client, const char *lines, const struct pending *wanted, uint32_t count) {
     pthread_mutex_lock(&client->sending);
     pthread_mutex_lock(&client->state);
-    uint32_t status = client->is_lost ? VLM_LOST : make_room(client, count) ? VLM_NORMAL : VLM_INSFMEM;
+    uint32_t status = may_send(client, wanted->call, count);
     for (uint32_t at = 0; status == VLM_NORMAL && at < count; at++)
         note(client, &wanted[at]);
     pthread_mutex_unlock(&client->state);
@@ -38,8 +49,11 @@ uint32_t vlmc_send(vlm_client *client, const char *lines, const struct pending *
         ssize_t sent = send(client->descriptor, lines, len, MSG_NOSIGNAL);
         if (sent < 0 && errno == EINTR)
             continue;
-        if (sent < 0)
-            break; /* the reader sees the end of the connection, and answers for it */
+        if (sent < 0) {
+            /* the reader sees the end of the connection, and answers for it; no line comes after half a line */
+            shutdown(client->descriptor, SHUT_RDWR);
+            break;
+        }
         lines += sent;
         len -= (size_t)sent;
     }
@@ -47,25 +61,28 @@ uint32_t vlmc_send(vlm_client *client, const char *lines, const struct pending *
     return status;
 }
 
-/* A call that waits for so many answers. Its times are of the monotonic clock. */
+/* Begins a call that waits for so many answers. Its times are of the monotonic clock. */
 void vlmc_begin_call(struct call *call, uint32_t answers) {
     pthread_condattr_t attributes;
-    memset(call, 0, sizeof *call);
     call->left = answers;
+    call->answer = VLM_NORMAL;
     pthread_condattr_init(&attributes);
     pthread_condattr_setclock(&attributes, CLOCK_MONOTONIC);
     pthread_cond_init(&call->changed, &attributes);
     pthread_condattr_destroy(&attributes);
 }
 
-uint32_t vlmc_ask(vlm_client *client, const char *line, struct call *call, uint32_t taken) {
+uint32_t vlmc_ask(vlm_client *client, struct call *call, const char *line, uint32_t taken) {
     const struct pending wanted = {taken, call, NO_RECORD};
+    vlmc_begin_call(call, 1);
     uint32_t status = vlmc_send(client, line, &wanted, 1);
-    if (status != VLM_NORMAL)
-        return status;
-    pthread_mutex_lock(&client->state);
-    while (call->left > 0)
-        pthread_cond_wait(&call->changed, &client->state);
-    pthread_mutex_unlock(&client->state);
-    return call->answer;
+    if (status == VLM_NORMAL) {
+        pthread_mutex_lock(&client->state);
+        while (call->left > 0)
+            pthread_cond_wait(&call->changed, &client->state);
+        status = call->answer;
+        pthread_mutex_unlock(&client->state);
+    }
+    pthread_cond_destroy(&call->changed);
+    return status;
 }

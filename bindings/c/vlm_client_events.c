@@ -7,13 +7,24 @@
 #include <sys/socket.h>
 #include <unistd.h>
 
+/* The descriptor is readable while an event is pending and no dispatch runs. */
+static void show_events(const vlm_client *client) {
+    eventfd_t count;
+    if (client->event_descriptor < 0)
+        return;
+    if (client->first_event != NULL && !client->is_dispatching)
+        eventfd_write(client->event_descriptor, 1);
+    else
+        eventfd_read(client->event_descriptor, &count);
+}
+
 static void append(vlm_client *client, struct event *event) {
     event->next = NULL;
+    event->number = ++client->event_count;
     *client->last_event = event;
     client->last_event = &event->next;
     pthread_cond_broadcast(&client->events);
-    if (client->event_descriptor >= 0)
-        eventfd_write(client->event_descriptor, 1);
+    show_events(client);
 }
 
 /* Notes an event. Without memory for it the session ends: a program that is not told may wait for ever. */
@@ -30,6 +41,7 @@ static void add(vlm_client *client, const struct event *event) {
 void vlmc_tell_end(vlm_client *client, const struct record *record) {
     bool has_value = record->is_granted && (record->flags & VLM_VALBLK) != 0;
     struct event event = {.record = NO_RECORD,
+                          .session = client->session,
                           .routine = record->completion,
                           .context = record->completion_context,
                           .told = {.size = sizeof event.told,
@@ -62,10 +74,13 @@ void vlmc_warn(vlm_client *client, uint32_t place) {
         add(client, &event);
 }
 
+/* A loss that is still pending goes to the end: one call tells both, after the completions of both. */
 void vlmc_tell_loss(vlm_client *client) {
+    if (client->options.on_lost == NULL)
+        return;
+    vlmc_drop_events_of(client, 0);
     client->loss = (struct event){.record = NO_RECORD, .is_loss = true};
-    if (client->options.on_lost != NULL)
-        append(client, &client->loss);
+    append(client, &client->loss);
 }
 
 static bool is_stale(const vlm_client *client, const struct event *event) {
@@ -75,23 +90,23 @@ static bool is_stale(const vlm_client *client, const struct event *event) {
 
 static void run_routine(vlm_client *client, struct event *event) {
     if (event->tail_of != 0)
-        vlmc_read_tail(client, &event->told, event->tail_of);
+        vlmc_read_tail(client, event);
     event->routine(event->context, &event->told);
 }
 
-/* Takes the oldest event and runs its routine, unless it warns of a grant that is over. False without an event. */
+/* Takes the oldest event and runs its routine, unless it warns of a grant that is over. Whether it ran. */
 static bool run_one(vlm_client *client) {
     struct event *event = client->first_event;
-    if (event == NULL)
-        return false;
+    bool is_told = !is_stale(client, event), is_loss = event->is_loss;
     client->first_event = event->next;
     if (client->first_event == NULL)
         client->last_event = &client->first_event;
-    if (!is_stale(client, event)) {
+    if (is_told) {
         client->is_running = true;
+        client->runs++;
         client->runner = pthread_self();
         pthread_mutex_unlock(&client->state);
-        if (event->is_loss)
+        if (is_loss)
             client->options.on_lost(client->options.lost_context);
         else
             run_routine(client, event);
@@ -99,9 +114,9 @@ static bool run_one(vlm_client *client) {
         client->is_running = false;
         pthread_cond_broadcast(&client->settled);
     }
-    if (event != &client->loss)
+    if (!is_loss)
         free(event);
-    return true;
+    return is_told;
 }
 
 /* The thread that runs routines. */
@@ -109,7 +124,9 @@ void *vlmc_deliver(void *argument) {
     vlm_client *client = argument;
     pthread_mutex_lock(&client->state);
     while (!client->is_ending)
-        if (!run_one(client))
+        if (client->first_event != NULL)
+            run_one(client);
+        else
             pthread_cond_wait(&client->events, &client->state);
     pthread_mutex_unlock(&client->state);
     return NULL;
@@ -125,35 +142,64 @@ void vlmc_drop_events(vlm_client *client) {
     client->last_event = &client->first_event;
 }
 
+/* Drops the pending events of a process; with 0, the loss. */
+void vlmc_drop_events_of(vlm_client *client, uint32_t pid) {
+    struct event **at = &client->first_event;
+    while (*at != NULL) {
+        struct event *event = *at;
+        if (event->told.pid != pid) {
+            at = &event->next;
+            continue;
+        }
+        *at = event->next;
+        if (event != &client->loss)
+            free(event);
+    }
+    client->last_event = at;
+    show_events(client);
+}
+
 uint32_t vlm_client_fd(vlm_client *client, int *descriptor) {
-    *descriptor = client->event_descriptor;
-    return client->event_descriptor >= 0 ? VLM_NORMAL : VLM_BADPARAM;
+    *descriptor = vlmc_is_usable(client) ? client->event_descriptor : -1;
+    return *descriptor >= 0 ? VLM_NORMAL : VLM_BADPARAM;
+}
+
+/* Runs the routines of the events that are pending, not of those that come meanwhile. How many. */
+static uint32_t run_pending(vlm_client *client) {
+    uint64_t newest = client->event_count;
+    uint32_t ran = 0;
+    client->is_dispatching = true;
+    show_events(client);
+    while (client->first_event != NULL && client->first_event->number <= newest)
+        ran += run_one(client);
+    client->is_dispatching = false;
+    show_events(client);
+    return ran;
 }
 
 uint32_t vlm_client_dispatch(vlm_client *client, uint32_t *delivered) {
-    eventfd_t count;
     *delivered = 0;
     if (!vlmc_is_usable(client) || client->event_descriptor < 0)
         return VLM_BADPARAM;
+    int before = cancels_off();
     pthread_mutex_lock(&client->state);
-    uint32_t wanted = 0;
-    for (const struct event *event = client->first_event; event != NULL; event = event->next)
-        wanted++;
-    for (; wanted > 0 && !client->is_running && run_one(client); wanted--)
-        ++*delivered;
-    if (client->first_event == NULL)
-        eventfd_read(client->event_descriptor, &count);
+    if (!client->is_dispatching)
+        *delivered = run_pending(client);
     pthread_mutex_unlock(&client->state);
+    cancels_back(before);
     return VLM_NORMAL;
 }
 
 uint32_t vlm_client_settle(vlm_client *client) {
     if (!vlmc_is_usable(client))
         return VLM_BADPARAM;
+    int before = cancels_off();
     pthread_mutex_lock(&client->state);
     bool is_own = client->is_running && pthread_equal(client->runner, pthread_self());
-    while (!is_own && client->is_running)
+    uint64_t run = client->runs;
+    while (!is_own && client->is_running && client->runs == run)
         pthread_cond_wait(&client->settled, &client->state);
     pthread_mutex_unlock(&client->state);
+    cancels_back(before);
     return is_own ? VLM_BADPARAM : VLM_NORMAL;
 }

@@ -35,6 +35,9 @@ enum { STATUS, VALUE, TAIL, NOTHING };
 
 /* A call that waits: on its thread's stack. */
 struct call {
+    uint32_t session;                   /* for which its lines are */
+    bool is_reserved;                   /* its line has a place in the queue that was kept for it */
+    const vlm_threads_dequeue *dequeue; /* what its answer gives up, or null */
     pthread_cond_t changed;
     uint32_t left;   /* answers that have not come */
     uint32_t answer; /* of the line whose status is taken */
@@ -62,6 +65,7 @@ struct record {
     uint32_t lock;   /* of a conversion: the record of its lock, else NO_RECORD */
     uint32_t parent; /* of a lock: its parent lock, or 0 */
     bool is_used, is_granted;
+    bool is_sent;      /* its line; before, only the call that made the record frees it */
     struct call *call; /* waits for the end, or null */
     vlm_threads_routine completion, blocking;
     void *completion_context, *blocking_context;
@@ -76,11 +80,13 @@ struct process {
 
 struct event {
     struct event *next;
+    uint64_t number;             /* later ones have greater numbers */
     uint32_t record, generation; /* of a warning */
     bool is_loss;
     vlm_threads_routine routine;
     void *context;
     uint32_t tail_of; /* the status block of a completion whose value has a tail, which is read before, or 0 */
+    uint32_t session;
     vlm_threads_event told;
 };
 
@@ -91,18 +97,23 @@ struct vlm_client {
     char *path;
     int descriptor;
     uint64_t epoch;
+    uint32_t session; /* how often it was opened again */
     bool is_lost, is_ending, has_reader, has_deliverer;
     pthread_t reader, deliverer, runner;
     struct pending *queue; /* a ring */
     uint32_t first, count, room;
+    uint32_t callers; /* requests whose calls are under way: each may cancel or read a tail without memory */
     struct record *records;
     uint32_t record_room, free_record;
     uint32_t *hashed; /* record_room places: the first lock of each hash */
     struct process *processes;
     uint32_t process_count;
     struct event *first_event, **last_event;
-    struct event loss; /* needs no memory when it comes */
-    bool is_running;   /* a routine, in the thread `runner` */
+    uint64_t event_count; /* the number of the newest */
+    struct event loss;    /* needs no memory when it comes */
+    bool is_running;      /* a routine, in the thread `runner` */
+    bool is_dispatching;
+    uint64_t runs; /* how many routines have begun */
     pthread_cond_t events, settled;
     int event_descriptor;
 };
@@ -115,7 +126,7 @@ uint32_t vlmc_connect(vlm_client *client);
 void *vlmc_read(void *client);
 
 /* vlm_client_calls.c. Notes what is waited for, and sends lines. Takes no mutex held. NORMAL; VLM_LOST and INSFMEM:
- * nothing was sent. */
+ * nothing was sent. A reserved call is not answered INSFMEM. */
 uint32_t vlmc_send(vlm_client *client, const char *lines, const struct pending *wanted, uint32_t count);
 
 /* vlm_client_lines.c: none takes a mutex. */
@@ -123,9 +134,9 @@ uint32_t vlmc_status(const char *answer, uint64_t *handle);
 int vlmc_write_hex(char *text, const uint8_t *bytes, size_t len);
 void vlmc_read_value(const char *line, uint8_t *value, size_t len);
 
-/* vlm_client_calls.c. vlmc_ask sends a line and waits for its answer; it takes no mutex held. */
+/* vlm_client_calls.c. vlmc_ask begins a call, sends its line and waits for its answer; it takes no mutex held. */
 void vlmc_begin_call(struct call *call, uint32_t answers);
-uint32_t vlmc_ask(vlm_client *client, const char *line, struct call *call, uint32_t taken);
+uint32_t vlmc_ask(vlm_client *client, struct call *call, const char *line, uint32_t taken);
 
 /* vlm_client_records.c */
 uint32_t vlmc_new_record(vlm_client *client);
@@ -137,9 +148,12 @@ void vlmc_grant_at_once(vlm_client *client, uint32_t place);
 void vlmc_end(vlm_client *client, uint32_t place, uint32_t status);
 bool vlmc_is_grant(uint32_t status);
 
-/* vlm_client_requests.c. Reads the tail of an event's value from a status block, and frees the block. Takes no mutex
- * held. */
-void vlmc_read_tail(vlm_client *client, vlm_threads_event *told, uint32_t block);
+/* vlm_client_requests.c. vlmc_standing tells whether a process may make calls: NORMAL, VLM_LOST, NONEXPR. vlmc_forget
+ * forgets the locks that a dequeue has given up. vlmc_read_tail reads the tail of an event's value from its status
+ * block, and frees the block; it takes no mutex held. */
+uint32_t vlmc_standing(const vlm_client *client, uint32_t pid);
+void vlmc_forget(vlm_client *client, const vlm_threads_dequeue *dequeue);
+void vlmc_read_tail(vlm_client *client, struct event *event);
 
 /* vlm_client_events.c */
 void vlmc_tell_end(vlm_client *client, const struct record *record);
@@ -147,6 +161,16 @@ void vlmc_warn(vlm_client *client, uint32_t place);
 void vlmc_tell_loss(vlm_client *client);
 void *vlmc_deliver(void *client);
 void vlmc_drop_events(vlm_client *client);
+void vlmc_drop_events_of(vlm_client *client, uint32_t pid);
+
+/* Between these two the thread is not cancelled: it would leave a mutex locked. */
+static inline int cancels_off(void) {
+    int before;
+    pthread_setcancelstate(PTHREAD_CANCEL_DISABLE, &before);
+    return before;
+}
+
+static inline void cancels_back(int before) { pthread_setcancelstate(before, NULL); }
 
 /* Whether the size of a struct of vlm_threads.h is right. An older header may have made it shorter. */
 static inline bool is_sized(uint32_t size, size_t first, size_t whole) { return size >= first && size <= whole; }

@@ -41,6 +41,30 @@ static char *next_line(struct lines *lines) {
     }
 }
 
+/* Connects a socket and sends the first line. A signal may interrupt each call. */
+static bool ask_for_session(int descriptor, const struct sockaddr_un *address) {
+    ssize_t done;
+    while ((done = connect(descriptor, (const struct sockaddr *)address, sizeof *address)) < 0 && errno == EINTR)
+        continue;
+    while (done == 0 && (done = send(descriptor, "open\n", 5, MSG_NOSIGNAL)) < 0 && errno == EINTR)
+        done = 0;
+    return done == 5;
+}
+
+static bool read_byte(int descriptor, char *byte) {
+    ssize_t len;
+    while ((len = recv(descriptor, byte, 1, 0)) < 0 && errno == EINTR)
+        continue;
+    return len == 1;
+}
+
+/* Whether the second line names a session, by 16 digits. */
+static bool has_session(const char *text) {
+    static const char before[] = "\nsession ";
+    const char *line = strstr(text, before);
+    return line != NULL && strspn(line + strlen(before), "0123456789abcdef") == 16;
+}
+
 /* Begins a session on a new connection. Its two answers come before anything else. */
 uint32_t vlmc_connect(vlm_client *client) {
     struct sockaddr_un address = {.sun_family = AF_UNIX};
@@ -53,15 +77,13 @@ uint32_t vlmc_connect(vlm_client *client) {
         return VLM_LOST;
     memcpy(address.sun_path, path, strlen(path));
     client->descriptor = socket(AF_UNIX, SOCK_STREAM | SOCK_CLOEXEC, 0);
-    bool is_open = client->descriptor >= 0
-                   && connect(client->descriptor, (const struct sockaddr *)&address, sizeof address) == 0
-                   && send(client->descriptor, "open\n", 5, MSG_NOSIGNAL) == 5;
+    bool is_open = client->descriptor >= 0 && ask_for_session(client->descriptor, &address);
     /* (byte by byte, so that nothing is taken from the reader) */
     for (int feeds = 0; is_open && feeds < 2 && have < LINE_ROOM - 1; have++) {
-        is_open = recv(client->descriptor, text + have, 1, 0) == 1;
+        is_open = read_byte(client->descriptor, text + have);
         feeds += text[have] == '\n';
     }
-    if (is_open && strncmp(text, greeting, strlen(greeting)) == 0 && strstr(text, "\nsession 0") != NULL)
+    if (is_open && strncmp(text, greeting, strlen(greeting)) == 0 && has_session(text))
         return VLM_NORMAL;
     if (client->descriptor >= 0)
         close(client->descriptor);
@@ -102,6 +124,9 @@ static void take_answer(vlm_client *client, const char *line) {
         vlmc_read_value(line, call->value + SHORT_VALUE, WHOLE_VALUE - SHORT_VALUE);
     if (first.record != NO_RECORD)
         settle_request(client, first.record, call);
+    /* (here, since locks that are granted after the dequeue stay) */
+    if (call->dequeue != NULL && call->answer == VLM_NORMAL)
+        vlmc_forget(client, call->dequeue);
     if (--call->left == 0)
         pthread_cond_signal(&call->changed);
 }
@@ -132,17 +157,25 @@ static void lose(vlm_client *client) {
     for (; client->count > 0; client->count--) {
         struct pending first = client->queue[client->first];
         client->first = (client->first + 1) % client->room;
-        if (first.taken == STATUS)
-            first.call->answer = VLM_LOST;
+        first.call->answer = VLM_LOST;
         if (first.record != NO_RECORD)
             settle_request(client, first.record, first.call);
         if (--first.call->left == 0)
             pthread_cond_signal(&first.call->changed);
     }
     for (uint32_t place = 0; place < client->record_room; place++)
-        if (client->records[place].is_used && client->records[place].status == 0)
+        if (client->records[place].is_sent && client->records[place].status == 0)
             vlmc_end(client, place, VLM_LOST);
     vlmc_tell_loss(client);
+}
+
+/* Whether a line says that the session is over. */
+static bool is_end(const char *line) {
+    static const char *const ends[] = {"lost", "session killed", "session moved", "session ended"};
+    for (size_t at = 0; at < sizeof ends / sizeof *ends; at++)
+        if (strcmp(line, ends[at]) == 0)
+            return true;
+    return false;
 }
 
 void *vlmc_read(void *argument) {
@@ -152,7 +185,7 @@ void *vlmc_read(void *argument) {
     while (lines != NULL && (lines->descriptor = client->descriptor, line = next_line(lines)) != NULL) {
         uint32_t completed = record_of(line, "completion "), warned = record_of(line, "blocking ");
         char *block = completed != NO_RECORD ? next_line(lines) : NULL;
-        if ((completed != NO_RECORD && block == NULL) || strcmp(line, "lost") == 0)
+        if ((completed != NO_RECORD && block == NULL) || is_end(line))
             break;
         pthread_mutex_lock(&client->state);
         if (completed != NO_RECORD)
@@ -164,6 +197,7 @@ void *vlmc_read(void *argument) {
         pthread_mutex_unlock(&client->state);
     }
     free(lines);
+    shutdown(client->descriptor, SHUT_RDWR); /* no thread waits to send what nobody would answer */
     pthread_mutex_lock(&client->state);
     lose(client);
     pthread_mutex_unlock(&client->state);

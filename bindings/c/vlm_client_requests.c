@@ -15,6 +15,7 @@ struct lines {
     int len;
     struct pending wanted[MOST_LINES];
     uint32_t count;
+    uint32_t block; /* the status block of the request */
 };
 
 static bool is_valid(const vlm_threads_request *request, bool is_start) {
@@ -24,8 +25,7 @@ static bool is_valid(const vlm_threads_request *request, bool is_start) {
            && (request->completion != NULL) == is_start && (request->size == first || request->released == NULL);
 }
 
-/* Whether a process may make calls: NORMAL, VLM_LOST, NONEXPR. */
-static uint32_t standing(const vlm_client *client, uint32_t pid) {
+uint32_t vlmc_standing(const vlm_client *client, uint32_t pid) {
     if (client->is_lost)
         return VLM_LOST;
     bool is_living = pid != 0 && pid <= client->process_count && client->processes[pid - 1].is_living;
@@ -60,7 +60,7 @@ static void fill(vlm_client *client, uint32_t place, const vlm_threads_request *
 /* Makes a record for a request, with a status block. `lock` is the record of the lock that is converted. */
 static uint32_t prepare(vlm_client *client, const vlm_threads_request *request, struct call *call, bool is_conversion,
                         uint32_t *place) {
-    uint32_t status = standing(client, request->pid), lock = NO_RECORD;
+    uint32_t status = vlmc_standing(client, request->pid), lock = NO_RECORD;
     if (status == VLM_NORMAL && is_conversion) {
         lock = vlmc_find_lock(client, request->pid, request->lock);
         status = lock == NO_RECORD ? VLM_IVLOCKID : VLM_NORMAL;
@@ -104,6 +104,7 @@ static void write_end(vlm_client *client, struct lines *lines, const vlm_threads
     const struct record *record = &client->records[place];
     struct call *call = record->call;
     char *text = lines->text;
+    lines->block = record->block;
     lines->len +=
         snprintf(text + lines->len, LINE_ROOM, " block=%u ast=%u bits=%u", record->block, place, request->flags);
     if (request->blocking != NULL)
@@ -163,13 +164,12 @@ static struct timespec moment_after(uint32_t milliseconds) {
     return moment;
 }
 
-static void cancel(vlm_client *client, const vlm_threads_request *request, uint64_t handle) {
+/* Whatever the answer, the request ends: if the locks are lost, with VLM_LOST. */
+static void cancel(vlm_client *client, const vlm_threads_request *request, const struct call *cancelled) {
     char line[LINE_ROOM];
-    struct call call;
-    snprintf(line, sizeof line, "deq p%u %" PRIu64 " cancel\n", request->pid, handle);
-    vlmc_begin_call(&call, 1);
-    vlmc_ask(client, line, &call, STATUS);
-    pthread_cond_destroy(&call.changed);
+    struct call call = {.session = cancelled->session, .is_reserved = true};
+    snprintf(line, sizeof line, "deq p%u %" PRIu64 " cancel\n", request->pid, cancelled->handle);
+    vlmc_ask(client, &call, line, STATUS);
 }
 
 /* Waits for the end of an accepted request. A wait that is too long cancels it; a grant that came before counts. */
@@ -179,32 +179,41 @@ static uint32_t await_end(vlm_client *client, const vlm_threads_request *request
     bool is_ended = wait_for_end(client, call, request->milliseconds != 0 ? &until : NULL);
     pthread_mutex_unlock(&client->state);
     if (!is_ended) {
-        cancel(client, request, call->handle);
+        cancel(client, request, call);
         pthread_mutex_lock(&client->state);
         wait_for_end(client, call, NULL);
         pthread_mutex_unlock(&client->state);
     }
     if (vlmc_is_grant(call->status))
         return VLM_NORMAL;
-    return is_ended || call->status == VLM_LOST ? call->status : VLM_TIMEOUT;
+    if (is_ended || call->status == VLM_LOST || call->status == VLM_NONEXPR)
+        return call->status;
+    if (call->status == VLM_ABORT)
+        call->handle = 0; /* the lock of a conversion has gone too */
+    call->status = VLM_TIMEOUT;
+    return VLM_TIMEOUT;
 }
 
-/* Reads the tail of a value from a status block, and frees the block. */
-static void read_tail(vlm_client *client, uint32_t pid, uint32_t block, uint8_t *value) {
+/* Reads the tail of a value from a status block, and frees the block: NORMAL, VLM_LOST. */
+static uint32_t read_tail(vlm_client *client, uint32_t session, uint32_t pid, uint32_t block, uint8_t *value) {
     char line[LINE_ROOM];
-    struct call call;
+    struct call call = {.session = session, .is_reserved = true};
     snprintf(line, sizeof line, "tail p%u %u\n", pid, block);
-    vlmc_begin_call(&call, 1);
-    vlmc_ask(client, line, &call, TAIL);
+    uint32_t status = vlmc_ask(client, &call, line, TAIL);
     memcpy(value + SHORT_VALUE, call.value + SHORT_VALUE, WHOLE_VALUE - SHORT_VALUE);
-    pthread_cond_destroy(&call.changed);
     pthread_mutex_lock(&client->state);
     vlmc_free_block(client, pid, block);
     pthread_mutex_unlock(&client->state);
+    return status;
 }
 
-void vlmc_read_tail(vlm_client *client, vlm_threads_event *told, uint32_t block) {
-    read_tail(client, told->pid, block, told->value);
+/* Without the tail the event tells of the loss. */
+void vlmc_read_tail(vlm_client *client, struct event *event) {
+    vlm_threads_event *told = &event->told;
+    if (read_tail(client, event->session, told->pid, event->tail_of, told->value) == VLM_NORMAL)
+        return;
+    told->status = VLM_LOST;
+    told->value_len = 0;
 }
 
 /* Writes what a request returns. */
@@ -240,22 +249,41 @@ static uint32_t follow(vlm_client *client, vlm_threads_request *request, struct 
     uint32_t answer = await_end(client, request, call);
     bool is_wide = (request->flags & VLM_VALBLK) != 0 && (request->flags & VLM_WIDE) != 0;
     if (answer == VLM_NORMAL && is_wide)
-        read_tail(client, request->pid, block, call->value);
+        answer = read_tail(client, call->session, request->pid, block, call->value);
+    if (answer == VLM_LOST)
+        call->status = VLM_LOST;
     give(request, call, is_conversion);
     return answer;
+}
+
+/* A request was not sent. */
+static void take_back(vlm_client *client, uint32_t pid, uint32_t block, uint32_t place) {
+    pthread_mutex_lock(&client->state);
+    vlmc_free_block(client, pid, block);
+    vlmc_free_record(client, place);
+    pthread_mutex_unlock(&client->state);
+}
+
+static void end_call(vlm_client *client, struct call *call) {
+    pthread_mutex_lock(&client->state);
+    client->callers--;
+    pthread_mutex_unlock(&client->state);
+    pthread_cond_destroy(&call->changed);
 }
 
 /* Makes a request: `name` is null for a conversion. */
 static uint32_t make(vlm_client *client, vlm_threads_request *request, const uint8_t *name, size_t name_len) {
     struct lines lines = {.len = 0};
-    struct call call;
-    uint32_t place = NO_RECORD, block = 0;
+    struct call call = {0};
+    uint32_t place = NO_RECORD;
+    int before = cancels_off();
     request->lkid = request->status = 0;
     vlmc_begin_call(&call, 0);
     pthread_mutex_lock(&client->state);
+    client->callers++;
+    call.session = client->session;
     uint32_t status = prepare(client, request, &call, name == NULL, &place);
     if (status == VLM_NORMAL) {
-        block = client->records[place].block;
         if (name != NULL)
             write_enq(client, &lines, request, name, name_len);
         else
@@ -268,16 +296,13 @@ static uint32_t make(vlm_client *client, vlm_threads_request *request, const uin
     pthread_mutex_unlock(&client->state);
     if (status == VLM_NORMAL) {
         status = vlmc_send(client, lines.text, lines.wanted, lines.count);
-        if (status == VLM_NORMAL) {
-            status = follow(client, request, &call, block, name == NULL);
-        } else {
-            pthread_mutex_lock(&client->state);
-            vlmc_free_block(client, request->pid, block);
-            vlmc_free_record(client, place);
-            pthread_mutex_unlock(&client->state);
-        }
+        if (status == VLM_NORMAL)
+            status = follow(client, request, &call, lines.block, name == NULL);
+        else
+            take_back(client, request->pid, lines.block, place);
     }
-    pthread_cond_destroy(&call.changed);
+    end_call(client, &call);
+    cancels_back(before);
     return status;
 }
 
@@ -321,8 +346,7 @@ static void forget_below(vlm_client *client, uint32_t pid, uint32_t lock) {
     }
 }
 
-/* Forgets the locks that a dequeue has given up. */
-static void forget(vlm_client *client, const vlm_threads_dequeue *dequeue) {
+void vlmc_forget(vlm_client *client, const vlm_threads_dequeue *dequeue) {
     if ((dequeue->flags & VLM_DEQ_CANCEL) != 0)
         return;
     if ((dequeue->flags & VLM_DEQALL) != 0) {
@@ -334,12 +358,12 @@ static void forget(vlm_client *client, const vlm_threads_dequeue *dequeue) {
         vlmc_free_record(client, place);
 }
 
-uint32_t vlm_client_deq(vlm_client *client, const vlm_threads_dequeue *dequeue) {
+static uint32_t give_up(vlm_client *client, const vlm_threads_dequeue *dequeue) {
     char line[LINE_ROOM];
-    if (!vlmc_is_usable(client) || !is_valid_dequeue(dequeue))
-        return VLM_BADPARAM;
+    struct call call = {.dequeue = dequeue};
     pthread_mutex_lock(&client->state);
-    uint32_t status = standing(client, dequeue->pid);
+    uint32_t status = vlmc_standing(client, dequeue->pid);
+    call.session = client->session;
     int len = snprintf(line, sizeof line, "deq p%u %" PRIu64 " bits=%u", dequeue->pid, handle_of(client, dequeue->lock),
                        dequeue->flags);
     pthread_mutex_unlock(&client->state);
@@ -354,14 +378,14 @@ uint32_t vlm_client_deq(vlm_client *client, const vlm_threads_dequeue *dequeue) 
         len += vlmc_write_hex(line + len, dequeue->value + SHORT_VALUE, WHOLE_VALUE - SHORT_VALUE);
     }
     snprintf(line + len, 2, "\n");
-    struct call call;
-    vlmc_begin_call(&call, 1);
-    status = vlmc_ask(client, line, &call, STATUS);
-    pthread_cond_destroy(&call.changed);
-    if (status != VLM_NORMAL)
-        return status;
-    pthread_mutex_lock(&client->state);
-    forget(client, dequeue);
-    pthread_mutex_unlock(&client->state);
+    return vlmc_ask(client, &call, line, STATUS);
+}
+
+uint32_t vlm_client_deq(vlm_client *client, const vlm_threads_dequeue *dequeue) {
+    if (!vlmc_is_usable(client) || !is_valid_dequeue(dequeue))
+        return VLM_BADPARAM;
+    int before = cancels_off();
+    uint32_t status = give_up(client, dequeue);
+    cancels_back(before);
     return status;
 }

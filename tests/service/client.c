@@ -9,10 +9,14 @@
 #include <stdio.h>
 #include <stdlib.h>
 #include <string.h>
+#include <sys/prctl.h>
+#include <sys/socket.h>
+#include <sys/time.h>
+#include <sys/un.h>
 #include <sys/wait.h>
 #include <unistd.h>
 
-enum { THREADS = 4, ROUNDS = 200, WAIT = 20000 };
+enum { THREADS = 4, ROUNDS = 200, WAIT = 20000, SENDERS = 400, ASKERS = 64, MOST_SECONDS = 120 };
 
 static const char *vlmd, *config, *path;
 static pid_t daemon_pid;
@@ -30,6 +34,7 @@ static void check(bool fact, int line, const char *text) {
 static void start_daemon(void) {
     daemon_pid = fork();
     if (daemon_pid == 0) {
+        prctl(PR_SET_PDEATHSIG, SIGKILL);
         execl(vlmd, vlmd, "-s", path, "-c", config, (char *)NULL);
         _exit(1);
     }
@@ -80,7 +85,7 @@ static void test_answers(void) {
     vlm_threads_request held = wanted(pid, VLM_EX, 0), late = wanted(other, VLM_PR, 0);
     CHECK(enq(client, &held, "A") == VLM_NORMAL && held.lkid == 1 && held.status == VLM_NORMAL);
     late.milliseconds = 50;
-    CHECK(enq(client, &late, "A") == VLM_TIMEOUT && late.lkid == 0 && late.status == VLM_ABORT);
+    CHECK(enq(client, &late, "A") == VLM_TIMEOUT && late.lkid == 0 && late.status == VLM_TIMEOUT);
     late.flags = VLM_NOQUEUE;
     CHECK(enq(client, &late, "A") == VLM_NOTQUEUED && late.status == 0);
     held.lock = held.lkid;
@@ -89,7 +94,7 @@ static void test_answers(void) {
     CHECK(enq(client, &late, "A") == VLM_NORMAL);
     held.mode = VLM_EX;
     held.milliseconds = 50;
-    CHECK(vlm_client_convert(client, &held) == VLM_TIMEOUT && held.lkid == 1 && held.status == VLM_CANCEL);
+    CHECK(vlm_client_convert(client, &held) == VLM_TIMEOUT && held.lkid == 1 && held.status == VLM_TIMEOUT);
     CHECK(deq(client, other, 1, 0) == VLM_IVLOCKID && deq(client, 77, 1, 0) == VLM_NONEXPR);
     CHECK(deq(client, pid, 1, VLM_DEQ_CANCEL) == VLM_CANCELGRANT);
     vlm_threads_request below = wanted(pid, VLM_NL, 0);
@@ -289,18 +294,30 @@ static void test_race(void) {
 }
 
 static void test_fork(void) {
-    vlm_client *client = opened((vlm_client_options){0});
+    vlm_client *client = opened((vlm_client_options){.delivery = VLM_THREADS_BY_PROGRAM});
     uint32_t pid = declared(client);
     pid_t child = fork();
     if (child == 0) {
         vlm_threads_request request = wanted(pid, VLM_EX, 0);
-        _exit(enq(client, &request, "A") == VLM_BADPARAM && vlm_client_close(client) == VLM_BADPARAM ? 0 : 1);
+        int descriptor;
+        _exit(enq(client, &request, "A") == VLM_BADPARAM && vlm_client_close(client) == VLM_BADPARAM
+                      && vlm_client_fd(client, &descriptor) == VLM_BADPARAM && descriptor == -1
+                  ? 0
+                  : 1);
     }
     int status;
     CHECK(waitpid(child, &status, 0) == child && status == 0);
     vlm_threads_request request = wanted(pid, VLM_EX, 0);
     CHECK(enq(client, &request, "A") == VLM_NORMAL);
     vlm_client_close(client);
+}
+
+static void reopen(vlm_client *client) {
+    int tries = 0;
+    start_daemon();
+    while (vlm_client_reopen(client) != VLM_NORMAL && tries++ < 1000)
+        usleep(10000);
+    CHECK(tries < 1000);
 }
 
 /* The daemon is killed while a lock is held, a call waits and a start form is under way. */
@@ -322,19 +339,372 @@ static void test_loss(void) {
     CHECK(waiter.answer == VLM_LOST && until(&told.completions, 1) && told.status == VLM_LOST);
     CHECK(until(&told.losses, 1) && deq(client, pid, held.lkid, 0) == VLM_LOST);
     CHECK(enq(client, &held, "A") == VLM_LOST && vlm_client_reopen(client) == VLM_LOST);
-    start_daemon();
-    int tries = 0;
-    while (vlm_client_reopen(client) != VLM_NORMAL && tries++ < 1000)
-        usleep(10000);
+    reopen(client);
     CHECK(enq(client, &held, "A") == VLM_NONEXPR);
     held.pid = declared(client);
     CHECK(enq(client, &held, "A") == VLM_NORMAL && deq(client, held.pid, held.lkid, 0) == VLM_NORMAL);
     CHECK(told.losses == 1 && vlm_client_close(client) == VLM_NORMAL);
 }
 
+/* Waits until calls of a client answer that its locks are lost. */
+static void await_loss(vlm_client *client) {
+    int tries = 0;
+    while (deq(client, 1, 1, 0) != VLM_LOST && tries++ < 1000)
+        usleep(10000);
+    CHECK(tries < 1000);
+}
+
+struct sender {
+    vlm_client *client;
+    uint32_t pid, answer;
+    atomic_int completions;
+};
+
+static void on_sent(void *context, const vlm_threads_event *event) {
+    CHECK(event->status == VLM_LOST);
+    ++*(atomic_int *)context;
+}
+
+static void *send_request(void *argument) {
+    struct sender *sender = argument;
+    vlm_threads_request request = wanted(sender->pid, VLM_NL, 0);
+    request.completion = on_sent;
+    request.completion_context = &sender->completions;
+    sender->answer = vlm_client_start_enq(sender->client, &request, (const uint8_t *)"A", 1);
+    return NULL;
+}
+
+/* The daemon reads nothing, so that most threads can't send, and is killed: no routine of a call that answers VLM_LOST
+ * is called. The records are sound: new requests get different ones. */
+static void test_unsent(void) {
+    static struct sender senders[SENDERS];
+    static pthread_t threads[SENDERS];
+    vlm_client *client = opened((vlm_client_options){0});
+    vlm_threads_declaration declaration = {.size = sizeof declaration, .quota = 1000, .requests = SENDERS / 2};
+    uint32_t pids[2];
+    for (int at = 0; at < 2; at++)
+        CHECK(vlm_client_declare(client, &declaration, &pids[at]) == VLM_NORMAL);
+    kill(daemon_pid, SIGSTOP);
+    for (int at = 0; at < SENDERS; at++) {
+        senders[at].client = client;
+        senders[at].pid = pids[at % 2];
+        pthread_create(&threads[at], NULL, send_request, &senders[at]);
+    }
+    usleep(300000);
+    kill_daemon();
+    for (int at = 0; at < SENDERS; at++)
+        pthread_join(threads[at], NULL);
+    reopen(client);
+    CHECK(vlm_client_settle(client) == VLM_NORMAL);
+    for (int at = 0; at < SENDERS; at++)
+        CHECK(senders[at].answer == VLM_LOST && senders[at].completions == 0);
+    CHECK(vlm_client_declare(client, &declaration, &pids[0]) == VLM_NORMAL);
+    uint32_t locks[SENDERS];
+    for (int at = 0; at < SENDERS; at++) {
+        vlm_threads_request request = wanted(pids[0], VLM_NL, 0);
+        CHECK(enq(client, &request, "A") == VLM_NORMAL);
+        locks[at] = request.lkid;
+    }
+    for (int at = 0; at < SENDERS; at++) {
+        vlm_threads_request request = wanted(pids[0], VLM_CR, 0);
+        request.lock = locks[at];
+        CHECK(vlm_client_convert(client, &request) == VLM_NORMAL);
+    }
+    vlm_client_close(client);
+}
+
+/* Two losses before a dispatch: one call tells both. */
+static void test_losses(void) {
+    vlm_client_options options = {.delivery = VLM_THREADS_BY_PROGRAM, .on_lost = on_lost, .lost_context = &told};
+    vlm_client *client = opened(options);
+    uint32_t delivered;
+    memset(&told, 0, sizeof told);
+    for (int round = 0; round < 2; round++) {
+        kill_daemon();
+        await_loss(client);
+        reopen(client);
+    }
+    CHECK(vlm_client_dispatch(client, &delivered) == VLM_NORMAL && delivered == 1 && told.losses == 1);
+    CHECK(vlm_client_dispatch(client, &delivered) == VLM_NORMAL && delivered == 0);
+    kill_daemon();
+    await_loss(client);
+    CHECK(vlm_client_dispatch(client, &delivered) == VLM_NORMAL && delivered == 1 && told.losses == 2);
+    vlm_client_close(client);
+    start_daemon();
+}
+
+static void *wait_shortly(void *argument) {
+    struct waiter *waiter = argument;
+    vlm_threads_request request = wanted(waiter->pid, VLM_EX, 0);
+    request.milliseconds = 200;
+    waiter->answer = enq(waiter->client, &request, waiter->name);
+    pthread_testcancel();
+    return NULL;
+}
+
+/* A thread that is cancelled during a call ends after it. */
+static void test_cancelled(void) {
+    vlm_client *client = opened((vlm_client_options){0});
+    struct waiter waiter = {client, declared(client), 0, "A"};
+    uint32_t pid = declared(client);
+    vlm_threads_request held = wanted(pid, VLM_EX, 0);
+    void *end;
+    pthread_t thread;
+    CHECK(enq(client, &held, "A") == VLM_NORMAL);
+    pthread_create(&thread, NULL, wait_shortly, &waiter);
+    usleep(50000);
+    pthread_cancel(thread);
+    pthread_join(thread, &end);
+    CHECK(end == PTHREAD_CANCELED && waiter.answer == VLM_TIMEOUT && deq(client, pid, held.lkid, 0) == VLM_NORMAL);
+    vlm_client_close(client);
+}
+
+static void on_dispatched(void *context, const vlm_threads_event *event) {
+    struct pollfd ready = {.fd = *(int *)context, .events = POLLIN};
+    CHECK(event->kind == VLM_COMPLETION && poll(&ready, 1, 0) == 0);
+    told.completions++;
+}
+
+/* The descriptor is not readable during a dispatch. A warning of a lock that has gone is not counted. A rundown drops
+ * the pending events of its process, and no others. */
+static void test_pending(void) {
+    vlm_client *client = opened((vlm_client_options){.delivery = VLM_THREADS_BY_PROGRAM});
+    uint32_t pid = declared(client), other = declared(client), delivered;
+    struct pollfd ready = {.events = POLLIN};
+    memset(&told, 0, sizeof told);
+    CHECK(vlm_client_fd(client, &ready.fd) == VLM_NORMAL);
+    for (uint32_t at = 0; at < 4; at++) {
+        vlm_threads_request request = wanted(at % 2 == 0 ? pid : other, VLM_NL, 0);
+        request.completion = on_dispatched;
+        request.completion_context = &ready.fd;
+        CHECK(vlm_client_start_enq(client, &request, (const uint8_t *)"A", 1) == VLM_NORMAL);
+    }
+    vlm_threads_request last = wanted(pid, VLM_EX, 0), late = wanted(other, VLM_EX, 0);
+    last.blocking = on_blocking;
+    CHECK(enq(client, &last, "B") == VLM_NORMAL);
+    late.milliseconds = 100;
+    CHECK(enq(client, &late, "B") == VLM_TIMEOUT && deq(client, pid, last.lkid, 0) == VLM_NORMAL);
+    CHECK(vlm_client_rundown(client, other) == VLM_NORMAL && vlm_client_settle(client) == VLM_NORMAL);
+    CHECK(poll(&ready, 1, 0) == 1);
+    CHECK(vlm_client_dispatch(client, &delivered) == VLM_NORMAL && delivered == 2 && told.completions == 2);
+    CHECK(poll(&ready, 1, 0) == 0 && told.blockings == 0);
+    vlm_client_close(client);
+}
+
+static struct {
+    vlm_client *client;
+    atomic_bool is_over;
+} chain;
+
+/* Each routine starts the next request. */
+static void on_chain(void *context, const vlm_threads_event *event) {
+    vlm_threads_request request = wanted(event->pid, VLM_NL, 0);
+    request.completion = on_chain;
+    usleep(1000);
+    if (!chain.is_over && deq(chain.client, event->pid, event->lkid, 0) == VLM_NORMAL)
+        vlm_client_start_enq(chain.client, &request, (const uint8_t *)"A", 1);
+    usleep(1000);
+    CHECK(context == NULL);
+}
+
+/* A settle waits for the routine that runs, not for later ones. */
+static void test_settle(void) {
+    chain.client = opened((vlm_client_options){0});
+    uint32_t pid = declared(chain.client);
+    for (int at = 0; at < 3; at++) {
+        vlm_threads_request request = wanted(pid, VLM_NL, 0);
+        request.completion = on_chain;
+        CHECK(vlm_client_start_enq(chain.client, &request, (const uint8_t *)"A", 1) == VLM_NORMAL);
+    }
+    usleep(20000);
+    CHECK(vlm_client_settle(chain.client) == VLM_NORMAL);
+    chain.is_over = true;
+    vlm_client_close(chain.client);
+}
+
+static atomic_bool is_refused;
+void *__real_malloc(size_t size);
+void *__wrap_malloc(size_t size);
+
+/* The linker puts this in the place of malloc. */
+void *__wrap_malloc(size_t size) { return is_refused ? NULL : __real_malloc(size); }
+
+static void *ask(void *argument) {
+    struct waiter *waiter = argument;
+    vlm_threads_declaration declaration = {.size = sizeof declaration, .quota = 9, .requests = 1};
+    waiter->answer = vlm_client_declare(waiter->client, &declaration, &waiter->pid);
+    return NULL;
+}
+
+/* The daemon hears nothing, memory is refused, and the queue is full: a rundown changes nothing, and a wait ends in
+ * time all the same. */
+static void test_memory(void) {
+    vlm_client *client = opened((vlm_client_options){0});
+    uint32_t holder = declared(client);
+    struct waiter late = {client, declared(client), 0, "A"}, askers[ASKERS];
+    vlm_threads_request held = wanted(holder, VLM_EX, 0);
+    pthread_t thread, threads[ASKERS];
+    CHECK(enq(client, &held, "A") == VLM_NORMAL);
+    pthread_create(&thread, NULL, wait_shortly, &late);
+    usleep(50000);
+    kill(daemon_pid, SIGSTOP);
+    is_refused = true;
+    for (int at = 0; at < ASKERS; at++) {
+        askers[at] = (struct waiter){client, 0, 0, NULL};
+        pthread_create(&threads[at], NULL, ask, &askers[at]);
+    }
+    usleep(50000);
+    CHECK(vlm_client_rundown(client, holder) == VLM_INSFMEM);
+    usleep(200000);
+    is_refused = false;
+    kill(daemon_pid, SIGCONT);
+    pthread_join(thread, NULL);
+    CHECK(late.answer == VLM_TIMEOUT);
+    for (int at = 0; at < ASKERS; at++)
+        pthread_join(threads[at], NULL);
+    CHECK(vlm_client_rundown(client, holder) == VLM_NORMAL && vlm_client_rundown(client, holder) == VLM_NONEXPR);
+    vlm_client_close(client);
+}
+
+/* A service that answers each line by its first letters as a table says, and ends after the last row. */
+struct row {
+    const char *line, *answer;
+};
+
+static struct {
+    char path[128];
+    int listener;
+    const struct row *rows;
+} fake;
+
+/* What comes for a granted request, which has a record of the client. */
+#define BLOCK "p1: block 1 status 1 lock 1 value 000102030405060708090a0b0c0d0e0f\n"
+#define GRANTED(record) "p1: NORMAL lock 1\np1: completion " record " param 0 lock 1\n" BLOCK
+
+static void *serve(void *none) {
+    char line[1024];
+    int descriptor = accept(fake.listener, NULL, NULL);
+    FILE *lines = fdopen(descriptor, "r");
+    usleep(100000);
+    dprintf(descriptor, "vlm protocol 1 epoch 0\n");
+    for (const struct row *row = fake.rows; row->line != NULL; row++) {
+        CHECK(fgets(line, sizeof line, lines) != NULL && strncmp(line, row->line, strlen(row->line)) == 0);
+        dprintf(descriptor, "%s", row->answer);
+    }
+    shutdown(descriptor, SHUT_RDWR);
+    fclose(lines);
+    return none;
+}
+
+static pthread_t served(const struct row *rows, vlm_client **client) {
+    struct sockaddr_un address = {.sun_family = AF_UNIX};
+    pthread_t thread;
+    fake.rows = rows;
+    snprintf(fake.path, sizeof fake.path, "%s.fake", path);
+    memcpy(address.sun_path, fake.path, strlen(fake.path));
+    unlink(fake.path);
+    fake.listener = socket(AF_UNIX, SOCK_STREAM | SOCK_CLOEXEC, 0);
+    CHECK(bind(fake.listener, (const struct sockaddr *)&address, sizeof address) == 0 && listen(fake.listener, 1) == 0);
+    pthread_create(&thread, NULL, serve, NULL);
+    vlm_client_options options = {.size = sizeof options, .socket = fake.path};
+    CHECK(vlm_client_open(&options, client) == VLM_NORMAL);
+    return thread;
+}
+
+static void end_service(pthread_t thread, vlm_client *client) {
+    pthread_join(thread, NULL);
+    vlm_client_close(client);
+    close(fake.listener);
+    unlink(fake.path);
+}
+
+#define OPEN \
+    { "open", "session fedcba9876543210 seconds 0 number 0 asts 0\n" }
+#define DECLARE \
+    { "declare", "p1: process 65537\n" }
+
+/* The connection ends after the first, or the second of three answers, or with a line that says so: each time the call
+ * answers VLM_LOST and there is no lock. */
+static void test_half_answers(void) {
+    static const struct row tables[][4] = {{OPEN, DECLARE, {"enq", "p1: SYNCH lock 1\n"}},
+                                           {OPEN, DECLARE, {"enq", "p1: SYNCH lock 1\n" BLOCK}},
+                                           {OPEN, DECLARE, {"enq", GRANTED("0")}},
+                                           {OPEN, DECLARE, {"enq", "session killed\n"}},
+                                           {OPEN, DECLARE, {"enq", "session moved\n"}}};
+    static const uint32_t flags[] = {VLM_SYNCSTS, VLM_SYNCSTS, 0, 0, 0};
+    for (size_t at = 0; at < sizeof flags / sizeof *flags; at++) {
+        vlm_client *client;
+        pthread_t thread = served(tables[at], &client);
+        uint8_t value[64] = {99};
+        vlm_threads_request request = wanted(declared(client), VLM_EX, VLM_VALBLK | VLM_WIDE | flags[at]);
+        request.value = value;
+        CHECK(enq(client, &request, "A") == VLM_LOST && request.lkid == 0 && value[0] == 99);
+        CHECK(deq(client, 1, 1, 0) == VLM_LOST);
+        end_service(thread, client);
+    }
+}
+
+static void *give_up_all(void *client) {
+    CHECK(deq(client, 1, 0, VLM_DEQALL) == VLM_NORMAL);
+    return NULL;
+}
+
+#define DEQUEUE \
+    { "deq p1 0 bits=1", "" }
+#define NORMAL "p1: NORMAL\n"
+
+/* A lock that is granted after some DEQALL stays, though all answers come at once. */
+static void test_late_lock(void) {
+    static const struct row rows[] = {OPEN,
+                                      DECLARE,
+                                      DEQUEUE,
+                                      DEQUEUE,
+                                      DEQUEUE,
+                                      DEQUEUE,
+                                      {"enq", NORMAL NORMAL NORMAL NORMAL GRANTED("0")},
+                                      {"cvt p1 1 PR", GRANTED("1")},
+                                      {NULL, NULL}};
+    vlm_client *client;
+    pthread_t thread = served(rows, &client), threads[THREADS];
+    vlm_threads_request request = wanted(declared(client), VLM_EX, 0);
+    for (int at = 0; at < THREADS; at++)
+        pthread_create(&threads[at], NULL, give_up_all, client);
+    usleep(100000);
+    CHECK(enq(client, &request, "A") == VLM_NORMAL);
+    for (int at = 0; at < THREADS; at++)
+        pthread_join(threads[at], NULL);
+    request.lock = 1;
+    request.mode = VLM_PR;
+    CHECK(vlm_client_convert(client, &request) == VLM_NORMAL);
+    end_service(thread, client);
+}
+
+static atomic_int signals;
+
+static void on_signal(int number) { signals += number == SIGALRM; }
+
+/* Signals interrupt an opening. */
+static void test_signals(void) {
+    static const struct row rows[] = {OPEN, DECLARE, {NULL, NULL}};
+    const struct itimerval often = {{0, 10000}, {0, 10000}}, never = {{0, 0}, {0, 0}};
+    struct sigaction action = {.sa_handler = on_signal}, before;
+    vlm_client *client;
+    alarm(0);
+    sigaction(SIGALRM, &action, &before);
+    setitimer(ITIMER_REAL, &often, NULL);
+    pthread_t thread = served(rows, &client);
+    setitimer(ITIMER_REAL, &never, NULL);
+    sigaction(SIGALRM, &before, NULL);
+    alarm(MOST_SECONDS);
+    declared(client);
+    CHECK(signals > 0);
+    end_service(thread, client);
+}
+
 int main(int count, char **words) {
     if (count != 4)
         return 2;
+    alarm(MOST_SECONDS);
     vlmd = words[1];
     config = words[2];
     path = words[3];
@@ -347,6 +717,15 @@ int main(int count, char **words) {
     test_race();
     test_fork();
     test_loss();
+    test_unsent();
+    test_losses();
+    test_cancelled();
+    test_pending();
+    test_settle();
+    test_memory();
+    test_half_answers();
+    test_late_lock();
+    test_signals();
     kill(daemon_pid, SIGTERM);
     waitpid(daemon_pid, NULL, 0);
     puts("all calls answer as they should");
