@@ -413,6 +413,29 @@ static void test_unsent(void) {
     vlm_client_close(client);
 }
 
+static void *reopen_once(void *client) { return vlm_client_reopen(client) == VLM_NORMAL ? client : NULL; }
+
+/* Of threads that reopen at once, one does. */
+static void test_reopen(void) {
+    vlm_client *client = opened((vlm_client_options){0}), *other;
+    pthread_t threads[THREADS];
+    int done = 0;
+    kill_daemon();
+    await_loss(client);
+    start_daemon();
+    other = opened((vlm_client_options){0});
+    for (int at = 0; at < THREADS; at++)
+        pthread_create(&threads[at], NULL, reopen_once, client);
+    for (int at = 0; at < THREADS; at++) {
+        void *reopened;
+        pthread_join(threads[at], &reopened);
+        done += reopened != NULL;
+    }
+    CHECK(done == 1 && declared(client) != 0);
+    vlm_client_close(client);
+    vlm_client_close(other);
+}
+
 /* Two losses before a dispatch: one call tells both. */
 static void test_losses(void) {
     vlm_client_options options = {.delivery = VLM_THREADS_BY_PROGRAM, .on_lost = on_lost, .lost_context = &told};
@@ -546,7 +569,7 @@ static void test_memory(void) {
     pthread_t thread, threads[ASKERS];
     CHECK(enq(client, &held, "A") == VLM_NORMAL);
     pthread_create(&thread, NULL, wait_shortly, &late);
-    usleep(50000);
+    usleep(100000);
     kill(daemon_pid, SIGSTOP);
     is_refused = true;
     for (int at = 0; at < ASKERS; at++) {
@@ -575,6 +598,7 @@ static struct {
     char path[128];
     int listener;
     const struct row *rows;
+    atomic_int heard; /* lines */
 } fake;
 
 /* What comes for a granted request, which has a record of the client. */
@@ -583,12 +607,16 @@ static struct {
 
 static void *serve(void *none) {
     char line[1024];
+    sigset_t all;
+    sigfillset(&all);
+    pthread_sigmask(SIG_SETMASK, &all, NULL);
     int descriptor = accept(fake.listener, NULL, NULL);
     FILE *lines = fdopen(descriptor, "r");
     usleep(100000);
     dprintf(descriptor, "vlm protocol 1 epoch 0\n");
     for (const struct row *row = fake.rows; row->line != NULL; row++) {
         CHECK(fgets(line, sizeof line, lines) != NULL && strncmp(line, row->line, strlen(row->line)) == 0);
+        fake.heard++;
         dprintf(descriptor, "%s", row->answer);
     }
     shutdown(descriptor, SHUT_RDWR);
@@ -600,6 +628,7 @@ static pthread_t served(const struct row *rows, vlm_client **client) {
     struct sockaddr_un address = {.sun_family = AF_UNIX};
     pthread_t thread;
     fake.rows = rows;
+    fake.heard = 0;
     snprintf(fake.path, sizeof fake.path, "%s.fake", path);
     memcpy(address.sun_path, fake.path, strlen(fake.path));
     unlink(fake.path);
@@ -644,6 +673,22 @@ static void test_half_answers(void) {
     }
 }
 
+/* The connection ends before the tail of a value comes, which the event of a grant brings: it tells of the loss. */
+static void test_half_event(void) {
+    static const struct row rows[] = {OPEN, DECLARE, {"enq", GRANTED("0")}, {NULL, NULL}};
+    vlm_client *client;
+    pthread_t thread = served(rows, &client);
+    uint8_t value[64] = {0};
+    vlm_threads_request request = wanted(declared(client), VLM_EX, VLM_VALBLK | VLM_WIDE);
+    request.value = value;
+    request.completion = on_completion;
+    request.completion_context = &told;
+    memset(&told, 0, sizeof told);
+    CHECK(vlm_client_start_enq(client, &request, (const uint8_t *)"A", 1) == VLM_NORMAL);
+    CHECK(until(&told.completions, 1) && told.status == VLM_LOST);
+    end_service(thread, client);
+}
+
 static void *give_up_all(void *client) {
     CHECK(deq(client, 1, 0, VLM_DEQALL) == VLM_NORMAL);
     return NULL;
@@ -669,8 +714,7 @@ static void test_late_lock(void) {
     vlm_threads_request request = wanted(declared(client), VLM_EX, 0);
     for (int at = 0; at < THREADS; at++)
         pthread_create(&threads[at], NULL, give_up_all, client);
-    usleep(100000);
-    CHECK(enq(client, &request, "A") == VLM_NORMAL);
+    CHECK(until(&fake.heard, 2 + THREADS) && enq(client, &request, "A") == VLM_NORMAL);
     for (int at = 0; at < THREADS; at++)
         pthread_join(threads[at], NULL);
     request.lock = 1;
@@ -718,12 +762,14 @@ int main(int count, char **words) {
     test_fork();
     test_loss();
     test_unsent();
+    test_reopen();
     test_losses();
     test_cancelled();
     test_pending();
     test_settle();
     test_memory();
     test_half_answers();
+    test_half_event();
     test_late_lock();
     test_signals();
     kill(daemon_pid, SIGTERM);
