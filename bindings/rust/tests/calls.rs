@@ -36,7 +36,7 @@ fn conditions_have_numbers_and_names() {
         assert_eq!(condition.number(), number);
         assert_eq!(
             condition == Condition::Failed(Error::Other(number)),
-            !((1..=24).contains(&number) || [100, 256].contains(&number))
+            !((1..=24).contains(&number) || [100, 101, 256].contains(&number))
         );
         assert!(!condition.name().is_empty() && !condition.to_string().is_empty());
     }
