@@ -27,7 +27,7 @@
  * - A call of a forked child answers VLM_BADPARAM: the connection is its parent's.
  *
  * Threads, routines, memory and what the caller owes are as there, except that each call sends a line and waits for the
- * answer. A call takes two ways through the socket, some 20 microseconds. */
+ * answer: two ways through the socket. */
 #ifndef VLM_CLIENT_H
 #define VLM_CLIENT_H
 
