@@ -199,7 +199,7 @@ _LAYER_CALLS: Dict[str, List[Any]] = {
     "vlm_threads_print_wait": [c_void_p],
     "vlm_threads_print_deadlock": [c_void_p],
 }
-# What stands in the place of the layer.
+# The first argument of the calls that take something else than a layer there.
 _FIRST = {"vlm_threads_open": POINTER(ThreadsOptions), "vlm_threads_print": POINTER(ThreadsCounters),
           "vlm_threads_print_prometheus": POINTER(ThreadsCounters), "vlm_threads_print_wait": POINTER(ThreadsWait),
           "vlm_threads_print_deadlock": POINTER(ThreadsDeadlock)}
