@@ -122,6 +122,20 @@ static void blockers(void) {
     HOLD(vlm_next_blocker(&handle, 5, 9, &lock) == VLM_BADPARAM);
 }
 
+/* The other side: each lock shows the requests that have it among their blockers. */
+static void blocked(void) {
+    WALKS(vlm_first_blocked(&handle, 1, &lock), vlm_next_blocked(&handle, 1, lock.lkid, &lock), 2, 3);
+    WALKS(vlm_first_blocked(&handle, 2, &lock), vlm_next_blocked(&handle, 2, lock.lkid, &lock), 3, 4, 5);
+    WALKS(vlm_first_blocked(&handle, 3, &lock), vlm_next_blocked(&handle, 3, lock.lkid, &lock), 2, 4, 5);
+    WALKS(vlm_first_blocked(&handle, 4, &lock), vlm_next_blocked(&handle, 4, lock.lkid, &lock), 5);
+    EMPTY(vlm_first_blocked(&handle, 5, &lock));
+    EMPTY(vlm_next_blocked(&handle, 1, 4, &lock));
+    vlm_lock lock = {.size = sizeof lock};
+    HOLD(vlm_first_blocked(&handle, 99, &lock) == VLM_BADPARAM);
+    HOLD(vlm_next_blocked(&handle, 5, 99, &lock) == VLM_BADPARAM);
+    HOLD(vlm_next_blocked(&handle, 5, 9, &lock) == VLM_BADPARAM);
+}
+
 /* A search ends the request that a look for a victim has found. The look changes nothing. P waits for itself too. */
 static void victims(void) {
     const uint32_t expected[] = {4, 3, 2, 0};
@@ -154,6 +168,7 @@ int main(void) {
     rows(p, q, r);
     kin(p, q, r);
     blockers();
+    blocked();
     victims();
     vlm_close(&handle);
     printf("%u checks, %u wrong\n", calls, wrong);

@@ -166,6 +166,8 @@ static void wrong_reading(vlm *handle, struct written *to, bool is_sized) {
     EXPECT(vlm_next_sublock(handle, own, &to->lock), VLM_BADPARAM);
     EXPECT(vlm_first_blocker(handle, own, &to->lock), VLM_BADPARAM);
     EXPECT(vlm_next_blocker(handle, own, p_lock, &to->lock), VLM_BADPARAM);
+    EXPECT(vlm_first_blocked(handle, own, &to->lock), VLM_BADPARAM);
+    EXPECT(vlm_next_blocked(handle, own, p_lock, &to->lock), VLM_BADPARAM);
     EXPECT(vlm_take(handle, p, &to->ast), VLM_BADPARAM);
     EXPECT(vlm_take_any(handle, &number, &to->ast), VLM_BADPARAM);
     HOLD(number == 0);
@@ -227,6 +229,8 @@ static void closed_calls(vlm *handle) {
     EXPECT(vlm_next_sublock(handle, 1, &lock), VLM_BADPARAM);
     EXPECT(vlm_first_blocker(handle, 1, &lock), VLM_BADPARAM);
     EXPECT(vlm_next_blocker(handle, 1, 1, &lock), VLM_BADPARAM);
+    EXPECT(vlm_first_blocked(handle, 1, &lock), VLM_BADPARAM);
+    EXPECT(vlm_next_blocked(handle, 1, 1, &lock), VLM_BADPARAM);
     HOLD(vlm_lock_count(handle) == 0 && vlm_queued_count(handle) == 0);
     HOLD(vlm_process_count(handle) == 0 && vlm_resource_count(handle) == 0 && ast.kind == 9 && count == 99);
     HOLD(!handle->is_held && handle->core == NULL);

@@ -31,7 +31,7 @@ def calls_of(manager, process):
         (manager.take_any, [], {}),
         (manager.find, [NAMES], {"group": NUMBERS, "parent": NUMBERS}),
         (manager.find_lock, [NUMBERS], {}), (manager.resource_of, [NUMBERS], {}), (manager.sublocks, [NUMBERS], {}),
-        (manager.blockers, [NUMBERS], {}), (manager.locks_of, [(process, None)], {}),
+        (manager.blockers, [NUMBERS], {}), (manager.blocked, [NUMBERS], {}), (manager.locks_of, [(process, None)], {}),
         (process.enq, [NAMES, MODES, BLOCKS], {**REQUEST, "parent": LOCKS}),
         (process.convert, [LOCKS, MODES, BLOCKS], REQUEST),
         (process.deq, [LOCKS], {"flags": tuple(DequeueFlags), "value": TEXTS, "tail": TEXTS}),
@@ -106,6 +106,7 @@ class Arguments(unittest.TestCase):
             for queue in Queue:
                 for row in manager.rows(resource, queue):
                     list(manager.blockers(row.lock))
+                    list(manager.blocked(row.lock))
 
     def test_numbers_out_of_range_are_named(self):
         with LockManager() as manager:

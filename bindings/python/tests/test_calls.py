@@ -89,13 +89,16 @@ class Calls(unittest.TestCase):
         self.assertEqual([it.lock for it in manager.sublocks(parent)], [first, second])
         self.assertEqual([it.lock for it in manager.blockers(waiting)], [parent])
         self.assertEqual(list(manager.blockers(parent)), [])
+        self.assertEqual([it.lock for it in manager.blocked(parent)], [waiting])
+        self.assertEqual(list(manager.blocked(waiting)), [])
         self.assertEqual(manager.find_lock(waiting),
                          LockView(waiting, self.q.pid, None, Mode.EX, Queue.WAITING, 1, None, 3))
         self.assertEqual((manager.find_lock(first).parent, manager.find_lock(first).block), (parent, 2))
         self.assertEqual(manager.resource_of(second).name, b"T")
         self.assertEqual([it.locks for it in manager.processes()], [3, 1])
         self.assertEqual((manager.find_lock(99), manager.resource_of(99)), (None, None))
-        self.assertEqual([*manager.sublocks(99), *manager.blockers(99), *manager.rows_after(99)], [])
+        walks = [manager.sublocks, manager.blockers, manager.blocked, manager.rows_after]
+        self.assertEqual([it for walk in walks for it in walk(99)], [])
         last = self.q.enq("A", Mode.CR, 3).lock
         self.assertEqual([it.lock for it in manager.rows_after(waiting)], [last])
         self.assertEqual([*manager.rows_after(last), *manager.rows_after(parent)], [])

@@ -137,6 +137,8 @@ _CALLS: Dict[str, List[Any]] = {
     "vlm_next_sublock": [c_uint32, POINTER(Lock)],
     "vlm_first_blocker": [c_uint32, POINTER(Lock)],
     "vlm_next_blocker": [c_uint32, c_uint32, POINTER(Lock)],
+    "vlm_first_blocked": [c_uint32, POINTER(Lock)],
+    "vlm_next_blocked": [c_uint32, c_uint32, POINTER(Lock)],
     "vlm_print_block": [c_uint32, POINTER(Line), POINTER(Text)],
     "vlm_print_tail": [c_uint32, POINTER(Line), POINTER(Text)],
     "vlm_print_resource": [POINTER(Resource), POINTER(Text)],

@@ -117,6 +117,12 @@ class LockManager(Owner):
         number = word(lock, "the lock")
         return self._walk_locks("vlm_first_blocker", "vlm_next_blocker", number, also=[number])
 
+    def blocked(self, lock: int) -> Iterator[LockView]:
+        """The locks whose queued requests wait for a lock: those that have it among their blockers, converting ones
+        first, then waiting ones."""
+        number = word(lock, "the lock")
+        return self._walk_locks("vlm_first_blocked", "vlm_next_blocked", number, also=[number])
+
     def _walk_processes(self) -> Iterator[ProcessView]:
         words = raw.Process()
         while self._goes_on("vlm_next_process", words.pid, words) and words.pid:

@@ -71,6 +71,8 @@ calls! {
         next_sublock = vlm_next_sublock(lkid: u32, lock: &mut Lock) -> u32;
         first_blocker = vlm_first_blocker(lkid: u32, lock: &mut Lock) -> u32;
         next_blocker = vlm_next_blocker(lkid: u32, blocker: u32, lock: &mut Lock) -> u32;
+        first_blocked = vlm_first_blocked(lkid: u32, lock: &mut Lock) -> u32;
+        next_blocked = vlm_next_blocked(lkid: u32, blocked: u32, lock: &mut Lock) -> u32;
         print_block = vlm_print_block(pid: u32, line: &Line, text: &mut Text) -> u32;
         print_tail = vlm_print_tail(pid: u32, line: &Line, text: &mut Text) -> u32;
         print_resource = vlm_print_resource(resource: &Resource, text: &mut Text) -> u32;

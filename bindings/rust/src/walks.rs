@@ -49,8 +49,8 @@ impl Iterator for Resources<'_> {
 
 impl FusedIterator for Resources<'_> {}
 
-/// Locks, one after another: see [`LockManager::rows`], [`LockManager::locks_of`], [`LockManager::sublocks`] and
-/// [`LockManager::blockers`].
+/// Locks, one after another: see [`LockManager::rows`], [`LockManager::locks_of`], [`LockManager::sublocks`],
+/// [`LockManager::blockers`] and [`LockManager::blocked`].
 pub struct Locks<'a> {
     manager: &'a LockManager,
     walk: LockWalk,
@@ -66,6 +66,8 @@ enum LockWalk {
     Sublocks,
     // The blockers of this lock.
     Blockers(u32),
+    // The locks that this one blocks.
+    Blocked(u32),
 }
 
 impl<'a> Locks<'a> {
@@ -106,6 +108,7 @@ impl Iterator for Locks<'_> {
             LockWalk::Process => handle.next_own(given.lkid, after),
             LockWalk::Sublocks => handle.next_sublock(given.lkid, after),
             LockWalk::Blockers(lkid) => handle.next_blocker(lkid, given.lkid, after),
+            LockWalk::Blocked(lkid) => handle.next_blocked(lkid, given.lkid, after),
         });
         Some(Lock::of(&given))
     }
@@ -201,6 +204,27 @@ impl LockManager {
     pub fn blockers(&self, lock: LockId) -> Locks<'_> {
         Locks::from(self, LockWalk::Blockers(lock.0), |handle, first| {
             handle.first_blocker(lock.0, first)
+        })
+    }
+
+    /// The locks whose queued requests wait for a lock: those that have it among their [`LockManager::blockers`],
+    /// converting ones first, then waiting ones. A step takes time for each lock of the resource that it passes over.
+    ///
+    /// ```
+    /// use vlm::{Declaration, LockManager, Mode, Request};
+    ///
+    /// # fn main() -> Result<(), vlm::Error> {
+    /// let mut manager = LockManager::new()?;
+    /// let p = manager.declare(&Declaration { node: 1, quota: 9, blocks: 2, ..Declaration::default() })?;
+    /// let held = manager.enq(&Request::new(p, Mode::Ex, 1), b"A")?.lock;
+    /// let waiting = manager.enq(&Request::new(p, Mode::Ex, 2), b"A")?.lock;
+    /// assert!(manager.blocked(held).map(|lock| lock.id).eq([waiting]));
+    /// # Ok(())
+    /// # }
+    /// ```
+    pub fn blocked(&self, lock: LockId) -> Locks<'_> {
+        Locks::from(self, LockWalk::Blocked(lock.0), |handle, first| {
+            handle.first_blocked(lock.0, first)
         })
     }
 }

@@ -157,6 +157,11 @@ fn single_locks_are_walked() {
         .map(|lock| lock.id)
         .eq([it.parent]));
     assert_eq!(manager.blockers(it.parent).count(), 0);
+    assert!(manager
+        .blocked(it.parent)
+        .map(|lock| lock.id)
+        .eq([it.waiting]));
+    assert_eq!(manager.blocked(it.waiting).count(), 0);
     assert_eq!(
         manager
             .processes()
@@ -192,7 +197,9 @@ fn single_locks_are_found() {
         (None, None)
     );
     assert_eq!(
-        manager.sublocks(nobody).count() + manager.blockers(nobody).count(),
+        manager.sublocks(nobody).count()
+            + manager.blockers(nobody).count()
+            + manager.blocked(nobody).count(),
         0
     );
     assert_eq!(manager.locks_of(ProcessId(1)).count(), 0);

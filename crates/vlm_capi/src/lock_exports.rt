@@ -5,7 +5,7 @@
 
 ghost use Rattle.std.specs.Prelude.{◌≡◌, ◌==◌};
 ghost use Rattle.std.specs.Option.{option_map};
-ghost use Rattle.vlm_core.specs.Blockers.{ShowsFirstBlocker, ShowsNextBlocker};
+ghost use Rattle.vlm_core.specs.Blockers.{ShowsFirstBlocked, ShowsFirstBlocker, ShowsNextBlocked, ShowsNextBlocker};
 ghost use Rattle.vlm_core.specs.Locks.{IsLaterOwn, IsLaterSublock, ShowsFirstOwn, ShowsFirstSublock, ShowsNamed, ShowsNextInQueue, ShowsNextOf, ShowsResourceOf};
 ghost use Rattle.vlm_capi.specs.Copies.{Told, sized};
 ghost use Rattle.vlm_capi.specs.Shown.{ReadTold, ShowsFirstRow, lock_of, lock_or_none, resource_of};
@@ -68,6 +68,29 @@ pub extern "C" fn vlm_next_blocker(
         handle.new.slot.held (out.old.size == 64) out.old out.new result }
 {
     write_next(handle.next_blocker(lkid, blocker), out)
+}
+
+/// Copies the first lock whose queued request waits for a lock.
+#[unsafe(no_mangle)]
+pub extern "C" fn vlm_first_blocked(handle: &mut Handle, lkid: u32, out: &mut VlmLock) -> u32
+    ensures { ReadTold (λ s. ShowsFirstBlocked s lkid) lock_or_none handle.old.slot.held handle.new.slot.held
+        (out.old.size == 64) out.old out.new result }
+{
+    write_next(handle.first_blocked(lkid), out)
+}
+
+/// Copies the next lock whose queued request waits for it.
+#[unsafe(no_mangle)]
+pub extern "C" fn vlm_next_blocked(
+    handle: &mut Handle,
+    lkid: u32,
+    blocked: u32,
+    out: &mut VlmLock,
+) -> u32
+    ensures { ReadTold (λ s. ShowsNextBlocked s lkid blocked) lock_or_none handle.old.slot.held
+        handle.new.slot.held (out.old.size == 64) out.old out.new result }
+{
+    write_next(handle.next_blocked(lkid, blocked), out)
 }
 
 /// Copies the first lock of a process, in the order of making.

@@ -1,6 +1,6 @@
 //! What a handle reads of single locks. Nothing changes, and without a core nothing is answered.
 
-ghost use Rattle.vlm_core.specs.Blockers.{ShowsFirstBlocker, ShowsNextBlocker};
+ghost use Rattle.vlm_core.specs.Blockers.{ShowsFirstBlocked, ShowsFirstBlocker, ShowsNextBlocked, ShowsNextBlocker};
 ghost use Rattle.vlm_core.specs.Locks.{IsLaterOwn, IsLaterSublock, ShowsFirstOwn, ShowsFirstSublock, ShowsNamed, ShowsNextInQueue, ShowsNextOf, ShowsResourceOf};
 ghost use Rattle.vlm_capi.specs.Shown.{Reads, ShowsFirstRow};
 ghost use Rattle.vlm_capi.specs.Keys.{key_of, queue_of};
@@ -33,6 +33,18 @@ impl Handle {
         ensures { Reads (λ s. ShowsNextBlocker s lkid after) self.old.slot.held result self.new.slot.held }
     {
         self.with_core(|core| core.next_blocker(lkid, after))?
+    }
+
+    pub(crate) fn first_blocked(&mut self, lkid: u32) -> Option<Option<LockView>>
+        ensures { Reads (λ s. ShowsFirstBlocked s lkid) self.old.slot.held result self.new.slot.held }
+    {
+        self.with_core(|core| core.first_blocked(lkid))?
+    }
+
+    pub(crate) fn next_blocked(&mut self, lkid: u32, after: u32) -> Option<Option<LockView>>
+        ensures { Reads (λ s. ShowsNextBlocked s lkid after) self.old.slot.held result self.new.slot.held }
+    {
+        self.with_core(|core| core.next_blocked(lkid, after))?
     }
 
     pub(crate) fn first_own(&mut self, pid: u32) -> Option<Option<LockView>>

@@ -1,4 +1,4 @@
--- The locks for which a request waits, as the readers show them.
+-- The locks on one side of a lock, as the readers show them.
 use Rattle.std.proofs.Common.{◌≡◌, ◌≢◌, ◌&&◌, ◌<◌, ℕ, Bool, true, false, not, eq-eqb, List, [], ◌∷◌, ◌++◌, map, Option, None, Some, refl, sym, ap, ◌∙◌, subst, inl, inr}
 use Rattle.std.specs.Prelude.{◌==◌}
 use Rattle.std.specs.Option.{option_map_or}
@@ -11,7 +11,7 @@ use Rattle.vlm_words.specs.declared.locks.LockRow.{LockRow}
 use Rattle.vlm_words.specs.declared.resources.Queue.{Queue}
 use Rattle.vlm_words.specs.declared.resources.Queue.TheVariants.{Granted, Conversion, Waiting}
 use Rattle.vlm_words.specs.State.{Resource, State}
-use Rattle.vlm_model.specs.Deadlocks.{WaitsOn, wanted_number}
+use Rattle.vlm_model.specs.Deadlocks.{wanted_number}
 use Rattle.vlm_model.specs.QueueOrder.{IsInOrderOfRequests, QueuesAreInOrderOfRequests}
 use Rattle.vlm_model.proofs.Pairs.{EachPair}
 use Rattle.vlm_machine.proofs.Pairing.{pairs_by_recursion}
@@ -25,13 +25,13 @@ use Rattle.vlm_queue.specs.Views.{rows_in}
 use Rattle.vlm_locks.specs.declared.located_locks.LocatedLock.{LocatedLock}
 use Rattle.vlm_locks.specs.Standing.{IsLocated}
 use Rattle.vlm_locks.proofs.Stood.{one_lock, queued_stored, resource_among}
-use Rattle.vlm_cycle.specs.Blocking.{AreInOrder, IsFirstFrom, IsFirstOf, IsNextBlocker as IsNextStored, IsOn, IsRising, all_locks}
+use Rattle.vlm_cycle.specs.Blocking.{AreInOrder, IsFirstFrom, IsFirstOf, IsNextOn, IsOn, IsRising, all_locks}
 use Rattle.vlm_cycle.proofs.Blocking.{on_all}
 use Rattle.vlm_cycle.proofs.Listed.{lock_of, row_in}
 use Rattle.vlm_core.specs.declared.locks.LockView.{LockView}
 use Rattle.vlm_core.specs.Locks.{HasLockIn, IsNamed, IsViewOf, lock_view}
 use Rattle.vlm_core.proofs.SingleLocks.{rows_are}
-use Rattle.vlm_core.specs.Blockers.{AreNotTogether, FirstStoredFrom, FirstWaitedFor, IsBlockerShown, IsFirstBlocker, IsNextBlocker, locks_in_order}
+use Rattle.vlm_core.specs.Blockers.{AreNotTogether, FirstShown, FirstStoredFrom, IsFirstShown, IsNextShown, IsShownFrom, Standing, locks_in_order}
 
 -- ---- the order of the queues
 
@@ -162,11 +162,10 @@ module _ (s : Records) (sound : IsSound s) where
         ),
       )
 
-  -- the first for which the request waits
-  shown : (r : StoredResource) → IsIn r s.resources → (row : LockRow) (ks : List StoredLock) → ((k : StoredLock) → IsIn k ks → IsIn k (all_locks r)) → (at : ℕ) (view : LockView)
-      → IsFirstOf (WaitsOn (plain_resource r) row) ks (Some at) → IsViewOf s at view → FirstWaitedFor (plain_resource r) row (rows_of_locks ks) (Some view)
-  shown r there row ks within at view first v =
-      let P = WaitsOn (plain_resource r) row in
+  -- the first that passes
+  shown : (r : StoredResource) → IsIn r s.resources → (P : LockRow → Type 0) (ks : List StoredLock) → ((k : StoredLock) → IsIn k ks → IsIn k (all_locks r)) → (at : ℕ) (view : LockView)
+      → IsFirstOf P ks (Some at) → IsViewOf s at view → FirstShown (plain_resource r) P (rows_of_locks ks) (Some view)
+  shown r there P ks within at view first v =
       let found = found_of P ks at first in
       let k : StoredLock = record { at = at; row = found.row } in
       let among : IsIn k ks = subst (IsIn k) (sym found.parts) (in_behind k found.passed (k ∷ found.rest) (inl refl)) in
@@ -176,7 +175,7 @@ module _ (s : Records) (sound : IsSound s) where
         lock = found.row;
         rest = rows_of_locks found.rest;
         parts = ap rows_of_locks found.parts ∙ rows_both found.passed (k ∷ found.rest);
-        waits = found.passes;
+        passes = found.passes;
         first = All-from_recursion (λ lock. ¬ P lock) (rows_of_locks found.passed) found.first;
         queue = is.0;
         queued = is.1.0;
@@ -184,31 +183,36 @@ module _ (s : Records) (sound : IsSound s) where
       }
 
   -- or none
-  none_shown : (r : StoredResource) (row : LockRow) (ks : List StoredLock) → IsFirstOf (WaitsOn (plain_resource r) row) ks None
-      → FirstWaitedFor (plain_resource r) row (rows_of_locks ks) None
-  none_shown r row ks first =
-      All-from_recursion (λ lock. ¬ WaitsOn (plain_resource r) row lock) (rows_of_locks ks) (none_of (WaitsOn (plain_resource r) row) ks first)
+  none_shown : (r : StoredResource) (P : LockRow → Type 0) (ks : List StoredLock) → IsFirstOf P ks None → FirstShown (plain_resource r) P (rows_of_locks ks) None
+  none_shown r P ks first = All-from_recursion (λ lock. ¬ P lock) (rows_of_locks ks) (none_of P ks first)
 
-  -- what is found is shown
-  pub blocker_shown : (f : LocatedLock) (from : Option ℕ) (at : ℕ) (view : LockView) → IsNextStored s f from (Some at) → IsViewOf s at view → IsBlockerShown s f from (Some view)
-  blocker_shown f from at view next v r found = of_from from (next r found)
-    where
-      there : IsIn r s.resources
-      there = resource_among f.res s.resources r found
+  module _ (R : Standing) (f : LocatedLock) where
+    -- how other locks of a resource stand to the located lock
+    abbrev to_it : Resource → LockRow → Type 0
+    to_it r = R r f.row
 
-      of_from : (from : Option ℕ) → IsFirstFrom (WaitsOn (plain_resource r) f.row) from (all_locks r) (Some at) → FirstStoredFrom r f.row from (Some view)
-      of_from None first =
-          subst (λ rows. FirstWaitedFor (plain_resource r) f.row rows (Some view)) (all_rows r) (shown r there f.row (all_locks r) (λ k among. among) at view first v)
-      of_from (Some last) first = λ before rest row parts.
-          shown r there f.row rest (λ k among. subst (IsIn k) (sym parts) (in_behind k before (record { at = last; row = row } ∷ rest) (inr among))) at view
-          (first before rest row parts) v
+    -- what is found is shown
+    pub found_shown : (from : Option ℕ) (at : ℕ) (view : LockView) → IsNextOn (λ r. R r f.row) s f.res from (Some at) → IsViewOf s at view → IsShownFrom R s f from (Some view)
+    found_shown from at view next v r found = of_from from (next r found)
+      where
+        there : IsIn r s.resources
+        there = resource_among f.res s.resources r found
 
-  pub no_blocker_shown : (f : LocatedLock) (from : Option ℕ) → IsNextStored s f from None → IsBlockerShown s f from None
-  no_blocker_shown f from next r found = of_from from (next r found)
-    where
-      of_from : (from : Option ℕ) → IsFirstFrom (WaitsOn (plain_resource r) f.row) from (all_locks r) None → FirstStoredFrom r f.row from None
-      of_from None first = subst (λ rows. FirstWaitedFor (plain_resource r) f.row rows None) (all_rows r) (none_shown r f.row (all_locks r) first)
-      of_from (Some last) first = λ before rest row parts. none_shown r f.row rest (first before rest row parts)
+        of_from : (from : Option ℕ) → IsFirstFrom (to_it (plain_resource r)) from (all_locks r) (Some at) → FirstStoredFrom r (to_it (plain_resource r)) from (Some view)
+        of_from None first =
+            subst (λ rows. FirstShown (plain_resource r) (to_it (plain_resource r)) rows (Some view)) (all_rows r)
+            (shown r there (to_it (plain_resource r)) (all_locks r) (λ k among. among) at view first v)
+        of_from (Some last) first = λ before rest row parts.
+            shown r there (to_it (plain_resource r)) rest
+            (λ k among. subst (IsIn k) (sym parts) (in_behind k before (record { at = last; row = row } ∷ rest) (inr among))) at view (first before rest row parts) v
+
+    pub nothing_shown : (from : Option ℕ) → IsNextOn (λ r. R r f.row) s f.res from None → IsShownFrom R s f from None
+    nothing_shown from next r found = of_from from (next r found)
+      where
+        of_from : (from : Option ℕ) → IsFirstFrom (to_it (plain_resource r)) from (all_locks r) None → FirstStoredFrom r (to_it (plain_resource r)) from None
+        of_from None first =
+            subst (λ rows. FirstShown (plain_resource r) (to_it (plain_resource r)) rows None) (all_rows r) (none_shown r (to_it (plain_resource r)) (all_locks r) first)
+        of_from (Some last) first = λ before rest row parts. none_shown r (to_it (plain_resource r)) rest (first before rest row parts)
 
   -- ---- the locks of the plain state
 
@@ -277,9 +281,9 @@ module _ (s : Records) (sound : IsSound s) where
   two_resources a b test same = let never : true ≡ false = test ∙ ap (λ c. not (c && true)) (eq-eqb a b same) in cc
 
   module _ (t : State) (are : t.resources ≡ plain_resources s) (f : LocatedLock) (located : IsLocated f s) (lkid : ℕ) (its : f.row.lkid ≡ lkid) where
-    -- the first blocker of a located lock
-    pub first_is : (view : Option LockView) → IsBlockerShown s f None view → IsFirstBlocker t lkid view
-    first_is view is = record {
+    -- the first lock on a side of the located lock
+    pub first_is : (R : Standing) (view : Option LockView) → IsShownFrom R s f None view → IsFirstShown R t lkid view
+    first_is R view is = record {
       resource = plain_resource located.resource;
       queue = f.queue;
       row = f.row;
@@ -300,9 +304,9 @@ module _ (s : Records) (sound : IsSound s) where
       pub last_on : IsOn at f.res s
       last_on = on_all s f.res at located.resource last.queue last.row located.found among
 
-      -- the blocker after that one
-      pub next_is : (after : ℕ) → last.row.lkid ≡ after → (view : Option LockView) → IsBlockerShown s f (Some at) view → IsNextBlocker t lkid after view
-      next_is after its_last view is =
+      -- the next one after that lock
+      pub next_is : (R : Standing) (after : ℕ) → last.row.lkid ≡ after → (view : Option LockView) → IsShownFrom R s f (Some at) view → IsNextShown R t lkid after view
+      next_is R after its_last view is =
           let k : StoredLock = record { at = at; row = last.row } in
           let split = split_at k (all_locks located.resource) (lock_of_queue last.queue k located.resource among) in
           record {

@@ -1,4 +1,4 @@
--- The locks for which a queued request waits, as the readers show them.
+-- The locks for which a queued request waits, and those whose requests wait for a lock, as the readers show them.
 use Rattle.std.specs.Prelude.{◌≡◌, ℕ, List, All, ◌++◌, ◌∷◌, Option, None, Some}
 use Rattle.vlm_words.specs.declared.locks.LockRow.{LockRow}
 use Rattle.vlm_words.specs.declared.resources.Queue.{Queue}
@@ -11,62 +11,76 @@ use Rattle.vlm_locks.specs.declared.located_locks.LocatedLock.{LocatedLock}
 use Rattle.vlm_cycle.specs.Blocking.{all_locks}
 use Rattle.vlm_queue.specs.Views.{rows_in}
 use Rattle.vlm_core.specs.declared.locks.LockView.{LockView}
+use Rattle.vlm_core.specs.declared.blockers.Side.{Side}
+use Rattle.vlm_core.specs.declared.blockers.Side.TheVariants.{Blocked, Blockers}
 use Rattle.vlm_core.specs.Locks.{HasLockIn, IsNamed, LacksLock, lock_view}
 
 -- all locks of a resource in the order of its queues: granted, converting, waiting
 abbrev pub locks_in_order : Resource → List LockRow
 locks_in_order r = r.granted ++ queue_of r
 
--- the request of the row waits for none of these locks
-abbrev pub WaitsForNone : Resource → LockRow → List LockRow → Type 0
-WaitsForNone r row locks = All (λ lock. ¬ WaitsOn r row lock) locks
+-- how another lock of a resource stands to a lock: the request of the one waits for the other
+abbrev pub Standing : Type 1
+Standing = Resource → LockRow → LockRow → Type 0
 
--- the view shows the first of these locks for which the request of the row waits
-pub record ShowsBlocker (r : Resource) (row : LockRow) (locks : List LockRow) (view : LockView) : Type 0 where
+-- the lock keeps the request of the other one waiting
+abbrev pub IsAwaitedBy : Standing
+IsAwaitedBy r row other = WaitsOn r other row
+
+-- the standing of the locks on each side of a lock
+abbrev pub standing_of : Side → Standing
+standing_of Blockers = WaitsOn
+standing_of Blocked = IsAwaitedBy
+
+-- none of these locks passes
+abbrev pub NonePasses : (LockRow → Type 0) → List LockRow → Type 0
+NonePasses P locks = All (λ lock. ¬ P lock) locks
+
+-- the view shows the first of these locks that passes
+pub record ShowsFirst (r : Resource) (P : LockRow → Type 0) (locks : List LockRow) (view : LockView) : Type 0 where
   pub passed : List LockRow
   pub lock : LockRow
   pub rest : List LockRow
   pub parts : locks ≡ passed ++ lock ∷ rest
-  pub waits : WaitsOn r row lock
-  pub first : WaitsForNone r row passed
+  pub passes : P lock
+  pub first : NonePasses P passed
   pub queue : Queue
   pub queued : IsIn lock (rows_in queue r)
   pub shown : view ≡ lock_view r queue lock
 
--- the same, or the request waits for none of these locks and nothing is shown
-abbrev pub FirstWaitedFor : Resource → LockRow → List LockRow → Option LockView → Type 0
-FirstWaitedFor r row locks None = WaitsForNone r row locks
-FirstWaitedFor r row locks (Some view) = ShowsBlocker r row locks view
+-- the same, or none passes and nothing is shown
+abbrev pub FirstShown : Resource → (LockRow → Type 0) → List LockRow → Option LockView → Type 0
+FirstShown r P locks None = NonePasses P locks
+FirstShown r P locks (Some view) = ShowsFirst r P locks view
 
 -- the same for the locks of a stored resource: those after the lock with this handle, or all of them if none is named
-abbrev pub FirstStoredFrom : StoredResource → LockRow → Option ℕ → Option LockView → Type 0
-FirstStoredFrom r row None view = FirstWaitedFor (plain_resource r) row (locks_in_order (plain_resource r)) view
-FirstStoredFrom r row (Some at) view =
+abbrev pub FirstStoredFrom : StoredResource → (LockRow → Type 0) → Option ℕ → Option LockView → Type 0
+FirstStoredFrom r P None view = FirstShown (plain_resource r) P (locks_in_order (plain_resource r)) view
+FirstStoredFrom r P (Some at) view =
     (before rest : List StoredLock) (last : LockRow) → all_locks r ≡ before ++ record { at = at; row = last } ∷ rest
-    → FirstWaitedFor (plain_resource r) row (rows_of_locks rest) view
+    → FirstShown (plain_resource r) P (rows_of_locks rest) view
 
--- the same for the request of a located lock, on its resource
-abbrev pub IsBlockerShown : Records → LocatedLock → Option ℕ → Option LockView → Type 0
-IsBlockerShown s f from view = (r : StoredResource) → resource_at f.res s.resources ≡ Some r
-    → FirstStoredFrom r f.row from view
+-- the same for the locks that stand so to a located lock
+abbrev pub IsShownFrom : Standing → Records → LocatedLock → Option ℕ → Option LockView → Type 0
+IsShownFrom R s f from view = (r : StoredResource) → resource_at f.res s.resources ≡ Some r
+    → FirstStoredFrom r (R (plain_resource r) f.row) from view
 
--- the lock of this identification exists, and the first lock of its resource for which its request waits is shown
-pub record IsFirstBlocker (s : State) (lkid : ℕ) (view : Option LockView) : Type 0 where
+-- the lock of this identification exists, and the first lock of its resource that stands so to it is shown
+pub record IsFirstShown (R : Standing) (s : State) (lkid : ℕ) (view : Option LockView) : Type 0 where
   pub resource : Resource
   pub queue : Queue
   pub row : LockRow
   pub there : HasLockIn s resource queue row
   pub named : IsNamed lkid row
-  pub first : FirstWaitedFor resource row (locks_in_order resource) view
+  pub first : FirstShown resource (R resource row) (locks_in_order resource) view
 
 -- the same, or no lock has the identification
-abbrev pub ShowsFirstBlocker : State → ℕ → Option (Option LockView) → Type 0
-ShowsFirstBlocker s lkid None = LacksLock s (IsNamed lkid)
-ShowsFirstBlocker s lkid (Some view) = IsFirstBlocker s lkid view
+abbrev pub ShowsFirstOf : Standing → State → ℕ → Option (Option LockView) → Type 0
+ShowsFirstOf R s lkid None = LacksLock s (IsNamed lkid)
+ShowsFirstOf R s lkid (Some view) = IsFirstShown R s lkid view
 
--- both locks exist on one resource, and the first lock after the second one for which the request of the first waits
--- is shown
-pub record IsNextBlocker (s : State) (lkid after : ℕ) (view : Option LockView) : Type 0 where
+-- both locks exist on one resource, and the first lock after the second one that stands so to the first is shown
+pub record IsNextShown (R : Standing) (s : State) (lkid after : ℕ) (view : Option LockView) : Type 0 where
   pub resource : Resource
   pub queue : Queue
   pub row : LockRow
@@ -77,7 +91,7 @@ pub record IsNextBlocker (s : State) (lkid after : ℕ) (view : Option LockView)
   pub rest : List LockRow
   pub parts : locks_in_order resource ≡ before ++ last ∷ rest
   pub last_named : IsNamed after last
-  pub next : FirstWaitedFor resource row rest view
+  pub next : FirstShown resource (R resource row) rest view
 
 -- no resource has locks of both identifications
 abbrev pub AreNotTogether : State → ℕ → ℕ → Type 0
@@ -86,6 +100,20 @@ AreNotTogether s lkid after =
     → HasLockIn s r queue row → HasLockIn s r other last → IsNamed lkid row → ¬ IsNamed after last
 
 -- the same, or no resource has both locks
+abbrev pub ShowsNextOf : Standing → State → ℕ → ℕ → Option (Option LockView) → Type 0
+ShowsNextOf R s lkid after None = AreNotTogether s lkid after
+ShowsNextOf R s lkid after (Some view) = IsNextShown R s lkid after view
+
+-- the first, and the next, lock for which the request of a lock waits
+abbrev pub ShowsFirstBlocker : State → ℕ → Option (Option LockView) → Type 0
+ShowsFirstBlocker s lkid view = ShowsFirstOf WaitsOn s lkid view
+
 abbrev pub ShowsNextBlocker : State → ℕ → ℕ → Option (Option LockView) → Type 0
-ShowsNextBlocker s lkid after None = AreNotTogether s lkid after
-ShowsNextBlocker s lkid after (Some view) = IsNextBlocker s lkid after view
+ShowsNextBlocker s lkid after view = ShowsNextOf WaitsOn s lkid after view
+
+-- the first, and the next, lock whose request waits for a lock
+abbrev pub ShowsFirstBlocked : State → ℕ → Option (Option LockView) → Type 0
+ShowsFirstBlocked s lkid view = ShowsFirstOf IsAwaitedBy s lkid view
+
+abbrev pub ShowsNextBlocked : State → ℕ → ℕ → Option (Option LockView) → Type 0
+ShowsNextBlocked s lkid after view = ShowsNextOf IsAwaitedBy s lkid after view

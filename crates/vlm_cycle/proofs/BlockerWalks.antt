@@ -1,11 +1,11 @@
--- Walks over all locks of a resource, up to the first for which a request waits.
+-- Walks over all locks of a resource, up to the first that passes.
 use Rattle.std.proofs.Common.{◌≡◌, ◌≢◌, ◌<◌, ℕ, List, [], ◌∷◌, ◌++◌, length, Option, None, Some, refl, sym, ap, ◌∙◌, subst, inl, inr, eq-eqb, ne_eqb, append_assoc}
 use Rattle.std.specs.Option.{ForSome, option_map_or}
 use Rattle.std.proofs.lemmas.Bool.{cases_eq}
 use Rattle.vlm_words.specs.declared.locks.LockRow.{LockRow}
 use Rattle.vlm_words.specs.declared.resources.Queue.{Queue}
 use Rattle.vlm_words.specs.declared.resources.Queue.TheVariants.{Granted, Conversion, Waiting}
-use Rattle.vlm_model.specs.Deadlocks.{WaitsOn}
+use Rattle.vlm_words.specs.State.{Resource}
 use Rattle.vlm_collections.specs.Lists.{IsIn}
 use Rattle.vlm_collections.proofs.HandleLists.{in_either}
 use Rattle.vlm_records.specs.declared.handles.Place.{Place}
@@ -14,10 +14,9 @@ use Rattle.vlm_store.specs.Plain.{plain_resource}
 use Rattle.vlm_store.specs.Records.{AreApart, IsSound, IsStored, Records, StoredLock, StoredResource, Stores, at_after, first_at, locks_at, queued, resource_at}
 use Rattle.vlm_store.proofs.Records.{queue_at}
 use Rattle.vlm_store.proofs.Walks.{HasLock, after-among, at_lock, first-there, locks_from, locks_from-first, locks_left-fewer}
-use Rattle.vlm_locks.specs.declared.located_locks.LocatedLock.{LocatedLock}
 use Rattle.vlm_locks.proofs.Stood.{queued_stored, resource_among}
-use Rattle.vlm_cycle.specs.Blocking.{IsFirstFrom, IsFirstOf, IsNextBlocker, IsOn, WaitsOnLock, all_locks, all_locks_at, first_from}
-use Rattle.vlm_cycle.proofs.Blocking.{Where, place_is, row_waits, waits_row, where_on}
+use Rattle.vlm_cycle.specs.Blocking.{IsFirstFrom, IsFirstOf, IsNextOn, IsOn, PassesOn, all_locks, all_locks_at, first_from}
+use Rattle.vlm_cycle.proofs.Blocking.{Where, passes_row, place_is, row_passes, where_on}
 
 -- ---- all locks of a resource
 
@@ -185,10 +184,10 @@ module _ (s : Records) (res lock : ℕ) (sound : IsSound s) (on : IsOn lock res 
 -- ---- walks
 
 -- the locks that the walk has left give what it is to give
-abbrev pub Leads : Records → LocatedLock → Option ℕ → Option ℕ → Type 0
-Leads s f from at =
-    (own : StoredResource) → resource_at f.res s.resources ≡ Some own → (found : Option ℕ)
-    → IsFirstOf (WaitsOn (plain_resource own) f.row) (locks_from at (all_locks own)) found → IsFirstFrom (WaitsOn (plain_resource own) f.row) from (all_locks own) found
+abbrev pub Leads : (Resource → LockRow → Type 0) → Records → ℕ → Option ℕ → Option ℕ → Type 0
+Leads P s res from at =
+    (own : StoredResource) → resource_at res s.resources ≡ Some own → (found : Option ℕ)
+    → IsFirstOf (P (plain_resource own)) (locks_from at (all_locks own)) found → IsFirstFrom (P (plain_resource own)) from (all_locks own) found
 
 -- the locks that a walk has left
 abbrev pub left_at : Records → ℕ → Option ℕ → List StoredLock
@@ -200,56 +199,57 @@ on_locks s res lock own found on = subst (λ o. HasLock lock (option_map_or all_
 locks_on : (s : Records) (res : ℕ) (own : StoredResource) → resource_at res s.resources ≡ Some own → all_locks_at res s ≡ all_locks own
 locks_on s res own found = ap (λ o. option_map_or all_locks o []) found
 
--- a walk from the first lock
-pub leads_first : (s : Records) (f : LocatedLock) (at : Option ℕ) → IsSound s → at ≡ first_at (all_locks_at f.res s) → Leads s f None at
-leads_first s f at sound is own found result first =
-    let apart = all_apart s sound own (resource_among f.res s.resources own found) in
-    let begins : at ≡ first_at (all_locks own) = is ∙ ap first_at (locks_on s f.res own found) in
-    subst (λ ks. IsFirstOf (WaitsOn (plain_resource own) f.row) ks result)
-    (ap (λ o. locks_from o (all_locks own)) begins ∙ locks_from-first [] (all_locks own) apart) first
+module _ (P : Resource → LockRow → Type 0) (s : Records) (res : ℕ) where
+  -- a walk from the first lock
+  leads_first : (at : Option ℕ) → IsSound s → at ≡ first_at (all_locks_at res s) → Leads P s res None at
+  leads_first at sound is own found result first =
+      let apart = all_apart s sound own (resource_among res s.resources own found) in
+      let begins : at ≡ first_at (all_locks own) = is ∙ ap first_at (locks_on s res own found) in
+      subst (λ ks. IsFirstOf (P (plain_resource own)) ks result)
+      (ap (λ o. locks_from o (all_locks own)) begins ∙ locks_from-first [] (all_locks own) apart) first
 
--- a walk from the lock after one
-pub leads_after : (s : Records) (f : LocatedLock) (lock : ℕ) (at : Option ℕ) → IsSound s → at ≡ at_after lock (all_locks_at f.res s) → Leads s f (Some lock) at
-leads_after s f lock at sound is own found result first before rest row split =
-    let k : StoredLock = record { at = lock; row = row } in
-    let apart : AreApart (before ++ k ∷ rest) = subst AreApart split (all_apart s sound own (resource_among f.res s.resources own found)) in
-    let one : before ++ k ∷ [] ++ rest ≡ before ++ k ∷ rest = append_assoc before (k ∷ []) rest in
-    let after : at ≡ first_at rest = is ∙ ap (at_after lock) (locks_on s f.res own found ∙ split) ∙ after-among k before rest apart in
-    let behind : locks_from (first_at rest) (before ++ k ∷ rest) ≡ rest =
-    ap (locks_from (first_at rest)) (sym one) ∙ locks_from-first (before ++ k ∷ []) rest (subst AreApart (sym one) apart) in
-    subst (λ ks. IsFirstOf (WaitsOn (plain_resource own) f.row) ks result)
-    (ap (λ o. locks_from o (all_locks own)) after ∙ ap (locks_from (first_at rest)) split ∙ behind) first
+  -- a walk from the lock after one
+  leads_after : (lock : ℕ) (at : Option ℕ) → IsSound s → at ≡ at_after lock (all_locks_at res s) → Leads P s res (Some lock) at
+  leads_after lock at sound is own found result first before rest row split =
+      let k : StoredLock = record { at = lock; row = row } in
+      let apart : AreApart (before ++ k ∷ rest) = subst AreApart split (all_apart s sound own (resource_among res s.resources own found)) in
+      let one : before ++ k ∷ [] ++ rest ≡ before ++ k ∷ rest = append_assoc before (k ∷ []) rest in
+      let after : at ≡ first_at rest = is ∙ ap (at_after lock) (locks_on s res own found ∙ split) ∙ after-among k before rest apart in
+      let behind : locks_from (first_at rest) (before ++ k ∷ rest) ≡ rest =
+      ap (locks_from (first_at rest)) (sym one) ∙ locks_from-first (before ++ k ∷ []) rest (subst AreApart (sym one) apart) in
+      subst (λ ks. IsFirstOf (P (plain_resource own)) ks result)
+      (ap (λ o. locks_from o (all_locks own)) after ∙ ap (locks_from (first_at rest)) split ∙ behind) first
 
--- a walk from either
-pub leads_from : (s : Records) (f : LocatedLock) (from at : Option ℕ) → IsSound s → at ≡ first_from from (all_locks_at f.res s) → Leads s f from at
-leads_from s f None at sound is = leads_first s f at sound is
-leads_from s f (Some lock) at sound is = leads_after s f lock at sound is
+  -- a walk from either
+  pub leads_from : (from at : Option ℕ) → IsSound s → at ≡ first_from from (all_locks_at res s) → Leads P s res from at
+  leads_from None at sound is = leads_first at sound is
+  leads_from (Some lock) at sound is = leads_after lock at sound is
 
--- the request does not wait for this lock
-pub leads_on : (s : Records) (f : LocatedLock) (from : Option ℕ) (lock : ℕ) (next : Option ℕ) → IsSound s → IsOn lock f.res s → next ≡ at_after lock (all_locks_at f.res s)
-    → (WaitsOnLock s f lock → ⊥) → Leads s f from (Some lock) → Leads s f from next
-leads_on s f from lock next sound on is not leads own found result first =
-    let there = resource_among f.res s.resources own found in
-    let stands = at_lock lock (all_locks own) (all_apart s sound own there) (on_locks s f.res lock own found on) in
-    let after : next ≡ at_after lock (all_locks own) = is ∙ ap (at_after lock) (locks_on s f.res own found) in
-    leads own found result (subst (λ ks. IsFirstOf (WaitsOn (plain_resource own) f.row) ks result) (sym stands.left) (inr (
-      λ waits. not (row_waits s f lock stands.row own found (all_stored s sound own there lock stands.row stands.among) waits),
-      subst (λ o. IsFirstOf (WaitsOn (plain_resource own) f.row) (locks_from o (all_locks own)) result) after first,
-    )))
+  -- this lock does not pass
+  pub leads_on : (from : Option ℕ) (lock : ℕ) (next : Option ℕ) → IsSound s → IsOn lock res s → next ≡ at_after lock (all_locks_at res s)
+      → (PassesOn P s res lock → ⊥) → Leads P s res from (Some lock) → Leads P s res from next
+  leads_on from lock next sound on is not leads own found result first =
+      let there = resource_among res s.resources own found in
+      let stands = at_lock lock (all_locks own) (all_apart s sound own there) (on_locks s res lock own found on) in
+      let after : next ≡ at_after lock (all_locks own) = is ∙ ap (at_after lock) (locks_on s res own found) in
+      leads own found result (subst (λ ks. IsFirstOf (P (plain_resource own)) ks result) (sym stands.left) (inr (
+        λ passes. not (passes_row P s res lock stands.row own found (all_stored s sound own there lock stands.row stands.among) passes),
+        subst (λ o. IsFirstOf (P (plain_resource own)) (locks_from o (all_locks own)) result) after first,
+      )))
 
--- it does
-pub leads_found : (s : Records) (f : LocatedLock) (from : Option ℕ) (lock : ℕ) → IsSound s → IsOn lock f.res s → WaitsOnLock s f lock → Leads s f from (Some lock)
-    → IsNextBlocker s f from (Some lock)
-leads_found s f from lock sound on waits leads own found =
-    let there = resource_among f.res s.resources own found in
-    let stands = at_lock lock (all_locks own) (all_apart s sound own there) (on_locks s f.res lock own found on) in
-    leads own found (Some lock) (subst (λ ks. IsFirstOf (WaitsOn (plain_resource own) f.row) ks (Some lock)) (sym stands.left)
-    (inl (waits_row s f lock stands.row own sound found (all_stored s sound own there lock stands.row stands.among) waits, refl)))
+  -- it does
+  pub leads_found : (from : Option ℕ) (lock : ℕ) → IsSound s → IsOn lock res s → PassesOn P s res lock → Leads P s res from (Some lock)
+      → IsNextOn P s res from (Some lock)
+  leads_found from lock sound on passes leads own found =
+      let there = resource_among res s.resources own found in
+      let stands = at_lock lock (all_locks own) (all_apart s sound own there) (on_locks s res lock own found on) in
+      leads own found (Some lock) (subst (λ ks. IsFirstOf (P (plain_resource own)) ks (Some lock)) (sym stands.left)
+      (inl (row_passes P s res lock stands.row own sound found (all_stored s sound own there lock stands.row stands.among) passes, refl)))
 
--- no lock is left
-pub leads_none : (s : Records) (f : LocatedLock) (from at : Option ℕ) → at ≡ None → Leads s f from at → IsNextBlocker s f from None
-leads_none s f from at none leads own found =
-    leads own found None (subst (λ o. IsFirstOf (WaitsOn (plain_resource own) f.row) (locks_from o (all_locks own)) None) (sym none) refl)
+  -- no lock is left
+  pub leads_none : (from at : Option ℕ) → at ≡ None → Leads P s res from at → IsNextOn P s res from None
+  leads_none from at none leads own found =
+      leads own found None (subst (λ o. IsFirstOf (P (plain_resource own)) (locks_from o (all_locks own)) None) (sym none) refl)
 
 -- where the request waits for no lock there is none
 none_first : (P : LockRow → Type 0) → ((row : LockRow) → P row → ⊥) → (ks : List StoredLock) → IsFirstOf P ks None

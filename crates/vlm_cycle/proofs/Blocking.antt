@@ -9,6 +9,7 @@ use Rattle.vlm_words.specs.declared.locks.Request.{Request}
 use Rattle.vlm_words.specs.declared.locks.LockRow.{LockRow}
 use Rattle.vlm_words.specs.declared.resources.Queue.{Queue}
 use Rattle.vlm_words.specs.declared.resources.Queue.TheVariants.{Granted, Conversion, Waiting}
+use Rattle.vlm_words.specs.State.{Resource}
 use Rattle.vlm_model.specs.Deadlocks.{IsRowAmong, KeepsWaiting, WaitsOn, queue_of, wanted_number}
 use Rattle.vlm_collections.specs.Lists.{IsIn}
 use Rattle.vlm_collections.proofs.HandleLists.{in_ahead, in_behind, in_either}
@@ -18,8 +19,8 @@ use Rattle.vlm_store.specs.Plain.{plain_resource}
 use Rattle.vlm_store.specs.Records.{IsSound, Records, StoredLock, StoredResource, Stores, locks_at, queued, resource_at, rows_of_locks}
 use Rattle.vlm_locks.specs.declared.located_locks.LocatedLock.{LocatedLock}
 use Rattle.vlm_locks.specs.Standing.{IsLocated}
-use Rattle.vlm_locks.proofs.Stood.{one_lock, resource_among}
-use Rattle.vlm_cycle.specs.Blocking.{AreInOrder, Awaits, IsOn, IsRising, Keeps, WaitsOnLock, all_locks, is_before}
+use Rattle.vlm_locks.proofs.Stood.{one_lock, queued_stored, resource_among}
+use Rattle.vlm_cycle.specs.Blocking.{AreInOrder, Awaits, IsOn, IsRising, Keeps, PassesOn, WaitsForLocated, WaitsOnLock, all_locks, is_before}
 use Rattle.vlm_cycle.specs.Waiting.{rows_before}
 use Rattle.vlm_cycle.proofs.Keeping.{apart_of, one_queue, queue_apart, queued_on}
 use Rattle.vlm_cycle.proofs.Listed.{RowsApart, among_is, before_is, before_passes, before_stops, is_among, lock_of, row_in, split_before}
@@ -329,14 +330,56 @@ looks s f lock row queue place res sound located on is here =
     same_res : (a b : ℕ) (p q : Queue) → Queued a p ≡ Queued b q → Queued a p ≡ Queued b p
     same_res a b p q one = (let same : a ≡ b = cc in ap (λ r. Queued r p) same)
 
--- the request waits for the lock exactly if it waits for its row
-pub row_waits : (s : Records) (f : LocatedLock) (lock : ℕ) (row : LockRow) (own : StoredResource) → resource_at f.res s.resources ≡ Some own → Stores s lock row
-    → WaitsOn (plain_resource own) f.row row → WaitsOnLock s f lock
-row_waits s f lock row own found stored waits = record { resource = own; found = found; row = row; stored = stored; waits = waits }
+-- a lock passes exactly if its row does
+pub passes_row : (P : Resource → LockRow → Type 0) (s : Records) (res lock : ℕ) (row : LockRow) (own : StoredResource) → resource_at res s.resources ≡ Some own → Stores s lock row
+    → P (plain_resource own) row → PassesOn P s res lock
+passes_row P s res lock row own found stored passes = record { resource = own; found = found; row = row; stored = stored; passes = passes }
 
-pub waits_row : (s : Records) (f : LocatedLock) (lock : ℕ) (row : LockRow) (own : StoredResource) → IsSound s → resource_at f.res s.resources ≡ Some own → Stores s lock row
-    → WaitsOnLock s f lock → WaitsOn (plain_resource own) f.row row
-waits_row s f lock row own sound found stored w =
+pub row_passes : (P : Resource → LockRow → Type 0) (s : Records) (res lock : ℕ) (row : LockRow) (own : StoredResource) → IsSound s → resource_at res s.resources ≡ Some own → Stores s lock row
+    → PassesOn P s res lock → P (plain_resource own) row
+row_passes P s res lock row own sound found stored w =
     let resource : w.resource ≡ own = same_Some w.resource own (sym w.found ∙ found) in
     let its_row : w.row ≡ row = one_lock s sound lock w.row row w.stored stored in
-    subst (λ (r : StoredResource). WaitsOn (plain_resource r) f.row row) resource (subst (WaitsOn (plain_resource w.resource) f.row) its_row w.waits)
+    subst (λ (r : StoredResource). P (plain_resource r) row) resource (subst (P (plain_resource w.resource)) its_row w.passes)
+
+-- ---- the lock that is waited for
+
+module _ (s : Records) (sound : IsSound s) (f waiting : LocatedLock) (located : IsLocated f s) (its : IsLocated waiting s) (other : ℕ) (handle : waiting.lock ≡ other) (on : IsOn other f.res s) where
+  -- a located lock that is on a resource has its handle
+  pub one_res : waiting.res ≡ f.res
+  one_res =
+      let w = where_on s f.res other on in
+      let here : IsIn (record { at = waiting.lock; row = waiting.row }) (locks_at (Queued waiting.res waiting.queue) s) =
+      subst (λ o. IsIn (record { at = waiting.lock; row = waiting.row }) (option_map_or (queued waiting.queue) o [])) (sym its.found) its.among in
+      let placed : Queued waiting.res waiting.queue ≡ Queued f.res w.queue =
+      place_is s f.res other sound w (Queued waiting.res waiting.queue) waiting.row
+      (subst (λ h. IsIn (record { at = h; row = waiting.row }) (locks_at (Queued waiting.res waiting.queue) s)) handle here) in
+      cc
+
+  stored_of : (g : LocatedLock) → IsLocated g s → Stores s g.lock g.row
+  stored_of g at = queued_stored s sound at.resource (resource_among g.res s.resources at.resource at.found) g.queue (record { at = g.lock; row = g.row }) at.among
+
+  -- the located lock is on the resource of the other one
+  pub located_on : IsOn f.lock waiting.res s
+  located_on = subst (λ h. IsOn f.lock h s) (sym one_res) (on_all s f.res f.lock located.resource f.queue f.row located.found located.among)
+
+  -- it is waited for exactly if the other one waits for it
+  pub waited_for : WaitsOnLock s waiting f.lock → WaitsForLocated s f other
+  waited_for w = record {
+    resource = w.resource;
+    found = subst (λ h. resource_at h s.resources ≡ Some w.resource) one_res w.found;
+    row = waiting.row;
+    stored = subst (λ h. Stores s h waiting.row) handle (stored_of waiting its);
+    passes = subst (λ row. WaitsOn (plain_resource w.resource) waiting.row row) (one_lock s sound f.lock w.row f.row w.stored (stored_of f located)) w.passes;
+  }
+
+  pub waits_back : WaitsForLocated s f other → WaitsOnLock s waiting f.lock
+  waits_back w = record {
+    resource = w.resource;
+    found = subst (λ h. resource_at h s.resources ≡ Some w.resource) (sym one_res) w.found;
+    row = f.row;
+    stored = stored_of f located;
+    passes =
+        subst (λ row. WaitsOn (plain_resource w.resource) row f.row)
+        (one_lock s sound other w.row waiting.row w.stored (subst (λ h. Stores s h waiting.row) handle (stored_of waiting its))) w.passes;
+  }

@@ -6,6 +6,7 @@ use Rattle.vlm_words.specs.declared.locks.LockRow.{LockRow}
 use Rattle.vlm_words.specs.declared.resources.Queue.{Queue}
 use Rattle.vlm_words.specs.declared.resources.Queue.TheVariants.{Granted, Conversion, Waiting}
 use Rattle.vlm_words.specs.Flags.{flag_bits, has_flag, nodlckwt}
+use Rattle.vlm_words.specs.State.{Resource}
 use Rattle.vlm_model.specs.Deadlocks.{BlocksThoseBehind, HoldsAgainst, WaitsOn, wanted_number}
 use Rattle.vlm_collections.specs.Lists.{IsIn}
 use Rattle.vlm_store.specs.Plain.{plain_resource}
@@ -43,11 +44,19 @@ IsFirstFrom P (Some at) locks found =
     (before rest : List StoredLock) (row : LockRow) → locks ≡ before ++ record { at = at; row = row } ∷ rest
     → IsFirstOf P rest found
 
+-- the same for the resource with this handle
+abbrev pub IsNextOn : (Resource → LockRow → Type 0) → Records → ℕ → Option ℕ → Option ℕ → Type 0
+IsNextOn P s res from found =
+    (r : StoredResource) → resource_at res s.resources ≡ Some r
+    → IsFirstFrom (P (plain_resource r)) from (all_locks r) found
+
 -- it is the handle of the first such lock on its resource for which the request of the located lock waits
 abbrev pub IsNextBlocker : Records → LocatedLock → Option ℕ → Option ℕ → Type 0
-IsNextBlocker s f from found =
-    (r : StoredResource) → resource_at f.res s.resources ≡ Some r
-    → IsFirstFrom (WaitsOn (plain_resource r) f.row) from (all_locks r) found
+IsNextBlocker s f from found = IsNextOn (λ r row. WaitsOn r f.row row) s f.res from found
+
+-- it is the handle of the first such lock on its resource whose request waits for the located lock
+abbrev pub IsNextBlocked : Records → LocatedLock → Option ℕ → Option ℕ → Type 0
+IsNextBlocked s f from found = IsNextOn (λ r row. WaitsOn r row f.row) s f.res from found
 
 -- ---- one lock
 
@@ -82,10 +91,18 @@ Keeps own request queue lock =
     ((queue ≢ Waiting) × HoldsAgainst request.mode lock.held)
     ⊎ ((is_before queue (wanted_number lock) own request.number ≡ true) × BlocksThoseBehind lock.want)
 
--- the request of the located lock waits for the lock with this handle
-pub record WaitsOnLock (s : Records) (f : LocatedLock) (lock : ℕ) : Type 0 where
+-- the lock with this handle passes, on the resource with the other one
+pub record PassesOn (P : Resource → LockRow → Type 0) (s : Records) (res lock : ℕ) : Type 0 where
   pub resource : StoredResource
-  pub found : resource_at f.res s.resources ≡ Some resource
+  pub found : resource_at res s.resources ≡ Some resource
   pub row : LockRow
   pub stored : Stores s lock row
-  pub waits : WaitsOn (plain_resource resource) f.row row
+  pub passes : P (plain_resource resource) row
+
+-- the request of the located lock waits for the lock with this handle
+abbrev pub WaitsOnLock : Records → LocatedLock → ℕ → Type 0
+WaitsOnLock s f lock = PassesOn (λ r row. WaitsOn r f.row row) s f.res lock
+
+-- the request of the lock with this handle waits for the located lock
+abbrev pub WaitsForLocated : Records → LocatedLock → ℕ → Type 0
+WaitsForLocated s f lock = PassesOn (λ r row. WaitsOn r row f.row) s f.res lock

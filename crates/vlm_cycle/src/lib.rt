@@ -8,7 +8,8 @@
 //! higher rank. Then a request that waits only for lower ranks is not deadlocked. No promise depends on a rank: a wrong
 //! rank costs searches, and changes no answer.
 //!
-//! A walk gives the locks for which one request waits, one after another (`next_blockers`).
+//! A walk gives the locks for which one request waits, or those whose requests wait for one lock, one after another
+//! (`next_blockers`).
 #![tactic(auto)]
 
 mod blocker_ranks;
@@ -27,6 +28,6 @@ mod tarjan_walk;
 mod victims;
 mod waits;
 
-pub use next_blockers::next_blocker;
+pub use next_blockers::{next_blocked, next_blocker};
 pub use scratch::Scratch;
 pub use victims::victim;

@@ -1,18 +1,19 @@
-//! The locks for which a queued request waits, one after another: those of the granted queue, of the conversion queue
-//! and of the waiting queue of its resource. A walk takes no memory.
+//! The locks for which a queued request waits, and the locks whose requests wait for a lock, one after another: those
+//! of the granted queue, of the conversion queue and of the waiting queue of its resource. A walk takes no memory.
 
 ghost use Rattle.std.specs.Prelude.{◌≡◌, ℕ, IsNone, IfSome};
 ghost use Rattle.std.specs.Bool.{OnFalse, OnTrue};
 ghost use Rattle.std.specs.Option.{ForSome};
 ghost use Rattle.vlm_words.specs.declared.locks.Request.{Request};
 ghost use Rattle.vlm_store.specs.Records.{HasResource, IsSound, IsStored, at_after, first_at};
+ghost use Rattle.vlm_locks.specs.Rest.{IsAtRest};
 ghost use Rattle.vlm_locks.specs.Standing.{IsLocated};
-ghost use Rattle.vlm_cycle.specs.Blocking.{AreInOrder, Awaits, IsNextBlocker, IsOn, Keeps, WaitsOnLock, all_locks_at, first_from, is_before};
+ghost use Rattle.vlm_cycle.specs.Blocking.{AreInOrder, Awaits, IsNextBlocked, IsNextBlocker, IsOn, Keeps, WaitsForLocated, WaitsOnLock, all_locks_at, first_from, is_before};
 
 use crate::conflicts::{blocks_those_behind, holds_against};
 use crate::first_requests::first_queued;
 use crate::victims::wanted_number;
-use vlm_locks::LocatedLock;
+use vlm_locks::{LocatedLock, located_lock};
 use vlm_queue::{head, next};
 use vlm_store::{LockAt, ResAt, Store, StoredRow};
 use vlm_words::flags::EnqFlags;
@@ -133,6 +134,42 @@ pub fn next_blocker(store: &Store, waiting: &LocatedLock, from: Option<LockAt>) 
             return Some(lock);
         }
         at = following(store, lock);
+    }
+    None
+}
+
+// Whether the request of another lock of its resource waits for the located lock. It takes constant time.
+fn is_awaited_by(store: &Store, lock: &LocatedLock, other: LockAt) -> bool
+    requires rest { IsAtRest store.now }
+    requires located { IsLocated lock.now store.now }
+    requires ordered { AreInOrder store.now }
+    requires on { IsOn other lock.now.res store.now }
+    ensures yes { OnTrue result (WaitsForLocated store.now lock.now other) }
+    ensures no { OnFalse result (¬ WaitsForLocated store.now lock.now other) }
+{
+    let waiting = located_lock(store, other);
+    match awaited_request(&waiting) {
+        Some(request) => waits_on(store, &waiting, &request, lock.lock),
+        None => false,
+    }
+}
+
+/// The first lock on its resource whose request waits for this lock; with `from`, the first one after that lock. The
+/// cost grows with the locks that it passes.
+pub fn next_blocked(store: &Store, lock: &LocatedLock, from: Option<LockAt>) -> Option<LockAt>
+    requires rest { IsAtRest store.now }
+    requires located { IsLocated lock.now store.now }
+    requires ordered { AreInOrder store.now }
+    requires from { ForSome from (λ other. IsOn other lock.now.res store.now) }
+    ensures next { IsNextBlocked store.now lock.now from result }
+    ensures on { ForSome result (λ other. IsOn other lock.now.res store.now) }
+{
+    let mut at = first_from(store, lock.res, from);
+    while let Some(other) = at {
+        if is_awaited_by(store, lock, other) {
+            return Some(other);
+        }
+        at = following(store, other);
     }
     None
 }

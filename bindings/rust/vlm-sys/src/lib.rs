@@ -164,6 +164,9 @@ extern "C" {
     pub fn vlm_first_sublock(handle: *mut Vlm, lkid: u32, lock: *mut Lock) -> u32;
     pub fn vlm_next_sublock(handle: *mut Vlm, lkid: u32, lock: *mut Lock) -> u32;
     pub fn vlm_first_blocker(handle: *mut Vlm, lkid: u32, lock: *mut Lock) -> u32;
+    pub fn vlm_next_blocker(handle: *mut Vlm, lkid: u32, blocker: u32, lock: *mut Lock) -> u32;
+    pub fn vlm_first_blocked(handle: *mut Vlm, lkid: u32, lock: *mut Lock) -> u32;
+    pub fn vlm_next_blocked(handle: *mut Vlm, lkid: u32, blocked: u32, lock: *mut Lock) -> u32;
     pub fn vlm_read_line(bytes: *const u8, len: usize, line: *mut Line) -> u32;
     pub fn vlm_print_answer(line: *const Line, status: u32, number: u32, text: *mut Text) -> u32;
     pub fn vlm_print_ast(line: *const Line, status: u32, ast: *const Ast, text: *mut Text) -> u32;
@@ -176,5 +179,4 @@ extern "C" {
         text: *mut Text,
     ) -> u32;
     pub fn vlm_print_lock(lock: *const Lock, text: *mut Text) -> u32;
-    pub fn vlm_next_blocker(handle: *mut Vlm, lkid: u32, blocker: u32, lock: *mut Lock) -> u32;
 }

@@ -1,4 +1,4 @@
-//! The locks for which a queued request waits.
+//! The locks for which a queued request waits, and those whose requests wait for a lock.
 
 use crate::tests::steps::{DECLARATION, P, Q, request};
 use bitflags::Flags;
@@ -47,6 +47,19 @@ fn waits_for(rt: &impl Abort, core: &Core, lkid: u32, blockers: &[u32]) {
         };
         assert!(rt; view.lkid == *blocker);
         shown = core.next_blocker(lkid, *blocker);
+    }
+    assert!(rt; matches!(&shown, Some(None)));
+}
+
+// The locks whose requests wait for a lock, and no more.
+fn blocks(rt: &impl Abort, core: &Core, lkid: u32, blocked: &[u32]) {
+    let mut shown = core.first_blocked(lkid);
+    for lock in blocked {
+        let Some(Some(view)) = shown else {
+            panic!(rt; "a lock is missing");
+        };
+        assert!(rt; view.lkid == *lock);
+        shown = core.next_blocked(lkid, *lock);
     }
     assert!(rt; matches!(&shown, Some(None)));
 }
@@ -100,6 +113,25 @@ fn conversions_go_first(rt: HostRuntime) -> Result<(), Fail> {
     waits_for(&rt, &core, 3, &[1]);
     waits_for(&rt, &core, 1, &[3, 2]);
     waits_for(&rt, &core, 7, &[3, 2, 1, 4, 6]);
+    Ok(())
+}
+
+// A lock shows the requests that have it among their blockers, in the order of the queues.
+#[test]
+fn a_lock_shows_whom_it_blocks(rt: HostRuntime) -> Result<(), Fail> {
+    let mut core = Core::new(rt.alloc());
+    ask_all(&rt, &mut core);
+    blocks(&rt, &core, 1, &[4, 5]);
+    blocks(&rt, &core, 2, &[]);
+    blocks(&rt, &core, 4, &[5, 7]);
+    blocks(&rt, &core, 5, &[]);
+    blocks(&rt, &core, 7, &[]);
+    convert(&rt, &mut core, P, 3);
+    convert(&rt, &mut core, Q, 2);
+    blocks(&rt, &core, 1, &[3, 2, 4, 5]);
+    blocks(&rt, &core, 3, &[2, 4, 5, 7]);
+    assert!(&rt; core.first_blocked(9).is_none() && core.next_blocked(9, 1).is_none());
+    assert!(&rt; core.next_blocked(1, 9).is_none() && core.next_blocked(1, 8).is_none());
     Ok(())
 }
 

@@ -6,7 +6,7 @@ use Rattle.vlm_locks.proofs.Stood.{resource_among}
 use Rattle.vlm_cycle.specs.Blocking.{IsFirstFrom, all_locks}
 use Rattle.std.proofs.lemmas.Option.{same_Some}
 use Rattle.vlm_cycle.proofs.Blocking.{awaits_of}
-use Rattle.vlm_cycle.proofs.BlockerWalks.{Leads, after_on, fewer_left, from_on, leads_found, leads_from, leads_on, none_from, on_stored}
+use Rattle.vlm_cycle.proofs.BlockerWalks.{Leads, after_on, fewer_left, from_on, leads_found, leads_from, leads_none, leads_on, none_from, on_stored}
 use Rattle.vlm_cycle.proofs.next_blockers.next_blocker.Goals as goal
 
 -- a request that waits for no lock
@@ -27,7 +27,7 @@ returns-in_err-request-clause-next c r found =
 pub loop-at-init : goal.loop-at-init
 loop-at-init c = record {
   on = from_on c.args.store.now c.args.waiting.now.res c.args.from c.first_from-at.result c.requires.located.sound c.requires.from c.first_from-at.ensures;
-  leads = leads_from c.args.store.now c.args.waiting.now c.args.from c.first_from-at.result c.requires.located.sound c.first_from-at.ensures;
+  leads = leads_from (λ r row. WaitsOn r c.args.waiting.now.row row) c.args.store.now c.args.waiting.now.res c.args.from c.first_from-at.result c.requires.located.sound c.first_from-at.ensures;
 }
 
 -- the request waits for this lock
@@ -35,8 +35,8 @@ pub returns-then-waits_on-clause-next : goal.returns-then-waits_on-clause-next
 returns-then-waits_on-clause-next c =
     let s = c.args.store.now in
     let f = c.args.waiting.now in
-    leads_found s f c.args.from c.in-Some.lock c.requires.located.sound (c.loop-at.invariant.on c.in-Some.lock c.in-Some.is) c.if-waits_on.ensures.yes
-    (subst (Leads s f c.args.from) c.in-Some.is c.loop-at.invariant.leads)
+    leads_found (λ r row. WaitsOn r f.row row) s f.res c.args.from c.in-Some.lock c.requires.located.sound (c.loop-at.invariant.on c.in-Some.lock c.in-Some.is) c.if-waits_on.ensures.yes
+    (subst (Leads (λ r row. WaitsOn r f.row row) s f.res c.args.from) c.in-Some.is c.loop-at.invariant.leads)
 
 pub following-at-requires : goal.following-at-requires
 following-at-requires c =
@@ -58,6 +58,12 @@ loop-at-preserved c =
     record {
       on = after_on s f.res c.in-Some.lock c.following-at.result c.requires.located.sound on after;
       leads =
-          leads_on s f c.args.from c.in-Some.lock c.following-at.result c.requires.located.sound on after c.if-waits_on.ensures.no
-          (subst (Leads s f c.args.from) c.in-Some.is c.loop-at.invariant.leads);
+          leads_on (λ r row. WaitsOn r f.row row) s f.res c.args.from c.in-Some.lock c.following-at.result c.requires.located.sound on after c.if-waits_on.ensures.no
+          (subst (Leads (λ r row. WaitsOn r f.row row) s f.res c.args.from) c.in-Some.is c.loop-at.invariant.leads);
     }
+
+-- no lock is left
+pub returns-clause-next : goal.returns-clause-next
+returns-clause-next c =
+    let f = c.args.waiting.now in
+    leads_none (λ r row. WaitsOn r f.row row) c.args.store.now f.res c.args.from c.loop-at.at c.in_default.is c.loop-at.invariant.leads

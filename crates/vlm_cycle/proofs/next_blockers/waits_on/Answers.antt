@@ -1,7 +1,8 @@
 use Rattle.std.proofs.Common.{◌∙◌, sym}
 use Rattle.std.proofs.lemmas.Bool.{OnFalse_at, OnFalse_from, OnTrue_at, OnTrue_from}
+use Rattle.vlm_model.specs.Deadlocks.{WaitsOn}
 use Rattle.vlm_cycle.proofs.BlockerWalks.{on_stored}
-use Rattle.vlm_cycle.proofs.Blocking.{looks, row_waits, waited, waits, waits_row}
+use Rattle.vlm_cycle.proofs.Blocking.{looks, passes_row, row_passes, waited, waits}
 use Rattle.vlm_cycle.proofs.next_blockers.waits_on.Goals as goal
 
 pub lock_record-other-requires : goal.lock_record-other-requires
@@ -14,7 +15,7 @@ returns-then-lkid-clause-no c w =
     let f = c.args.waiting.now in
     let row = c.lock_record-other.result.now.row in
     let found = c.requires.located.found in
-    let on = waits_row s f c.args.lock row c.requires.located.resource c.requires.located.sound found c.lock_record-other.ensures.row w in
+    let on = row_passes (λ r other. WaitsOn r f.row other) s f.res c.args.lock row c.requires.located.resource c.requires.located.sound found c.lock_record-other.ensures.row w in
     on.another (sym c.lkid.ensures ∙ c.if-lkid.true ∙ c.lkid-2.ensures)
 
 -- another lock is one for which it waits exactly if it keeps it
@@ -27,7 +28,7 @@ returns-clause-yes c =
     let l = looks s f c.args.lock row c.parts-queue.result.1 c.lock_record-other.result.now.place c.parts-queue.result.0 sound c.requires.located c.requires.on c.parts-queue.ensures
     c.lock_record-other.ensures.stands in
     OnTrue_from c.keeps_waiting.result _ (λ is.
-    row_waits s f c.args.lock row l.own l.found c.lock_record-other.ensures.row
+    passes_row (λ r other. WaitsOn r f.row other) s f.res c.args.lock row l.own l.found c.lock_record-other.ensures.row
     (waits s sound c.requires.ordered f l.own l.there l.among c.args.request.now c.requires.awaits c.parts-queue.result.1 (record { at = c.args.lock; row = row }) l.stands
     (λ same. c.if-lkid.false (c.lkid.ensures ∙ same ∙ sym c.lkid-2.ensures)) (OnTrue_at is c.keeps_waiting.ensures.yes)))
 
@@ -40,6 +41,6 @@ returns-clause-no c =
     let l = looks s f c.args.lock row c.parts-queue.result.1 c.lock_record-other.result.now.place c.parts-queue.result.0 sound c.requires.located c.requires.on c.parts-queue.ensures
     c.lock_record-other.ensures.stands in
     OnFalse_from c.keeps_waiting.result _ (λ is w.
-    let on = waits_row s f c.args.lock row l.own sound l.found c.lock_record-other.ensures.row w in
+    let on = row_passes (λ r other. WaitsOn r f.row other) s f.res c.args.lock row l.own sound l.found c.lock_record-other.ensures.row w in
     OnFalse_at is c.keeps_waiting.ensures.no
     (waited s sound c.requires.ordered f l.own l.there l.among c.args.request.now c.requires.awaits c.parts-queue.result.1 (record { at = c.args.lock; row = row }) l.stands on).1)
