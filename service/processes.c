@@ -149,8 +149,8 @@ static void clear_values(struct process *process, vlm *manager) {
     memset(process->set, 0, sizeof process->set);
 }
 
-/* Ends a process for its session: all its locks go as in a rundown, and it waits for another session. Other processes'
- * ASTs are pending then: `tell` takes them. */
+/* Ends a process for its session: all its locks go, and it waits for another session. To all other processes that is a
+ * rundown: law_giving_up_all_is_a_rundown_to_others, docs/LAWS.md. Their ASTs are pending then: `tell` takes them. */
 void release_process(struct process *process) {
     struct session *session = process->session;
     struct dispatcher *dispatcher = session->dispatcher;
