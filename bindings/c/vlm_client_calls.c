@@ -29,11 +29,14 @@ static void note(vlm_client *client, const struct pending *wanted) {
         client->records[wanted->record].is_sent = true;
 }
 
-/* Whether lines may be sent: NORMAL, VLM_LOST, INSFMEM. A place stays free for a line of each caller, and for a line of
- * the thread that runs routines. */
+/* Whether lines may be sent: NORMAL, VLM_LOST, CANCELGRANT, INSFMEM. A place stays free for a line of each caller, and
+ * for a line of the thread that runs routines. A request that has ended is not cancelled: by then the lock may have a
+ * request of another thread. */
 static uint32_t may_send(vlm_client *client, const struct call *call, uint32_t count) {
     if (client->is_lost || call->session != client->session)
         return VLM_LOST;
+    if (call->cancelled != NULL && call->cancelled->is_ended)
+        return VLM_CANCELGRANT;
     uint32_t kept = call->is_reserved ? 0 : client->callers + 1;
     return make_room(client, count + kept) ? VLM_NORMAL : VLM_INSFMEM;
 }

@@ -6,15 +6,16 @@
 #include <string.h>
 
 /* What an answer says, and the handle of its lock if it has one. A text of the service's own is a limit, except that
- * identifications may have run out. */
+ * identifications may have run out, and that another thread may have ended the process. */
 uint32_t vlmc_status(const char *answer, uint64_t *handle) {
     const char *word = strchr(answer, ':');
     const char *lock = strstr(answer, " lock ");
     *handle = lock != NULL ? strtoull(lock + strlen(" lock "), NULL, 10) : 0;
     if (word == NULL || word[1] == 0)
-        return strncmp(answer, "no ident", 8) == 0   ? VLM_NOLOCKID
-               : strncmp(answer, "too many", 8) == 0 ? VLM_EXENQLM
-                                                     : VLM_BADPARAM;
+        return strncmp(answer, "no ident", 8) == 0        ? VLM_NOLOCKID
+               : strncmp(answer, "too many", 8) == 0      ? VLM_EXENQLM
+               : strncmp(answer, "unknown name", 12) == 0 ? VLM_NONEXPR
+                                                          : VLM_BADPARAM;
     word += 2;
     if (strncmp(word, "process ", 8) == 0)
         return VLM_NORMAL;
@@ -37,12 +38,13 @@ int vlmc_write_hex(char *text, const uint8_t *bytes, size_t len) {
 
 static uint8_t digit(char byte) { return (uint8_t)(byte <= '9' ? byte - '0' : byte - 'a' + 10); }
 
-/* The bytes at the end of a line of a status block. */
-void vlmc_read_value(const char *line, uint8_t *value, size_t len) {
+/* The bytes at the end of a line of a status block. Whether it is one: it is not after the end of its process. */
+bool vlmc_read_value(const char *line, uint8_t *value, size_t len) {
     size_t have = strlen(line);
     if (have < 2 * len)
-        return;
+        return false;
     const char *digits = line + have - 2 * len;
     for (size_t at = 0; at < len; at++)
         value[at] = (uint8_t)(digit(digits[2 * at]) << 4 | digit(digits[2 * at + 1]));
+    return true;
 }

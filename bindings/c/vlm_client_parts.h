@@ -37,6 +37,7 @@ enum { STATUS, VALUE, TAIL, NOTHING };
 struct call {
     uint32_t session;                   /* for which its lines are */
     bool is_reserved;                   /* its line has a place in the queue that was kept for it */
+    const struct call *cancelled;       /* the call whose request its line cancels, or null */
     const vlm_threads_dequeue *dequeue; /* what its answer gives up, or null */
     pthread_cond_t changed;
     uint32_t left;   /* answers that have not come */
@@ -61,9 +62,10 @@ struct record {
     uint32_t lkid; /* 0 until it is accepted */
     uint32_t block;
     uint32_t flags;
-    uint32_t status; /* how the request ended, or 0 */
-    uint32_t lock;   /* of a conversion: the record of its lock, else NO_RECORD */
-    uint32_t parent; /* of a lock: its parent lock, or 0 */
+    uint32_t status;    /* how the request ended, or 0 */
+    uint32_t lock;      /* of a conversion: the record of its lock, else NO_RECORD */
+    uint32_t parent;    /* of a lock: its parent lock, or 0 */
+    uint32_t converted; /* of a lock: the record of its conversion, of whose end nothing was heard, or NO_RECORD */
     bool is_used, is_granted;
     bool is_sent;      /* its line; before, only the call that made the record frees it */
     struct call *call; /* waits for the end, or null */
@@ -125,14 +127,15 @@ bool vlmc_is_usable(const vlm_client *client);
 uint32_t vlmc_connect(vlm_client *client);
 void *vlmc_read(void *client);
 
-/* vlm_client_calls.c. Notes what is waited for, and sends lines. Takes no mutex held. NORMAL; VLM_LOST and INSFMEM:
- * nothing was sent. A reserved call is not answered INSFMEM. */
+/* vlm_client_calls.c. Notes what is waited for, and sends lines. Takes no mutex held. NORMAL; VLM_LOST, INSFMEM, and
+ * CANCELGRANT where a request that is to be cancelled has ended: nothing was sent. A reserved call is not answered
+ * INSFMEM. */
 uint32_t vlmc_send(vlm_client *client, const char *lines, const struct pending *wanted, uint32_t count);
 
 /* vlm_client_lines.c: none takes a mutex. */
 uint32_t vlmc_status(const char *answer, uint64_t *handle);
 int vlmc_write_hex(char *text, const uint8_t *bytes, size_t len);
-void vlmc_read_value(const char *line, uint8_t *value, size_t len);
+bool vlmc_read_value(const char *line, uint8_t *value, size_t len);
 
 /* vlm_client_calls.c. vlmc_ask begins a call, sends its line and waits for its answer; it takes no mutex held. */
 void vlmc_begin_call(struct call *call, uint32_t answers);

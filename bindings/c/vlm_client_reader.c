@@ -120,8 +120,8 @@ static void take_answer(vlm_client *client, const char *line) {
         call->status = status != NULL ? (uint32_t)strtoul(status + strlen(" status "), NULL, 10) : 0;
         vlmc_read_value(line, call->value, SHORT_VALUE);
     }
-    if (first.taken == TAIL)
-        vlmc_read_value(line, call->value + SHORT_VALUE, WHOLE_VALUE - SHORT_VALUE);
+    if (first.taken == TAIL && !vlmc_read_value(line, call->value + SHORT_VALUE, WHOLE_VALUE - SHORT_VALUE))
+        call->answer = VLM_NONEXPR;
     if (first.record != NO_RECORD)
         settle_request(client, first.record, call);
     /* (here, since locks that are granted after the dequeue stay) */

@@ -56,7 +56,8 @@ uint32_t vlmc_new_record(vlm_client *client) {
         return NO_RECORD;
     uint32_t place = client->free_record, generation = client->records[place].generation;
     client->free_record = client->records[place].next;
-    client->records[place] = (struct record){.is_used = true, .generation = generation, .lock = NO_RECORD};
+    client->records[place] =
+        (struct record){.is_used = true, .generation = generation, .lock = NO_RECORD, .converted = NO_RECORD};
     return place;
 }
 
@@ -77,6 +78,8 @@ void vlmc_free_record(vlm_client *client, uint32_t place) {
     struct record *record = &client->records[place];
     if (is_lock(record))
         unlink_lock(client, place);
+    if (record->lock != NO_RECORD && client->records[record->lock].converted == place)
+        client->records[record->lock].converted = NO_RECORD;
     *record = (struct record){.generation = record->generation + 1, .next = client->free_record};
     client->free_record = place;
 }

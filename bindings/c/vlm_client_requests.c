@@ -57,14 +57,21 @@ static void fill(vlm_client *client, uint32_t place, const vlm_threads_request *
         memcpy(record->value, request->value, (request->flags & VLM_WIDE) != 0 ? WHOLE_VALUE : SHORT_VALUE);
 }
 
-/* Makes a record for a request, with a status block. `lock` is the record of the lock that is converted. */
+/* Finds the record of a lock that is to be converted: NORMAL, IVLOCKID. CVTUNGRANT while the end of another conversion
+ * was not heard of: so a wait for that one that is too long cancels no other. */
+static uint32_t find_converted(const vlm_client *client, const vlm_threads_request *request, uint32_t *lock) {
+    *lock = vlmc_find_lock(client, request->pid, request->lock);
+    if (*lock == NO_RECORD)
+        return VLM_IVLOCKID;
+    return client->records[*lock].converted == NO_RECORD ? VLM_NORMAL : VLM_CVTUNGRANT;
+}
+
+/* Makes a record for a request, with a status block. */
 static uint32_t prepare(vlm_client *client, const vlm_threads_request *request, struct call *call, bool is_conversion,
                         uint32_t *place) {
     uint32_t status = vlmc_standing(client, request->pid), lock = NO_RECORD;
-    if (status == VLM_NORMAL && is_conversion) {
-        lock = vlmc_find_lock(client, request->pid, request->lock);
-        status = lock == NO_RECORD ? VLM_IVLOCKID : VLM_NORMAL;
-    }
+    if (status == VLM_NORMAL && is_conversion)
+        status = find_converted(client, request, &lock);
     if (status != VLM_NORMAL)
         return status;
     *place = vlmc_new_record(client);
@@ -78,6 +85,8 @@ static uint32_t prepare(vlm_client *client, const vlm_threads_request *request, 
     fill(client, *place, request, call);
     client->records[*place].block = block;
     client->records[*place].lock = lock;
+    if (is_conversion)
+        client->records[lock].converted = *place;
     client->records[*place].parent = is_conversion ? 0 : request->lock;
     return VLM_NORMAL;
 }
@@ -167,7 +176,7 @@ static struct timespec moment_after(uint32_t milliseconds) {
 /* Whatever the answer, the request ends: if the locks are lost, with VLM_LOST. */
 static void cancel(vlm_client *client, const vlm_threads_request *request, const struct call *cancelled) {
     char line[LINE_ROOM];
-    struct call call = {.session = cancelled->session, .is_reserved = true};
+    struct call call = {.session = cancelled->session, .is_reserved = true, .cancelled = cancelled};
     snprintf(line, sizeof line, "deq p%u %" PRIu64 " cancel\n", request->pid, cancelled->handle);
     vlmc_ask(client, &call, line, STATUS);
 }
@@ -194,7 +203,8 @@ static uint32_t await_end(vlm_client *client, const vlm_threads_request *request
     return VLM_TIMEOUT;
 }
 
-/* Reads the tail of a value from a status block, and frees the block: NORMAL, VLM_LOST. */
+/* Reads the tail of a value from a status block, and frees the block: NORMAL, VLM_LOST, or NONEXPR if another thread
+ * has ended the process meanwhile. */
 static uint32_t read_tail(vlm_client *client, uint32_t session, uint32_t pid, uint32_t block, uint8_t *value) {
     char line[LINE_ROOM];
     struct call call = {.session = session, .is_reserved = true};
@@ -207,12 +217,13 @@ static uint32_t read_tail(vlm_client *client, uint32_t session, uint32_t pid, ui
     return status;
 }
 
-/* Without the tail the event tells of the loss. */
+/* Without the tail the event tells why: the locks are lost, or the process has ended. */
 void vlmc_read_tail(vlm_client *client, struct event *event) {
     vlm_threads_event *told = &event->told;
-    if (read_tail(client, event->session, told->pid, event->tail_of, told->value) == VLM_NORMAL)
+    uint32_t status = read_tail(client, event->session, told->pid, event->tail_of, told->value);
+    if (status == VLM_NORMAL)
         return;
-    told->status = VLM_LOST;
+    told->status = status;
     told->value_len = 0;
 }
 
@@ -250,8 +261,8 @@ static uint32_t follow(vlm_client *client, vlm_threads_request *request, struct 
     bool is_wide = (request->flags & VLM_VALBLK) != 0 && (request->flags & VLM_WIDE) != 0;
     if (answer == VLM_NORMAL && is_wide)
         answer = read_tail(client, call->session, request->pid, block, call->value);
-    if (answer == VLM_LOST)
-        call->status = VLM_LOST;
+    if (answer == VLM_LOST || answer == VLM_NONEXPR)
+        call->status = answer;
     give(request, call, is_conversion);
     return answer;
 }

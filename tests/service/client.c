@@ -589,10 +589,13 @@ static void test_memory(void) {
     vlm_client_close(client);
 }
 
-/* A service that answers each line by its first letters as a table says, and ends after the last row. */
+/* A service that answers each line by its first letters as a table says, and ends after the last row. With `stays` in
+ * place of an answer there, it waits until its client ends the connection. */
 struct row {
     const char *line, *answer;
 };
+
+static const char stays[] = "";
 
 static struct {
     char path[128];
@@ -614,11 +617,14 @@ static void *serve(void *none) {
     FILE *lines = fdopen(descriptor, "r");
     usleep(100000);
     dprintf(descriptor, "vlm protocol 1 epoch 0\n");
-    for (const struct row *row = fake.rows; row->line != NULL; row++) {
+    const struct row *row = fake.rows;
+    for (; row->line != NULL; row++) {
         CHECK(fgets(line, sizeof line, lines) != NULL && strncmp(line, row->line, strlen(row->line)) == 0);
         fake.heard++;
         dprintf(descriptor, "%s", row->answer);
     }
+    if (row->answer == stays)
+        CHECK(fgets(line, sizeof line, lines) == NULL);
     shutdown(descriptor, SHUT_RDWR);
     fclose(lines);
     return none;
@@ -641,10 +647,19 @@ static pthread_t served(const struct row *rows, vlm_client **client) {
 }
 
 static void end_service(pthread_t thread, vlm_client *client) {
-    pthread_join(thread, NULL);
     vlm_client_close(client);
+    pthread_join(thread, NULL);
     close(fake.listener);
     unlink(fake.path);
+}
+
+static void *convert_shortly(void *context) {
+    struct waiter *waiter = context;
+    vlm_threads_request request = wanted(waiter->pid, VLM_PR, 0);
+    request.lock = 1;
+    request.milliseconds = 300;
+    waiter->answer = vlm_client_convert(waiter->client, &request);
+    return NULL;
 }
 
 #define OPEN \
@@ -658,8 +673,8 @@ static void test_half_answers(void) {
     static const struct row tables[][4] = {{OPEN, DECLARE, {"enq", "p1: SYNCH lock 1\n"}},
                                            {OPEN, DECLARE, {"enq", "p1: SYNCH lock 1\n" BLOCK}},
                                            {OPEN, DECLARE, {"enq", GRANTED("0")}},
-                                           {OPEN, DECLARE, {"enq", "session killed\n"}},
-                                           {OPEN, DECLARE, {"enq", "session moved\n"}}};
+                                           {OPEN, DECLARE, {"enq", "session killed\n"}, {NULL, stays}},
+                                           {OPEN, DECLARE, {"enq", "session moved\n"}, {NULL, stays}}};
     static const uint32_t flags[] = {VLM_SYNCSTS, VLM_SYNCSTS, 0, 0, 0};
     for (size_t at = 0; at < sizeof flags / sizeof *flags; at++) {
         vlm_client *client;
@@ -673,19 +688,69 @@ static void test_half_answers(void) {
     }
 }
 
-/* The connection ends before the tail of a value comes, which the event of a grant brings: it tells of the loss. */
+/* The answer to a process that another thread has ended. */
+#define ENDED "unknown name\n"
+
+/* The connection or the process ends before the tail of a value comes, which the event of a grant brings: it tells
+ * so. */
 static void test_half_event(void) {
-    static const struct row rows[] = {OPEN, DECLARE, {"enq", GRANTED("0")}, {NULL, NULL}};
+    static const struct row tables[][5] = {{OPEN, DECLARE, {"enq", GRANTED("0")}},
+                                           {OPEN, DECLARE, {"enq", GRANTED("0")}, {"tail p1 1", ENDED}, {NULL, stays}}};
+    static const uint32_t statuses[] = {VLM_LOST, VLM_NONEXPR};
+    for (size_t at = 0; at < sizeof statuses / sizeof *statuses; at++) {
+        vlm_client *client;
+        pthread_t thread = served(tables[at], &client);
+        uint8_t value[64] = {0};
+        vlm_threads_request request = wanted(declared(client), VLM_EX, VLM_VALBLK | VLM_WIDE);
+        request.value = value;
+        request.completion = on_completion;
+        request.completion_context = &told;
+        memset(&told, 0, sizeof told);
+        CHECK(vlm_client_start_enq(client, &request, (const uint8_t *)"A", 1) == VLM_NORMAL);
+        CHECK(until(&told.completions, 1) && told.status == statuses[at]);
+        end_service(thread, client);
+    }
+}
+
+/* Another thread has ended the process before the request, or before the tail of its value: there is no lock. */
+static void test_ended_process(void) {
+    static const struct row tables[][5] = {{OPEN, DECLARE, {"enq", ENDED}, {NULL, stays}},
+                                           {OPEN, DECLARE, {"enq", GRANTED("0")}, {"tail p1 1", ENDED}, {NULL, stays}}};
+    for (size_t at = 0; at < sizeof tables / sizeof *tables; at++) {
+        vlm_client *client;
+        pthread_t thread = served(tables[at], &client);
+        uint8_t value[64] = {99};
+        vlm_threads_request request = wanted(declared(client), VLM_EX, VLM_VALBLK | VLM_WIDE);
+        request.value = value;
+        CHECK(enq(client, &request, "A") == VLM_NONEXPR && request.lkid == 0 && value[0] == 99);
+        end_service(thread, client);
+    }
+}
+
+/* While nothing was heard of the end of a conversion, another one of the lock is refused without a line: a wait for the
+ * first that is too long would cancel it. */
+static void test_two_conversions(void) {
+    static const struct row rows[] = {
+        OPEN,
+        DECLARE,
+        {"enq", GRANTED("0")},
+        {"cvt p1 1 PR", "p1: NORMAL lock 1\n"},
+        {"deq p1 1 cancel", "p1: completion 1 param 0 lock 1\n" BLOCK "p1: CANCELGRANT\n"},
+        {"cvt p1 1 CR", GRANTED("1")},
+        {NULL, stays}};
     vlm_client *client;
     pthread_t thread = served(rows, &client);
-    uint8_t value[64] = {0};
-    vlm_threads_request request = wanted(declared(client), VLM_EX, VLM_VALBLK | VLM_WIDE);
-    request.value = value;
-    request.completion = on_completion;
-    request.completion_context = &told;
-    memset(&told, 0, sizeof told);
-    CHECK(vlm_client_start_enq(client, &request, (const uint8_t *)"A", 1) == VLM_NORMAL);
-    CHECK(until(&told.completions, 1) && told.status == VLM_LOST);
+    vlm_threads_request request = wanted(declared(client), VLM_EX, 0);
+    CHECK(enq(client, &request, "A") == VLM_NORMAL);
+    struct waiter first = {client, 1, 0, NULL};
+    pthread_t converting;
+    pthread_create(&converting, NULL, convert_shortly, &first);
+    CHECK(until(&fake.heard, 4));
+    request.lock = 1;
+    request.mode = VLM_CR;
+    CHECK(vlm_client_convert(client, &request) == VLM_CVTUNGRANT);
+    pthread_join(converting, NULL);
+    CHECK(first.answer == VLM_NORMAL && vlm_client_convert(client, &request) == VLM_NORMAL);
     end_service(thread, client);
 }
 
@@ -770,6 +835,8 @@ int main(int count, char **words) {
     test_memory();
     test_half_answers();
     test_half_event();
+    test_ended_process();
+    test_two_conversions();
     test_late_lock();
     test_signals();
     kill(daemon_pid, SIGTERM);
