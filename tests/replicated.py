@@ -52,7 +52,10 @@ def over_etcd():
     """The tests that need etcd."""
     return [Test("replicas by their lines", runs(DEBIAN_PYTHON, "test_service.py")),
             Test("members of etcd that fail", runs(DEBIAN_PYTHON, "test_members.py")),
-            Test("a leader of etcd that hangs", runs(DEBIAN_PYTHON, "hang.py", "--clients", 12, "--seconds", 5)),
+            Test("a leader of etcd that hangs",
+                 runs(DEBIAN_PYTHON, "hang.py", "--clients", 12, "--seconds", 5, "--lease", 5)),
+            Test("leases while etcd's leader or their clients hang",
+                 runs(DEBIAN_PYTHON, "leases.py", "--pairs", 10, "--fault", "leader for long", "--fault", "clients")),
             Test("two minutes of faults", runs(DEBIAN_PYTHON, "faults.py", "--seconds", FAULT_SECONDS))]
 
 

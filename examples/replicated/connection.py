@@ -4,12 +4,11 @@ import asyncio
 import re
 import secrets
 from contextlib import suppress
-from typing import Any, Awaitable, Callable, Dict, List, Optional, TypeVar, Union
+from typing import Awaitable, Callable, Dict, List, Optional, TypeVar, Union
 
 from vlm import script
 
-from entries import Ended, Opened, Resumed, Stepped, Taken
-from etcd_list import LeaseEnded
+from entries import Closed, Entry, Opened, Resumed, Stepped, Taken
 from replica import Replica
 from state import Session, read_request
 
@@ -89,8 +88,6 @@ class Connection:
             answer = await self._answer(text, number)
         except (script.LineFault, Refused) as fault:
             answer = f"{fault}\n"
-        except LeaseEnded:
-            raise Gone("session ended") from None
         return answer if number is None or not answer else f"{number} {answer}"
 
     async def _answer(self, text: bytes, number: Optional[int]) -> str:
@@ -163,29 +160,20 @@ class Connection:
         seconds = _only_number(words, "seconds", USUAL)
         if not SHORTEST <= seconds <= LONGEST:
             raise script.LineFault(script.Fault.NUMBER_OUT_OF_RANGE)
-        entry = Opened(f"{secrets.randbits(62) + 1:016x}", self.owner, seconds)
-        return await self._begin(entry.session, lambda: self._of_lease(self.replica.store.open_session, entry))
+        name = f"{secrets.randbits(62) + 1:016x}"
+        return await self._begin(name, Opened(name, self.owner, seconds))
 
     async def _resume(self, words: List[str]) -> str:
         """`resume SESSION [asts=N]`: goes on with a session, whose client has this many ASTs."""
         if not words or not re.fullmatch("[0-9a-f]{16}", words[0]):
             raise script.LineFault(script.Fault.WRONG_WORD)
-        name, got = words[0], _only_number(words[1:], "asts", None)
+        return await self._begin(words[0], Resumed(words[0], self.owner), _only_number(words[1:], "asts", None))
 
-        async def resumed() -> None:
-            await self._of_lease(self.replica.store.refresh, name)
-            self.replica.submit(Resumed(name, self.owner))
-
-        return await self._begin(name, resumed, got)
-
-    def _of_lease(self, function: Callable[..., None], *arguments: Any) -> Awaitable[None]:
-        return self.replica.call("lease", function, *arguments)
-
-    async def _begin(self, name: str, ask: Callable[[], Awaitable[None]], asts: Optional[int] = None) -> str:
+    async def _begin(self, name: str, entry: Entry, asts: Optional[int] = None) -> str:
         if self.name is not None:
             raise Refused("session open")
         self.name = name
-        await ask()
+        self.replica.submit(entry)
         await self._until(lambda: self.has_begun)
         session = self._session()
         self._sent = session.taken if asts is None else min(asts, session.taken)
@@ -196,17 +184,21 @@ class Connection:
         """`alive`: has the lease last its whole time again."""
         _no_more(words)
         self._session()
-        await self._of_lease(self.replica.store.refresh, self.name)
+        beat = self.replica.leases.ask(str(self.name))
+        await self._until(lambda: self.replica.leases.came_by >= beat)
+        self._session()
         return "alive\n"
 
     async def _close(self, words: List[str]) -> str:
         """`close`: ends the session."""
         _no_more(words)
-        self._session()
-        name, self.name, self.has_begun = str(self.name), None, False
-        self.replica.submit(Ended(name))
-        await self._until(lambda: name not in self.replica.state.sessions)
-        await self._of_lease(self.replica.store.end_session, name)
+        session, name = self._session(), str(self.name)
+        self.replica.submit(Closed(name, self.owner))
+        sessions = self.replica.state.sessions
+        await self._until(lambda: sessions.get(name) is not session or session.owner != self.owner)
+        if name in sessions:
+            raise Gone("session moved")
+        self.name, self.has_begun = None, False
         return "closed\n"
 
     async def _digest(self, words: List[str]) -> str:

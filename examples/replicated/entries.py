@@ -3,12 +3,13 @@
 import json
 import zlib
 from dataclasses import astuple, dataclass
-from typing import Any, Dict, List, Sequence, Tuple, Type, Union
+from typing import Any, Dict, List, Optional, Sequence, Tuple, Type, Union
 
 
 @dataclass(frozen=True)
 class Opened:
-    """A session begins. `owner` names the replica and the connection that serve it, and `seconds` its lease."""
+    """A session begins. `owner` names the replica and the connection that serve it, and `seconds` its lease. The owner
+    is the first beat of the session too."""
 
     session: str
     owner: str
@@ -17,7 +18,7 @@ class Opened:
 
 @dataclass(frozen=True)
 class Resumed:
-    """A session goes on at another connection."""
+    """A session goes on at another connection. The owner is its next beat."""
 
     session: str
     owner: str
@@ -43,10 +44,30 @@ class Taken:
 
 
 @dataclass(frozen=True)
+class Kept:
+    """The leases of these sessions last their whole time again."""
+
+    # Names this entry. No two have the same.
+    beat: str
+    sessions: Tuple[str, ...]
+
+
+@dataclass(frozen=True)
 class Ended:
-    """A session ends, with all its processes."""
+    """The lease of a session has ended, and the session ends with all its processes. `beat` is the last one of the
+    session that the sender had applied. If another one came by meanwhile, the entry does nothing."""
 
     session: str
+    # None in a chunk, which has those ends alone that did something.
+    beat: Optional[str]
+
+
+@dataclass(frozen=True)
+class Closed:
+    """The client of a session ends it. The entry does nothing if the session is not this connection's any more."""
+
+    session: str
+    owner: str
 
 
 @dataclass(frozen=True)
@@ -64,9 +85,9 @@ class Packed:
     revision: int
 
 
-Entry = Union[Opened, Resumed, Stepped, Taken, Ended, Searched, Packed]
+Entry = Union[Opened, Resumed, Stepped, Taken, Kept, Ended, Closed, Searched, Packed]
 _KINDS: Dict[str, Type[Any]] = {kind.__name__.lower(): kind
-                                for kind in (Opened, Resumed, Stepped, Taken, Ended, Searched, Packed)}
+                                for kind in (Opened, Resumed, Stepped, Taken, Kept, Ended, Closed, Searched, Packed)}
 
 
 @dataclass(frozen=True)
@@ -85,7 +106,7 @@ def _plain(entry: Entry) -> List[Any]:
 
 
 def _entry(plain: List[Any]) -> Entry:
-    return _KINDS[plain[0]](*plain[1:])
+    return _KINDS[plain[0]](*(tuple(it) if isinstance(it, list) else it for it in plain[1:]))
 
 
 def encode(entries: Sequence[Entry]) -> bytes:

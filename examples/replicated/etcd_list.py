@@ -1,29 +1,27 @@
-"""The list in etcd, and the leases of sessions. Nothing else talks to etcd.
+"""The list in etcd. Nothing else talks to etcd.
 
 Each append is a key of its own, and etcd's revision orders them: no two appends have the same revision. Keys below the
 prefix:
 
-    live/entries/WRITER-N   a batch of entries
-    live/sessions/SESSION   exists while the lease of a session lasts
-    packed/N                chunk N of the packed entries
+    entries/WRITER-N   a batch of entries
+    packed/N           chunk N of the packed entries
 
 The client library knows one member of etcd. So each call here asks one member after another, each with a time-out.
-Appends, reads, calls about leases and watches each have a member of their own, and leave it when it fails. A call may
+Appends, reads and watches each have a member of their own, and leave it when it fails. A call may
 have taken effect although its answer is lost: every call below may be repeated.
 """
 
 import logging
 import time
 from dataclasses import dataclass
-from typing import Any, Callable, FrozenSet, Iterator, List, Optional, Sequence, Tuple, TypeVar
+from typing import Any, Callable, Iterator, List, Optional, Sequence, Tuple, TypeVar
 
 import etcd3
 import grpc
 from etcd3 import etcdrpc
-from etcd3.exceptions import (ConnectionFailedError, ConnectionTimeoutError, InternalServerError,
-                              PreconditionFailedError)
+from etcd3.exceptions import ConnectionFailedError, ConnectionTimeoutError, InternalServerError
 
-from entries import Batch, Entry, Opened, Packed, decode, encode, unpack
+from entries import Batch, Entry, Packed, decode, encode, unpack
 from members import Place
 
 _T = TypeVar("_T")
@@ -45,10 +43,6 @@ class Compacted(Exception):
     """etcd has forgotten the revisions that were asked for: read the chunks."""
 
 
-class LeaseEnded(Exception):
-    """The lease of a session has ended."""
-
-
 @dataclass(frozen=True)
 class Reading:
     """What is in etcd at one revision."""
@@ -60,15 +54,6 @@ class Reading:
     packed: List[Batch]
     # The batches after the last chunk.
     live: List[Batch]
-    sessions: FrozenSet[str]
-
-
-@dataclass(frozen=True)
-class Events:
-    """What a watch tells of: batches, and sessions whose lease has ended."""
-
-    batches: List[Batch]
-    ended: List[str]
 
 
 def _is_passing(failed: Exception) -> bool:
@@ -98,10 +83,8 @@ class EtcdList:
         """Members are written HOST:PORT."""
         pairs = [member.rsplit(":", 1) for member in members]
         self._clients = [etcd3.client(host, int(port), timeout=_SECONDS, grpc_options=_OPTIONS) for host, port in pairs]
-        self._places = {kind: Place(len(pairs)) for kind in ("append", "read", "lease", "watch")}
-        self._live = prefix + "live/"
-        self._entries, self._sessions = self._live + "entries/", self._live + "sessions/"
-        self._chunks = prefix + "packed/"
+        self._places = {kind: Place(len(pairs)) for kind in ("append", "read", "watch")}
+        self._entries, self._chunks = prefix + "entries/", prefix + "packed/"
 
     def call(self, kind: str, ask: Callable[[Any], _T]) -> _T:
         """Asks one member after another, until one answers."""
@@ -131,7 +114,7 @@ class EtcdList:
 
     def is_present(self, member: int) -> bool:
         """Whether a member answers. One that does may still have no leader."""
-        own = etcdrpc.RangeRequest(key=self._live.encode(), serializable=True)
+        own = etcdrpc.RangeRequest(key=self._entries.encode(), serializable=True)
         try:
             self._clients[member].kvstub.Range(own, _PRESENT)
         except grpc.RpcError:
@@ -140,12 +123,12 @@ class EtcdList:
 
     def append(self, name: str, entries: Sequence[Entry]) -> None:
         """Appends a batch of entries, unless there is one of this name."""
-        self._put_new(self._entries + name, entries)
+        self._put_new(name, entries)
 
-    def _put_new(self, key: str, entries: Sequence[Entry], *others: Tuple[str, bytes, int]) -> bool:
-        """Appends a batch of entries with a key, and puts other keys with their values and leases. Does nothing if the
-        last of these keys exists. Returns whether it did."""
-        puts = [(key, encode(entries), 0), *others]
+    def _put_new(self, name: str, entries: Sequence[Entry], *others: Tuple[str, bytes]) -> bool:
+        """Appends a batch of entries, and puts other keys with their values. Does nothing if the last of these keys
+        exists. Returns whether it did."""
+        puts = [(self._entries + name, encode(entries)), *others]
 
         def ask(client: Any) -> bool:
             make = client.transactions
@@ -153,40 +136,6 @@ class EtcdList:
                                       [make.put(*words) for words in puts], [])[0]
 
         return self.call("append", ask)
-
-    def open_session(self, entry: Opened) -> None:
-        """Begins a session: a lease, whose identification is the session's, and a key that lasts as long."""
-        session, lease = entry.session, int(entry.session, 16)
-
-        def grant(client: Any) -> None:
-            try:
-                client.lease(entry.seconds, lease_id=lease)
-            except PreconditionFailedError:
-                logging.info("lease %s was granted by an earlier try", session)
-
-        self.call("lease", grant)
-        try:
-            self._put_new(f"{self._entries}open-{session}", [entry], (self._sessions + session, b"", lease))
-        except grpc.RpcError as failed:
-            if not _is_code(failed, grpc.StatusCode.NOT_FOUND):
-                raise
-            raise LeaseEnded(session) from None
-
-    def refresh(self, session: str) -> None:
-        """The lease of a session lasts its whole time again."""
-        def ask(client: Any) -> int:
-            return max((it.TTL for it in client.refresh_lease(int(session, 16))), default=0)
-
-        if self.call("lease", ask) <= 0:
-            raise LeaseEnded(session)
-
-    def end_session(self, session: str) -> None:
-        """Ends the lease of a session."""
-        try:
-            self.call("lease", lambda client: client.revoke_lease(int(session, 16)))
-        except grpc.RpcError as failed:
-            if not _is_code(failed, grpc.StatusCode.NOT_FOUND):
-                raise
 
     def read(self, chunks: int, covered: int) -> Reading:
         """Reads what is there, except the first chunks, which are known and go up to a revision. All of it is of one
@@ -198,8 +147,7 @@ class EtcdList:
                 time.sleep(_PAUSE)
 
     def _read(self, chunks: int, covered: int) -> Reading:
-        first = self._range(self._sessions, keys_only=True)
-        revision, packed = first.header.revision, []
+        revision, packed = self._range(self._chunks, count_only=True).header.revision, []
         while True:
             key = self._chunk_key(chunks + 1)
             found = self._range(key, range_end=key + "\0", revision=revision).kvs
@@ -208,8 +156,7 @@ class EtcdList:
             batches = unpack(found[0].value)
             packed += batches
             chunks, covered = chunks + 1, batches[-1].revision
-        sessions = frozenset(it.key.decode().rpartition("/")[2] for it in first.kvs)
-        return Reading(revision, chunks, covered, packed, list(self._entries_after(covered, revision)), sessions)
+        return Reading(revision, chunks, covered, packed, list(self._entries_after(covered, revision)))
 
     def _entries_after(self, after: int, revision: int) -> Iterator[Batch]:
         """The batches after a revision, in order, as they are at another revision."""
@@ -235,7 +182,7 @@ class EtcdList:
 
     def watch(self, revision: int) -> "Watch":
         """What comes from a revision on."""
-        return Watch(self, self._live.encode(), revision)
+        return Watch(self, self._entries.encode(), revision)
 
     def open_watch(self, request: Any) -> Tuple[Any, int]:
         """A stream of watch responses, and the number of its member. It ends if that member has no leader."""
@@ -248,7 +195,7 @@ class EtcdList:
     def pack(self, chunk: bytes, entry: Packed) -> bool:
         """Writes a chunk. Returns whether it was written: of several writers of one chunk, one writes it."""
         key = self._chunk_key(entry.number)
-        return self._put_new(f"{self._entries}packed-{entry.number}", [entry], (key, chunk, 0))
+        return self._put_new(f"packed-{entry.number}", [entry], (key, chunk))
 
     def _chunk_key(self, number: int) -> str:
         return f"{self._chunks}{number:08}"
@@ -273,7 +220,7 @@ def _batch(pair: Any) -> Batch:
 
 
 class Watch:
-    """The events from a revision on. It goes on at the next member if one ends it. One thread calls `next`."""
+    """The batches from a revision on. It goes on at the next member if one ends it. One thread calls `next`."""
 
     def __init__(self, store: EtcdList, prefix: bytes, revision: int) -> None:
         self._store, self._prefix, self._revision = store, prefix, revision
@@ -281,8 +228,8 @@ class Watch:
         self._responses: Any = None
         self._member = 0
 
-    def next(self) -> Events:
-        """Waits for the next events. Raises Compacted if etcd has forgotten them."""
+    def next(self) -> List[Batch]:
+        """Waits for the next batches. Raises Compacted if etcd has forgotten them."""
         while True:
             try:
                 response = next(self._opened())
@@ -299,7 +246,7 @@ class Watch:
                 self.cancel()
             elif response.events:
                 self._revision = response.events[-1].kv.mod_revision + 1
-                return self._events(response.events)
+                return [_batch(it.kv) for it in response.events if it.type == it.PUT]
 
     def _opened(self) -> Any:
         if self._responses is None:
@@ -319,13 +266,3 @@ class Watch:
         responses, self._responses = self._responses, None
         if responses is not None:
             responses.cancel()
-
-    def _events(self, events: Any) -> Events:
-        kept: Events = Events([], [])
-        for event in events:
-            folder, _, name = event.kv.key[len(self._prefix):].decode().partition("/")
-            if folder == "entries" and event.type == event.PUT:
-                kept.batches.append(_batch(event.kv))
-            elif folder == "sessions" and event.type == event.DELETE:
-                kept.ended.append(name)
-        return kept

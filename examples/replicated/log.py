@@ -1,8 +1,9 @@
 """The batches that are in no chunk yet, and what of them the next chunk has."""
 
-from typing import List, Tuple
+from dataclasses import replace
+from typing import Dict, List, Optional, Tuple
 
-from entries import Batch, Entry, Packed, Stepped, pack
+from entries import Batch, Closed, Ended, Entry, Kept, Packed, Resumed, Stepped, pack
 from state import Effect
 
 # An entry, and what it did.
@@ -52,14 +53,34 @@ class Log:
 
 
 def _kept(parts: List[Tuple[int, List[Judged]]]) -> List[Batch]:
-    """The entries that rebuild the state: those that changed something, and each session's last step even if it was
-    refused. The last batch is kept in any case, since it tells how far the chunk goes."""
-    last = {entry.session: entry for _, judged in parts for entry, effect in judged
-            if isinstance(entry, Stepped) and effect is not Effect.NOTHING}
+    """The entries that rebuild the state: those that changed something, and each session's last step and last beat even
+    if they changed nothing else. The last batch is kept in any case, since it tells how far the chunk goes."""
+    steps: Dict[str, Entry] = {}
+    beats: Dict[str, Entry] = {}
+    for _, judged in parts:
+        for entry, effect in judged:
+            if isinstance(entry, Stepped) and effect is not Effect.NOTHING:
+                steps[entry.session] = entry
+            elif isinstance(entry, Kept):
+                beats.update(dict.fromkeys(entry.sessions, entry))
+            elif isinstance(entry, (Resumed, Ended, Closed)) and effect is Effect.CHANGE:
+                beats.pop(entry.session, None)
     kept = []
     for revision, judged in parts:
-        entries = tuple(entry for entry, effect in judged
-                        if effect is Effect.CHANGE or effect is Effect.ANSWER and last[entry.session] is entry)
+        entries = tuple(it for it in (_packed(*pair, steps, beats) for pair in judged) if it is not None)
         if entries or revision == parts[-1][0]:
             kept.append(Batch(revision, "", entries))
     return kept
+
+
+def _packed(entry: Entry, effect: Effect, steps: Dict[str, Entry], beats: Dict[str, Entry]) -> Optional[Entry]:
+    """An entry as a chunk has it, or None if it has not. An end that did something does it without the beat that it
+    names, which the chunk may lack."""
+    if isinstance(entry, Kept):
+        sessions = tuple(name for name in entry.sessions if beats.get(name) is entry)
+        return replace(entry, sessions=sessions) if sessions and effect is Effect.LEASE else None
+    if isinstance(entry, Stepped) and effect is Effect.ANSWER:
+        return entry if steps[entry.session] is entry else None
+    if effect is not Effect.CHANGE:
+        return None
+    return replace(entry, beat=None) if isinstance(entry, Ended) else entry

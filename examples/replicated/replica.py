@@ -11,8 +11,9 @@ import time
 from concurrent.futures import ThreadPoolExecutor
 from typing import TYPE_CHECKING, Any, Awaitable, Callable, Dict, Iterable, List, Optional, Set
 
-from entries import Batch, Ended, Entry, Opened, Packed, Resumed, Searched
-from etcd_list import Compacted, EtcdList, Events, Reading, Watch
+from entries import Batch, Entry, Kept, Opened, Packed, Resumed, Searched
+from etcd_list import Compacted, EtcdList, Reading, Watch
+from leases import Leases
 from log import Log
 from state import Session, State
 
@@ -25,8 +26,8 @@ MOST = 100
 DEADLOCK_WAIT, LOOK = 1.0, 0.25
 # After this many seconds a watch that does not show an append is opened again, at another member.
 SILENCE = 3.0
-# How many calls to etcd about leases may be under way.
-LEASE_CALLS = 16
+# How many ends of sessions may be on their way to etcd.
+ENDS = 4
 
 
 class Replica:
@@ -36,13 +37,13 @@ class Replica:
     def __init__(self, store: EtcdList, chunk: int) -> None:
         self.store = store
         self.name = secrets.token_hex(4)
-        self.state, self.log = State(), Log(chunk)
+        self.state, self.log, self.leases = State(), Log(chunk), Leases(self.name)
         # The revision of the last batch that was applied.
         self.revision = 0
         # The connections of clients, by the name under which each may own a session.
         self.connections: Dict[str, "Connection"] = {}
         self._queue: "asyncio.Queue[Entry]" = asyncio.Queue()
-        counts = {"watch": 1, "check": 1, "append": 1, "pack": 1, "lease": LEASE_CALLS}
+        counts = {"watch": 1, "check": 1, "append": 1, "pack": 1, "end": ENDS}
         self._threads = {role: ThreadPoolExecutor(count, role) for role, count in counts.items()}
         self._watch: Optional[Watch] = None
         # How many appends there were, and when each ended that the watch has not shown yet.
@@ -102,16 +103,14 @@ class Replica:
                 logging.info("etcd has forgotten what follows revision %d", self.revision)
 
     def _catch_up(self, reading: Reading) -> None:
-        """Goes on from a reading. Sessions whose lease has ended meanwhile end."""
+        """Goes on from a reading."""
         self._apply(reading.packed)
         self.log.cover(reading.chunks, reading.covered)
         self._apply(reading.live)
-        self._end(self.state.sessions.keys() - reading.sessions)
         self._notice()
 
-    def _take(self, events: Events) -> None:
-        self._apply(events.batches)
-        self._end(events.ended)
+    def _take(self, batches: List[Batch]) -> None:
+        self._apply(batches)
         self._notice()
         if self.log.is_full and self._tried <= self.log.chunks:
             self._tried = self.log.chunks + 1
@@ -131,20 +130,26 @@ class Replica:
         """Does what an entry means to this replica beside its effect on the state."""
         if isinstance(entry, Packed):
             self.log.cover(entry.number, entry.revision)
-        elif isinstance(entry, (Opened, Resumed)) and entry.owner in self.connections:
-            self.connections[entry.owner].has_begun = True
+        elif isinstance(entry, Kept):
+            self.leases.kept(entry, self.state.sessions, time.monotonic())
+        elif isinstance(entry, (Opened, Resumed)):
+            self.leases.begun(entry.session, time.monotonic())
+            if entry.owner in self.connections:
+                self.connections[entry.owner].has_begun = True
 
     def _notice(self) -> None:
         """Tells clients what is new, and takes their ASTs."""
         for connection in list(self.connections.values()):
             connection.notice()
 
-    def _end(self, sessions: Iterable[str]) -> None:
-        """Ends sessions whose leases have ended. Each replica does so. The entries of one session have one name, so
-        etcd appends one of them."""
-        for session in sessions:
-            if session in self.state.sessions:
-                self.start(self.call("lease", self.store.append, f"end-{session}", [Ended(session)]))
+    def _keep(self, now: float) -> None:
+        """Has leases kept, and ends the sessions whose leases have ended. Each replica does so. The entries of one end
+        have one name, so etcd appends one of them."""
+        kept = self.leases.next_kept(self.state.sessions, now)
+        if kept is not None:
+            self.submit(kept)
+        for end in self.leases.ends(self.state.sessions, now):
+            self.start(self.call("end", self.store.append, f"end-{end.session}-{end.beat}", [end]))
 
     async def _pack(self) -> None:
         """Writes the next chunk, after a pause in which another replica may do so. Who writes it deletes the packed
@@ -163,10 +168,12 @@ class Replica:
         return [session for name, session in self.state.sessions.items() if name in owners]
 
     async def look(self) -> None:
-        """Looks now and then whether a request has waited too long, or the watch has been silent."""
+        """Looks now and then whether leases have to be kept or have ended, whether a request has waited too long, and
+        whether the watch has been silent."""
         while True:
             await asyncio.sleep(LOOK)
             now = time.monotonic()
+            self._keep(now)
             self._search(now)
             overdue = [name for name, since in self._owed.items() if now - since > SILENCE]
             for name in overdue:

@@ -12,7 +12,7 @@ from typing import Deque, Dict, Iterator, List, Optional, Tuple, Union
 
 from vlm import BadParamError, Condition, LockManager, Process, script
 
-from entries import Ended, Entry, Opened, Packed, Resumed, Searched, Stepped, Taken
+from entries import Closed, Ended, Entry, Kept, Opened, Packed, Resumed, Searched, Stepped, Taken
 
 # How many ASTs a session keeps for a client that comes back.
 KEPT_ASTS = 64
@@ -26,7 +26,9 @@ class Effect(Enum):
     NOTHING = 0
     # A step was refused. Only its number and its answer are new in its session.
     ANSWER = 1
-    CHANGE = 2
+    # Leases last longer, and nothing else is new.
+    LEASE = 2
+    CHANGE = 3
 
 
 class OutOfMemory(Exception):
@@ -39,6 +41,8 @@ class Session:
     def __init__(self, owner: str, seconds: int) -> None:
         # The connection that serves it, and how long its lease lasts.
         self.owner, self.seconds = owner, seconds
+        # Names the last entry that had its lease last its whole time.
+        self.beat = owner
         # The processes that the client has declared, by its names for them.
         self.names = script.Names()
         # The number of its last step, its line, and what it printed.
@@ -94,8 +98,10 @@ class State:
             return self._open(entry)
         if isinstance(entry, Taken):
             return _effect(self._take(entry.session))
-        if isinstance(entry, Ended):
-            return _effect(self._end(entry.session))
+        if isinstance(entry, Kept):
+            return self._keep(entry)
+        if isinstance(entry, (Ended, Closed)):
+            return _effect(self._is_over(entry) and self._end(entry.session))
         if isinstance(entry, Searched):
             return _effect(self._make(0, script.Search(entry.node)).number != 0)
         assert isinstance(entry, Packed)
@@ -133,9 +139,16 @@ class State:
         entries are kept in chunks, since a connection waits until its entry comes by."""
         if isinstance(entry, Opened):
             self.sessions.setdefault(entry.session, Session(entry.owner, entry.seconds))
-        if entry.session in self.sessions:
-            self.sessions[entry.session].owner = entry.owner
+        session = self.sessions.get(entry.session)
+        if session is not None:
+            session.owner = session.beat = entry.owner
         return Effect.CHANGE
+
+    def _keep(self, entry: Kept) -> Effect:
+        kept = [self.sessions[name] for name in entry.sessions if name in self.sessions]
+        for session in kept:
+            session.beat = entry.beat
+        return Effect.LEASE if kept else Effect.NOTHING
 
     def _take(self, name: str) -> bool:
         session = self.sessions.get(name)
@@ -155,11 +168,19 @@ class State:
                 yield f"{name}: {script.ast_text(ast)}\n"
                 ast = self._make(pid, script.Take()).ast
 
+    def _is_over(self, entry: Union[Ended, Closed]) -> bool:
+        """Whether an end is one of the session as it is: no lease was kept, and nobody else resumed it, meanwhile."""
+        session = self.sessions.get(entry.session)
+        if session is None:
+            return False
+        if isinstance(entry, Closed):
+            return entry.owner == session.owner
+        return entry.beat in (None, session.beat)
+
     def _end(self, name: str) -> bool:
-        session = self.sessions.pop(name, None)
-        for pid in session.names.pids.values() if session else ():
+        for pid in self.sessions.pop(name).names.pids.values():
             self._make(pid, script.Rundown())
-        return session is not None
+        return True
 
     def has_pending(self, session: Session) -> bool:
         """Whether an AST is pending for a process of a session."""
@@ -184,7 +205,7 @@ class State:
                 shown.append(self._shown(script.ShowBlock(number), process.pid))
                 shown.append(self._shown(script.ShowTail(number), process.pid))
         for name, it in sorted(self.sessions.items()):
-            shown.append(f"session {name} owner {it.owner} names {it.names.pids} "
+            shown.append(f"session {name} owner {it.owner} beat {it.beat} names {it.names.pids} "
                          f"last {it.number} {it.line!r} {it.answer!r} "
                          f"taken {it.taken} in {it.takes} {list(it.asts)}\n")
         return "".join(shown)

@@ -40,7 +40,7 @@ class Observer:
             watch = self._store.watch(reading.revision + 1)
             try:
                 while True:
-                    self._add(watch.next().batches)
+                    self._add(watch.next())
             except Compacted:
                 self.gaps += 1
 

@@ -12,6 +12,7 @@ from unittest import mock
 sys.path.insert(0, str(Path(__file__).resolve().parents[1]))
 import grpc  # noqa: E402
 from etcd3.client import Transactions  # noqa: E402
+from entries import Batch, Searched, encode  # noqa: E402
 from etcd_list import EtcdList  # noqa: E402
 from members import Place  # noqa: E402
 
@@ -85,7 +86,7 @@ class Members(unittest.TestCase):
             self.assertEqual(place.at, at)
 
     def test_a_watch_leaves_a_member_that_hangs(self):
-        streams, opened = [Silent(), iter([an_end_of("a")])], []
+        streams, opened = [Silent(), iter([a_batch("a")])], []
 
         def stub(member):
             opened.append(self.members.index(member))
@@ -98,7 +99,7 @@ class Members(unittest.TestCase):
             while not events.done():
                 watch.check()
                 time.sleep(0.01)
-            self.assertEqual(events.result().ended, ["a"])
+            self.assertEqual(events.result(), [Batch(9, "a", (Searched(1),))])
         self.assertEqual(opened, [0, 1])
 
 
@@ -115,11 +116,11 @@ class Silent:
         raise Failed
 
 
-def an_end_of(session):
-    """A watch response: the lease of a session has ended."""
-    pair = SimpleNamespace(mod_revision=9, key=b"vlm/live/sessions/" + session.encode())
-    return SimpleNamespace(compact_revision=0, canceled=False,
-                           events=[SimpleNamespace(kv=pair, type=1, PUT=0, DELETE=1)])
+def a_batch(name):
+    """A watch response with a batch."""
+    pair = SimpleNamespace(create_revision=9, mod_revision=9, key=b"vlm/entries/" + name.encode(),
+                           value=encode([Searched(1)]))
+    return SimpleNamespace(compact_revision=0, canceled=False, events=[SimpleNamespace(kv=pair, type=0, PUT=0)])
 
 
 if __name__ == "__main__":

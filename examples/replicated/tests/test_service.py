@@ -191,7 +191,7 @@ class Service(unittest.TestCase):
         self.assertEqual((lost.next(), lost.next()), ("session ended", None))
         again = self.lines(1, f"resume {session}")
         self.assertEqual((again.answers, again.next()), (["session ended"], None))
-        self.assertEqual(self.entries().count(Ended(session)), 1)
+        self.assertEqual(len([it for it in self.entries() if isinstance(it, Ended) and it.session == session]), 1)
 
     def session_of(self, connection):
         return connection.answers[0].split()[1]

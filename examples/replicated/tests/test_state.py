@@ -6,7 +6,8 @@ import unittest
 from pathlib import Path
 
 sys.path.insert(0, str(Path(__file__).resolve().parents[1]))
-from entries import Ended, Opened, Resumed, Searched, Stepped, Taken, decode, encode, unpack  # noqa: E402
+from entries import (Closed, Ended, Kept, Opened, Resumed, Searched, Stepped, Taken,  # noqa: E402
+                     decode, encode, unpack)
 from log import Log  # noqa: E402
 from state import Effect, State  # noqa: E402
 
@@ -49,11 +50,31 @@ class States(unittest.TestCase):
     def test_a_session_ends_once_and_nothing_follows(self):
         begun(self.state, "a")
         self.answer("a", 2, "enq P EX name=A block=1")
-        self.assertIs(self.state.apply(Ended("a")), Effect.CHANGE)
+        self.assertIs(self.state.apply(Ended("a", "r.1")), Effect.CHANGE)
         self.assertEqual(self.state.manager.lock_count(), 0)
-        for entry in (Ended("a"), Stepped("a", "r.1", 3, "enq P EX name=A block=1"), Taken("a")):
+        for entry in (Ended("a", "r.1"), Closed("a", "r.1"), Kept("r-1", ("a",)), Taken("a"),
+                      Stepped("a", "r.1", 3, "enq P EX name=A block=1")):
             self.assertIs(self.state.apply(entry), Effect.NOTHING)
         self.state.apply(Resumed("a", "r.2"))
+        self.assertEqual(self.state.sessions, {})
+
+    def test_an_end_does_nothing_after_another_beat(self):
+        begun(self.state, "a")
+        begun(self.state, "b")
+        self.assertIs(self.state.apply(Kept("r-1", ("a", "c"))), Effect.LEASE)
+        self.assertIs(self.state.apply(Ended("a", "r.1")), Effect.NOTHING)
+        self.assertIs(self.state.apply(Ended("b", "r-1")), Effect.NOTHING)
+        self.state.apply(Resumed("a", "r.2"))
+        self.assertIs(self.state.apply(Ended("a", "r-1")), Effect.NOTHING)
+        self.assertIs(self.state.apply(Kept("r-2", ())), Effect.NOTHING)
+        self.assertIs(self.state.apply(Ended("a", "r.2")), Effect.CHANGE)
+        self.assertEqual(list(self.state.sessions), ["b"])
+
+    def test_a_connection_closes_its_own_session_alone(self):
+        begun(self.state, "a")
+        self.state.apply(Resumed("a", "r.2"))
+        self.assertIs(self.state.apply(Closed("a", "r.1")), Effect.NOTHING)
+        self.assertIs(self.state.apply(Closed("a", "r.2")), Effect.CHANGE)
         self.assertEqual(self.state.sessions, {})
 
     def test_each_session_has_its_own_names(self):
@@ -80,7 +101,7 @@ class States(unittest.TestCase):
 
     def test_entries_are_read_as_they_were_written(self):
         entries = (Opened("a", "r.1", 5), Stepped("a", "r.1", 1, "enq P EX name=\xff\"\\ block=1"), Searched(2),
-                   Ended("a"))
+                   Kept("r-1", ("a", "b")), Ended("a", "r-1"), Closed("a", "r.1"))
         self.assertEqual(decode(encode(entries)), entries)
 
 
@@ -128,8 +149,11 @@ def random_entry(rng, state):
     lines = ["declare P node=1 group=1 quota=3 blocks=2"] * 2 + ["end P", f"set P block=1 value={value}", "bad line"]
     lines += [f"enq P {mode} name={rng.choice('AB')} block={rng.randint(1, 3)} {flags}" for _ in range(6)]
     lines += [f"cvt P {lock} {mode} block=1 {flags}", f"deq P {lock} value={value}", f"deq P {lock} cancel"] * 2
-    others = [Opened(name, "r.1", 5), Opened(name, "r.2", 5), Resumed(name, "r.3"), Taken(name), Ended(name),
-              Searched(1), Searched(9)]
+    beats = [session.beat if session else "r.1", f"r-{rng.randrange(1 << 30)}"]
+    others = [Opened(name, "r.1", 5), Opened(name, "r.2", 5), Resumed(name, "r.3"), Taken(name), Searched(1),
+              Searched(9), Kept(beats[1], tuple(rng.sample("abcd", rng.randrange(4)))),
+              Kept(beats[1], tuple(rng.sample("abcd", rng.randrange(4)))), Ended(name, rng.choice(beats)),
+              Closed(name, owner)]
     return rng.choice(others) if rng.random() < 0.25 else Stepped(name, owner, number, rng.choice(lines))
 
 

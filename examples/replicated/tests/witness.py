@@ -8,7 +8,7 @@ from typing import NamedTuple
 
 from vlm import LockManager, script
 
-from entries import Ended, Opened, Resumed, Searched, Stepped, Taken
+from entries import Closed, Ended, Kept, Opened, Resumed, Searched, Stepped, Taken
 
 VALNOTVALID = 7
 # How many problems of a kind are named.
@@ -149,29 +149,39 @@ class Replay:
 
     def __init__(self, batches):
         self.manager, self.names, self.answers, self._last = LockManager(), {}, {}, defaultdict(int)
-        self._owners = {}
+        self._owners, self._beats = {}, {}
         for batch in batches:
             for entry in batch.entries:
                 self._make(entry)
 
     def _make(self, entry):
         if isinstance(entry, (Opened, Resumed)):
-            self._owners[entry.session] = entry.owner
+            self._owners[entry.session] = self._beats[entry.session] = entry.owner
         if isinstance(entry, Opened):
             self.names.setdefault(entry.session, script.Names())
         elif isinstance(entry, Searched):
             script.make(self.manager, 0, script.Search(entry.node))
-        elif isinstance(entry, (Stepped, Taken, Ended)) and entry.session in self.names:
-            names = self.names[entry.session]
-            if isinstance(entry, Stepped):
-                self._step(names, entry)
-            elif isinstance(entry, Taken):
-                for pid in names.pids.values():
-                    while script.make(self.manager, pid, script.Take()).ast:
-                        pass
-            else:
-                for pid in self.names.pop(entry.session).pids.values():
-                    script.make(self.manager, pid, script.Rundown())
+        elif isinstance(entry, Kept):
+            self._beats.update(dict.fromkeys(entry.sessions, entry.beat))
+        elif isinstance(entry, (Stepped, Taken, Ended, Closed)) and entry.session in self.names:
+            self._of_session(entry, self.names[entry.session])
+
+    def _of_session(self, entry, names):
+        if isinstance(entry, Stepped):
+            self._step(names, entry)
+        elif isinstance(entry, Taken):
+            for pid in names.pids.values():
+                while script.make(self.manager, pid, script.Take()).ast:
+                    pass
+        elif self._is_over(entry):
+            for pid in self.names.pop(entry.session).pids.values():
+                script.make(self.manager, pid, script.Rundown())
+
+    def _is_over(self, entry):
+        """Whether the end of a session is one: of its owner, or after the last beat that the list has."""
+        if isinstance(entry, Closed):
+            return entry.owner == self._owners[entry.session]
+        return entry.beat in (None, self._beats[entry.session])
 
     def _step(self, names, entry):
         if entry.owner == self._owners[entry.session] and entry.number > self._last[entry.session]:

@@ -1,0 +1,115 @@
+#!/usr/bin/env python3
+"""Clients that hold locks keep their leases alive, and others wait for the same locks, while something hangs. Fails if
+one of the others is granted a lock while its holder's lease goes on, by the lease rule: it lasts from before the holder
+sent the last line that was answered."""
+
+import argparse
+import signal
+import sys
+import threading
+import time
+from pathlib import Path
+
+sys.path.insert(0, str(Path(__file__).resolve().parents[1]))
+from hang import leader  # noqa: E402
+from local import Local  # noqa: E402
+from lock_client import Client, SessionEnded  # noqa: E402
+
+MEMBERS, REPLICAS = 3, 3
+LEASE = 5
+# How long all goes well before something hangs, and after it. Leases that end have ended by then.
+BEFORE, AFTER = 2.0, LEASE + 3.0
+# What hangs, and for how many seconds. A client that hangs for longer than its lease loses it.
+FAULTS = {"leader": 6.0, "leader for long": 12.0, "replica": 12.0, "clients": LEASE + 2.0, "nothing": 0.0}
+
+
+class Pair:
+    """A client that holds EX on a resource, and one that waits for it."""
+
+    def __init__(self, places, name):
+        self.holder, self.other = (Client(it, LEASE) for it in (places, places[1:] + places[:1]))
+        for client, words in ((self.holder, ""), (self.other, "ast=1")):
+            client.ask("declare P node=1 group=1 quota=9 blocks=1")
+            client.ask(f"enq P EX name={name} block=1 {words}")
+        # Until when the holder hangs, when it heard that its session had ended, and when the other one was granted.
+        self.hangs_until, self.ended, self.granted = 0.0, None, None
+
+    def hold(self, until):
+        """Keeps the holder's lease alive, except while it hangs."""
+        try:
+            while time.monotonic() < until:
+                time.sleep(max(0.2, self.hangs_until - time.monotonic()))
+                self.holder.keep_alive()
+        except SessionEnded:
+            self.ended = time.monotonic()
+
+    def wait(self, until):
+        """Waits until the other one is granted the lock, or until a time."""
+        try:
+            while self.granted is None and time.monotonic() < until:
+                if self.other.next_ast(0.5):
+                    self.granted = time.monotonic()
+        except SessionEnded:
+            return
+
+    @property
+    def overlap(self):
+        """For how many seconds both held the lock, by the lease rule."""
+        return 0.0 if self.granted is None else max(0.0, self.holder.lease_until - self.granted)
+
+
+def hang(local, fault, pairs):
+    """Has something hang."""
+    seconds = FAULTS[fault]
+    if fault == "clients":
+        for pair in pairs:
+            pair.hangs_until = time.monotonic() + seconds
+    elif seconds:
+        name = "replica 0" if fault == "replica" else f"etcd {leader(local)}"
+        local.signal(name, signal.SIGSTOP)
+        time.sleep(seconds)
+        local.signal(name, signal.SIGCONT)
+
+
+def run(local, fault, pairs, number):
+    """Pairs under a fault. Returns what is wrong."""
+    first = [number + at for at in range(pairs)]
+    made = [Pair(local.places[at % REPLICAS:] + local.places[:at % REPLICAS], f"run{number}-{at}") for at in first]
+    until = time.monotonic() + BEFORE + FAULTS[fault] + AFTER
+    threads = [threading.Thread(target=call, args=(until,)) for pair in made for call in (pair.hold, pair.wait)]
+    for thread in threads:
+        thread.start()
+    time.sleep(BEFORE)
+    hang(local, fault, made)
+    for thread in threads:
+        thread.join()
+    granted = sum(pair.granted is not None for pair in made)
+    overlaps = [pair.overlap for pair in made if pair.overlap]
+    print(f"{fault}: {sum(pair.ended is not None for pair in made)} of {pairs} holders' sessions ended, {granted} of "
+          f"the others were granted, {len(overlaps)} overlaps", flush=True)
+    yield from (f"both held a lock for {seconds:.1f} s" for seconds in overlaps)
+    # Those that go on lose nothing, and those that hang for longer than their leases lose their locks.
+    expected = pairs if fault == "clients" else 0
+    if granted != expected:
+        yield f"{granted} were granted, not {expected}"
+
+
+def main():
+    parser = argparse.ArgumentParser(description=__doc__)
+    parser.add_argument("--pairs", type=int, default=30, help="pairs of clients (%(default)s)")
+    parser.add_argument("--runs", type=int, default=1, help="how often each fault comes (%(default)s)")
+    parser.add_argument("--fault", choices=FAULTS, action="append", help="what hangs (each of them)")
+    words = parser.parse_args()
+    signal.signal(signal.SIGTERM, lambda *_: sys.exit(1))
+    wrong = []
+    with Local(MEMBERS, REPLICAS) as local:
+        local.wait()
+        for number in range(words.runs):
+            for fault in words.fault or FAULTS:
+                wrong += [f"{fault}: {it}" for it in run(local, fault, words.pairs, number)]
+        print("\n".join([*wrong, local.logs(), "FAILED"]) if wrong else "ok")
+    return 1 if wrong else 0
+
+
+if __name__ == "__main__":
+    sys.exit(main())
