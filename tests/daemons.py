@@ -42,7 +42,7 @@ class Daemon:
     """A running vlmd, with a configuration, in a folder of its own. Its end must be in order, and its log must not tell
     of a bad access."""
 
-    def __init__(self, *settings, made=CHECKED, folder=None, log=None):
+    def __init__(self, *settings, made=CHECKED, folder=None, log=None, env=None):
         self.folder = folder or tempfile.mkdtemp(prefix="vlmd")
         # (another uid of a test reaches it too)
         os.chmod(self.folder, 0o755)
@@ -51,7 +51,8 @@ class Daemon:
         self.config.write_text("".join(f"{it}\n" for it in ("mode 666", f"admin {os.getgid()}", *settings)))
         self.log = Path(self.folder) / "log"
         with open(log or self.log, "w") as told:
-            self.run = subprocess.Popen([made(), "-c", self.config, "-s", self.socket], stderr=told)
+            self.run = subprocess.Popen([made(), "-c", self.config, "-s", self.socket], stderr=told,
+                                        env={**os.environ, **(env or {})})
         self.owns_folder = folder is None
         self._wait()
 

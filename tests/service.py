@@ -34,6 +34,8 @@ MUTATED_SECONDS = 8
 # How long clients come and go.
 STORM_SECONDS = 6
 ZEROS = 32 * "0"
+# Gives a program another time of day.
+FAKED_TIME = Path("/usr/lib/x86_64-linux-gnu/faketime/libfaketime.so.1")
 
 
 def missing():
@@ -196,6 +198,19 @@ def deaf(_program):
         yield from difference(answers, sent // 10)
 
 
+def fair(_program):
+    """What is wrong where one client sends many lines at once: another one's line comes among the first of them."""
+    with Daemon() as daemon, daemon.client().begin("P quota=2000 blocks=1") as busy, daemon.client() as other:
+        daemon.run.send_signal(signal.SIGSTOP)
+        busy.send(*(f"enq P NL name=N{number} block=1" for number in range(1900)))
+        other.send("metrics")
+        daemon.run.send_signal(signal.SIGCONT)
+        before = int(re.search("^vlmd_locks ([0-9]+)$", "\n".join(other.until_blank()), re.M)[1])
+        if before > 4 * 64:
+            yield f"{before} lines of another client came first"
+        yield from difference([busy.line() for _ in range(1900)][-1], "P: NORMAL lock 1900")
+
+
 def long_answers(_program):
     """What is wrong with long answers to many lines that a client sends at once: all come."""
     with Daemon() as daemon, daemon.client().begin("P quota=2000 blocks=1") as client:
@@ -304,6 +319,32 @@ def resumed(_program):
         time.sleep(5.2)
         with daemon.client() as late:
             yield from difference((late.ask(f"resume {name}"), late.line()), ("session ended", None))
+
+
+def set_clock(_program):
+    """What is wrong after the clock that tells the time of day has jumped: a session waits as long as it was told, and
+    deadlocks are searched for."""
+    with tempfile.NamedTemporaryFile("w", dir=ROOM().name) as clock:
+        def jump(seconds):
+            clock.seek(0)
+            clock.write(f"{seconds:+d}\n")
+            clock.flush()
+
+        jump(0)
+        env = {"LD_PRELOAD": str(FAKED_TIME), "FAKETIME_TIMESTAMP_FILE": clock.name, "FAKETIME_NO_CACHE": "1",
+               "FAKETIME_DONT_FAKE_MONOTONIC": "1", "DONT_FAKE_MONOTONIC": "1"}
+        with Daemon("search 300", made=PLAIN, env=env) as daemon, daemon.client().begin("P", "Q") as other:
+            with daemon.client() as client:
+                name = client.ask("open seconds=60").split()[1]
+                client.ask("declare R")
+            jump(86_400)
+            with daemon.client() as client:
+                yield from difference(client.ask(f"resume {name}"), f"session {name} seconds 60 number 1 asts 0")
+            jump(-86_400)
+            for line in ("enq P PR name=A block=1", "enq Q PR name=A block=1", "cvt P @1 EX block=1 ast=1",
+                         "cvt Q @1 EX block=1 ast=1"):
+                other.ask(line)
+            yield from difference(other.line(), "Q: completion 1 param 0 lock 2")
 
 
 def hidden(_program):
@@ -602,7 +643,8 @@ def clients(compiler, sanitizer, _program):
 
 BEHAVIOURS = {"the first session of the page": shown_talk, "half lines": half_lines, "killed clients": killed,
               "a client that reads no answers": deaf, "a client that reads no ASTs": cut_off,
-              "many long answers": long_answers, "limits of a user": limits, "what show and who print": shown,
+              "many long answers": long_answers, "many lines of one client": fair, "limits of a user": limits,
+              "what show and who print": shown,
               "sessions that are resumed": resumed, "processes of another session": hidden,
               "a daemon that ends": restarted, "a second daemon": one_daemon, "configurations": configured,
               "a daemon of systemd": under_systemd, "a deadlock": deadlocked, "no searches": not_searched,
@@ -624,6 +666,7 @@ def once():
     found = [Test(f"lines: {name}", partial(talk, name)) for name in TALKS]
     found += [Test(name, check) for name, check in BEHAVIOURS.items()]
     found += [Test("other users", other_users)] * (os.getuid() == 0)
+    found += [Test("a clock that jumps", set_clock)] * FAKED_TIME.exists()
     found += [Test("the unit for systemd", sandboxed)] * bool(shutil.which("systemd-analyze"))
     found += [Test("lines under libFuzzer", fuzzed)] * bool(shutil.which("clang"))
     found += [Test(f"the client in C by {compiler} with the sanitizer {sanitizer}",
