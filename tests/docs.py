@@ -271,21 +271,34 @@ def parts(_program):
 
 
 def functions(_program):
-    """Each function and definition whose name a page gives is there: names of four words and more, such as those of
-    tests."""
+    """Each function, definition and metric whose name a page gives is there: names of four words and more, such as
+    those of tests."""
     there = {name for file in sources() for name in re.findall(r"\bfn (\w+)", file.read_text())}
     for file in (TOP / "crates").glob("*/specs/*.antt"):
         there |= set(re.findall(r"^(?:abbrev|unfoldable) pub (\w+) :", file.read_text(), re.M))
     for file in (TOP / "include").glob("*.h"):
         there |= set(re.findall(r"^[\w *]*\b(vlm_\w+)\(", file.read_text(), re.M))
+    there |= set(re.findall(r'{"(\w+)", "(?:gauge|counter)"', (TOP / "service" / "who.c").read_text()))
     for page in PAGES:
         for name in sorted(set(re.findall(r"`([a-z]+(?:_[a-z0-9]+){3,})`", page.read_text())) - there):
             yield f"{page.name}: no function {name}"
 
 
+def proof_files(_program):
+    """What is wrong with the table of docs/PROVING.md: it has each law with the files that its answer cites."""
+    found = dict(re.findall(r"^\| `(law_\w+)` \| (.*) \|$", text_of("docs/PROVING.md"), re.M))
+    for file in sorted((TOP / "crates").glob("*/proofs/**/law_*/Answers.antt")):
+        crate, law = file.relative_to(TOP / "crates").parts[0], file.parent.name
+        folder = "" if crate == "vlm_model" else f"{crate}/proofs/"
+        cited = sorted(set(re.findall(rf"^use Rattle\.{crate}\.proofs\.(\w+)\.{{", file.read_text(), re.M)))
+        wanted = ", ".join(f"`{folder}{it}`" for it in cited)
+        yield from difference((law, found.pop(law, None)), (law, wanted))
+    yield from (f"docs/PROVING.md: no law {law}" for law in found)
+
+
 def checks():
-    return (functions, short_readme, crate_table, public_names, laws, refusals, sizes, help_forms, flags, calls,
-            version, kit, links, files, parts)
+    return (functions, proof_files, short_readme, crate_table, public_names, laws, refusals, sizes, help_forms, flags,
+            calls, version, kit, links, files, parts)
 
 
 def blocks():
