@@ -20,7 +20,8 @@ LEASE = 5
 # How long all goes well before something hangs, and after it. Leases that end have ended by then.
 BEFORE, AFTER = 2.0, LEASE + 3.0
 # What hangs, and for how many seconds. A client that hangs for longer than its lease loses it.
-FAULTS = {"leader": 6.0, "leader for long": 12.0, "replica": 12.0, "clients": LEASE + 2.0, "nothing": 0.0}
+FAULTS = {"leader": 6.0, "leader for long": 12.0, "majority": 8.0, "replica": 12.0, "all replicas": 8.0,
+          "clients": LEASE + 2.0, "nothing": 0.0}
 
 
 class Pair:
@@ -58,6 +59,13 @@ class Pair:
         return 0.0 if self.granted is None else max(0.0, self.holder.lease_until - self.granted)
 
 
+def stopped_by(local, fault):
+    """The processes that hang."""
+    names = {"majority": ["etcd 0", "etcd 1"], "replica": ["replica 0"],
+             "all replicas": [f"replica {number}" for number in range(REPLICAS)]}
+    return names.get(fault) or [f"etcd {leader(local)}"]
+
+
 def hang(local, fault, pairs):
     """Has something hang."""
     seconds = FAULTS[fault]
@@ -65,10 +73,12 @@ def hang(local, fault, pairs):
         for pair in pairs:
             pair.hangs_until = time.monotonic() + seconds
     elif seconds:
-        name = "replica 0" if fault == "replica" else f"etcd {leader(local)}"
-        local.signal(name, signal.SIGSTOP)
+        names = stopped_by(local, fault)
+        for name in names:
+            local.signal(name, signal.SIGSTOP)
         time.sleep(seconds)
-        local.signal(name, signal.SIGCONT)
+        for name in names:
+            local.signal(name, signal.SIGCONT)
 
 
 def run(local, fault, pairs, number):
