@@ -56,7 +56,7 @@ class Tree:
         self.kit = Path(folder) / "bin"
         for name in crates_with_libraries():
             (self.top / "crates" / name / "src").mkdir(parents=True)
-        copied = [TOP / name for name in ("vlm", "crates.txt", "KIT", "tools")]
+        copied = [TOP / name for name in ("vlm", "crates.txt", "KIT", "VERSION", "tools")]
         subprocess.run(["cp", "-r", *copied, self.top], check=True)
         self.kit.mkdir()
         self.stub = self.kit / "rt"

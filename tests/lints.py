@@ -134,7 +134,7 @@ def python_mistakes(_program):
 
 
 def shell_mistakes(_program):
-    yield from said("shellcheck", "--format=gcc", *files(".sh"), *programs(b"(?:ba)?sh"))
+    yield from said("shellcheck", "--format=gcc", *files(".sh", ".postinst", ".prerm", ".postrm"), *programs(b"(?:ba)?sh"))
 
 
 def long_lines(_program):

@@ -18,6 +18,8 @@ RECORD = PROGRAM.with_name("vlm.proved")
 LOGS = TOP / "out"
 # The kit that the crates are proved with, as `rt version` names it: a name, and the checksum of its logic.
 KIT = (TOP / "KIT").read_text().strip()
+# The version of all that is delivered. What can't read it is compared with it by the tests of docs.
+VERSION = (TOP / "VERSION").read_text().strip()
 
 # The statuses of the tools' own failures. The program's are 0 to 3.
 MISSING = 4  # something is not there that is needed
