@@ -276,7 +276,8 @@ def another_kit(tree):
 
 def wrong_words(tree):
     """A tool refuses words that it does not take."""
-    for words, wanted in ((["prove", "x"], "prove takes no words"), (["install"], "install takes one word")):
+    for words, wanted in ((["prove", "x"], "prove takes no words"), (["install"], "install takes one word"),
+                          (["package"], "package takes one word")):
         yield from unlike(tree.run(*words), 2, b"", wanted)
 
 

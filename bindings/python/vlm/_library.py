@@ -238,9 +238,9 @@ def _loaded() -> ctypes.CDLL:
         return _declared(ctypes.CDLL(place))
     except (OSError, AttributeError) as failed:
         raise ImportError(
-            f"the library {place} of the lock manager can't be used: {failed}. Install it by Debian's package "
-            f"libvlm{FITS}, or by ./vlm install PREFIX, and name the folder PREFIX by VLM_PREFIX, or the file itself by "
-            f"VLM_LIBRARY") from None
+            f"the library {place} of the lock manager can't be used: {failed}. Install Debian's package libvlm{FITS}, "
+            f"or run ./vlm install PREFIX, and name the folder PREFIX by VLM_PREFIX, or the file itself by VLM_LIBRARY"
+        ) from None
 
 
 class _Library:

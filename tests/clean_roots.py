@@ -1,0 +1,106 @@
+"""Roots of Debian 12 that debootstrap makes, in which tests run commands as a new user would: without the kit, this
+repository or a compiler."""
+
+import functools
+import os
+import shutil
+import subprocess
+import urllib.request
+from pathlib import Path
+
+from harness import Once, ROOM
+
+MIRROR = "http://deb.debian.org/debian"
+# The longest command in a root: it may fetch a compiler.
+SECONDS = 600
+# apt asks nothing and installs no more than is needed; dpkg does not wait for the disk.
+SETTINGS = {"etc/apt/apt.conf.d/90test": 'APT::Install-Recommends "false";\nAPT::Get::Assume-Yes "true";\n',
+            "etc/dpkg/dpkg.cfg.d/test": "force-unsafe-io\n",
+            "etc/apt/sources.list": f"deb {MIRROR} bookworm main\ndeb {MIRROR} bookworm-updates main\n"
+                                    "deb http://deb.debian.org/debian-security bookworm-security main\n"}
+
+
+def has_mirror():
+    try:
+        with urllib.request.urlopen(f"{MIRROR}/dists/bookworm/Release", timeout=20) as answer:
+            return answer.status == 200
+    except OSError:
+        return False
+
+
+@functools.lru_cache(maxsize=None)
+def missing():
+    """What is not there that roots need."""
+    absent = [tool for tool in ("debootstrap", "unshare") if not shutil.which(tool)]
+    return absent + ["root"] * (os.geteuid() != 0) + ["a mirror of Debian"] * (not absent and not has_mirror())
+
+
+def made_root():
+    """Makes a root with an ordinary user, of which others are copies."""
+    root = Path(ROOM().name) / "root"
+    words = ["debootstrap", "--variant=minbase", "--include=man-db", "bookworm", root, MIRROR]
+    ended = subprocess.run(words, capture_output=True, text=True, timeout=SECONDS)
+    if ended.returncode:
+        raise OSError(f"debootstrap: {ended.stdout[-300:]}{ended.stderr[-300:]}")
+    for name, text in SETTINGS.items():
+        (root / name).write_text(text)
+    Root(root).need("apt-get update && useradd --create-home --shell /bin/sh user")
+    return root
+
+
+FIRST = Once(made_root)
+
+
+class Failed(Exception):
+    """A command in a root has failed that the rest needs."""
+
+
+class Root:
+    """A root in which commands run, in namespaces of their own: what they start ends with them."""
+
+    def __init__(self, folder):
+        self.folder = folder
+
+    @staticmethod
+    def copy(name):
+        folder = Path(ROOM().name) / name
+        subprocess.run(["cp", "-a", "--reflink=auto", FIRST(), folder], check=True)
+        return Root(folder)
+
+    def run(self, script, user="root"):
+        """Runs lines of a shell as a user. Gives the status, and what they print and tell."""
+        words = ["unshare", "--pid", "--fork", "--kill-child", f"--mount-proc={self.folder}/proc", "chroot",
+                 self.folder, "su", "-", user, "-c", f"export DEBIAN_FRONTEND=noninteractive LC_ALL=C.UTF-8\n{script}"]
+        return subprocess.run(words, stdin=subprocess.DEVNULL, stdout=subprocess.PIPE, stderr=subprocess.STDOUT,
+                              text=True, timeout=SECONDS)
+
+    def need(self, script, user="root"):
+        ended = self.run(script, user)
+        if ended.returncode:
+            raise Failed(f"{script}: {ended.returncode}: {ended.stdout[-600:]}")
+        return ended.stdout
+
+    def put(self, *files, place="home/user"):
+        """Copies files and folders into the root, so that everybody may read them."""
+        for file in files:
+            there = self.folder / place / file.name
+            there.parent.mkdir(parents=True, exist_ok=True)
+            if file.is_dir():
+                shutil.copytree(file, there)
+            else:
+                shutil.copy(file, there)
+        subprocess.run(["chmod", "-R", "a+rX", self.folder / place], check=True)
+
+    def write(self, name, text):
+        """Writes a file in the home of the user."""
+        there = self.folder / "home" / "user" / name
+        there.parent.mkdir(parents=True, exist_ok=True)
+        there.write_text(text)
+
+    def paths(self, word):
+        """The paths with this word in them, except those that only packages' tools keep, and the user's."""
+        kept = ("var/cache/", "var/log/", "home/", "packages", "next", "proc/", "sys/", "dev/")
+        found = subprocess.run(["find", ".", "-name", f"*{word}*"], cwd=self.folder, capture_output=True, text=True,
+                               check=True).stdout
+        names = sorted(line.removeprefix("./") for line in found.splitlines())
+        return [name for name in names if not name.startswith(kept)]
