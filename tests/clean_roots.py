@@ -8,11 +8,11 @@ import subprocess
 import urllib.request
 from pathlib import Path
 
-from harness import Once, ROOM
+from harness import Once, PLAIN_ROOM
 
 MIRROR = "http://deb.debian.org/debian"
 # The longest command in a root: it may fetch a compiler.
-SECONDS = 600
+SECONDS = 300
 # apt asks nothing and installs no more than is needed; dpkg does not wait for the disk.
 SETTINGS = {"etc/apt/apt.conf.d/90test": 'APT::Install-Recommends "false";\nAPT::Get::Assume-Yes "true";\n',
             "etc/dpkg/dpkg.cfg.d/test": "force-unsafe-io\n",
@@ -37,7 +37,7 @@ def missing():
 
 def made_root():
     """Makes a root with an ordinary user, of which others are copies."""
-    root = Path(ROOM().name) / "root"
+    root = Path(PLAIN_ROOM().name) / "root"
     words = ["debootstrap", "--variant=minbase", "--include=man-db", "bookworm", root, MIRROR]
     ended = subprocess.run(words, capture_output=True, text=True, timeout=SECONDS)
     if ended.returncode:
@@ -63,7 +63,7 @@ class Root:
 
     @staticmethod
     def copy(name):
-        folder = Path(ROOM().name) / name
+        folder = Path(PLAIN_ROOM().name) / name
         subprocess.run(["cp", "-a", "--reflink=auto", FIRST(), folder], check=True)
         return Root(folder)
 
@@ -80,22 +80,18 @@ class Root:
             raise Failed(f"{script}: {ended.returncode}: {ended.stdout[-600:]}")
         return ended.stdout
 
-    def put(self, *files, place="home/user"):
-        """Copies files and folders into the root, so that everybody may read them."""
+    def put(self, *files, place):
+        """Copies files into a folder of the root, where everybody may read them."""
+        (self.folder / place).mkdir()
         for file in files:
-            there = self.folder / place / file.name
-            there.parent.mkdir(parents=True, exist_ok=True)
-            if file.is_dir():
-                shutil.copytree(file, there)
-            else:
-                shutil.copy(file, there)
-        subprocess.run(["chmod", "-R", "a+rX", self.folder / place], check=True)
+            (self.folder / place / file.name).write_bytes(file.read_bytes())
 
     def write(self, name, text):
-        """Writes a file in the home of the user."""
+        """Writes a file in the home of the user, who owns it."""
         there = self.folder / "home" / "user" / name
         there.parent.mkdir(parents=True, exist_ok=True)
         there.write_text(text)
+        subprocess.run(["chown", "-R", "--reference", self.folder / "home" / "user", there.parent], check=True)
 
     def paths(self, word):
         """The paths with this word in them, except those that only packages' tools keep, and the user's."""

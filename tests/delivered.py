@@ -10,6 +10,7 @@ import shutil
 import subprocess
 import sys
 import tarfile
+import tempfile
 import threading
 from pathlib import Path
 
@@ -44,8 +45,7 @@ def room():
 
 def made(tree, program, version):
     """Makes the packages of a version from a tree, over a program and the proved archive."""
-    folder = room() / f"packages {version} of {tree.name}"
-    folder.mkdir()
+    folder = Path(tempfile.mkdtemp(dir=room()))
     time = subprocess.run(["git", "-C", TOP, "log", "-1", "--format=%ct"], capture_output=True, text=True).stdout
     words = [sys.executable, "-c", MAKE, folder, program, ARCHIVE, version]
     ended = subprocess.run([str(it) for it in words], cwd=tree / "tools", capture_output=True, text=True,
@@ -85,8 +85,9 @@ def by_command(_program):
     yield from library.ran("sha256sum", "--check", "--strict", "--quiet", "SHA256SUMS", cwd=folder)
     names = sorted(re.sub(r"manylinux_\d+_\d+_x86_64", "*", it.name) for it in folder.iterdir())
     yield from difference(names, names_of(VERSION))
-    listed = subprocess.run(["git", "ls-files", "-co", "--exclude-standard"], cwd=TOP, capture_output=True, text=True)
-    for name in [*listed.stdout.splitlines(), str(RECORD.relative_to(TOP))]:
+    yield from library.ran("git", "clone", "--quiet", "--shared", TOP, copy)
+    changed = subprocess.run(["git", "ls-files", "-mo", "--exclude-standard"], cwd=TOP, capture_output=True, text=True)
+    for name in [*changed.stdout.splitlines(), str(RECORD.relative_to(TOP))]:
         (copy / name).parent.mkdir(parents=True, exist_ok=True)
         shutil.copy(TOP / name, copy / name)
     again = made(copy, TOP / "crates" / "vlm" / "out" / "vlm", VERSION)
@@ -103,7 +104,7 @@ def listed_content(program):
         files = {it.name.replace(top, ".", 1): packed.extractfile(it).read() for it in packed if it.isfile()}
     yield from difference({name: hashlib.sha256(text).hexdigest() for name, text in files.items()}, told)
     names = {name.removeprefix("./") for name in files}
-    lacking = {*library.FILES, *library.SERVICE_FILES, "share/vlm/proved"} - names
+    lacking = {*library.FILES, *library.SERVICE_FILES} - names
     yield from difference(lacking, set())
 
 
@@ -141,6 +142,7 @@ def plays(root):
 
 
 SHELLS = """export VLM_SOCKET=/tmp/lock.sock
+rm -f $VLM_SOCKET*
 vlmd 2>log &
 until [ -S $VLM_SOCKET ]; do sleep 0.05; done
 sh -c 'exec vlm lock backup sleep 3' &
@@ -171,8 +173,8 @@ def uses_python(root):
     """Python has the package, and vlm-draw makes a page."""
     block = docs.fenced(TOP / "docs" / "LIBRARY.md", "python")[0][0]
     root.write("first.py", block)
-    root.put(PLAY / "a-circle-of-three")
-    ended = root.run("python3 first.py && vlm-draw a-circle-of-three", "user")
+    root.write("circle", (PLAY / "a-circle-of-three").read_text())
+    ended = root.run("python3 first.py && vlm-draw circle", "user")
     if ended.returncode or not ended.stdout.lower().startswith("<!doctype html"):
         yield f"{ended.returncode}: {ended.stdout[-300:]}"
 
@@ -183,7 +185,7 @@ def tells_proof(root):
     text = root.need("vlm --proof; sha256sum /usr/libexec/vlm/vlm", "user")
     lines = text.splitlines()
     yield from difference(lines[:3], [f"version {VERSION}", f"proved {noted[1]}", f"kit {noted[2]}"])
-    yield from difference(lines[3], f"program {lines[-1].split()[0]} libexec/vlm/vlm")
+    yield from difference(lines[4], f"program {lines[-1].split()[0]} libexec/vlm/vlm")
     yield from difference(root.need("vlm --version"), f"vlm {VERSION}\n")
 
 
@@ -194,7 +196,7 @@ def has_units(root):
         yield "there is no group vlm, or no link to vlmd.socket"
 
 
-HELD = """export VLM_SOCKET=/tmp/lock.sock
+HELD = """export VLM_SOCKET=/tmp/held.sock
 vlmd 2>/dev/null &
 until [ -S $VLM_SOCKET ]; do sleep 0.05; done
 vlm lock backup sleep 300 &
@@ -220,7 +222,7 @@ def leaves(root):
     yield from difference(left, ["etc/systemd/system/sockets.target.wants/vlmd.socket", "etc/vlmd.conf",
                                  "var/lib/systemd/deb-systemd-helper-enabled/sockets.target.wants/vlmd.socket",
                                  "var/lib/systemd/deb-systemd-helper-enabled/vlmd.socket.dsh-also"])
-    root.need("apt-get purge " + " ".join(DEBIAN))
+    root.need("apt-get purge vlm")
     yield from difference(root.paths("vlm"), [])
     yield from difference(root.run("getent group vlm; dpkg -l | grep vlm").stdout, "")
 
@@ -250,7 +252,7 @@ def uses_cmake(root):
     root.write("project/CMakeLists.txt", library.PROJECT.replace("@VERSION@", VERSION))
     script = "cp /usr/share/doc/libvlm-doc/examples/c/two.* project && cmake -S project -B built && " \
              "cmake --build built && built/shared | cmp - project/two.out && built/static | cmp - project/two.out"
-    ended = root.run(f"chmod a+rwx project; {script}", "user")
+    ended = root.run(script, "user")
     if ended.returncode:
         yield ended.stdout[-600:]
 
@@ -269,11 +271,10 @@ vlm-sys = {{ path = "../vlm-sys-{0}" }}
 def uses_cargo(root):
     """The crates, as cargo packs them, are built against the package libvlm-dev."""
     root.write("crate/Cargo.toml", CARGO.format(VERSION))
-    root.put(TOP / "bindings/rust/examples/cache.rs", place="home/user/crate/src")
-    (root.folder / "home/user/crate/src/cache.rs").rename(root.folder / "home/user/crate/src/main.rs")
+    root.write("crate/src/main.rs", (TOP / "bindings/rust/examples/cache.rs").read_text())
     script = "for it in /packages/*.crate; do tar xzf $it; done; cd crate && cargo run --offline --quiet"
     ended = root.run(script, "user")
-    if ended.returncode or "lost 0" not in ended.stdout:
+    if ended.returncode or "400 updates, the last version is 400, 0 updates were lost\n" not in ended.stdout:
         yield ended.stdout[-600:]
 
 
@@ -292,9 +293,9 @@ def has_wheel(root):
     """The wheel has the library in it, so a new environment needs nothing else."""
     block = docs.fenced(TOP / "docs" / "LIBRARY.md", "python")[0][0]
     root.write("first.py", block)
-    root.put(PLAY / "a-circle-of-three")
+    root.write("circle", (PLAY / "a-circle-of-three").read_text())
     ended = root.run("python3 -m venv venv && venv/bin/pip install --quiet --no-index /packages/*.whl && "
-                     "venv/bin/python first.py && venv/bin/vlm-draw a-circle-of-three", "user")
+                     "venv/bin/python first.py && venv/bin/vlm-draw circle", "user")
     if ended.returncode or not ended.stdout.lower().startswith("<!doctype html"):
         yield f"{ended.returncode}: {ended.stdout[-300:]}"
 

@@ -200,6 +200,16 @@ def calls(_program):
             yield f"{headers[0]} and man/vlm.3 differ in {sorted(set(there) ^ set(named)) or 'a call named twice'}"
 
 
+def symbols(_program):
+    """packaging/libvlm.symbols has each call of the headers, which the shared library of a package shows."""
+    text = "".join(file.read_text() for file in (TOP / "include").glob("*.h"))
+    text = re.sub(r"/\*.*?\*/", "", text, flags=re.S)
+    there = set(re.findall(r"\b(vlm_\w+)\(", text)) - set(re.findall(r"\bstatic inline [^;{]*?(vlm_\w+)\(", text))
+    named = set(re.findall(r"^ (vlm_\w+)@Base ", text_of("packaging/libvlm.symbols"), re.M))
+    if len(named) < 100 or there != named:
+        yield f"packaging/libvlm.symbols and the headers differ in {sorted(there ^ named)}"
+
+
 # Where the version stands beside the file VERSION, and a pattern of it there.
 VERSIONS = (("CHANGELOG.md", r"^## ([\d.]+)"), ("README.md", r"version ([\d.]+);"),
             ("docs/BUILDING.md", r"`lib/libvlm\.so\.([\d.]+)` \| the shared library, of version \1;"),
@@ -304,7 +314,7 @@ def functions(_program):
 
 def checks():
     return (functions, short_readme, crate_table, public_names, laws, refusals, sizes, help_forms, flags, calls,
-            version, kit, links, files, parts)
+            symbols, version, kit, links, files, parts)
 
 
 def blocks():

@@ -34,14 +34,14 @@ SONAME = "libvlm.so.0.2"
 STRICT = ["-Wall", "-Wextra", "-Wpedantic", "-Werror"]
 # The files of the repository that an installation has too, at the same places below a folder.
 COPIED = {"": (TOP / "include").glob("*.h*"),
-          "share/doc/vlm/": [TOP / "README.md", TOP / "CHANGELOG.md", *(TOP / "docs").iterdir(),
+          "share/doc/vlm/": [TOP / "README.md", TOP / "CHANGELOG.md", TOP / "SECURITY.md", *(TOP / "docs").iterdir(),
                              *(TOP / "examples" / "c").iterdir()]}
 # What an installation leaves, beside the shared library and the manual pages of the calls.
 FILES = ("bin/vlm", *(f"{folder}{it.relative_to(TOP)}" for folder, files in COPIED.items() for it in files),
          "lib/cmake/vlm/vlm-config-version.cmake", "lib/cmake/vlm/vlm-config.cmake", "lib/libvlm.a",
          "lib/pkgconfig/vlm.pc", "libexec/vlm/vlm", "share/bash-completion/completions/vlm",
          "share/man/man1/vlm-lock.1", "share/man/man1/vlm-who.1", "share/man/man1/vlm.1", "share/man/man3/vlm.3",
-         "share/vlm/files")
+         "share/vlm/files", "share/vlm/proved")
 # Of the lock service, where the header of libuv is.
 SERVICE_FILES = ("bin/vlmd", "lib/systemd/system/vlmd.service", "lib/systemd/system/vlmd.socket",
                  "share/man/man8/vlmd.8", "share/vlm/vlmd.conf")

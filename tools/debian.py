@@ -13,7 +13,7 @@ from pathlib import Path
 
 from libraries import fits_of
 from packages import write_packages
-from project import MISSING, TOP, fail
+from project import MISSING, TOP, UNANSWERED, fail
 from staging import DOCUMENTS, names_in
 
 PACKAGING = TOP / "packaging"
@@ -46,11 +46,10 @@ sys.exit(main())
 
 
 def ran(*words, folder):
-    """What a command of dpkg prints. Its warnings are errors that somebody has to see."""
+    """Runs a command of dpkg."""
     ended = subprocess.run([str(word) for word in words], cwd=folder, capture_output=True, text=True)
     if ended.returncode:
         fail(MISSING, f"{words[0]} fails: {ended.stderr.strip()[-1500:]}")
-    return ended.stdout
 
 
 def epoch():
@@ -112,8 +111,12 @@ class Maker:
         library = tree / "usr" / PLACE / f"libvlm.so.{self.version}"
         ran("strip", "--strip-unneeded", "--remove-section=.comment", library, folder=self.room)
         library.chmod(0o644)
-        ran("dpkg-gensymbols", "-c4", f"-plibvlm{fits}", f"-v{self.version}", f"-P{tree}", f"-e{library}",
-            f"-I{self.room}/debian/libvlm.symbols", f"-O{tree}/DEBIAN/symbols", folder=self.room)
+        # (told the version in which a call came, dpkg-gensymbols would let it go again)
+        told = subprocess.run(["dpkg-gensymbols", "-c4", f"-plibvlm{fits}", f"-v{self.version}+", f"-P{tree}",
+                               f"-e{library}", f"-I{self.room}/debian/libvlm.symbols", f"-O{tree}/DEBIAN/symbols"],
+                              cwd=self.room, capture_output=True, text=True)
+        if told.returncode:
+            fail(UNANSWERED, "the calls of the library are not those of packaging/libvlm.symbols:\n" + told.stdout)
         (tree / "DEBIAN" / "shlibs").write_text(f"libvlm {fits} libvlm{fits} (>= {fits}.0)\n")
         (tree / "DEBIAN" / "triggers").write_text("activate-noawait ldconfig\n")
 

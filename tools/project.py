@@ -70,6 +70,16 @@ def is_library_current():
     return RECORD.read_text().splitlines()[3:] == [hashlib.sha256(LIBRARY.read_bytes()).hexdigest()]
 
 
+def commit(*names):
+    """The commit, and whether these files are as it has them, or all files without names."""
+    git = ["git", "-C", str(TOP)]
+    named = subprocess.run([*git, "rev-parse", "--short=12", "HEAD"], capture_output=True, text=True)
+    if named.returncode:
+        return "no commit"
+    changed = subprocess.run([*git, "status", "--porcelain", "--", *names], capture_output=True)
+    return f"commit {named.stdout.strip()}{' with changes' if changed.stdout else ''}"
+
+
 def crates():
     """Each crate of crates.txt with those of the repository that it uses, the lowest first."""
     lines = [line.partition("#")[0].partition(":") for line in (TOP / "crates.txt").read_text().splitlines()]

@@ -2,17 +2,19 @@
 
 import hashlib
 
-from project import RECORD
+from project import RECORD, commit
 
 PROVED = """version {version}
-proved {commit}
+proved {proved}
 kit {kit}
+made of {made}
 program {program} libexec/vlm/vlm
 archive {archive} libvlm_capi.a, of which libvlm.a and libvlm.so are made
 
-The last two lines are SHA-256 checksums. `sha256sum` of the installed program gives the first one.
-To check the proof again, take the sources of this commit and a kit of the same logic, and run `./vlm prove`. It notes
-commit, kit and both checksums in crates/vlm/out/vlm.proved. docs/PROOFS.md says what is proved, and what is trusted.
+The last two lines are SHA-256 checksums: `sha256sum` of the installed program gives the first one. The crates were
+proved at the first commit, and all else was made of the second one. To check the proof again, take the second one and a
+kit of the same logic, and run `./vlm prove`. It notes commit, kit and both checksums in crates/vlm/out/vlm.proved.
+docs/PROOFS.md says what is proved, and what is trusted.
 """
 
 UNPROVED = """version {version}
@@ -32,4 +34,5 @@ def record_text(program, archive, version):
     noted = RECORD.read_text().splitlines() if RECORD.exists() else []
     if len(noted) != 4 or [noted[0].split()[0], noted[3]] != sums:
         return UNPROVED.format(version=version)
-    return PROVED.format(version=version, commit=noted[1], kit=noted[2], program=sums[0], archive=sums[1])
+    return PROVED.format(version=version, proved=noted[1], kit=noted[2], made=commit(), program=sums[0],
+                         archive=sums[1])
