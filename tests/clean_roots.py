@@ -5,6 +5,7 @@ import functools
 import os
 import shutil
 import subprocess
+import time
 import urllib.request
 from pathlib import Path
 
@@ -31,8 +32,11 @@ def has_mirror():
 @functools.lru_cache(maxsize=None)
 def missing():
     """What is not there that roots need."""
-    absent = [tool for tool in ("debootstrap", "unshare") if not shutil.which(tool)]
-    return absent + ["root"] * (os.geteuid() != 0) + ["a mirror of Debian"] * (not absent and not has_mirror())
+    absent = ["debootstrap"] * (not shutil.which("debootstrap")) + ["root"] * (os.geteuid() != 0)
+    if not absent and subprocess.run(["unshare", "--pid", "--fork", "--mount-proc", "true"],
+                                     capture_output=True).returncode:
+        absent = ["namespaces of one's own"]
+    return absent or ["a mirror of Debian"] * (not has_mirror())
 
 
 def made_root():
@@ -67,10 +71,13 @@ class Root:
         subprocess.run(["cp", "-a", "--reflink=auto", FIRST(), folder], check=True)
         return Root(folder)
 
+    def words(self):
+        """The words that run a command in the root."""
+        return ["unshare", "--pid", "--fork", "--kill-child", f"--mount-proc={self.folder}/proc", "chroot", self.folder]
+
     def run(self, script, user="root"):
         """Runs lines of a shell as a user. Gives the status, and what they print and tell."""
-        words = ["unshare", "--pid", "--fork", "--kill-child", f"--mount-proc={self.folder}/proc", "chroot",
-                 self.folder, "su", "-", user, "-c", f"export DEBIAN_FRONTEND=noninteractive LC_ALL=C.UTF-8\n{script}"]
+        words = [*self.words(), "su", "-", user, "-c", f"export DEBIAN_FRONTEND=noninteractive LC_ALL=C.UTF-8\n{script}"]
         return subprocess.run(words, stdin=subprocess.DEVNULL, stdout=subprocess.PIPE, stderr=subprocess.STDOUT,
                               text=True, timeout=SECONDS)
 
@@ -100,3 +107,33 @@ class Root:
                                check=True).stdout
         names = sorted(line.removeprefix("./") for line in found.splitlines())
         return [name for name in names if not name.startswith(kept)]
+
+
+class Machine(Root):
+    """A root that systemd has booted. It ends with the block that began it."""
+
+    def __enter__(self):
+        boot = ["systemd-nspawn", "--quiet", "--register=no", "--keep-unit", "--boot", "--directory", self.folder]
+        self.boot = subprocess.Popen(boot, stdin=subprocess.DEVNULL, stdout=subprocess.DEVNULL,
+                                     stderr=subprocess.DEVNULL)
+        until = time.monotonic() + SECONDS
+        while self.boot.poll() is None and time.monotonic() < until:
+            time.sleep(0.5)
+            if self.leader() and self.run("systemctl is-system-running").stdout in ("running\n", "degraded\n"):
+                return self
+        self.__exit__()
+        raise Failed("systemd does not boot in a root")
+
+    def __exit__(self, *_):
+        self.boot.terminate()
+        try:
+            self.boot.wait(30)
+        except subprocess.TimeoutExpired:
+            self.boot.kill()
+
+    def leader(self):
+        """The first process of the machine, as others number it."""
+        return Path(f"/proc/{self.boot.pid}/task/{self.boot.pid}/children").read_text().split()[:1]
+
+    def words(self):
+        return ["nsenter", "--target", *self.leader(), "--mount", "--uts", "--ipc", "--net", "--pid", "--root", "--wd"]

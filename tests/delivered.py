@@ -17,7 +17,7 @@ from pathlib import Path
 import clean_roots
 import docs
 import library
-from clean_roots import Failed, Root
+from clean_roots import Failed, Machine, Root
 from harness import PLAY, ROOM, TOP, Test, difference
 
 VERSION = (TOP / "VERSION").read_text().strip()
@@ -36,7 +36,7 @@ COMPILERS = "gcc libc6-dev pkgconf cmake make cargo-web rustc-web"
 
 def missing():
     """What is not there that some of these tests need."""
-    return clean_roots.missing() + ["lintian"] * (not shutil.which("lintian"))
+    return clean_roots.missing() + [tool for tool in ("lintian", "systemd-nspawn") if not shutil.which(tool)]
 
 
 def room():
@@ -97,7 +97,11 @@ def by_command(_program):
 def listed_content(program):
     """The list of SPDX has each file of the archive with its checksum, and the archive has what installations have."""
     folder = Packages.of(program)
-    rows = json.loads((folder / f"vlm-{VERSION}.spdx.json").read_text())["files"]
+    bill = json.loads((folder / f"vlm-{VERSION}.spdx.json").read_text())
+    rows = bill["files"]
+    known = [it["SPDXID"] for it in [bill, *bill["packages"], *rows]]
+    named = {it[end] for it in bill["relationships"] for end in ("spdxElementId", "relatedSpdxElement")}
+    yield from difference((named - set(known), len(known)), (set(), len(set(known))))
     told = {row["fileName"]: row["checksums"][1]["checksumValue"] for row in rows}
     top = f"vlm-{VERSION}-linux-x86_64"
     with tarfile.open(folder / f"{top}.tar.gz") as packed:
@@ -313,9 +317,57 @@ def has_archive(root):
     yield from difference((ended.returncode, ended.stdout), (0, "busy\nmine\n"))
 
 
+# Steps of a machine with systemd.
+
+KEPT = """vlm lock backup sleep 300 2>held.log &
+until vlm who | grep -q '^backup.* granted '; do sleep 0.05; done
+systemctl show --property MainPID vlmd >before
+{ apt-get install /next/vlm_*.deb || cat held.log; } >upgrade.log 2>&1
+systemctl show --property MainPID vlmd | diff before - && vlm who | grep -c '^backup.* granted '
+apt-get remove vlm >remove.log 2>&1
+cat held.log
+ls -d /run/vlm /run/vlmd
+systemctl is-active vlmd.socket vlmd.service
+"""
+KEPT_PRINTS = """1
+vlm lock: the lock is lost
+ls: cannot access '/run/vlm': No such file or directory
+ls: cannot access '/run/vlmd': No such file or directory
+inactive
+inactive
+"""
+
+
+def is_served(machine):
+    """The package starts the socket, and the daemon at the first connection. Members of the group may connect."""
+    machine.need("apt-get install /packages/vlm_*.deb && usermod --append --groups vlm user && useradd stranger")
+    yield from difference(machine.run("systemctl is-active vlmd.socket vlmd.service").stdout, "active\ninactive\n")
+    yield from difference(machine.run("vlm lock backup echo mine", "user").stdout, "mine\n")
+    yield from difference(machine.run("systemctl is-active vlmd.socket vlmd.service").stdout, "active\nactive\n")
+    yield from difference(machine.run("vlm lock backup echo mine", "stranger").returncode, 69)
+
+
+def is_kept(machine):
+    """An upgrade lets the daemon and its locks be. A removal ends it and tells holders, a purge takes the group."""
+    yield from difference(machine.run(KEPT).stdout, KEPT_PRINTS)
+    machine.need("gpasswd --delete user vlm && apt-get purge vlm")
+    yield from difference(machine.run("getent group vlm").stdout, "")
+
+
+def with_systemd(program):
+    """What is wrong with the lock service on a machine that systemd has booted."""
+    root = Root.copy("a-machine")
+    root.put(*Packages.of(program).iterdir(), place="packages")
+    root.put(*Packages.of(program, NEXT).iterdir(), place="next")
+    root.need("apt-get install systemd-sysv dbus libuv1")
+    with Machine(root.folder) as machine:
+        for step in (is_served, is_kept):
+            yield from (f"{step.__name__}: {it}" for it in step(machine))
+
+
 # Each user: what apt installs, and the steps.
 USERS = {
-    "a user who locks": ("apt-get install /packages/*.deb",
+    "a user who locks": ("cd /packages && apt install ./*.deb",
                          (plays, locks, reads, uses_python, tells_proof, has_units, upgrades, leaves)),
     "a user who programs": (f"apt-get install {COMPILERS} /packages/libvlm*.deb",
                             (compiles, uses_cmake, uses_cargo, goes_on)),
@@ -342,4 +394,7 @@ def once():
     found = [Test("./vlm package, and a copy of the tree", by_command), Test("the list of SPDX", listed_content),
              Test("a call that has gone", missing_call)]
     found += [Test("lintian", checked_by_lintian)] * bool(shutil.which("lintian"))
-    return found + ([] if clean_roots.missing() else [user(name) for name in USERS])
+    if not clean_roots.missing():
+        found += [user(name) for name in USERS]
+        found += [Test("a machine with systemd", with_systemd)] * bool(shutil.which("systemd-nspawn"))
+    return found

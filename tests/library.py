@@ -136,6 +136,18 @@ def version():
     return told.removeprefix("vlm ").strip()
 
 
+def proof_told(_program):
+    """`vlm --proof` prints the record of the installation, and says what is wrong without it."""
+    folder = room() / "without a record"
+    (folder / "bin").mkdir(parents=True)
+    shutil.copy(prefix() / "bin" / "vlm", folder / "bin")
+    record = (prefix() / "share" / "vlm" / "proved").read_bytes()
+    for program, words, wanted in ((prefix(), [], (0, record, b"")),
+                                   (prefix(), ["x"], (64, b"", b"usage: vlm --proof\n")),
+                                   (folder, [], (69, b"", f"vlm: {folder}/share/vlm/proved can't be read\n".encode()))):
+        yield from difference(tuple(run([str(program / "bin" / "vlm"), "--proof", *words])), wanted)
+
+
 def told_by_kit(tool, *words):
     """What a tool of the kit says. One program is all of LLVM's tools, by the name that it is called by."""
     clang = kit_folder() / "toolchain" / "bin" / "clang"
@@ -530,7 +542,8 @@ def once():
               for compiler in COMPILERS if shutil.which(compiler)]
     found += [Test(f"two heaps in a program by {compiler}", partial(two_heaps, compiler))
               for compiler in COMPILERS if shutil.which(compiler)]
-    found += [Test("the names that the libraries show", names_shown), Test("the tests of bindings/python", python)]
+    found += [Test("the names that the libraries show", names_shown), Test("the tests of bindings/python", python),
+              Test("vlm --proof", proof_told)]
     if any(map(shutil.which, COMPILERS)):
         found.append(Test("the lines of C in the README", readme))
         found += [Test(f"chosen names with keys of the caller by {call}", partial(hashed_by_keys, call))

@@ -43,7 +43,7 @@ def write_bill(staged, version, folder):
     kit, _, logic = KIT.partition(" ")
     vlm = package_row("vlm", version, filesAnalyzed=True, licenseDeclared="NONE", licenseInfoFromFiles=["NONE"],
                       packageVerificationCode={"packageVerificationCodeValue": code})
-    built_with = package_row("rattle-kit", kit.removeprefix("rattle-kit-"),
+    built_with = package_row("rattle-kit", kit.replace("rattle-kit-", ""),
                              comment=f"{logic}; its heap and crates are compiled into the program and the libraries")
     libuv, libc = package_row("libuv", "1", comment="vlmd links it"), package_row("glibc", "2", comment="all link it")
     made = datetime.fromtimestamp(int(os.environ["SOURCE_DATE_EPOCH"]), timezone.utc)

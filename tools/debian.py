@@ -117,12 +117,12 @@ class Maker:
                               cwd=self.room, capture_output=True, text=True)
         if told.returncode:
             fail(UNANSWERED, "the calls of the library are not those of packaging/libvlm.symbols:\n" + told.stdout)
-        (tree / "DEBIAN" / "shlibs").write_text(f"libvlm {fits} libvlm{fits} (>= {fits}.0)\n")
+        (tree / "DEBIAN" / "shlibs").write_text(f"libvlm {fits} libvlm{fits} (>= {self.version})\n")
         (tree / "DEBIAN" / "triggers").write_text("activate-noawait ldconfig\n")
 
     def finish_development(self):
         tree = self.tree("libvlm-dev")
-        ran("strip", "--strip-debug", "--enable-deterministic-archives", tree / "usr" / PLACE / "libvlm.a",
+        ran("strip", "--strip-debug", "--remove-section=.comment", "--enable-deterministic-archives", tree / "usr" / PLACE / "libvlm.a",
             folder=self.room)
         write_packages(tree / "usr" / PLACE, self.version, PLACE, "/usr")
 
@@ -157,7 +157,7 @@ class Maker:
         ran("dpkg-gencontrol", f"-p{package}", f"-P{tree}", f"-T{substitutes}", f"-f{room}/files", "-cdebian/control",
             "-ldebian/changelog", folder=room)
         set_times(tree)
-        ran("dpkg-deb", "--root-owner-group", "-Zxz", "--build", tree, folder, folder=room)
+        ran("dpkg-deb", "--root-owner-group", "-Zxz", "--threads-max=1", "--build", tree, folder, folder=room)
 
     def make(self, folder):
         """Makes all packages in a folder."""

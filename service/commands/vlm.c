@@ -32,7 +32,7 @@ static int run_proof(int count, char **words) {
     char path[PATH + NAME], bytes[4096];
     size_t len = 0;
     if (count > 1)
-        return wrong_words("usage: vlm --proof\n");
+        return wrong_words("vlm --proof");
     path_of("share/vlm/proved", path);
     FILE *file = fopen(path, "re");
     if (file != NULL) {
