@@ -77,8 +77,8 @@ class Root:
 
     def run(self, script, user="root"):
         """Runs lines of a shell as a user. Gives the status, and what they print and tell."""
-        words = [*self.words(), "su", "-", user, "-c", f"export DEBIAN_FRONTEND=noninteractive LC_ALL=C.UTF-8\n{script}"]
-        return subprocess.run(words, stdin=subprocess.DEVNULL, stdout=subprocess.PIPE, stderr=subprocess.STDOUT,
+        script = f"export DEBIAN_FRONTEND=noninteractive LC_ALL=C.UTF-8\n{script}"
+        return subprocess.run([*self.words(), "su", "-", user, "-c", script], stdin=subprocess.DEVNULL, stdout=subprocess.PIPE, stderr=subprocess.STDOUT,
                               text=True, timeout=SECONDS)
 
     def need(self, script, user="root"):

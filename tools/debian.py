@@ -122,8 +122,8 @@ class Maker:
 
     def finish_development(self):
         tree = self.tree("libvlm-dev")
-        ran("strip", "--strip-debug", "--remove-section=.comment", "--enable-deterministic-archives", tree / "usr" / PLACE / "libvlm.a",
-            folder=self.room)
+        ran("strip", "--strip-debug", "--remove-section=.comment", "--enable-deterministic-archives",
+            tree / "usr" / PLACE / "libvlm.a", folder=self.room)
         write_packages(tree / "usr" / PLACE, self.version, PLACE, "/usr")
 
     def finish_program(self):
