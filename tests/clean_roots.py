@@ -78,8 +78,8 @@ class Root:
     def run(self, script, user="root"):
         """Runs lines of a shell as a user. Gives the status, and what they print and tell."""
         script = f"export DEBIAN_FRONTEND=noninteractive LC_ALL=C.UTF-8\n{script}"
-        return subprocess.run([*self.words(), "su", "-", user, "-c", script], stdin=subprocess.DEVNULL, stdout=subprocess.PIPE, stderr=subprocess.STDOUT,
-                              text=True, timeout=SECONDS)
+        return subprocess.run([*self.words(), "su", "-", user, "-c", script], stdin=subprocess.DEVNULL,
+                              stdout=subprocess.PIPE, stderr=subprocess.STDOUT, text=True, timeout=SECONDS)
 
     def need(self, script, user="root"):
         ended = self.run(script, user)

@@ -203,7 +203,7 @@ def has_units(root):
 HELD = """export VLM_SOCKET=/tmp/held.sock
 vlmd 2>/dev/null &
 until [ -S $VLM_SOCKET ]; do sleep 0.05; done
-vlm lock backup sleep 300 &
+vlm lock backup sleep 100 &
 until vlm who | grep -q '^backup.* granted '; do sleep 0.05; done
 apt-get install /next/*.deb >upgrade.log 2>&1 || cat upgrade.log
 vlm who | grep -c '^backup.* granted '
@@ -319,7 +319,7 @@ def has_archive(root):
 
 # Steps of a machine with systemd.
 
-KEPT = """vlm lock backup sleep 300 2>held.log &
+KEPT = """vlm lock backup sleep 60 2>held.log &
 until vlm who | grep -q '^backup.* granted '; do sleep 0.05; done
 systemctl show --property MainPID vlmd >before
 { apt-get install /next/vlm_*.deb || cat held.log; } >upgrade.log 2>&1
