@@ -136,6 +136,14 @@ def missing_call(program):
             yield str(failed)
 
 
+def root_with_packages(name, program):
+    """A root with the packages of both versions in folders of their own."""
+    root = Root.copy(name)
+    root.put(*Packages.of(program).iterdir(), place="packages")
+    root.put(*Packages.of(program, NEXT).iterdir(), place="next")
+    return root
+
+
 # Steps of the user who locks.
 
 def plays(root):
@@ -356,13 +364,11 @@ def is_kept(machine):
 
 def with_systemd(program):
     """What is wrong with the lock service on a machine that systemd has booted."""
-    root = Root.copy("a-machine")
-    root.put(*Packages.of(program).iterdir(), place="packages")
-    root.put(*Packages.of(program, NEXT).iterdir(), place="next")
-    root.need("apt-get install systemd-sysv dbus libuv1")
-    with Machine(root.folder) as machine:
-        for step in (is_served, is_kept):
-            yield from (f"{step.__name__}: {it}" for it in step(machine))
+    with root_with_packages("a-machine", program) as root:
+        root.need("apt-get install systemd-sysv dbus libuv1")
+        with Machine(root.folder) as machine:
+            for step in (is_served, is_kept):
+                yield from (f"{step.__name__}: {it}" for it in step(machine))
 
 
 # Each user: what apt installs, and the steps.
@@ -378,12 +384,10 @@ USERS = {
 def lives(name, program):
     """What is wrong with the steps of a user in a root of their own."""
     installs, steps = USERS[name]
-    root = Root.copy(name.replace(" ", "-"))
-    root.put(*Packages.of(program).iterdir(), place="packages")
-    root.put(*Packages.of(program, NEXT).iterdir(), place="next")
-    root.need(installs)
-    for step in steps:
-        yield from (f"{step.__name__}: {it}" for it in step(root))
+    with root_with_packages(name.replace(" ", "-"), program) as root:
+        root.need(installs)
+        for step in steps:
+            yield from (f"{step.__name__}: {it}" for it in step(root))
 
 
 def user(name):
