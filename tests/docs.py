@@ -19,8 +19,8 @@ from harness import Case, Ended, STORED, TOP, Test, chosen, difference, results_
 
 DOCS = TOP / "docs"
 README_LINES = 120
-PAGES = [TOP / "README.md", TOP / "CONTRIBUTING.md", TOP / "CHANGELOG.md", *sorted(DOCS.glob("*.md")),
-         *sorted((TOP / "examples").rglob("README.md"))]
+PAGES = [*(TOP / f"{name}.md" for name in ("README", "CONTRIBUTING", "CHANGELOG", "SECURITY")),
+         *sorted(DOCS.glob("*.md")), *sorted((TOP / "examples").rglob("README.md"))]
 MANUAL = TOP / "man" / "vlm.1"
 # More conditions than this in one line outside docs/MACHINE.md are a list of a step's refusals.
 MOST_CONDITIONS = 4
@@ -200,17 +200,46 @@ def calls(_program):
             yield f"{headers[0]} and man/vlm.3 differ in {sorted(set(there) ^ set(named)) or 'a call named twice'}"
 
 
+def symbols(_program):
+    """packaging/libvlm.symbols has each call of the headers, which the shared library of a package shows."""
+    text = "".join(file.read_text() for file in (TOP / "include").glob("*.h"))
+    text = re.sub(r"/\*.*?\*/", "", text, flags=re.S)
+    there = set(re.findall(r"\b(vlm_\w+)\(", text)) - set(re.findall(r"\bstatic inline [^;{]*?(vlm_\w+)\(", text))
+    named = set(re.findall(r"^ (vlm_\w+)@Base ", text_of("packaging/libvlm.symbols"), re.M))
+    if len(named) < 100 or there != named:
+        yield f"packaging/libvlm.symbols and the headers differ in {sorted(there ^ named)}"
+
+
+# Where the version stands beside the file VERSION, and a pattern of it there.
+VERSIONS = (("CHANGELOG.md", r"^## ([\d.]+)"), ("README.md", r"version ([\d.]+);"),
+            ("docs/BUILDING.md", r"`lib/libvlm\.so\.([\d.]+)` \| the shared library, of version \1;"),
+            ("bindings/rust/Cargo.toml", r'^version = "([^"]+)"'),
+            ("bindings/rust/Cargo.toml", r'path = "vlm-sys", version = "([^"]+)"'),
+            ("bindings/rust/vlm-sys/Cargo.toml", r'^version = "([^"]+)"'),
+            ("bindings/python/pyproject.toml", r'^version = "([^"]+)"'),
+            *((f"man/{page.name}", r'^\.TH \S+ \d "[^"]*" "vlm ([^"]+)"')
+              for page in sorted((TOP / "man").iterdir())))
+# Where its first two numbers stand, which libraries that fit each other have.
+FITTING = (("bindings/python/vlm/_library.py", r'^FITS = "([^"]+)"'),
+           ("tests/library.py", r'^SONAME = "libvlm\.so\.(.*)"'),
+           ("docs/LIBRARY.md", r"find_package\(vlm ([\d.]+) REQUIRED\)"))
+
+
 def version(_program):
-    """One version, in the program, the packages, the changes and the manual pages, and its number in the libraries."""
-    wanted = help_texts()["VERSION"]
-    for name, pattern in (("bindings/rust/Cargo.toml", r'^version = "([^"]+)"'), ("CHANGELOG.md", r"^## ([\d.]+)"),
-                          ("bindings/rust/vlm-sys/Cargo.toml", r'^version = "([^"]+)"'),
-                          ("bindings/python/pyproject.toml", r'^version = "([^"]+)"'),
-                          ("man/vlm.1", r'^\.TH VLM 1 "[^"]*" "vlm ([^"]+)"'),
-                          ("man/vlm.3", r'^\.TH VLM 3 "[^"]*" "vlm ([^"]+)"')):
-        found = re.search(pattern, text_of(name), re.M)
-        if not found or found[1] != wanted:
-            yield f"{name} has no version {wanted}"
+    """The program, the packages, the changes and the manual pages have the version of the file VERSION, and the
+    libraries its number."""
+    wanted = text_of("VERSION").strip()
+    fits = wanted.rpartition(".")[0]
+    if help_texts()["VERSION"] != wanted:
+        yield f"crates/vlm/src/arguments.rt has no version {wanted}"
+    for rows, told in ((VERSIONS, wanted), (FITTING, fits)):
+        for name, pattern in rows:
+            found = re.search(pattern, text_of(name), re.M)
+            if not found or found[1] != told:
+                yield f"{name} has no version {told}"
+    for page in PAGES:
+        for other in set(re.findall(r"libvlm\.so\.(\d+\.\d+)", page.read_text())) - {fits}:
+            yield f"{page.name} names libvlm.so.{other}"
     number = "0x" + "".join(f"{int(part):02x}" for part in wanted.split("."))
     for name in ("include/vlm.h", "crates/vlm_capi/src/arguments.rt", "bindings/rust/vlm-sys/src/lib.rs",
                  "bindings/python/vlm/_library.py"):
@@ -251,7 +280,7 @@ def links(_program):
                 yield f"{page.name}: no heading for {target}"
 
 
-FILE = re.compile(r"`((?:\.ci|bench|bindings|crates|docs|examples|include|man|tests|tools)/[\w./-]*)`")
+FILE = re.compile(r"`((?:\.ci|bench|bindings|crates|docs|examples|include|man|packaging|tests|tools)/[\w./-]*)`")
 
 
 def files(_program):
@@ -298,7 +327,7 @@ def proof_files(_program):
 
 def checks():
     return (functions, proof_files, short_readme, crate_table, public_names, laws, refusals, sizes, help_forms, flags,
-            calls, version, kit, links, files, parts)
+            calls, symbols, version, kit, links, files, parts)
 
 
 def blocks():

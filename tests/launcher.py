@@ -56,7 +56,7 @@ class Tree:
         self.kit = Path(folder) / "bin"
         for name in crates_with_libraries():
             (self.top / "crates" / name / "src").mkdir(parents=True)
-        copied = [TOP / name for name in ("vlm", "crates.txt", "KIT", "tools")]
+        copied = [TOP / name for name in ("vlm", "crates.txt", "KIT", "VERSION", "tools")]
         subprocess.run(["cp", "-r", *copied, self.top], check=True)
         self.kit.mkdir()
         self.stub = self.kit / "rt"
@@ -276,7 +276,8 @@ def another_kit(tree):
 
 def wrong_words(tree):
     """A tool refuses words that it does not take."""
-    for words, wanted in ((["prove", "x"], "prove takes no words"), (["install"], "install takes one word")):
+    for words, wanted in ((["prove", "x"], "prove takes no words"), (["install"], "install takes one word"),
+                          (["package"], "package takes one word")):
         yield from unlike(tree.run(*words), 2, b"", wanted)
 
 

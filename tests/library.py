@@ -34,14 +34,14 @@ SONAME = "libvlm.so.0.2"
 STRICT = ["-Wall", "-Wextra", "-Wpedantic", "-Werror"]
 # The files of the repository that an installation has too, at the same places below a folder.
 COPIED = {"": (TOP / "include").glob("*.h*"),
-          "share/doc/vlm/": [TOP / "README.md", TOP / "CHANGELOG.md", *(TOP / "docs").iterdir(),
+          "share/doc/vlm/": [TOP / "README.md", TOP / "CHANGELOG.md", TOP / "SECURITY.md", *(TOP / "docs").iterdir(),
                              *(TOP / "examples" / "c").iterdir()]}
 # What an installation leaves, beside the shared library and the manual pages of the calls.
 FILES = ("bin/vlm", *(f"{folder}{it.relative_to(TOP)}" for folder, files in COPIED.items() for it in files),
          "lib/cmake/vlm/vlm-config-version.cmake", "lib/cmake/vlm/vlm-config.cmake", "lib/libvlm.a",
          "lib/pkgconfig/vlm.pc", "libexec/vlm/vlm", "share/bash-completion/completions/vlm",
          "share/man/man1/vlm-lock.1", "share/man/man1/vlm-who.1", "share/man/man1/vlm.1", "share/man/man3/vlm.3",
-         "share/vlm/files")
+         "share/vlm/files", "share/vlm/proved")
 # Of the lock service, where the header of libuv is.
 SERVICE_FILES = ("bin/vlmd", "lib/systemd/system/vlmd.service", "lib/systemd/system/vlmd.socket",
                  "share/man/man8/vlmd.8", "share/vlm/vlmd.conf")
@@ -134,6 +134,18 @@ def version():
     """The version that the installed program tells."""
     told = subprocess.run([prefix() / "bin" / "vlm", "--version"], capture_output=True, text=True).stdout
     return told.removeprefix("vlm ").strip()
+
+
+def proof_told(_program):
+    """`vlm --proof` prints the record of the installation, and says what is wrong without it."""
+    folder = room() / "without a record"
+    (folder / "bin").mkdir(parents=True)
+    shutil.copy(prefix() / "bin" / "vlm", folder / "bin")
+    record = (prefix() / "share" / "vlm" / "proved").read_bytes()
+    for program, words, wanted in ((prefix(), [], (0, record, b"")),
+                                   (prefix(), ["x"], (64, b"", b"usage: vlm --proof\n")),
+                                   (folder, [], (69, b"", f"vlm: {folder}/share/vlm/proved can't be read\n".encode()))):
+        yield from difference(tuple(run([str(program / "bin" / "vlm"), "--proof", *words])), wanted)
 
 
 def told_by_kit(tool, *words):
@@ -530,7 +542,8 @@ def once():
               for compiler in COMPILERS if shutil.which(compiler)]
     found += [Test(f"two heaps in a program by {compiler}", partial(two_heaps, compiler))
               for compiler in COMPILERS if shutil.which(compiler)]
-    found += [Test("the names that the libraries show", names_shown), Test("the tests of bindings/python", python)]
+    found += [Test("the names that the libraries show", names_shown), Test("the tests of bindings/python", python),
+              Test("vlm --proof", proof_told)]
     if any(map(shutil.which, COMPILERS)):
         found.append(Test("the lines of C in the README", readme))
         found += [Test(f"chosen names with keys of the caller by {call}", partial(hashed_by_keys, call))

@@ -134,7 +134,8 @@ def python_mistakes(_program):
 
 
 def shell_mistakes(_program):
-    yield from said("shellcheck", "--format=gcc", *files(".sh"), *programs(b"(?:ba)?sh"))
+    scripts = files(".sh", ".postinst", ".prerm", ".postrm")
+    yield from said("shellcheck", "--format=gcc", *scripts, *programs(b"(?:ba)?sh"))
 
 
 def long_lines(_program):

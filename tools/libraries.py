@@ -101,9 +101,14 @@ def make_commands(made):
     make(made, *compiler(), "-std=gnu11", "-O2", "-Wl,-z,now", "-Wl,-z,relro", *COMMANDS, "-o", made)
 
 
+def fits_of(version):
+    """The first two numbers of a version. Versions with the same ones fit each other."""
+    return version.rpartition(".")[0]
+
+
 def soname_of(version):
-    """The name by which programs find the shared library. Versions with the same first two numbers fit each other."""
-    return "libvlm.so." + version.rpartition(".")[0]
+    """The name by which programs find the shared library."""
+    return "libvlm.so." + fits_of(version)
 
 
 def make_shared(made, objects, folder, soname):

@@ -1,10 +1,11 @@
 """What tells other build tools of the libraries: the package for pkg-config, and the one for CMake."""
 
-from libraries import soname_of
+from libraries import fits_of, soname_of
 
-# Both packages find their files from their own place, so the whole prefix can be moved.
-PKG_CONFIG = """prefix=${{pcfiledir}}/../..
-libdir=${{prefix}}/lib
+# The package for CMake finds its files from its own place, and that for pkg-config does so in a prefix of its own. So
+# the whole prefix can be moved.
+PKG_CONFIG = """prefix={prefix}
+libdir=${{prefix}}/{place}
 includedir=${{prefix}}/include
 
 Name: vlm
@@ -18,16 +19,16 @@ Cflags: -I${{includedir}}
 CMAKE = """# The lock manager vlm: the targets vlm::vlm, the shared library, and vlm::static.
 include(CMakeFindDependencyMacro)
 find_dependency(Threads)
-get_filename_component(_vlm_prefix "${{CMAKE_CURRENT_LIST_DIR}}/../../.." ABSOLUTE)
+get_filename_component(_vlm_prefix "${{CMAKE_CURRENT_LIST_DIR}}/{up}" ABSOLUTE)
 if(NOT TARGET vlm::vlm)
   add_library(vlm::vlm SHARED IMPORTED)
   set_target_properties(vlm::vlm PROPERTIES
-    IMPORTED_LOCATION "${{_vlm_prefix}}/lib/libvlm.so.{version}"
+    IMPORTED_LOCATION "${{_vlm_prefix}}/{place}/libvlm.so.{version}"
     IMPORTED_SONAME "{soname}"
     INTERFACE_INCLUDE_DIRECTORIES "${{_vlm_prefix}}/include")
   add_library(vlm::static STATIC IMPORTED)
   set_target_properties(vlm::static PROPERTIES
-    IMPORTED_LOCATION "${{_vlm_prefix}}/lib/libvlm.a"
+    IMPORTED_LOCATION "${{_vlm_prefix}}/{place}/libvlm.a"
     INTERFACE_INCLUDE_DIRECTORIES "${{_vlm_prefix}}/include"
     INTERFACE_LINK_LIBRARIES Threads::Threads)
 endif()
@@ -49,9 +50,12 @@ unset(_vlm_asked)
 """
 
 
-def write_packages(lib, version):
-    """Writes both packages into the folder lib of the libraries."""
-    values = {"version": version, "soname": soname_of(version), "fits": version.rpartition(".")[0]}
+def write_packages(lib, version, place="lib", prefix="${pcfiledir}/../.."):
+    """Writes both packages into the folder lib of the libraries, which has this place in the prefix."""
+    up = "/".join([".."] * (2 + len(place.split("/"))))
+    values = {"version": version, "soname": soname_of(version), "fits": fits_of(version), "place": place, "up": up,
+              "prefix": prefix}
     for name, text in (("pkgconfig/vlm.pc", PKG_CONFIG), ("cmake/vlm/vlm-config.cmake", CMAKE),
                        ("cmake/vlm/vlm-config-version.cmake", CMAKE_VERSION)):
+        (lib / name).parent.mkdir(parents=True, exist_ok=True)
         (lib / name).write_text(text.format(**values))

@@ -18,6 +18,8 @@ RECORD = PROGRAM.with_name("vlm.proved")
 LOGS = TOP / "out"
 # The kit that the crates are proved with, as `rt version` names it: a name, and the checksum of its logic.
 KIT = (TOP / "KIT").read_text().strip()
+# The version of all that is delivered. What can't read it is compared with it by the tests of docs.
+VERSION = (TOP / "VERSION").read_text().strip()
 
 # The statuses of the tools' own failures. The program's are 0 to 3.
 MISSING = 4  # something is not there that is needed
@@ -66,6 +68,16 @@ def is_library_current():
     if not is_current() or not LIBRARY.exists():
         return False
     return RECORD.read_text().splitlines()[3:] == [hashlib.sha256(LIBRARY.read_bytes()).hexdigest()]
+
+
+def commit(*names):
+    """The commit, and whether these files are as it has them, or all files without names."""
+    git = ["git", "-C", str(TOP)]
+    named = subprocess.run([*git, "rev-parse", "--short=12", "HEAD"], capture_output=True, text=True)
+    if named.returncode:
+        return "no commit"
+    changed = subprocess.run([*git, "status", "--porcelain", "--", *names], capture_output=True)
+    return f"commit {named.stdout.strip()}{' with changes' if changed.stdout else ''}"
 
 
 def crates():

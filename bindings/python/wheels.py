@@ -1,18 +1,26 @@
 """Packs the package vlm for pip, by what pyproject.toml says of it (PEP 517 and 660). It is Python alone, so nothing is
-built."""
+built. A wheel may have the shared library in it too. The same content gives the same bytes: all files get the time
+SOURCE_DATE_EPOCH, or one that is always the same."""
 
 import base64
+import gzip
 import hashlib
+import io
+import os
 import re
 import tarfile
+import time
 from pathlib import Path
 from typing import Any, Dict, Optional
-from zipfile import ZIP_DEFLATED, ZipFile
+from zipfile import ZIP_DEFLATED, ZipFile, ZipInfo
 
 HERE = Path(__file__).resolve().parent
-WHEEL = "Wheel-Version: 1.0\nGenerator: vlm\nRoot-Is-Purelib: true\nTag: py3-none-any\n"
+PURE = "py3-none-any"
+WHEEL = "Wheel-Version: 1.0\nGenerator: vlm\nRoot-Is-Purelib: {pure}\nTag: {tag}\n"
 METADATA = ("Metadata-Version: 2.1\nName: {name}\nVersion: {version}\nSummary: {description}\n"
-            "Requires-Python: {python}\n")
+            "Requires-Python: {requires-python}\n")
+# 1980, with which the times of a zip archive begin.
+FIRST_TIME = 315_532_800
 
 
 def _table(name: str) -> Dict[str, str]:
@@ -22,12 +30,15 @@ def _table(name: str) -> Dict[str, str]:
     return dict(re.findall(r'^([\w-]+) = "(.*)"$', table[1], re.M)) if table else {}
 
 
-def _info_files(project: Dict[str, str], info: str) -> Dict[str, bytes]:
-    """What a wheel tells of the package, except the list of its files."""
-    metadata = METADATA.format(python=project["requires-python"], **project)
+def _info(version: str) -> str:
+    return f"vlm-{version}.dist-info"
+
+
+def _info_files(version: str) -> Dict[str, bytes]:
+    """What an installation tells of the package."""
+    metadata = METADATA.format_map({**_table("project"), "version": version})
     commands = "[console_scripts]\n" + "".join(f"{name} = {call}\n" for name, call in _table("project.scripts").items())
-    return {f"{info}/METADATA": metadata.encode(), f"{info}/WHEEL": WHEEL.encode(),
-            f"{info}/entry_points.txt": commands.encode()}
+    return {f"{_info(version)}/METADATA": metadata.encode(), f"{_info(version)}/entry_points.txt": commands.encode()}
 
 
 def _package() -> Dict[str, bytes]:
@@ -36,42 +47,61 @@ def _package() -> Dict[str, bytes]:
     return {it.relative_to(HERE).as_posix(): it.read_bytes() for it in files}
 
 
+def installed_files(version: str) -> Dict[str, bytes]:
+    """The files of an installation without pip, by their places in the folder of the modules."""
+    return {**_package(), **_info_files(version)}
+
+
 def _row(name: str, text: bytes) -> str:
     """The row of a file in the list."""
     digest = base64.urlsafe_b64encode(hashlib.sha256(text).digest()).rstrip(b"=").decode()
     return f"{name},sha256={digest},{len(text)}\n"
 
 
-def _wheel(folder: str, content: Dict[str, bytes]) -> str:
+def _time() -> int:
+    return max(FIRST_TIME, int(os.environ.get("SOURCE_DATE_EPOCH", FIRST_TIME)))
+
+
+def _wheel(folder: str, content: Dict[str, bytes], version: str, tag: str = PURE) -> str:
     """Makes a wheel with this content in a folder, and returns its name."""
-    project = _table("project")
-    info = f"{project['name']}-{project['version']}.dist-info"
-    files = {**content, **_info_files(project, info)}
+    info = _info(version)
+    files = {**content, **_info_files(version)}
+    files[f"{info}/WHEEL"] = WHEEL.format(pure="true" if tag == PURE else "false", tag=tag).encode()
     files[f"{info}/RECORD"] = "".join([*(_row(*it) for it in files.items()), f"{info}/RECORD,,\n"]).encode()
-    wheel = f"{project['name']}-{project['version']}-py3-none-any.whl"
-    with ZipFile(Path(folder) / wheel, "w", ZIP_DEFLATED) as packed:
+    wheel = f"vlm-{version}-{tag}.whl"
+    with ZipFile(Path(folder) / wheel, "w") as packed:
         for name, text in files.items():
-            packed.writestr(name, text)
+            member = ZipInfo(name, time.gmtime(_time())[:6])
+            member.external_attr = 0o100644 << 16
+            packed.writestr(member, text, ZIP_DEFLATED)
     return wheel
 
 
 def build_wheel(wheel_directory: str, config_settings: Optional[Dict[str, Any]] = None,
                 metadata_directory: Optional[str] = None) -> str:
     """What pip calls to install the package."""
-    return _wheel(wheel_directory, _package())
+    return _wheel(wheel_directory, _package(), _table("project")["version"])
 
 
 def build_editable(wheel_directory: str, config_settings: Optional[Dict[str, Any]] = None,
                    metadata_directory: Optional[str] = None) -> str:
     """What pip calls for an editable installation: Python finds the package in this folder."""
-    return _wheel(wheel_directory, {"vlm.pth": f"{HERE}\n".encode()})
+    return _wheel(wheel_directory, {"vlm.pth": f"{HERE}\n".encode()}, _table("project")["version"])
+
+
+def build_with_library(folder: str, version: str, tag: str, more: Dict[str, bytes]) -> str:
+    """Makes a wheel for one platform, which its tag names: `more` has the shared library and what belongs to it."""
+    return _wheel(folder, {**_package(), **more}, version, tag)
 
 
 def build_sdist(sdist_directory: str, config_settings: Optional[Dict[str, Any]] = None) -> str:
     """Packs the sources, from which pip installs the package too."""
-    project = _table("project")
-    name = f"{project['name']}-{project['version']}"
-    with tarfile.open(Path(sdist_directory) / f"{name}.tar.gz", "w:gz") as packed:
-        for file in (*_package(), "pyproject.toml", "wheels.py", "README.md"):
-            packed.add(HERE / file, f"{name}/{file}")
+    name = f"vlm-{_table('project')['version']}"
+    with open(Path(sdist_directory) / f"{name}.tar.gz", "wb") as file, \
+            gzip.GzipFile("", "wb", 9, file, _time()) as zipped, tarfile.open(fileobj=zipped, mode="w") as packed:
+        for path in (*_package(), "pyproject.toml", "wheels.py", "README.md"):
+            text = (HERE / path).read_bytes()
+            member = tarfile.TarInfo(f"{name}/{path}")
+            member.size, member.mtime = len(text), _time()
+            packed.addfile(member, io.BytesIO(text))
     return f"{name}.tar.gz"

@@ -4,7 +4,8 @@ _vlm() {
     local current=${COMP_WORDS[COMP_CWORD]} previous=${COMP_WORDS[COMP_CWORD - 1]} sessions
     COMPREPLY=()
     if [ "$COMP_CWORD" = 1 ]; then
-        mapfile -t COMPREPLY < <(compgen -W 'play cluster watch lock who metrics kill --help --version' -- "$current")
+        mapfile -t COMPREPLY < <(compgen -W 'play cluster watch lock who metrics kill --help --version --proof' \
+            -- "$current")
         return
     fi
     case "${COMP_WORDS[1]},$previous" in

@@ -1,5 +1,6 @@
-/* The command vlm: lock, who, metrics and kill are of the lock service, and done here. With all other words it becomes
- * the proved program, ../libexec/vlm/vlm beside its own folder. */
+/* The command vlm: lock, who, metrics and kill are of the lock service, and done here. `vlm --proof` prints what the
+ * program was proved from, ../share/vlm/proved beside its own folder. With all other words the command becomes the
+ * proved program, ../libexec/vlm/vlm. */
 #define _GNU_SOURCE
 #include "link.h"
 
@@ -8,26 +9,50 @@
 #include <string.h>
 #include <unistd.h>
 
-enum { PATH = 4096 };
+enum { PATH = 4096, NAME = 32 };
 
-static int run_program(char **words) {
-    static const char program[] = "libexec/vlm/vlm";
-    char path[PATH + sizeof program];
+/* Writes the path of a file of this installation. */
+static void path_of(const char *name, char *path) {
     ssize_t len = readlink("/proc/self/exe", path, PATH);
     for (int slashes = 0; len > 0 && slashes < 2; len--)
         slashes += path[len - 1] == '/';
-    if (len >= 0)
-        memcpy(path + len + 1, program, sizeof program);
+    snprintf(path + (len < 0 ? 0 : len + 1), NAME, "%s", name);
+}
+
+static int run_program(char **words) {
+    char path[PATH + NAME];
+    path_of("libexec/vlm/vlm", path);
     execv(path, words);
     fprintf(stderr, "vlm: the program %s can't be run: %s\n", path, strerror(errno));
     return NO_SERVICE;
+}
+
+static int run_proof(int count, char **words) {
+    (void)words;
+    char path[PATH + NAME], bytes[4096];
+    size_t len = 0;
+    if (count > 1)
+        return wrong_words("vlm --proof");
+    path_of("share/vlm/proved", path);
+    FILE *file = fopen(path, "re");
+    if (file != NULL) {
+        len = fread(bytes, 1, sizeof bytes, file);
+        fclose(file);
+    }
+    if (len == 0) {
+        fprintf(stderr, "vlm: %s can't be read\n", path);
+        return NO_SERVICE;
+    }
+    bool is_written = fwrite(bytes, 1, len, stdout) == len && fflush(stdout) == 0;
+    return is_written ? 0 : NO_SERVICE;
 }
 
 int main(int count, char **words) {
     static const struct {
         const char *word;
         int (*run)(int count, char **words);
-    } commands[] = {{"lock", run_lock}, {"who", run_who}, {"metrics", run_metrics}, {"kill", run_kill}};
+    } commands[] = {
+        {"lock", run_lock}, {"who", run_who}, {"metrics", run_metrics}, {"kill", run_kill}, {"--proof", run_proof}};
     for (size_t at = 0; count > 1 && at < sizeof commands / sizeof *commands; at++)
         if (strcmp(words[1], commands[at].word) == 0)
             return commands[at].run(count - 1, words + 1);

@@ -1,6 +1,7 @@
 """How the package finds the library, in programs of their own."""
 
 import os
+import shutil
 import subprocess
 import sys
 import tempfile
@@ -40,6 +41,12 @@ class Library(unittest.TestCase):
     def test_a_prefix_is_named(self):
         (self.lib / "libvlm.so.0.2").symlink_to(self.file)
         self.assertEqual(imported(VLM_PREFIX=self.room.name), "imported\n")
+
+    def test_a_wheel_has_it(self):
+        shutil.copytree(FOLDER / "vlm", self.lib / "vlm")
+        shutil.copy(self.file, self.lib / "vlm" / "libvlm.so.0.2")
+        self.assertEqual(imported(PYTHONPATH=str(self.lib)), "imported\n")
+        self.assertIn("ImportError: ", imported(PYTHONPATH=str(self.lib), VLM_LIBRARY="/nowhere/libvlm.so"))
 
     def test_the_loader_finds_it(self):
         (self.lib / "libvlm.so.0.2").symlink_to(self.file)

@@ -1,9 +1,12 @@
 """What pip is given: a wheel, an editable installation, and the sources."""
 
+import os
 import sys
 import tarfile
 import tempfile
+import time
 import unittest
+import unittest.mock
 from pathlib import Path
 from zipfile import ZipFile
 
@@ -35,6 +38,25 @@ class Packages(unittest.TestCase):
         content = self.content(wheels.build_editable(str(self.room)))
         self.assertEqual(content["vlm.pth"].decode(), f"{FOLDER}\n")
         self.assertEqual([name for name in content if name.startswith("vlm/")], [])
+
+    def test_a_wheel_with_the_library_is_of_a_platform(self):
+        wheel = wheels.build_with_library(str(self.room), "1.2.3", "py3-none-some_platform", {"vlm/libvlm.so": b"code"})
+        self.assertEqual(wheel, "vlm-1.2.3-py3-none-some_platform.whl")
+        content = self.content(wheel)
+        self.assertEqual(content["vlm/libvlm.so"], b"code")
+        self.assertIn(b"Root-Is-Purelib: false\nTag: py3-none-some_platform\n", content["vlm-1.2.3.dist-info/WHEEL"])
+        self.assertIn(b"\nVersion: 1.2.3\n", content["vlm-1.2.3.dist-info/METADATA"])
+        self.assertIn(b"vlm/libvlm.so,sha256=", content["vlm-1.2.3.dist-info/RECORD"])
+
+    def test_the_same_content_gives_the_same_bytes(self):
+        for build in (wheels.build_wheel, wheels.build_sdist):
+            first, again = self.room / "first", self.room / "again"
+            for folder, epoch in ((first, "1700000000"), (again, "1700000000")):
+                folder.mkdir(exist_ok=True)
+                with unittest.mock.patch.dict(os.environ, SOURCE_DATE_EPOCH=epoch):
+                    name = build(str(folder))
+                time.sleep(1.1)
+            self.assertEqual((first / name).read_bytes(), (again / name).read_bytes())
 
     def test_the_sources_have_all_that_a_wheel_needs(self):
         with tarfile.open(self.room / wheels.build_sdist(str(self.room))) as packed:

@@ -6,7 +6,8 @@ from ctypes import CFUNCTYPE, POINTER, c_bool, c_char_p, c_int, c_size_t, c_uint
 from pathlib import Path
 from typing import TYPE_CHECKING, Any, Dict, List, Tuple, Type
 
-FILE = "libvlm.so.0.2"
+FITS = "0.2"
+FILE = f"libvlm.so.{FITS}"
 
 
 class Handle(ctypes.Structure):
@@ -211,10 +212,12 @@ _ANSWERS = {"vlm_close": None, "vlm_process_count": c_size_t, "vlm_resource_coun
 
 
 def _place() -> str:
-    """The file of the library. A plain name is looked for where the loader looks."""
-    installed = Path(os.environ.get("VLM_PREFIX", ""), "lib", FILE)
-    is_there = "VLM_PREFIX" in os.environ and installed.exists()
-    return os.environ.get("VLM_LIBRARY") or (str(installed) if is_there else FILE)
+    """The file of the library. A wheel may have it beside this file. A plain name is looked for where the loader
+    looks."""
+    if os.environ.get("VLM_LIBRARY"):
+        return os.environ["VLM_LIBRARY"]
+    installed = [Path(os.environ["VLM_PREFIX"], "lib", FILE)] if "VLM_PREFIX" in os.environ else []
+    return next((str(file) for file in [*installed, Path(__file__).with_name(FILE)] if file.exists()), FILE)
 
 
 def _declared(library: ctypes.CDLL) -> ctypes.CDLL:
@@ -237,8 +240,9 @@ def _loaded() -> ctypes.CDLL:
         return _declared(ctypes.CDLL(place))
     except (OSError, AttributeError) as failed:
         raise ImportError(
-            f"the library {place} of the lock manager can't be used: {failed}. Install it by ./vlm install PREFIX, and "
-            f"name the folder PREFIX by VLM_PREFIX, or the file itself by VLM_LIBRARY") from None
+            f"the library {place} of the lock manager can't be used: {failed}. Install Debian's package libvlm{FITS}, "
+            f"or run ./vlm install PREFIX, and name the folder PREFIX by VLM_PREFIX, or the file itself by VLM_LIBRARY"
+        ) from None
 
 
 class _Library:
