@@ -1,8 +1,8 @@
-"""What tells other build tools of the libraries: the package for pkg-config, and the one for CMake."""
+"""What tells other build tools of the libraries: the packages for pkg-config, and the one for CMake."""
 
 from libraries import soname_of
 
-# Both packages find their files from their own place, so the whole prefix can be moved.
+# The packages find their files from their own place, so the whole prefix can be moved.
 PKG_CONFIG = """prefix=${{pcfiledir}}/../..
 libdir=${{prefix}}/lib
 includedir=${{prefix}}/include
@@ -13,6 +13,19 @@ Version: {version}
 Libs: -L${{libdir}} -lvlm
 Libs.private: -pthread
 Cflags: -I${{includedir}}
+"""
+
+PKG_CONFIG_VMS = """prefix=${{pcfiledir}}/../..
+libdir=${{prefix}}/lib
+includedir=${{prefix}}/include
+
+Name: vlm-vms
+Description: The system services of OpenVMS for locks, over vlm: for programs in C
+Version: {version}
+Requires.private: vlm
+Libs: -L${{libdir}} -lvlmvms
+Libs.private: -pthread
+Cflags: -I${{includedir}}/vlm-vms
 """
 
 CMAKE = """# The lock manager vlm: the targets vlm::vlm, the shared library, and vlm::static.
@@ -50,8 +63,9 @@ unset(_vlm_asked)
 
 
 def write_packages(lib, version):
-    """Writes both packages into the folder lib of the libraries."""
+    """Writes the packages into the folder lib of the libraries."""
     values = {"version": version, "soname": soname_of(version), "fits": version.rpartition(".")[0]}
-    for name, text in (("pkgconfig/vlm.pc", PKG_CONFIG), ("cmake/vlm/vlm-config.cmake", CMAKE),
+    for name, text in (("pkgconfig/vlm.pc", PKG_CONFIG), ("pkgconfig/vlm-vms.pc", PKG_CONFIG_VMS),
+                       ("cmake/vlm/vlm-config.cmake", CMAKE),
                        ("cmake/vlm/vlm-config-version.cmake", CMAKE_VERSION)):
         (lib / name).write_text(text.format(**values))
