@@ -1,7 +1,10 @@
 /* ASTs: the queue, who delivers, and waits.
  *
- * One routine runs at a time. A thread that waits, or that ends a call of a service, delivers what is pending. If none
- * waits, a thread of the layer does. In a routine no other one is delivered. */
+ * One routine runs at a time. A thread in a service delivers what is pending, while it waits and at the end of its call.
+ * If there is none, a thread of the layer does. In a routine no other one is delivered.
+ *
+ * The original interrupts the program until a routine returns. Here the program's first thread goes on beside a routine
+ * of another thread, up to its next service: there it waits for the end of the routine. */
 #include "parts.h"
 
 #include "ssdef.h"
@@ -15,9 +18,10 @@ static pthread_cond_t changed = PTHREAD_COND_INITIALIZER;
 /* Guarded by the mutex. */
 static struct ast *first, *last;
 static bool are_enabled = true, is_running, is_awake, is_started;
-static uint32_t waiting; /* threads that wait and may deliver */
-/* Of each thread: it runs an AST routine. */
+static uint32_t in_services; /* threads that are going to deliver */
+/* Of each thread: it runs an AST routine; its identification, or 0 if that is not known yet. */
 static _Thread_local bool is_in_routine;
+static _Thread_local pid_t thread;
 
 void vms_lock(void) { pthread_mutex_lock(&mutex); }
 
@@ -51,6 +55,16 @@ void vms_unqueue_ast(struct ast *ast) {
     *(ast->next != NULL ? &ast->next->previous : &last) = ast->previous;
 }
 
+/* Whether this thread is the first one of the program. */
+static bool is_first_thread(void) {
+    if (thread == 0)
+        thread = gettid();
+    return thread == getpid();
+}
+
+/* Whether this thread may go on beside what is running. */
+static bool may_go_on(void) { return !is_running || is_in_routine || !is_first_thread(); }
+
 static bool may_run(void) { return are_enabled && !is_running && first != NULL; }
 
 /* Runs the routine of the oldest AST, without the mutex. */
@@ -79,9 +93,20 @@ static void run_pending(void) {
     }
 }
 
-void vms_deliver(void) {
+void vms_enter(void) {
+    vms_lock();
+    while (!may_go_on())
+        pthread_cond_wait(&changed, &mutex);
+    in_services += !is_in_routine;
+    vms_unlock();
+}
+
+void vms_leave(void) {
     vms_lock();
     run_pending();
+    in_services -= !is_in_routine;
+    if (first != NULL)
+        vms_changed();
     vms_unlock();
 }
 
@@ -89,12 +114,21 @@ void vms_wait(vms_condition_met is_met, const void *argument) {
     vms_lock();
     for (;;) {
         run_pending();
-        if (is_met(argument))
+        if (may_go_on() && is_met(argument))
             break;
-        waiting += !is_in_routine;
+        if (may_run() && !is_in_routine)
+            continue; /* an AST has come while another one ran */
+        in_services += !is_in_routine;
         pthread_cond_wait(&changed, &mutex);
-        waiting -= !is_in_routine;
+        in_services -= !is_in_routine;
     }
+    vms_unlock();
+}
+
+void vms_await(vms_condition_met is_met, const void *argument) {
+    vms_lock();
+    while (!is_met(argument))
+        pthread_cond_wait(&changed, &mutex);
     vms_unlock();
 }
 
@@ -103,7 +137,7 @@ static void *deliver(void *unused) {
     (void)unused;
     vms_lock();
     for (;;)
-        if (waiting == 0 && may_run())
+        if (in_services == 0 && may_run())
             run_first();
         else
             pthread_cond_wait(&changed, &mutex);
@@ -131,7 +165,7 @@ int sys$setast(char enbflg) {
     vms_lock();
     bool were_enabled = are_enabled;
     are_enabled = (enbflg & 1) != 0;
-    while (!are_enabled && is_running && !is_in_routine)
+    while ((!are_enabled && is_running && !is_in_routine) || !may_go_on())
         pthread_cond_wait(&changed, &mutex);
     vms_changed();
     run_pending();
@@ -146,10 +180,11 @@ int sys$dclast(VMS$AST astadr, VMS$PARAMETER astprm, unsigned int acmode) {
     struct ast *ast = vms_start() ? vms_new_ast(astadr, astprm) : NULL;
     if (ast == NULL)
         return SS$_INSFMEM;
+    vms_enter();
     vms_lock();
     vms_queue_ast(ast);
-    run_pending();
     vms_unlock();
+    vms_leave();
     return SS$_NORMAL;
 }
 
@@ -168,9 +203,11 @@ int sys$hiber(void) {
 int sys$wake(unsigned int *pidadr, void *prcnam) {
     if (prcnam != NULL || (pidadr != NULL && *pidadr != 0 && *pidadr != (unsigned int)getpid()))
         return SS$_UNSUPPORTED;
+    vms_enter();
     vms_lock();
     is_awake = true;
     vms_changed();
     vms_unlock();
+    vms_leave();
     return SS$_NORMAL;
 }

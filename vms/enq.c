@@ -98,15 +98,6 @@ static void accept(struct request *request, uint32_t lkid) {
         lock->pending = request;
 }
 
-static void warn(struct lock *lock) {
-    if (lock->warning.is_queued || lock->blocking == NULL)
-        return;
-    lock->warning.routine = lock->blocking;
-    lock->warning.parameter = lock->parameter;
-    lock->warning.is_kept = true;
-    vms_queue_ast(&lock->warning);
-}
-
 /* What a lock is once its request has ended. */
 static void settle_lock(struct lock *lock, const struct request *request, uint32_t status) {
     lock->pending = NULL;
@@ -137,7 +128,7 @@ static void end(struct request *request, uint32_t lkid, uint32_t status, const u
     if (lock != NULL) {
         settle_lock(lock, request, status);
         if (request->is_warned && is_grant(status))
-            warn(lock);
+            vms_warn(lock);
     }
     vms_changed();
 }
@@ -160,7 +151,7 @@ static void warned(void *context, const vlm_threads_event *event) {
     vms_lock();
     struct lock *lock = vms_find_lock(event->lkid);
     if (lock != NULL && lock->grant == grant)
-        warn(lock);
+        vms_warn(lock);
     for (struct request *request = called; request != NULL; request = request->next_called)
         if (request->grant == grant)
             request->is_warned = true;
@@ -260,6 +251,7 @@ static int ask(const struct asked *asked, bool waits) {
     struct request *request = made_request(asked);
     if (request == NULL)
         return SS$_INSFMEM;
+    vms_enter();
     status = make(engine, asked, request);
     if (waits && request->is_accepted)
         vms_wait(is_ended, request);
@@ -268,7 +260,7 @@ static int ask(const struct asked *asked, bool waits) {
     if (request->is_ended || !request->is_accepted)
         free_request(request);
     vms_unlock();
-    vms_deliver();
+    vms_leave();
     return (int)status;
 }
 

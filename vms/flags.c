@@ -40,11 +40,12 @@ int sys$setef(unsigned int efn) {
     uint32_t status = vms_check_flag(efn);
     if (status != SS$_NORMAL)
         return (int)status;
+    vms_enter();
     vms_lock();
     int was = state_of(efn);
     vms_set_flag(efn);
     vms_unlock();
-    vms_deliver();
+    vms_leave();
     return was;
 }
 
@@ -52,10 +53,12 @@ int sys$clref(unsigned int efn) {
     uint32_t status = vms_check_flag(efn);
     if (status != SS$_NORMAL)
         return (int)status;
+    vms_enter();
     vms_lock();
     int was = state_of(efn);
     vms_clear_flag(efn);
     vms_unlock();
+    vms_leave();
     return was;
 }
 
@@ -65,10 +68,12 @@ int sys$readef(unsigned int efn, unsigned int *state) {
         return (int)status;
     if (state == NULL)
         return SS$_ACCVIO;
+    vms_enter();
     vms_lock();
     int was = state_of(efn);
     *state = efn < LOCAL_FLAGS ? (unsigned int)(flags >> (efn / CLUSTER * CLUSTER)) : 0;
     vms_unlock();
+    vms_leave();
     return was;
 }
 

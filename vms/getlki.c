@@ -124,7 +124,7 @@ static uint32_t read_lock(uint32_t *lkid, const ILE3 *items) {
     return status == SS$_NORMAL ? read_items(engine, &reading, items) : status;
 }
 
-/* The status block is written, the flag is set and the AST comes also if the reading failed. */
+/* Ends the service. The status block is written, the flag is set and the AST comes also if the reading failed. */
 static void tell_end(uint32_t efn, IOSB *block, struct ast *ast, uint32_t status) {
     vms_lock();
     if (block != NULL)
@@ -133,7 +133,7 @@ static void tell_end(uint32_t efn, IOSB *block, struct ast *ast, uint32_t status
     if (ast != NULL)
         vms_queue_ast(ast);
     vms_unlock();
-    vms_deliver();
+    vms_leave();
 }
 
 int sys$getlki(unsigned int efn, unsigned int *lkidadr, void *itmlst, void *iosb, VMS$AST astadr, VMS$PARAMETER astprm,
@@ -147,6 +147,7 @@ int sys$getlki(unsigned int efn, unsigned int *lkidadr, void *itmlst, void *iosb
     struct ast *ast = astadr != NULL ? vms_new_ast(astadr, astprm) : NULL;
     if (astadr != NULL && ast == NULL)
         return SS$_INSFMEM;
+    vms_enter();
     status = read_lock(lkidadr, itmlst);
     tell_end(efn, iosb, ast, status);
     return (int)status;

@@ -74,3 +74,16 @@ bool vms_is_below(const struct lock *lock, uint32_t lkid) {
     }
     return above == lkid || lkid == 0;
 }
+
+void vms_warn(struct lock *lock) {
+    if (lock->warning.is_queued || lock->blocking == NULL)
+        return;
+    if (lock->is_given_up) {
+        lock->is_held_back = true;
+        return;
+    }
+    lock->warning.routine = lock->blocking;
+    lock->warning.parameter = lock->parameter;
+    lock->warning.is_kept = true;
+    vms_queue_ast(&lock->warning);
+}

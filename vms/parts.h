@@ -95,16 +95,19 @@ struct ast {
 
 typedef bool (*vms_condition_met)(const void *argument);
 
-/* asts.c. The first five want the mutex held; the next two not. vms_wait delivers ASTs until the condition is met, which
- * is asked with the mutex held; vms_deliver delivers those that are pending. Neither does anything in an AST routine,
- * except that vms_wait waits. vms_start starts the thread that delivers while no other does: whether it runs. */
+/* asts.c. vms_changed, vms_queue_ast and vms_unqueue_ast want the mutex held. A service calls vms_enter, which
+ * waits for the end of a routine, and at its end vms_leave, which delivers what is pending. vms_wait delivers ASTs until the condition is met, which is asked with the
+ * mutex held; vms_await delivers none. In an AST routine none is delivered. vms_start starts the thread that delivers while no service does:
+ * whether it runs. */
 void vms_lock(void);
 void vms_unlock(void);
 void vms_changed(void);
 void vms_queue_ast(struct ast *ast);
 void vms_unqueue_ast(struct ast *ast);
 void vms_wait(vms_condition_met is_met, const void *argument);
-void vms_deliver(void);
+void vms_await(vms_condition_met is_met, const void *argument);
+void vms_enter(void);
+void vms_leave(void);
 bool vms_start(void);
 struct ast *vms_new_ast(VMS$AST routine, VMS$PARAMETER parameter);
 
@@ -126,8 +129,10 @@ struct status_block {
 struct lock {
     struct lock *next_hashed, *previous, *next;
     uint32_t lkid, parent;
-    uint64_t grant; /* 0 while it waits */
-    uint64_t going; /* the number of the dequeue that gives it up, or 0 */
+    uint64_t grant;    /* 0 while it waits */
+    uint64_t going;    /* the number of the dequeue that is made for it, or 0 */
+    bool is_given_up;  /* by that dequeue, so no warning is queued */
+    bool is_held_back; /* a warning has come meanwhile */
     VMS$AST blocking;
     VMS$PARAMETER parameter;
     struct ast warning;
@@ -149,12 +154,13 @@ struct request {
 };
 
 /* locks.c. All want the mutex held. vms_find_lock: or null. vms_is_below: whether a lock is below another; all are
- * below 0. */
+ * below 0. vms_warn queues the blocking AST of a lock. */
 struct lock *vms_find_lock(uint32_t lkid);
 struct lock *vms_first_lock(void);
 void vms_add_lock(struct lock *lock);
 void vms_remove_lock(struct lock *lock);
 bool vms_is_below(const struct lock *lock, uint32_t lkid);
+void vms_warn(struct lock *lock);
 
 /* enq.c. vms_begin_dequeue keeps requests from being made until vms_end_dequeue. Both want the mutex not held. */
 void vms_begin_dequeue(void);

@@ -88,8 +88,11 @@ int sys$wfland(unsigned int efn, unsigned int mask);
 /* Waits until the first word of a status block is not 0, or with a null iosb for the flag, and sets the flag. */
 int sys$synch(unsigned int efn, void *iosb);
 
-/* ASTs. One runs at a time: in a thread that waits by a service of this header, in a thread that ends a call of one, or
- * in a thread of the layer. In an AST routine no other AST is delivered. */
+/* ASTs. One runs at a time: in a thread that is in a service of this header, while it waits and at the end of its call,
+ * or in a thread of the layer if there is none. In an AST routine no other AST is delivered. The program's first thread
+ * waits at each service until a routine that runs has returned. What it does between services may be at the same time as
+ * a routine: turn the delivery off there, or have VLM$ASTS=wait in the environment, and no thread of the layer delivers.
+ */
 
 /* Turns the delivery on (1) or off (0). SS$_WASSET, SS$_WASCLR: it was on, off before. Off waits for the end of a
  * routine that another thread runs. On delivers what is pending. */
