@@ -1,12 +1,11 @@
-"""The layer for programs of OpenVMS: each service of starlet.h over both lock managers, worked scripts that processes make
-by sys$enq, and the programs of vms/examples as processes beside each other, some of which are killed. Programs are
-compiled with sanitizers, by each compiler, and over the installed libraries. Without the header of libuv all that needs
-the lock service is left out."""
+"""The layer for programs of OpenVMS: each service of starlet.h over both lock managers, worked scripts that processes
+make by sys$enq, and the programs of vms/examples as processes beside each other, some of which are killed. Programs are
+compiled with sanitizers, by each compiler, and over the installed libraries. Without the header of libuv all tests are
+left out."""
 
 import os
 import re
 import shutil
-import signal
 import subprocess
 import tempfile
 import time
@@ -85,8 +84,8 @@ def environment(daemon=None, **settings):
 # Each service.
 
 def services(compiler, sanitizer, _program):
-    """What is wrong with the services, by a compiler and a sanitizer: in one process, over the lock service, and when that
-    is lost or not there."""
+    """What is wrong with the services, by a compiler and a sanitizer: in one process, over the lock service, and when
+    that is lost or not there."""
     made = made_program(HERE / "services.c", compiler, sanitizer)
     yield from library.ran(made, env=environment(ENQLM=QUOTA, DEADLOCK_WAIT=WAIT / 1000))
     with Daemon(f"search {WAIT}", made=PLAIN) as daemon:
@@ -200,17 +199,15 @@ def leader(stage):
 
 
 def listing(stage):
-    """The locks of two clients of the service, listed. Numbers of processes differ from run to run."""
-    with stage.daemon.client().begin("P") as one, stage.daemon.client().begin("Q") as other:
-        one.ask("enq P PR name=BANK block=1")
-        one.ask("enq P CW name=TABLE block=2 parent=@1")
-        other.ask("enq Q PR name=BANK block=1")
-        one.ask("cvt P @1 EX block=1")
-        other.ask("enq Q EX name=x:01ff block=2 system")
-        other.ask("enq Q EX name=BANK block=3")
-        found = stage.run("show_lock")
-    base = int(re.search(r"lock (\d+)", found)[1]) - 1
-    found = re.sub(r"lock (\d+)", lambda it: f"lock {int(it[1]) - base}", found.replace("\x01\udcff", "01ff"))
+    """The locks of three clients of the service, listed. Numbers of processes differ from run to run."""
+    first, second, third = clients = [stage.daemon.client().begin(name) for name in "PQR"]
+    for client, line in ((first, "enq P PR name=BANK block=1"), (first, "enq P CW name=TABLE block=2 parent=@1"),
+                         (second, "enq Q PR name=BANK block=1"), (first, "cvt P @1 EX block=1"),
+                         (second, "enq Q EX name=x:01ff block=2 system"), (third, "enq R PW name=BANK block=1")):
+        client.ask(line)
+    found = stage.run("show_lock").replace("\x01\udcff", "01ff")
+    for client in clients:
+        client.close()
     yield from difference(re.sub(r"process \d+", "process N", found).splitlines(), shown("show_lock"))
 
 
@@ -224,8 +221,10 @@ def alone(_program):
     """Examples in one process, without a lock service."""
     compiler, sanitizer = first_links()
     file = Path(tempfile.mkdtemp(dir=ROOM().name)) / "file"
-    for name, given, wanted in (("cache", ["20"], "20 rounds, 0 old pages\n"), ("accounts", ["5"], "5 transfers\n"),
-                                ("leader", None, "A leads, term 1\nA resigns\n"), ("show_lock", None, "")):
+    cases = (("cache", ["20"], "20 rounds, 0 old pages\n"), ("counter", None, "1, 0\n1, 1\n1, 2\n"),
+             ("accounts", ["5"], "5 transfers\n"), ("leader", None, "A leads, term 1\nA resigns\n"),
+             ("show_lock", None, ""))
+    for name, given, wanted in cases:
         file.write_bytes(b"")
         made = made_program(TOP / "vms" / "examples" / f"{name}.c", compiler, sanitizer)
         line = [made, file, *given] if given else [made, "A"] if name == "leader" else [made]
@@ -238,7 +237,8 @@ def alone(_program):
 
 def declared():
     """The services and routines that the headers declare."""
-    return {name for it in HEADERS for name in re.findall(r"^(?:unsigned )?int ((?:sys|lib)\$\w+)\(", it.read_text(), re.M)}
+    text = "\n".join(it.read_text() for it in HEADERS)
+    return set(re.findall(r"^(?:unsigned )?int ((?:sys|lib)\$\w+)\(", text, re.M))
 
 
 def names_shown(_program):
@@ -290,17 +290,6 @@ def page(_program):
     yield from (f"docs/VMS.md has no VLM${name}" for name in sorted(settings) if f"`VLM${name}`" not in text)
 
 
-def before_and_after(_program):
-    """The program of docs/VMS.md compiles and prints what the page says."""
-    text = (TOP / "docs" / "VMS.md").read_text()
-    block, printed = re.search(r"```c\n(.*?int main.*?)^```\n.*?```text\n(.*?)^```", text, re.M | re.S).groups()
-    source = Path(tempfile.mkdtemp(dir=ROOM().name)) / "page.c"
-    source.write_text(block)
-    made = made_program(source, *first_links())
-    done = subprocess.run([made], env=environment(), capture_output=True, text=True, timeout=SECONDS)
-    yield from difference(done.stdout, printed)
-
-
 def first():
     return service.first()
 
@@ -316,7 +305,7 @@ def once():
               for check in (cache, doorbell, accounts, leader, listing)
               for sanitizer in sorted({it for _, it in linked})]
     found += [Test("examples alone", alone), Test("the names that the libraries for OpenVMS show", names_shown),
-              Test("docs/VMS.md against the headers", page), Test("the program of docs/VMS.md", before_and_after)]
+              Test("docs/VMS.md against the headers", page)]
     for compiler in filter(shutil.which, library.COMPILERS):
         found.append(Test(f"the headers for OpenVMS by {compiler}", partial(headers, compiler)))
         found += [Test(f"pkg-config of the layer for OpenVMS and {compiler} with {standard}",

@@ -1,7 +1,7 @@
 /* ASTs: the queue, who delivers, and waits.
  *
- * One routine runs at a time. A thread in a service delivers what is pending, while it waits and at the end of its call.
- * If there is none, a thread of the layer does. In a routine no other one is delivered.
+ * One routine runs at a time. A thread in a service delivers what is pending, while it waits and at the end of its
+ * call. If there is none, a thread of the layer does. In a routine no other one is delivered.
  *
  * The original interrupts the program until a routine returns. Here the program's first thread goes on beside a routine
  * of another thread, up to its next service: there it waits for the end of the routine. */

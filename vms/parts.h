@@ -55,13 +55,13 @@ struct reading {
     uint8_t value[WHOLE_VALUE];
 };
 
-/* Lists of locks: all that the process may see; those on the resource of a lock; those that its request waits for; those
- * whose requests wait for it. */
+/* Lists of locks: all that the process may see; those on the resource of a lock; those that its request waits for;
+ * those whose requests wait for it. */
 enum list { ALL, ON_RESOURCE, BLOCKERS, BLOCKED };
 
-/* A lock manager. Each function answers a status of vlm.h, and wants the mutex not held. `ask` is one of the start forms,
- * a conversion without a name. Readings answer IVLOCKID if the process may see no such lock, and VLM_FULL if a list is
- * too long. `below` counts the resources below that of a lock. */
+/* A lock manager. Each function answers a status of vlm.h, and wants the mutex not held. `ask` is one of the start
+ * forms, a conversion without a name. Readings answer IVLOCKID if the process may see no such lock, and VLM_FULL if a
+ * list is too long. `below` counts the resources below that of a lock. */
 struct engine {
     uint32_t (*open)(const char *address, uint32_t quota);
     uint32_t (*ask)(vlm_threads_request *request, const uint8_t *name, size_t name_len);
@@ -95,10 +95,10 @@ struct ast {
 
 typedef bool (*vms_condition_met)(const void *argument);
 
-/* asts.c. vms_changed, vms_queue_ast and vms_unqueue_ast want the mutex held. A service calls vms_enter, which
- * waits for the end of a routine, and at its end vms_leave, which delivers what is pending. vms_wait delivers ASTs until the condition is met, which is asked with the
- * mutex held; vms_await delivers none. In an AST routine none is delivered. vms_start starts the thread that delivers while no service does:
- * whether it runs. */
+/* asts.c. vms_changed, vms_queue_ast and vms_unqueue_ast want the mutex held. A service calls vms_enter, which waits
+ * for the end of a routine, and at its end vms_leave, which delivers what is pending. vms_wait delivers ASTs until the
+ * condition is met, which is asked with the mutex held; vms_await delivers none. In an AST routine none is delivered.
+ * vms_start starts the thread that delivers while no service does: whether it runs. */
 void vms_lock(void);
 void vms_unlock(void);
 void vms_changed(void);

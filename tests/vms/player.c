@@ -253,7 +253,7 @@ static void catch_up(void) {
 }
 
 int main(int count, char **given) {
-    char line[LINE], *words[WORDS];
+    char line[LINE], *words[WORDS], none[] = "";
     self = count > 1 ? given[1] : "";
     sys$setast(0);
     catch_up(); /* (the first call makes this a process of the lock manager) */
@@ -264,6 +264,8 @@ int main(int count, char **given) {
         char *rest = line, *word;
         while (found < WORDS && (word = strtok_r(rest, " \n", &rest)) != NULL)
             words[found++] = word;
+        for (unsigned int at = found; at < WORDS; at++)
+            words[at] = none;
         catch_up();
         if (found != 0)
             run(words, found);

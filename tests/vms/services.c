@@ -1,5 +1,5 @@
-/* Each service of starlet.h and its answers, in one process, over the lock manager that VLM$SERVICE names. A request that
- * waits for this process itself is a deadlock, which ends it after the deadlock wait: the tests set that to 300 ms.
+/* Each service of starlet.h and its answers, in one process, over the lock manager that VLM$SERVICE names. A request
+ * that waits for this process itself is a deadlock, and ends after the deadlock wait: the tests set that to 300 ms.
  *
  *     services           all tests
  *     services lost PID  kills the lock service PID, and tests that the locks are lost

@@ -53,7 +53,7 @@ static void write_account(int account, int balance) {
 
 static int lock_account(LKSB *lksb, int account, unsigned int table) {
     char text[] = "ACCOUNT_0";
-    text[sizeof text - 2] += (char)account;
+    text[sizeof text - 2] = (char)('0' + account);
     $DESCRIPTOR(name, text);
     name.dsc$a_pointer = text;
     return lock(lksb, LCK$K_PRMODE, 0, &name, table);
@@ -82,7 +82,7 @@ static int transfer(int from, int to) {
         check(sys$deq(bank.lksb$l_lkid, NULL, 0, LCK$M_DEQALL)); /* all below the bank */
         deadlocks++;
         if (!is_done)
-            usleep((useconds_t)(rand() % MOST_MICROSECONDS)); /* else the same ones meet again */
+            usleep((useconds_t)(random() % MOST_MICROSECONDS)); /* else the same ones meet again */
     } while (!is_done);
     return deadlocks;
 }
@@ -120,10 +120,10 @@ int main(int count, char **words) {
     make_accounts();
     lock(&bank, count > 2 ? LCK$K_CWMODE : LCK$K_CRMODE, 0, &name, 0);
     int transfers = count > 2 ? atoi(words[2]) : 0, deadlocks = 0;
-    srand((unsigned int)getpid());
+    srandom((unsigned int)getpid());
     for (int made = 0; made < transfers; made++) {
-        int from = rand() % ACCOUNTS;
-        deadlocks += transfer(from, (from + 1 + rand() % (ACCOUNTS - 1)) % ACCOUNTS);
+        int from = (int)(random() % ACCOUNTS);
+        deadlocks += transfer(from, (int)(from + 1 + random() % (ACCOUNTS - 1)) % ACCOUNTS);
     }
     if (count == 2)
         audit();

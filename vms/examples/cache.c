@@ -4,8 +4,8 @@
  *
  *     cache FILE ROUNDS
  *
- * makes so many rounds, of which each fourth adds one to the number on the page, and says how often a page in memory was
- * not that of the file. */
+ * makes so many rounds, of which each fourth adds one to the number on the page, and says how often a page in memory
+ * was not that of the file. */
 #include <stdio.h>
 #include <stdlib.h>
 

@@ -1,5 +1,5 @@
-/* One leader among several processes. Each asks for EX on the same resource, and whoever holds it leads. The value block
- * has the number of the term. A leader who dies leaves it invalid, and the next one learns so.
+/* One leader among several processes. Each asks for EX on the same resource, and the one that holds it leads. The value
+ * block has the number of the term. A leader that dies leaves it invalid, and the next one learns so.
  *
  *     leader NAME
  *

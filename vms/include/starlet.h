@@ -53,9 +53,9 @@ int sys$enq(unsigned int efn, unsigned int lkmode, void *lksb, unsigned int flag
 int sys$enqw(unsigned int efn, unsigned int lkmode, void *lksb, unsigned int flags, void *resnam, unsigned int parid,
              VMS$AST astadr, VMS$PARAMETER astprm, VMS$AST blkastadr, unsigned int acmode, unsigned int rsdm_id, ...);
 
-/* Gives a lock up, and writes valblk to the value block if it is not null and the lock holds PW or EX. With LCK$M_DEQALL
- * gives up all locks below it, or with lkid 0 all locks of the process. With LCK$M_CANCEL ends its request. Requests
- * that it ends have their status when it returns.
+/* Gives a lock up, and writes valblk to the value block if it is not null and the lock holds PW or EX. With
+ * LCK$M_DEQALL gives up all locks below it, or with lkid 0 all locks of the process. With LCK$M_CANCEL ends its
+ * request. Requests that it ends have their status when it returns.
  * SS$_NORMAL, SS$_BADPARAM, SS$_CANCELGRANT, SS$_IVLOCKID, SS$_SUBLOCKS, SS$_UNREACHABLE, SS$_NODELEAVE,
  * SS$_UNSUPPORTED. */
 int sys$deq(unsigned int lkid, void *valblk, unsigned int acmode, unsigned int flags);
@@ -90,9 +90,8 @@ int sys$synch(unsigned int efn, void *iosb);
 
 /* ASTs. One runs at a time: in a thread that is in a service of this header, while it waits and at the end of its call,
  * or in a thread of the layer if there is none. In an AST routine no other AST is delivered. The program's first thread
- * waits at each service until a routine that runs has returned. What it does between services may be at the same time as
- * a routine: turn the delivery off there, or have VLM$ASTS=wait in the environment, and no thread of the layer delivers.
- */
+ * waits at each service until a routine that runs has returned. What it does between services may be at the same time
+ * as a routine: turn the delivery off there, or set VLM$ASTS to wait, and no thread of the layer delivers. */
 
 /* Turns the delivery on (1) or off (0). SS$_WASSET, SS$_WASCLR: it was on, off before. Off waits for the end of a
  * routine that another thread runs. On delivers what is pending. */
