@@ -5,6 +5,7 @@ left out."""
 
 import os
 import re
+import shlex
 import shutil
 import subprocess
 import tempfile
@@ -253,20 +254,30 @@ def names_shown(_program):
             yield f"the shared library has no {part}"
 
 
+def linked():
+    """The words by which a program is compiled over the shared libraries, as the package tells, and over the static
+    ones."""
+    lib = library.prefix() / "lib"
+    told = subprocess.run(["pkg-config", "--cflags", "--libs", "vlm-vms"], capture_output=True, text=True, check=True,
+                          env={**os.environ, "PKG_CONFIG_PATH": str(lib / "pkgconfig")}).stdout
+    return (shlex.split(told),
+            [f"-I{lib}/../include/vlm-vms", lib / "libvlmvms.a", lib / "libvlm.a", "-pthread"])
+
+
 def by_package(compiler, standard, _program):
-    """An example by the package for pkg-config, over the shared library and over the static one."""
-    env = {**os.environ, "PKG_CONFIG_PATH": str(library.prefix() / "lib" / "pkgconfig"),
-           "LD_LIBRARY_PATH": str(library.prefix() / "lib")}
-    for kind in ([], ["--static"]):
-        told = subprocess.run(["pkg-config", "--cflags", "--libs", *kind, "vlm-vms"], env=env, capture_output=True,
-                              text=True, check=True).stdout
+    """What is wrong with an example over the installed libraries, in a standard of C."""
+    env = {**os.environ, "LD_LIBRARY_PATH": str(library.prefix() / "lib")}
+    # (C23 has no type for a routine with any argument)
+    strict = [it for it in library.STRICT if it != "-Wpedantic" or standard != "c2x"]
+    for options in linked():
         made = Path(tempfile.mkdtemp(dir=ROOM().name)) / "leader"
-        options = [it.replace("\\ ", " ") for it in re.split(r"(?<!\\) ", told.strip())]
-        yield from library.ran(compiler, f"-std={standard}", *library.STRICT, *DOLLARS[compiler],
-                               TOP / "vms" / "examples" / "leader.c", *options, "-o", made)
-        done = subprocess.run([made, "A"], env=env, stdin=subprocess.DEVNULL, capture_output=True, text=True,
-                              timeout=SECONDS)
-        yield from difference((done.returncode, done.stdout), (0, "A leads, term 1\nA resigns\n"))
+        wrong = list(library.ran(compiler, f"-std={standard}", *strict, *DOLLARS[compiler],
+                                 TOP / "vms" / "examples" / "leader.c", *options, "-o", made))
+        yield from wrong
+        if not wrong:
+            done = subprocess.run([made, "A"], env=env, stdin=subprocess.DEVNULL, capture_output=True, text=True,
+                                  timeout=SECONDS)
+            yield from difference((done.returncode, done.stdout), (0, "A leads, term 1\nA resigns\n"))
 
 
 def headers(compiler, _program):
@@ -297,13 +308,13 @@ def first():
 def once():
     if missing():
         return []
-    linked = [(compiler, sanitizer) for compiler in library.COMPILERS for sanitizer in SANITIZERS
-              if library.links(compiler, sanitizer)]
+    links = [(compiler, sanitizer) for compiler in library.COMPILERS for sanitizer in SANITIZERS
+             if library.links(compiler, sanitizer)]
     found = [Test(f"the services by {compiler} with the sanitizer {sanitizer}", partial(services, compiler, sanitizer))
-             for compiler, sanitizer in linked]
+             for compiler, sanitizer in links]
     found += [Test(f"the example {check.__name__} with the sanitizer {sanitizer}", partial(examples, check, sanitizer))
               for check in (cache, doorbell, accounts, leader, listing)
-              for sanitizer in sorted({it for _, it in linked})]
+              for sanitizer in sorted({it for _, it in links})]
     found += [Test("examples alone", alone), Test("the names that the libraries for OpenVMS show", names_shown),
               Test("docs/VMS.md against the headers", page)]
     for compiler in filter(shutil.which, library.COMPILERS):

@@ -22,9 +22,8 @@ includedir=${{prefix}}/include
 Name: vlm-vms
 Description: The system services of OpenVMS for locks, over vlm: for programs in C
 Version: {version}
-Requires.private: vlm
+Requires: vlm
 Libs: -L${{libdir}} -lvlmvms
-Libs.private: -pthread
 Cflags: -I${{includedir}}/vlm-vms
 """
 
