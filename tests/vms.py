@@ -55,10 +55,10 @@ LAYERS = {(compiler, sanitizer): Once(partial(made_layer, compiler, sanitizer))
           for compiler in library.COMPILERS for sanitizer in SANITIZERS}
 
 
-def made_program(source, compiler, sanitizer):
-    """A program over the layer. Raises what the compiler says."""
+def made_program(source, compiler, sanitizer, *more):
+    """A program over the layer, with more words for the compiler. Raises what the compiler says."""
     made = Path(tempfile.mkdtemp(dir=ROOM().name)) / source.stem
-    wrong = list(library.ran(*words(compiler, sanitizer), source, *LAYERS[compiler, sanitizer](),
+    wrong = list(library.ran(*words(compiler, sanitizer), *more, source, *LAYERS[compiler, sanitizer](),
                              library.prefix() / "lib" / "libvlm.a", "-o", made))
     if wrong:
         raise RuntimeError(wrong[0])
@@ -87,10 +87,14 @@ def environment(daemon=None, **settings):
 def services(compiler, sanitizer, _program):
     """What is wrong with the services, by a compiler and a sanitizer: in one process, over the lock service, and when
     that is lost or not there."""
-    made = made_program(HERE / "services.c", compiler, sanitizer)
+    made = made_program(HERE / "services.c", compiler, sanitizer, "-Wl,--wrap=calloc,--wrap=realloc")
     yield from library.ran(made, env=environment(ENQLM=QUOTA, DEADLOCK_WAIT=WAIT / 1000))
+    yield from library.ran(made, "waits", env=environment(ASTS="wait"))
+    yield from library.ran(made, "memory", env=environment())
     with Daemon(f"search {WAIT}", made=PLAIN) as daemon:
         yield from library.ran(made, env=environment(daemon, ENQLM=QUOTA))
+        for word in ("forked", "memory"):
+            yield from library.ran(made, word, env=environment(daemon))
         lost = {**environment(daemon), **IN_TESTS}
         yield from library.ran(made, "lost", daemon.run.pid, env=lost)
     yield from library.ran(made, "unreachable", env=environment(SERVICE="/nowhere/at/all"))
@@ -163,18 +167,22 @@ def cache(stage):
 
 
 def doorbell(stage):
-    """Three callers leave messages. One who rings and is killed leaves none."""
+    """Three callers leave messages. One whose connection ends while it is in leaves none."""
     owner = stage.start("doorbell")
     printed = [owner.stdout.readline()]
     for message in ("hello", "is anybody there"):
         stage.run("doorbell", message)
         printed.append(owner.stdout.readline())
+    with stage.daemon.client().begin("P") as gone:
+        gone.ask("enq P EX name=DOORBELL block=1 ast=1")
+        gone.line()
+    printed.append(owner.stdout.readline())
     stage.run("doorbell", "bye")
     yield from difference([it.removesuffix("\n") for it in printed] + ended(owner).splitlines(), shown("doorbell"))
 
 
 def accounts(stage):
-    """Transfers of four processes leave the sum as it was, with an audit meanwhile. A process is killed too."""
+    """Transfers of four processes leave the sum as it was, also for an audit meanwhile."""
     file = stage.file()
     yield from difference(stage.run("accounts", file).splitlines(), shown("accounts"))
     runs = [stage.start("accounts", file, 25) for _ in range(4)]

@@ -29,6 +29,14 @@ void vms_unlock(void) { pthread_mutex_unlock(&mutex); }
 
 void vms_changed(void) { pthread_cond_broadcast(&changed); }
 
+/* A thread that is cancelled meanwhile ends after its service. */
+static void sleep_until_changed(void) {
+    int before;
+    pthread_setcancelstate(PTHREAD_CANCEL_DISABLE, &before);
+    pthread_cond_wait(&changed, &mutex);
+    pthread_setcancelstate(before, NULL);
+}
+
 struct ast *vms_new_ast(VMS$AST routine, VMS$PARAMETER parameter) {
     struct ast *ast = calloc(1, sizeof *ast);
     if (ast != NULL) {
@@ -96,7 +104,7 @@ static void run_pending(void) {
 void vms_enter(void) {
     vms_lock();
     while (!may_go_on())
-        pthread_cond_wait(&changed, &mutex);
+        sleep_until_changed();
     in_services += !is_in_routine;
     vms_unlock();
 }
@@ -119,7 +127,7 @@ void vms_wait(vms_condition_met is_met, const void *argument) {
         if (may_run() && !is_in_routine)
             continue; /* an AST has come while another one ran */
         in_services += !is_in_routine;
-        pthread_cond_wait(&changed, &mutex);
+        sleep_until_changed();
         in_services -= !is_in_routine;
     }
     vms_unlock();
@@ -128,7 +136,7 @@ void vms_wait(vms_condition_met is_met, const void *argument) {
 void vms_await(vms_condition_met is_met, const void *argument) {
     vms_lock();
     while (!is_met(argument))
-        pthread_cond_wait(&changed, &mutex);
+        sleep_until_changed();
     vms_unlock();
 }
 
@@ -140,7 +148,7 @@ static void *deliver(void *unused) {
         if (in_services == 0 && may_run())
             run_first();
         else
-            pthread_cond_wait(&changed, &mutex);
+            sleep_until_changed();
     return NULL;
 }
 
@@ -166,7 +174,7 @@ int sys$setast(char enbflg) {
     bool were_enabled = are_enabled;
     are_enabled = (enbflg & 1) != 0;
     while ((!are_enabled && is_running && !is_in_routine) || !may_go_on())
-        pthread_cond_wait(&changed, &mutex);
+        sleep_until_changed();
     vms_changed();
     run_pending();
     vms_unlock();

@@ -3,6 +3,9 @@
  *
  *     services           all tests
  *     services lost PID  kills the lock service PID, and tests that the locks are lost
+ *     services forked    two processes, the child of a fork before the first service and its parent
+ *     services waits     ASTs with VLM$ASTS=wait
+ *     services memory    each allocation is refused in turn; it is linked with a calloc and a realloc of its own
  *     services ANSWER    tests that the first service for locks answers so: unreachable, unsupported */
 #include <descrip.h>
 #include <efndef.h>
@@ -442,6 +445,97 @@ static void test_lost(pid_t service) {
         usleep(THOUSAND);
 }
 
+/* A child and its parent have each their own process of the lock manager. */
+static void test_forked(void) {
+    LKSB lksb;
+    int ends[2], status;
+    char byte;
+    CHECK(pipe(ends) == 0);
+    pid_t child = fork();
+    if (child == 0) {
+        CHECK(enqw(LCK$K_EXMODE, &lksb, 0, &name_a) == SS$_NORMAL && write(ends[1], "x", 1) == 1);
+        usleep(100 * THOUSAND);
+        _exit(0);
+    }
+    CHECK(read(ends[0], &byte, 1) == 1 && enq(LCK$K_EXMODE, &lksb, LCK$M_NOQUEUE, &name_a) == SS$_NOTQUEUED);
+    CHECK(enqw(LCK$K_EXMODE, &lksb, LCK$M_VALBLK, &name_a) == SS$_NORMAL && lksb.lksb$w_status == SS$_VALNOTVALID);
+    CHECK(waitpid(child, &status, 0) == child && status == 0);
+}
+
+/* No thread of the layer delivers. */
+static void test_waits(void) {
+    LKSB first, second;
+    forget();
+    CHECK(start(LCK$K_EXMODE, &first, LCK$M_SYNCSTS, 1) == SS$_SYNCH);
+    CHECK(start(LCK$K_EXMODE, &second, 0, 2) == SS$_NORMAL);
+    usleep(100 * THOUSAND);
+    CHECK(blockings == 0 && sys$clref(9) == SS$_WASCLR && blockings == 1);
+    give_all_up();
+}
+
+static void *wait_for_a(void *lksb) {
+    enqw(LCK$K_EXMODE, lksb, 0, &name_a);
+    pause();
+    return NULL;
+}
+
+/* A thread that is cancelled in a service leaves nothing locked. */
+static void test_cancelled(void) {
+    LKSB held, waits = {.lksb$l_lkid = 0};
+    pthread_t thread;
+    CHECK(enqw(LCK$K_EXMODE, &held, 0, &name_a) == SS$_NORMAL);
+    CHECK(pthread_create(&thread, NULL, wait_for_a, &waits) == 0);
+    usleep(30 * THOUSAND);
+    CHECK(pthread_cancel(thread) == 0 && deq(&held) == SS$_NORMAL && pthread_join(thread, NULL) == 0);
+    CHECK(waits.lksb$w_status == SS$_NORMAL && deq(&waits) == SS$_NORMAL);
+}
+
+/* The allocation of this thread that is refused, counted down, or none. */
+static _Thread_local int refused = -1;
+
+void *__real_calloc(size_t count, size_t size);
+void *__real_realloc(void *given, size_t size);
+void *__wrap_calloc(size_t count, size_t size);
+void *__wrap_realloc(void *given, size_t size);
+
+static bool is_refused(void) { return refused >= 0 && refused-- == 0; }
+
+void *__wrap_calloc(size_t count, size_t size) { return is_refused() ? NULL : __real_calloc(count, size); }
+
+void *__wrap_realloc(void *given, size_t size) { return is_refused() ? NULL : __real_realloc(given, size); }
+
+static int ask_all(unsigned int *lkid) {
+    LKSB lksb;
+    unsigned int length;
+    LKIDEF locks[2];
+    const ILE3 items[] = {{sizeof locks, LKI$_LOCKS, locks, &length}, {0, 0, NULL, NULL}};
+    int status = start(LCK$K_EXMODE, &lksb, 0, 1);
+    if ((status & 1) == 0)
+        return status;
+    status = sys$dclast((VMS$AST)complete, 1, 0);
+    if ((status & 1) != 0)
+        status = enqw(LCK$K_PRMODE, &lksb, LCK$M_CONVERT, NULL);
+    *lkid = 0;
+    if ((status & 1) != 0)
+        status = sys$getlkiw(2, lkid, (void *)items, NULL, (VMS$AST)complete, 1, 0);
+    CHECK(deq(&lksb) == SS$_NORMAL);
+    return status;
+}
+
+/* Each is answered by SS$_INSFMEM, and the next try goes well. */
+static void test_memory(void) {
+    unsigned int lkid, tries = 0;
+    int status;
+    CHECK(ask_all(&lkid) == SS$_NORMAL);
+    do {
+        refused = (int)tries++;
+        status = ask_all(&lkid);
+        refused = -1;
+        CHECK(status == SS$_NORMAL || status == SS$_INSFMEM);
+    } while (status != SS$_NORMAL);
+    CHECK(tries > 6 && ask_all(&lkid) == SS$_NORMAL);
+}
+
 static void run_all(void) {
     test_flags();
     test_arguments();
@@ -457,17 +551,26 @@ static void run_all(void) {
     test_walks();
     test_deadlock();
     test_threads();
+    test_cancelled();
     test_fork();
 }
 
 int main(int count, char **words) {
+    static const struct {
+        const char *word;
+        void (*run)(void);
+    } tests[] = {{"forked", test_forked}, {"waits", test_waits}, {"memory", test_memory}, {"all", run_all}};
     LKSB lksb;
-    if (count == 1)
-        run_all();
-    else if (strcmp(words[1], "lost") == 0)
+    const char *word = count == 1 ? "all" : words[1];
+    for (size_t at = 0; at < sizeof tests / sizeof *tests; at++)
+        if (strcmp(word, tests[at].word) == 0) {
+            tests[at].run();
+            return EXIT_SUCCESS;
+        }
+    if (strcmp(word, "lost") == 0)
         test_lost((pid_t)atoi(words[2]));
     else
         CHECK(enqw(LCK$K_EXMODE, &lksb, 0, &name_a)
-              == (strcmp(words[1], "unreachable") == 0 ? SS$_UNREACHABLE : SS$_UNSUPPORTED));
+              == (strcmp(word, "unreachable") == 0 ? SS$_UNREACHABLE : SS$_UNSUPPORTED));
     return EXIT_SUCCESS;
 }

@@ -8,6 +8,8 @@
  * environment, and makes this process of the operating system a process there. Its locks end with it. In the child
  * after a fork the services answer SS$_UNSUPPORTED, if the parent had called one for locks before: call exec first.
  *
+ * A thread that is cancelled by pthread_cancel in a service ends after it, if its cancelability type is deferred.
+ *
  * What the caller owes, which nothing checks: a pointer is null where that is allowed, or points to an object of the
  * right type. A lock status block lives until its request has ended, and nothing else writes it meanwhile. Services are
  * not called from signal handlers. An AST routine returns. */
