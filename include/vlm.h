@@ -523,10 +523,10 @@ uint32_t vlm_next_process(vlm *handle, uint32_t pid, vlm_process *process);
 uint32_t vlm_next_resource(vlm *handle, vlm_resource *resource);
 uint32_t vlm_find(vlm *handle, vlm_resource *resource);
 
-/* Read single locks: by identification, by place in a walk, or as blockers of another lock. Each call takes constant
- * time, except where this says more. NORMAL, or BADPARAM and nothing is written: there is no such lock, process,
- * resource or queue, or not any more. Lock, process, resource and queue are named by the first arguments; a resource by
- * its members, as for vlm_find.
+/* Read single locks: by identification, by place in a walk, as blockers of another lock, or as blocked by one. Each
+ * call takes constant time, except where this says more. NORMAL, or BADPARAM and nothing is written: there is no such
+ * lock, process, resource or queue, or not any more. Lock, process, resource and queue are named by the first
+ * arguments; a resource by its members, as for vlm_find.
  *
  * vlm_find_lock reads the lock with an identification, and vlm_lock_resource the resource of a lock. The others walk. A
  * first call reads the first lock: of a queue of a resource (in queue order), of a process, or below a parent lock (in
@@ -539,7 +539,8 @@ uint32_t vlm_find(vlm *handle, vlm_resource *resource);
  *
  * Blockers are the locks for which the queued request of a lock waits, as a search for a deadlock follows them: granted
  * ones first, then converting, then waiting ones, each in queue order. NODLCKWT and NODLCKBLK count. A granted lock has
- * none. A call passes over the locks of the resource that are in nobody's way, and takes time for each. */
+ * none. Blocked locks are the other side: those that have this lock among their blockers, converting ones first, then
+ * waiting ones. A call passes over the other locks of the resource, and takes time for each. */
 uint32_t vlm_find_lock(vlm *handle, uint32_t lkid, vlm_lock *lock);
 uint32_t vlm_lock_resource(vlm *handle, uint32_t lkid, vlm_resource *resource);
 uint32_t vlm_first_row(vlm *handle, const vlm_resource *resource, uint32_t queue, vlm_lock *lock);
@@ -550,6 +551,8 @@ uint32_t vlm_first_sublock(vlm *handle, uint32_t lkid, vlm_lock *lock);
 uint32_t vlm_next_sublock(vlm *handle, uint32_t lkid, vlm_lock *lock);
 uint32_t vlm_first_blocker(vlm *handle, uint32_t lkid, vlm_lock *lock);
 uint32_t vlm_next_blocker(vlm *handle, uint32_t lkid, uint32_t blocker, vlm_lock *lock);
+uint32_t vlm_first_blocked(vlm *handle, uint32_t lkid, vlm_lock *lock);
+uint32_t vlm_next_blocked(vlm *handle, uint32_t lkid, uint32_t blocked, vlm_lock *lock);
 
 /* Read and print the lines of a script, as `vlm play` does. The proof holds each of these calls to the definitions
  * that the program is held to. None takes memory. NORMAL; or BADPARAM, and nothing is written, where a struct has

@@ -87,15 +87,6 @@ static void tell_rows(struct reading *reading) {
         queue_rows(reading, queue, true);
 }
 
-/* Whether the request of a lock waits for another lock. */
-static bool waits_for(vlm *manager, uint32_t lkid, uint32_t other) {
-    vlm_lock lock = {.size = sizeof lock};
-    uint32_t status = vlm_first_blocker(manager, lkid, &lock);
-    while (status == VLM_NORMAL && lock.lkid != 0 && lock.lkid != other)
-        status = vlm_next_blocker(manager, lkid, lock.lkid, &lock);
-    return status == VLM_NORMAL && lock.lkid == other;
-}
-
 /* `blockers L`: the locks that its request waits for. */
 static void tell_blockers(struct reading *reading) {
     vlm_lock lock = {.size = sizeof lock};
@@ -108,12 +99,10 @@ static void tell_blockers(struct reading *reading) {
 /* `blocked L`: the locks whose requests wait for it. */
 static void tell_blocked(struct reading *reading) {
     vlm_lock lock = {.size = sizeof lock};
-    for (uint32_t queue = VLM_CONVERSION; queue < QUEUES; queue++) {
-        uint32_t status = vlm_first_row(reading->manager, &reading->resource, queue, &lock);
-        for (; status == VLM_NORMAL && lock.lkid != 0; status = vlm_next_row(reading->manager, lock.lkid, &lock))
-            if (waits_for(reading->manager, lock.lkid, reading->lkid))
-                tell_row(reading->client, &lock);
-    }
+    uint32_t status = vlm_first_blocked(reading->manager, reading->lkid, &lock);
+    for (; status == VLM_NORMAL && lock.lkid != 0;
+         status = vlm_next_blocked(reading->manager, reading->lkid, lock.lkid, &lock))
+        tell_row(reading->client, &lock);
 }
 
 /* `below L`: how many resources are below that of the lock. */

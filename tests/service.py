@@ -274,8 +274,8 @@ READ = {"locks": [3, 1, 4, 2], "rows 4": [3, 1, 4], "blockers 4": [3, 1], "block
 
 
 def readings(_program):
-    """What is wrong with the readings of single locks: of a converting lock with a sublock, of what it waits for, and of
-    a waiting one."""
+    """What is wrong with the readings of single locks: of a converting lock with a sublock, of what it waits for, and
+    of a waiting one."""
     with Daemon("search 0") as daemon, daemon.client().begin("P") as one, daemon.client().begin("Q", "R") as other:
         for client, line in ((one, "enq P PR name=A block=1"), (one, "enq P CW name=T block=2 parent=@1"),
                              (other, "enq Q PR name=A block=1"), (one, "cvt P @1 EX block=1"),

@@ -79,34 +79,14 @@ static void add_queue(struct look *look, vlm *handle, const vlm_resource *resour
     add(look, handle, &lock, vlm_next_row);
 }
 
-static void add_blockers(struct look *look, vlm *handle) {
+/* Adds a walk over the blockers of a lock, or over the locks that it blocks. */
+static void add_related(struct look *look, vlm *handle, uint32_t (*first)(vlm *, uint32_t, vlm_lock *),
+                        uint32_t (*next)(vlm *, uint32_t, uint32_t, vlm_lock *)) {
     vlm_lock lock = {.size = sizeof lock};
-    look->status = vlm_first_blocker(handle, look->lkid, &lock);
+    look->status = first(handle, look->lkid, &lock);
     while (look->status == VLM_NORMAL && lock.lkid != 0) {
         struct row row = row_of(&lock);
-        look->status =
-            vms_add_row(look->rows, &row) ? vlm_next_blocker(handle, look->lkid, lock.lkid, &lock) : VLM_INSFMEM;
-    }
-}
-
-/* Whether a queued request waits for a lock. */
-static bool waits_for(vlm *handle, uint32_t lkid, uint32_t other) {
-    vlm_lock lock = {.size = sizeof lock};
-    uint32_t status = vlm_first_blocker(handle, lkid, &lock);
-    while (status == VLM_NORMAL && lock.lkid != 0 && lock.lkid != other)
-        status = vlm_next_blocker(handle, lkid, lock.lkid, &lock);
-    return status == VLM_NORMAL && lock.lkid == other;
-}
-
-static void add_blocked(struct look *look, vlm *handle, const vlm_resource *resource) {
-    vlm_lock lock = {.size = sizeof lock};
-    for (uint32_t queue = VLM_CONVERSION; queue < QUEUES && look->status == VLM_NORMAL; queue++) {
-        look->status = vlm_first_row(handle, resource, queue, &lock);
-        for (; look->status == VLM_NORMAL && lock.lkid != 0; look->status = vlm_next_row(handle, lock.lkid, &lock)) {
-            struct row row = row_of(&lock);
-            if (waits_for(handle, lock.lkid, look->lkid) && !vms_add_row(look->rows, &row))
-                look->status = VLM_INSFMEM;
-        }
+        look->status = vms_add_row(look->rows, &row) ? next(handle, look->lkid, lock.lkid, &lock) : VLM_INSFMEM;
     }
 }
 
@@ -121,9 +101,9 @@ static void look_at_list(void *context, vlm *handle) {
         look->status = vlm_first_own(handle, own_pid, &lock);
         add(look, handle, &lock, vlm_next_own);
     } else if (look->list == BLOCKERS) {
-        add_blockers(look, handle);
+        add_related(look, handle, vlm_first_blocker, vlm_next_blocker);
     } else if (look->list == BLOCKED) {
-        add_blocked(look, handle, &resource);
+        add_related(look, handle, vlm_first_blocked, vlm_next_blocked);
     }
     for (uint32_t queue = 0; queue < QUEUES && look->list == ON_RESOURCE && look->status == VLM_NORMAL; queue++)
         add_queue(look, handle, &resource, queue);
