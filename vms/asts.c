@@ -75,8 +75,15 @@ static bool may_go_on(void) { return !is_running || is_in_routine || !is_first_t
 
 static bool may_run(void) { return are_enabled && !is_running && first != NULL; }
 
+/* (a routine has an argument of the program's choice, or none) */
+#ifdef __clang__
+#define ANY_ROUTINE __attribute__((no_sanitize("function")))
+#else
+#define ANY_ROUTINE
+#endif
+
 /* Runs the routine of the oldest AST, without the mutex. */
-static void run_first(void) {
+ANY_ROUTINE static void run_first(void) {
     struct ast *ast = first;
     VMS$AST routine = ast->routine;
     VMS$PARAMETER parameter = ast->parameter;

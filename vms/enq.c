@@ -11,14 +11,19 @@
 #include <stdlib.h>
 #include <string.h>
 
-/* Requests are made by readers of this lock, and a dequeue is its writer: no request for a lock that goes is under way
- * while the dequeue is made. */
-static pthread_rwlock_t making = PTHREAD_RWLOCK_INITIALIZER;
+/* Requests and dequeues of one lock are readers of this lock, and a dequeue of many is its writer: no new lock that it
+ * gives up is without its record then. */
+static pthread_rwlock_t making = PTHREAD_RWLOCK_WRITER_NONRECURSIVE_INITIALIZER_NP;
 /* Guarded by the mutex. */
 static struct request *called; /* those that the lock manager below is being asked for */
 static uint64_t grants;
 
-void vms_begin_dequeue(void) { pthread_rwlock_wrlock(&making); }
+void vms_begin_dequeue(bool is_all) {
+    if (is_all)
+        pthread_rwlock_wrlock(&making);
+    else
+        pthread_rwlock_rdlock(&making);
+}
 
 void vms_end_dequeue(void) { pthread_rwlock_unlock(&making); }
 
