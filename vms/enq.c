@@ -1,7 +1,9 @@
 /* sys$enq and sys$enqw: from the arguments to the end of the request.
  *
  * The lock manager below is always asked with SYNCSTS: so a grant at once is known when its call returns, and the lock
- * status block is written then. All other ends come as calls of `completed`, by a thread of the lock manager. */
+ * status block is written then. All other ends come as calls of `completed`, by a thread of the lock manager. That
+ * thread waits for the calls that have begun, since one of them may have made what it is told of: so ends and warnings
+ * keep their order. */
 #include "parts.h"
 
 #include "descrip.h"
@@ -87,8 +89,6 @@ static size_t value_len(const struct request *request) {
 /* The lock manager below has accepted a request. */
 static void accept(struct request *request, uint32_t lkid) {
     struct lock *lock = request->lock;
-    if (request->is_accepted)
-        return;
     request->is_accepted = true;
     request->lock = NULL;
     request->block->status = 0;
@@ -130,21 +130,34 @@ static void end(struct request *request, uint32_t lkid, uint32_t status, const u
     else
         free(request->completion);
     request->completion = NULL;
-    if (lock != NULL) {
+    if (lock != NULL)
         settle_lock(lock, request, status);
-        if (request->is_warned && is_grant(status))
-            vms_warn(lock);
-    }
     vms_changed();
 }
 
 /* The routines of the lock manager below. The context of a completion is its request, that of a warning the number of
  * its grant. */
 
+static bool are_returned(const void *argument) {
+    const uint64_t *newest = argument;
+    for (const struct request *request = called; request != NULL; request = request->next_called)
+        if (request->grant <= *newest)
+            return false;
+    return true;
+}
+
+/* Waits for the calls that have begun. */
+static void await_calls(void) {
+    vms_lock();
+    uint64_t newest = grants;
+    vms_unlock();
+    vms_await(are_returned, &newest);
+}
+
 static void completed(void *context, const vlm_threads_event *event) {
     struct request *request = context;
+    await_calls();
     vms_lock();
-    accept(request, event->lkid);
     end(request, event->lkid, event->status, event->value, false);
     if (!request->is_called)
         free(request);
@@ -152,14 +165,11 @@ static void completed(void *context, const vlm_threads_event *event) {
 }
 
 static void warned(void *context, const vlm_threads_event *event) {
-    uint64_t grant = (uintptr_t)context;
+    await_calls();
     vms_lock();
     struct lock *lock = vms_find_lock(event->lkid);
-    if (lock != NULL && lock->grant == grant)
+    if (lock != NULL && lock->grant == (uintptr_t)context)
         vms_warn(lock);
-    for (struct request *request = called; request != NULL; request = request->next_called)
-        if (request->grant == grant)
-            request->is_warned = true;
     vms_unlock();
 }
 
@@ -214,6 +224,7 @@ static void note(struct request *request, const vlm_threads_request *words, uint
         accept(request, words->lkid);
     if (status == VLM_SYNCH)
         end(request, words->lkid, words->status, words->value, (request->flags & LCK$M_SYNCSTS) != 0);
+    vms_changed();
     vms_unlock();
 }
 

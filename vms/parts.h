@@ -150,7 +150,6 @@ struct request {
     uint64_t grant;
     bool is_conversion, is_accepted, is_ended;
     bool is_called; /* its service has not returned, and frees it */
-    bool is_warned; /* before the service knows of the grant */
 };
 
 /* locks.c. All want the mutex held. vms_find_lock: or null. vms_is_below: whether a lock is below another; all are
