@@ -10,6 +10,7 @@ import shutil
 import subprocess
 import tempfile
 import time
+from concurrent.futures import ThreadPoolExecutor
 from functools import partial
 from pathlib import Path
 
@@ -28,6 +29,8 @@ DOLLARS = {"gcc": [], "clang": ["-Wno-dollar-in-identifier-extension"]}
 SANITIZERS = library.SANITIZERS[1:]
 # Milliseconds of the deadlock wait in tests.services, and the quota of locks that it reaches.
 WAIT, QUOTA = 300, 40
+# How long random calls are made.
+CHAOS_SECONDS = 5
 # Of a program that is killed, and of the library below it, which closes nothing at a loss.
 IN_TESTS = {"TSAN_OPTIONS": "report_thread_leaks=0", "ASAN_OPTIONS": "detect_leaks=0"}
 
@@ -99,6 +102,17 @@ def services(compiler, sanitizer, _program):
         yield from library.ran(made, "lost", daemon.run.pid, env=lost)
     yield from library.ran(made, "unreachable", env=environment(SERVICE="/nowhere/at/all"))
     yield from library.ran(made, "unsupported", env=environment(SERVICE="etcd"))
+
+
+def chaos(sanitizer, _program):
+    """What is wrong with threads that make random calls, in one process, and in three over the lock service."""
+    compiler = next(it for it in library.COMPILERS if library.links(it, sanitizer))
+    made = made_program(HERE / "chaos.c", compiler, sanitizer)
+    yield from library.ran(made, CHAOS_SECONDS, 0, env=environment(DEADLOCK_WAIT=0.02))
+    with Daemon("search 10", made=PLAIN) as daemon, ThreadPoolExecutor(3) as pool:
+        def run(seed):
+            return list(library.ran(made, CHAOS_SECONDS, seed, env=environment(daemon)))
+        yield from (it for wrong in pool.map(run, (1, 2, 3)) for it in wrong)
 
 
 # The examples.
@@ -322,6 +336,8 @@ def once():
              for compiler, sanitizer in links]
     found += [Test(f"the example {check.__name__} with the sanitizer {sanitizer}", partial(examples, check, sanitizer))
               for check in (cache, doorbell, accounts, leader, listing)
+              for sanitizer in sorted({it for _, it in links})]
+    found += [Test(f"random calls of threads with the sanitizer {sanitizer}", partial(chaos, sanitizer))
               for sanitizer in sorted({it for _, it in links})]
     found += [Test("examples alone", alone), Test("the names that the libraries for OpenVMS show", names_shown),
               Test("docs/VMS.md against the headers", page)]
