@@ -81,6 +81,14 @@ uint32_t vlm_client_start_enq(vlm_client *client, vlm_threads_request *request, 
 uint32_t vlm_client_start_convert(vlm_client *client, vlm_threads_request *request);
 uint32_t vlm_client_deq(vlm_client *client, const vlm_threads_dequeue *dequeue);
 
+/* Reads what the service tells of locks, by a line of docs/SERVICE.md whose answer ends with a blank line: `word` is
+ * "who", "locks" or another of them. With an lkid that is not 0 the line names that lock. *text has the lines of the
+ * answer without the blank one, each with its line feed, and a zero at the end. The caller frees it; it is null unless
+ * the answer is NORMAL. A text such as "no such lock" is an answer too. Costs what the line costs the service, and
+ * memory for the text.
+ * INSFMEM: memory was refused. BADPARAM: the word has a line feed or more than 256 bytes. */
+uint32_t vlm_client_read(vlm_client *client, const char *word, uint32_t lkid, char **text);
+
 /* Deliver events, as the calls of vlm_threads.h with the same ends do. The completion routine of a request that is
  * under way when the locks are lost is called with the status VLM_LOST, before on_lost. If the locks of a next session
  * are lost before on_lost is called, one call tells both, after the completions of both. */

@@ -11,6 +11,7 @@
  * steps.c       declare, enq, cvt, deq, set and end
  * readings.c    block, tail, show and tails
  * who.c         who and metrics
+ * locks.c       readings of single locks
  * processes.c   processes kept for reuse, and what each user has
  * requests.c    records of requests, ASTs, and which requests wait
  * circles.c     searches for deadlocks, and the circle for the log
@@ -227,6 +228,9 @@ void show(struct client *client, bool is_tails);
 /* who.c */
 void who(struct client *client, const struct word *words, size_t count);
 void metrics(struct client *client);
+
+/* locks.c */
+bool run_lock_line(struct client *client, const struct word *words, size_t count);
 
 /* processes.c */
 struct user *find_user(struct dispatcher *dispatcher, uint32_t uid);

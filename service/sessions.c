@@ -277,6 +277,6 @@ bool run_session_line(struct client *client, const struct word *words, size_t co
     else if (is_word(words[0], "metrics"))
         metrics(client);
     else
-        return false;
+        return run_lock_line(client, words, count);
     return true;
 }

@@ -164,7 +164,11 @@ static void on_connections(uv_poll_t *poll, int status, int events) {
 
 static void on_busy(uv_idle_t *idle) { (void)idle; }
 
-static void on_due(uv_timer_t *timer) { (void)timer; }
+/* The timer may be called before a poll, which then is to end at once: without a timer it would wait for a client. */
+static void on_due(uv_timer_t *timer) {
+    (void)timer;
+    uv_idle_start(&vlmd.busy, on_busy);
+}
 
 static void flush_all(void) {
     for (struct client *client; (client = dispatcher_changed(vlmd.dispatcher)) != NULL;)

@@ -280,7 +280,7 @@ def links(_program):
                 yield f"{page.name}: no heading for {target}"
 
 
-FILE = re.compile(r"`((?:\.ci|bench|bindings|crates|docs|examples|include|man|packaging|tests|tools)/[\w./-]*)`")
+FILE = re.compile(r"`((?:\.ci|bench|bindings|crates|docs|examples|include|man|packaging|tests|tools|vms)/[\w./-]*)`")
 
 
 def files(_program):
@@ -381,15 +381,17 @@ def fenced(page, language):
 
 
 def shown_programs(_program):
-    """Each whole program in C that a page shows is a file of examples/c, and its output is the file beside it."""
-    sources = {file.read_text().strip(): file for file in (TOP / "examples" / "c").glob("*.c")}
+    """Each whole program in C that a page shows is a file of examples/c or vms/examples, and its output is the file
+    beside it."""
+    folders = (TOP / "examples" / "c", TOP / "vms" / "examples")
+    sources = {file.read_text().strip(): file for folder in folders for file in folder.glob("*.c")}
     for page in PAGES:
         for block, after in fenced(page, "c"):
             if "int main" not in block:
                 continue
             source = next((file for text, file in sources.items() if text.endswith(block.strip())), None)
             if not source:
-                yield f"{page.name}: a program that is no file of examples/c: {block[:60]!r}"
+                yield f"{page.name}: a program that is no example: {block[:60]!r}"
             elif not re.match(r"\s*It prints:\s*```text\n" + re.escape(source.with_suffix(".out").read_text()), after):
                 yield f"{page.name}: the output of {source.name}"
 

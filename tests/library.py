@@ -35,11 +35,12 @@ STRICT = ["-Wall", "-Wextra", "-Wpedantic", "-Werror"]
 # The files of the repository that an installation has too, at the same places below a folder.
 COPIED = {"": (TOP / "include").glob("*.h*"),
           "share/doc/vlm/": [TOP / "README.md", TOP / "CHANGELOG.md", TOP / "SECURITY.md", *(TOP / "docs").iterdir(),
-                             *(TOP / "examples" / "c").iterdir()]}
+                             *(TOP / "examples" / "c").iterdir(), *(TOP / "vms" / "examples").iterdir()]}
 # What an installation leaves, beside the shared library and the manual pages of the calls.
 FILES = ("bin/vlm", *(f"{folder}{it.relative_to(TOP)}" for folder, files in COPIED.items() for it in files),
-         "lib/cmake/vlm/vlm-config-version.cmake", "lib/cmake/vlm/vlm-config.cmake", "lib/libvlm.a",
-         "lib/pkgconfig/vlm.pc", "libexec/vlm/vlm", "share/bash-completion/completions/vlm",
+         *(f"include/vlm-vms/{it.name}" for it in (TOP / "vms" / "include").glob("*.h")),
+         "lib/cmake/vlm/vlm-config-version.cmake", "lib/cmake/vlm/vlm-config.cmake", "lib/libvlm.a", "lib/libvlmvms.a",
+         "lib/pkgconfig/vlm-vms.pc", "lib/pkgconfig/vlm.pc", "libexec/vlm/vlm", "share/bash-completion/completions/vlm",
          "share/man/man1/vlm-lock.1", "share/man/man1/vlm-who.1", "share/man/man1/vlm.1", "share/man/man3/vlm.3",
          "share/vlm/files", "share/vlm/proved")
 # Of the lock service, where the header of libuv is.
@@ -84,15 +85,17 @@ def has_uv():
 
 
 def installed(_program):
-    """The installation leaves its files, with the shared library under three names."""
+    """The installation leaves its files, with each shared library under three names."""
     yield from ran(TOP / "vlm", "install", prefix(), seconds=INSTALL_SECONDS)
     left = {str(it.relative_to(prefix())): it for it in prefix().rglob("*") if it.is_symlink() or not it.is_dir()}
     links = {name: os.readlink(it) for name, it in left.items() if it.is_symlink()}
-    shared = "libvlm.so." + version()
+    shared = [f"{name}.so.{version()}" for name in ("libvlm", "libvlmvms")]
+    named = {f"lib/{it.rpartition('.')[0]}": it for it in shared}
+    named |= {f"lib/{it.partition('.')[0]}.so": it.rpartition(".")[0] for it in shared}
     pages = [f"share/man/man3/{call}.3" for call in calls() | {"vlm_condition_name"}]
     service = SERVICE_FILES * has_uv()
-    yield from difference(sorted(left), sorted([*FILES, *pages, *service, f"lib/{shared}", *links]))
-    yield from difference(links, {f"lib/{SONAME}": shared, "lib/libvlm.so": SONAME})
+    yield from difference(sorted(left), sorted([*FILES, *pages, *service, *(f"lib/{it}" for it in shared), *links]))
+    yield from difference(links, named)
 
 
 def staged_prefix():

@@ -22,7 +22,7 @@ MOST_LINES = 40
 BY_HAND = "bench/peers/by_hand/main.rs"
 # How C and C++ are compiled for clang-tidy. In C it follows a third of the paths, in less than half of the time.
 COMPILED_CXX = ["-std=c++17", "-Iinclude"]
-COMPILED = ["-std=gnu11", "-Iinclude", "-Itests/c", "-Iservice", "-Xclang",
+COMPILED = ["-std=gnu11", "-Iinclude", "-Itests/c", "-Iservice", "-Ivms/include", "-Xclang",
             "-analyzer-config", "-Xclang", "max-nodes=75000"]
 # Files whose lines are what is tested, are laid out by a prover's needs, or can't be broken.
 FREE_FILES = re.compile(r".*\.(stdout|out|png|svg)|tests/scripts/play/.*|crates/\w+/proofs/.*|crates/vlm/std(in|out)"

@@ -278,6 +278,40 @@ def shown(_program):
             yield from difference(client.ask_all(line), ["too many locks"])
 
 
+# Rows of the locks that `readings` makes: all are of this process.
+ROWS = {1: "held PR want EX converting", 2: "held CW want - granted", 3: "held PR want - granted",
+        4: "held - want PW waiting"}
+# What is read of them, by the line: rows, as numbers, and other lines.
+READ = {"locks": [3, 1, 4, 2], "rows 4": [3, 1, 4], "blockers 4": [3, 1], "blockers 1": [3], "blockers 2": [],
+        "blocked 3": [1, 4], "blocked 1": [4], "blocked 4": [], "below 1": ["below 1"], "below 2": ["below 0"],
+        "lock 2": [2, f"resource 2 in 1 group 1 name T value {ZEROS} valid", f"tail 2 value {3 * ZEROS} valid",
+                   "parent 1 sublocks 0 granted 1 converting 0 waiting 0"]}
+
+
+def readings(_program):
+    """What is wrong with the readings of single locks: of a converting lock with a sublock, of what it waits for, and
+    of a waiting one."""
+    with Daemon("search 0") as daemon, daemon.client().begin("P") as one, daemon.client().begin("Q", "R") as other:
+        for client, line in ((one, "enq P PR name=A block=1"), (one, "enq P CW name=T block=2 parent=@1"),
+                             (other, "enq Q PR name=A block=1"), (one, "cvt P @1 EX block=1"),
+                             (other, "enq R PW name=A block=1")):
+            client.ask(line)
+        with daemon.client() as reader:
+            for line, wanted in READ.items():
+                rows = [f"lock {it} pid {os.getpid()} {ROWS[it]}" if it in ROWS else it for it in wanted]
+                yield from (f"{line}: {it}" for it in difference(reader.ask_all(line), rows))
+            for line in ("lock 9", "rows 0", "blocked 4294967297", "blockers 18446744073709551615"):
+                yield from difference(reader.ask_all(line), ["no such lock"])
+            for line in ("locks 1", "lock", "lock x", "rows 1 2", "below -1", "lock 18446744073709551616"):
+                yield from difference(reader.ask(line), "wrong word")
+    with Daemon("shown 1") as daemon, daemon.client().begin("P") as client:
+        for number in (1, 2):
+            client.ask(f"enq P PR name=A block={number}")
+        for word in ("locks", "rows 1", "blockers 1", "blocked 1", "below 1"):
+            yield from difference(client.ask_all(word), ["too many locks"])
+        yield from difference(client.ask_all("lock 1")[3], "parent 0 sublocks 0 granted 2 converting 0 waiting 0")
+
+
 def other_users(_program):
     """Another user has another group by the table, sees no locks of others, kills nobody, and without a row in the
     table is not let in."""
@@ -290,6 +324,10 @@ def other_users(_program):
             yield from difference(client.ask("enq P EX name=A block=2 system"), "P: NORMAL lock 3")
             yield from difference([it.split()[:4] for it in other.ask_all("who")],
                                   [["A", "2", "0", "2"], ["A", "3", "0", "system"]])
+            yield from difference([it.split()[1] for it in other.ask_all("locks")], ["2", "3"])
+            for word in ("lock", "rows", "blockers", "blocked", "below"):
+                yield from difference(other.ask_all(f"{word} 1"), ["no such lock"])
+            yield from difference(len(other.ask_all("lock 3")), 4)
             yield from difference(len(client.ask_all("who")), 3)
             yield from difference(other.ask("kill 0000000200000000"), "not allowed")
             name = other.ask_all("who A")[0].split()[8]
@@ -644,7 +682,7 @@ def clients(compiler, sanitizer, _program):
 BEHAVIOURS = {"the first session of the page": shown_talk, "half lines": half_lines, "killed clients": killed,
               "a client that reads no answers": deaf, "a client that reads no ASTs": cut_off,
               "many long answers": long_answers, "many lines of one client": fair, "limits of a user": limits,
-              "what show and who print": shown,
+              "what show and who print": shown, "readings of single locks": readings,
               "sessions that are resumed": resumed, "processes of another session": hidden,
               "a daemon that ends": restarted, "a second daemon": one_daemon, "configurations": configured,
               "a daemon of systemd": under_systemd, "a deadlock": deadlocked, "no searches": not_searched,

@@ -25,7 +25,7 @@ MODULES = "usr/lib/python3/dist-packages"
 # What each package has of an installation: files and folders there, and their place in the package.
 CONTENT = {
     "libvlm@FITS@": (("lib/libvlm.so.*", f"usr/{PLACE}"),),
-    "libvlm-dev": (("include/*", "usr/include"), ("lib/libvlm.a", f"usr/{PLACE}"), ("lib/libvlm.so", f"usr/{PLACE}"),
+    "libvlm-dev": (("include/*", "usr/include"), ("lib/libvlm*.a", f"usr/{PLACE}"), ("lib/libvlm.so", f"usr/{PLACE}"),
                    ("share/man/man3/*", "usr/share/man/man3")),
     "vlm": (("bin/*", "usr/bin"), ("libexec/vlm/vlm", "usr/libexec/vlm"), ("share/man/man1/vlm*", "usr/share/man/man1"),
             ("share/man/man8/*", "usr/share/man/man8"), ("lib/systemd/system/*", "lib/systemd/system"),
@@ -123,7 +123,7 @@ class Maker:
     def finish_development(self):
         tree = self.tree("libvlm-dev")
         ran("strip", "--strip-debug", "--remove-section=.comment", "--enable-deterministic-archives",
-            tree / "usr" / PLACE / "libvlm.a", folder=self.room)
+            *sorted((tree / "usr" / PLACE).glob("*.a")), folder=self.room)
         write_packages(tree / "usr" / PLACE, self.version, PLACE, "/usr")
 
     def finish_program(self):

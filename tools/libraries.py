@@ -1,6 +1,7 @@
 """Makes the libraries for programs in C: libvlm.a and libvlm.so, from the archive of the proved crate and the layers in
-C. Makes the daemon of the lock service over them, and its commands. The kit's tools link and pack. The C compiler of
-the system compiles the layers and makes the shared library, so that both fit its C library."""
+C, and over them libvlmvms.a and libvlmvms.so for programs of OpenVMS. Makes the daemon of the lock service, and its
+commands. The kit's tools link and pack. The C compiler of the system compiles the layers and makes the shared
+libraries, so that both fit its C library."""
 
 import os
 import shlex
@@ -17,8 +18,11 @@ LAYERS = {layer: [it for it in SOURCES if it.stem.startswith(layer)]
           for layer in ("vlm_threads", "vlm_hub_wait", "vlm_client")}
 LAYER = sorted((TOP / "bindings" / "c").glob("*.c"))
 # The names that both libraries show. All others are local to them.
-SHOWN = "vlm_*"
+SHOWN = ("vlm_*",)
 COMPILE = ["-std=c11", "-O2", "-fPIC", "-pthread", f"-I{TOP / 'include'}", "-c"]
+# The layer for OpenVMS, and the names that its libraries show.
+VMS = sorted((TOP / "vms").glob("*.c"))
+VMS_SHOWN = ("sys$*", "lib$*")
 # The daemon of the service.
 DAEMON = sorted((TOP / "service").glob("*.c"))
 # The commands of the service, which hand all other words to the proved program.
@@ -53,9 +57,9 @@ def make_by_kit(file, tool, *words):
     make(file, tool, *words, executable=kit() / "toolchain" / "bin" / "clang")
 
 
-def hide_names(made):
+def hide_names(made, shown=SHOWN):
     """Makes all names of an object local, except those that are shown."""
-    make_by_kit(made, "llvm-objcopy", "--wildcard", f"--keep-global-symbol={SHOWN}", made)
+    make_by_kit(made, "llvm-objcopy", "--wildcard", *(f"--keep-global-symbol={it}" for it in shown), made)
 
 
 def make_core(made, archive):
@@ -65,13 +69,13 @@ def make_core(made, archive):
     hide_names(made)
 
 
-def make_layer(made, sources):
+def make_layer(made, sources, shown=SHOWN, *words):
     """Makes one object of the sources of a layer."""
     parts = [made.with_name(f"{source.stem}.part.o") for source in sources]
     for source, part in zip(sources, parts):
-        make(part, *compiler(), *COMPILE, source, "-o", part)
+        make(part, *compiler(), *COMPILE, *words, source, "-o", part)
     make_by_kit(made, "ld.lld", "-r", *parts, "-o", made)
-    hide_names(made)
+    hide_names(made, shown)
 
 
 def make_objects(folder, archive):
@@ -106,16 +110,16 @@ def fits_of(version):
     return version.rpartition(".")[0]
 
 
-def soname_of(version):
-    """The name by which programs find the shared library."""
-    return "libvlm.so." + fits_of(version)
+def soname_of(version, name="libvlm"):
+    """The name by which programs find a shared library."""
+    return f"{name}.so." + fits_of(version)
 
 
-def make_shared(made, objects, folder, soname):
-    """Makes the shared library. Its calls of itself stay in it."""
+def make_shared(made, folder, soname, shown, words):
+    """Makes a shared library of objects and of what it is linked with. Its calls of itself stay in it."""
     names = folder / "names.map"
-    names.write_text(f"{{ global: {SHOWN}; local: *; }};\n")
-    make(made, *compiler(), *SHARE, f"-Wl,-soname,{soname}", f"-Wl,--version-script={names}", *objects, "-o", made)
+    names.write_text(f"{{ global: {'; '.join(shown)}; local: *; }};\n")
+    make(made, *compiler(), *SHARE, f"-Wl,-soname,{soname}", f"-Wl,--version-script={names}", *words, "-o", made)
 
 
 def link(name, file):
@@ -124,12 +128,19 @@ def link(name, file):
     return file.parent / name
 
 
+def make_pair(lib, name, version, objects, shown=SHOWN, needed=()):
+    """Makes the static and the shared library of a name in the folder lib. The shared one needs others."""
+    make_by_kit(lib / f"{name}.a", "llvm-ar", "qcs", lib / f"{name}.a", *objects)
+    shared = lib / f"{name}.so.{version}"
+    make_shared(shared, objects[0].parent, soname_of(version, name), shown, [*objects, *needed])
+    link(f"{name}.so", link(soname_of(version, name), shared))
+
+
 def make_libraries(lib, archive, version):
-    """Makes both libraries in the folder lib, from the archive that the proof of the crate left."""
+    """Makes all libraries in the folder lib, from the archive that the proof of the crate left."""
     with tempfile.TemporaryDirectory() as room:
         folder = Path(room)
-        objects = make_objects(folder, archive)
-        make_by_kit(lib / "libvlm.a", "llvm-ar", "qcs", lib / "libvlm.a", *objects)
-        shared = lib / f"libvlm.so.{version}"
-        make_shared(shared, objects, folder, soname_of(version))
-        link("libvlm.so", link(soname_of(version), shared))
+        make_pair(lib, "libvlm", version, make_objects(folder, archive))
+        layer = folder / "vlmvms.o"
+        make_layer(layer, VMS, VMS_SHOWN, f"-I{TOP / 'vms' / 'include'}")
+        make_pair(lib, "libvlmvms", version, [layer], VMS_SHOWN, [lib / "libvlm.so"])

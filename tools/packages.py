@@ -1,8 +1,8 @@
-"""What tells other build tools of the libraries: the package for pkg-config, and the one for CMake."""
+"""What tells other build tools of the libraries: the packages for pkg-config, and the one for CMake."""
 
 from libraries import fits_of, soname_of
 
-# The package for CMake finds its files from its own place, and that for pkg-config does so in a prefix of its own. So
+# The package for CMake finds its files from its own place, and those for pkg-config do so in a prefix of its own. So
 # the whole prefix can be moved.
 PKG_CONFIG = """prefix={prefix}
 libdir=${{prefix}}/{place}
@@ -14,6 +14,18 @@ Version: {version}
 Libs: -L${{libdir}} -lvlm
 Libs.private: -pthread
 Cflags: -I${{includedir}}
+"""
+
+PKG_CONFIG_VMS = """prefix={prefix}
+libdir=${{prefix}}/{place}
+includedir=${{prefix}}/include
+
+Name: vlm-vms
+Description: The system services of OpenVMS for locks, over vlm: for programs in C
+Version: {version}
+Requires: vlm
+Libs: -L${{libdir}} -lvlmvms
+Cflags: -I${{includedir}}/vlm-vms
 """
 
 CMAKE = """# The lock manager vlm: the targets vlm::vlm, the shared library, and vlm::static.
@@ -55,7 +67,8 @@ def write_packages(lib, version, place="lib", prefix="${pcfiledir}/../.."):
     up = "/".join([".."] * (2 + len(place.split("/"))))
     values = {"version": version, "soname": soname_of(version), "fits": fits_of(version), "place": place, "up": up,
               "prefix": prefix}
-    for name, text in (("pkgconfig/vlm.pc", PKG_CONFIG), ("cmake/vlm/vlm-config.cmake", CMAKE),
+    for name, text in (("pkgconfig/vlm.pc", PKG_CONFIG), ("pkgconfig/vlm-vms.pc", PKG_CONFIG_VMS),
+                       ("cmake/vlm/vlm-config.cmake", CMAKE),
                        ("cmake/vlm/vlm-config-version.cmake", CMAKE_VERSION)):
         (lib / name).parent.mkdir(parents=True, exist_ok=True)
         (lib / name).write_text(text.format(**values))

@@ -12,16 +12,17 @@ from proof_record import record_text
 
 DOCUMENTS = "share/doc/vlm"
 # Each after those that it is in.
-FOLDERS = ("bin", "include", "lib", "lib/pkgconfig", "lib/cmake", "lib/cmake/vlm", "libexec", "libexec/vlm", "share",
-           "share/bash-completion", "share/bash-completion/completions", "share/doc", DOCUMENTS, f"{DOCUMENTS}/docs",
-           f"{DOCUMENTS}/examples", f"{DOCUMENTS}/examples/c", "share/man", "share/man/man1", "share/man/man3",
-           "share/vlm")
+FOLDERS = ("bin", "include", "include/vlm-vms", "lib", "lib/pkgconfig", "lib/cmake", "lib/cmake/vlm", "libexec",
+           "libexec/vlm", "share", "share/bash-completion", "share/bash-completion/completions", "share/doc", DOCUMENTS,
+           f"{DOCUMENTS}/docs", f"{DOCUMENTS}/examples", f"{DOCUMENTS}/examples/c", f"{DOCUMENTS}/vms",
+           f"{DOCUMENTS}/vms/examples", "share/man", "share/man/man1", "share/man/man3", "share/vlm")
 SERVICE_FOLDERS = ("lib/systemd", "lib/systemd/system", "share/man/man8")
 HEADERS = sorted((TOP / "include").glob("*.h*"))
 # Files that are installed as they are, and their folders. The documents keep their places, so that their links lead to
 # each other.
 COPIED = {
     **{header: "include" for header in HEADERS},
+    **{header: "include/vlm-vms" for header in sorted((TOP / "vms" / "include").glob("*.h"))},
     TOP / "man" / "vlm.1": "share/man/man1",
     TOP / "man" / "vlm-lock.1": "share/man/man1",
     TOP / "man" / "vlm-who.1": "share/man/man1",
@@ -29,6 +30,7 @@ COPIED = {
     **{TOP / name: DOCUMENTS for name in ("README.md", "CHANGELOG.md", "SECURITY.md")},
     **{page: f"{DOCUMENTS}/docs" for page in sorted((TOP / "docs").glob("*"))},
     **{example: f"{DOCUMENTS}/examples/c" for example in sorted((TOP / "examples" / "c").glob("*"))},
+    **{example: f"{DOCUMENTS}/vms/examples" for example in sorted((TOP / "vms" / "examples").glob("*"))},
 }
 # Of the service.
 SERVICE = {

@@ -9,6 +9,7 @@
  * vlm_client_calls.c     lines that are sent, and calls that wait for answers
  * vlm_client_lines.c     lines and answers as text
  * vlm_client_requests.c  enq, convert, deq
+ * vlm_client_readings.c  answers of several lines
  * vlm_client_records.c   records of requests and locks, and how a request ends
  * vlm_client_events.c    calls of routines
  *
@@ -30,8 +31,9 @@ enum { MOST_REQUESTS = 255, SHORT_VALUE = 16, WHOLE_VALUE = 64, LINE_ROOM = 512,
 
 #define NO_RECORD UINT32_MAX
 
-/* What is taken from an answer: its status and lock, a value, the tail of a value, or nothing. */
-enum { STATUS, VALUE, TAIL, NOTHING };
+/* What is taken from an answer: its status and lock, a value, the tail of a value, nothing, or lines up to a blank
+ * one. */
+enum { STATUS, VALUE, TAIL, NOTHING, LINES };
 
 /* A call that waits: on its thread's stack. */
 struct call {
@@ -46,6 +48,9 @@ struct call {
     bool is_ended; /* the request has, with this status and value */
     uint32_t status;
     uint8_t value[WHOLE_VALUE];
+    char *text; /* the lines of a reading, which the call frees; null if there are none or memory was refused */
+    size_t text_len, text_room;
+    bool is_starved;
 };
 
 struct pending {
@@ -136,6 +141,9 @@ uint32_t vlmc_send(vlm_client *client, const char *lines, const struct pending *
 uint32_t vlmc_status(const char *answer, uint64_t *handle);
 int vlmc_write_hex(char *text, const uint8_t *bytes, size_t len);
 bool vlmc_read_value(const char *line, uint8_t *value, size_t len);
+
+/* vlm_client_readings.c */
+bool vlmc_read_line(vlm_client *client, struct call *call, const char *line);
 
 /* vlm_client_calls.c. vlmc_ask begins a call, sends its line and waits for its answer; it takes no mutex held. */
 void vlmc_begin_call(struct call *call, uint32_t answers);

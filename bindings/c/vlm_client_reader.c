@@ -83,8 +83,10 @@ uint32_t vlmc_connect(vlm_client *client) {
         is_open = read_byte(client->descriptor, text + have);
         feeds += text[have] == '\n';
     }
-    if (is_open && strncmp(text, greeting, strlen(greeting)) == 0 && has_session(text))
+    if (is_open && strncmp(text, greeting, strlen(greeting)) == 0 && has_session(text)) {
+        client->epoch = strtoull(text + strlen(greeting) + strlen("epoch "), NULL, 10);
         return VLM_NORMAL;
+    }
     if (client->descriptor >= 0)
         close(client->descriptor);
     client->descriptor = -1;
@@ -110,10 +112,12 @@ static void take_answer(vlm_client *client, const char *line) {
     if (client->count == 0)
         return;
     struct pending first = client->queue[client->first];
-    client->first = (client->first + 1) % client->room;
-    client->count--;
     struct call *call = first.call;
     const char *status = strstr(line, " status ");
+    if (first.taken == LINES && !vlmc_read_line(client, call, line))
+        return;
+    client->first = (client->first + 1) % client->room;
+    client->count--;
     if (first.taken == STATUS)
         call->answer = vlmc_status(line, &call->handle);
     if (first.taken == VALUE) {

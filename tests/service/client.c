@@ -810,6 +810,50 @@ static void test_signals(void) {
     end_service(thread, client);
 }
 
+static bool is_read(vlm_client *client, const char *word, uint32_t lkid, const char *wanted) {
+    char *text;
+    bool is_right = vlm_client_read(client, word, lkid, &text) == VLM_NORMAL
+                    && strncmp(text, wanted, strlen(wanted)) == 0 && (wanted[0] != 0 || text[0] == 0);
+    free(text);
+    return is_right;
+}
+
+static void *read_much(void *given) {
+    for (int round = 0; round < ROUNDS; round++)
+        CHECK(is_read(given, "locks", 0, "lock "));
+    return NULL;
+}
+
+/* Readings, also beside other calls of the client. */
+static void test_readings(void) {
+    vlm_client *client = opened((vlm_client_options){0});
+    uint32_t pid = declared(client);
+    vlm_threads_request held = wanted(pid, VLM_EX, 0), other = wanted(pid, VLM_NL, 0);
+    char row[80], *text, long_word[300] = "";
+    CHECK(is_read(client, "locks", 0, "") && is_read(client, "who", 0, ""));
+    CHECK(enq(client, &held, "A") == VLM_NORMAL);
+    snprintf(row, sizeof row, " pid %d held EX want - granted\n", (int)getpid());
+    CHECK(vlm_client_read(client, "lock", held.lkid, &text) == VLM_NORMAL && strstr(text, row) != NULL);
+    CHECK(strstr(text, "\nresource ") != NULL && strstr(text, "\nparent 0 sublocks 0 granted 1 ") != NULL);
+    free(text);
+    CHECK(is_read(client, "blocked", held.lkid, "") && is_read(client, "below", held.lkid, "below 0\n"));
+    CHECK(is_read(client, "rows", 4000000000, "no such lock\n") && is_read(client, "frob", 0, "unknown command\n"));
+    memset(long_word, 'x', sizeof long_word - 1);
+    CHECK(vlm_client_read(client, "who\nwho", 0, &text) == VLM_BADPARAM && text == NULL);
+    CHECK(vlm_client_read(client, long_word, 0, &text) == VLM_BADPARAM && text == NULL);
+    pthread_t readers[THREADS];
+    for (int at = 0; at < THREADS; at++)
+        CHECK(pthread_create(&readers[at], NULL, read_much, client) == 0);
+    for (int round = 0; round < ROUNDS; round++)
+        CHECK(enq(client, &other, "B") == VLM_NORMAL && deq(client, pid, other.lkid, 0) == VLM_NORMAL);
+    for (int at = 0; at < THREADS; at++)
+        pthread_join(readers[at], NULL);
+    kill_daemon();
+    CHECK(vlm_client_read(client, "locks", 0, &text) == VLM_LOST && text == NULL);
+    CHECK(vlm_client_close(client) == VLM_NORMAL);
+    start_daemon();
+}
+
 int main(int count, char **words) {
     if (count != 4)
         return 2;
@@ -839,6 +883,7 @@ int main(int count, char **words) {
     test_two_conversions();
     test_late_lock();
     test_signals();
+    test_readings();
     kill(daemon_pid, SIGTERM);
     waitpid(daemon_pid, NULL, 0);
     puts("all calls answer as they should");

@@ -1,0 +1,349 @@
+"""The layer for programs of OpenVMS: each service of starlet.h over both lock managers, worked scripts that processes
+make by sys$enq, and the programs of vms/examples as processes beside each other, some of which are killed. Programs are
+compiled with sanitizers, by each compiler, and over the installed libraries. Without the header of libuv all tests are
+left out."""
+
+import os
+import re
+import shlex
+import shutil
+import subprocess
+import tempfile
+import time
+from concurrent.futures import ThreadPoolExecutor
+from functools import partial
+from pathlib import Path
+
+import library
+import service
+import vms_scripts
+from daemons import PLAIN, SECONDS, Daemon
+from harness import ROOM, TOP, Once, Test, difference
+
+HERE = Path(__file__).resolve().parent / "vms"
+HEADERS = sorted((TOP / "vms" / "include").glob("*.h"))
+EXAMPLES = sorted((TOP / "vms" / "examples").glob("*.c"))
+SOURCES = [*sorted((TOP / "vms").glob("*.c")), *library.LAYER_SOURCES, *service.CLIENT]
+# A dollar in a name is no C of the standard.
+DOLLARS = {"gcc": [], "clang": ["-Wno-dollar-in-identifier-extension"]}
+SANITIZERS = library.SANITIZERS[1:]
+# Milliseconds of the deadlock wait in tests.services, and the quota of locks that it reaches.
+WAIT, QUOTA = 300, 40
+# How long random calls are made.
+CHAOS_SECONDS = 5
+# Of a program that is killed, and of the library below it, which closes nothing at a loss.
+IN_TESTS = {"TSAN_OPTIONS": "report_thread_leaks=0", "ASAN_OPTIONS": "detect_leaks=0"}
+
+
+def missing():
+    """What is not there that these tests need."""
+    return service.missing()
+
+
+def words(compiler, sanitizer):
+    return [compiler, "-std=gnu11", *library.STRICT, *DOLLARS[compiler], "-O1", "-g", "-pthread",
+            f"-fsanitize={sanitizer}", "-fno-sanitize-recover=all", f"-I{TOP}/vms/include", f"-I{TOP}/include"]
+
+
+def made_layer(compiler, sanitizer):
+    """The objects of the layer and of those below it, with a sanitizer. Raises what the compiler says."""
+    folder = tempfile.mkdtemp(dir=ROOM().name)
+    wrong = list(library.ran(*words(compiler, sanitizer), "-c", *SOURCES, cwd=folder))
+    if wrong:
+        raise RuntimeError(wrong[0])
+    return sorted(Path(folder).glob("*.o"))
+
+
+LAYERS = {(compiler, sanitizer): Once(partial(made_layer, compiler, sanitizer))
+          for compiler in library.COMPILERS for sanitizer in SANITIZERS}
+
+
+def made_program(source, compiler, sanitizer, *more):
+    """A program over the layer, with more words for the compiler. Raises what the compiler says."""
+    made = Path(tempfile.mkdtemp(dir=ROOM().name)) / source.stem
+    wrong = list(library.ran(*words(compiler, sanitizer), *more, source, *LAYERS[compiler, sanitizer](),
+                             library.prefix() / "lib" / "libvlm.a", "-o", made))
+    if wrong:
+        raise RuntimeError(wrong[0])
+    return made
+
+
+def first_links():
+    """A compiler and a sanitizer that link."""
+    return next((compiler, sanitizer) for sanitizer in SANITIZERS for compiler in library.COMPILERS
+                if library.links(compiler, sanitizer))
+
+
+PLAYER = Once(lambda: made_program(HERE / "player.c", *first_links()))
+
+
+def environment(daemon=None, **settings):
+    """The environment of a program: where its locks are, and other settings of VLM$."""
+    given = {f"VLM${name}": str(value) for name, value in settings.items()}
+    if daemon is not None:
+        given["VLM$SERVICE"] = f"unix:{daemon.socket}"
+    return {**os.environ, **given}
+
+
+# Each service.
+
+def services(compiler, sanitizer, _program):
+    """What is wrong with the services, by a compiler and a sanitizer: in one process, over the lock service, and when
+    that is lost or not there."""
+    made = made_program(HERE / "services.c", compiler, sanitizer, "-Wl,--wrap=calloc,--wrap=realloc")
+    yield from library.ran(made, env=environment(ENQLM=QUOTA, DEADLOCK_WAIT=WAIT / 1000))
+    yield from library.ran(made, "waits", env=environment(ASTS="wait"))
+    yield from library.ran(made, "memory", env=environment())
+    with Daemon(f"search {WAIT}", made=PLAIN) as daemon:
+        yield from library.ran(made, env=environment(daemon, ENQLM=QUOTA))
+        for word in ("forked", "memory"):
+            yield from library.ran(made, word, env=environment(daemon))
+        lost = {**environment(daemon), **IN_TESTS}
+        yield from library.ran(made, "lost", daemon.run.pid, env=lost)
+    yield from library.ran(made, "unreachable", env=environment(SERVICE="/nowhere/at/all"))
+    yield from library.ran(made, "unsupported", env=environment(SERVICE="etcd"))
+
+
+def chaos(sanitizer, _program):
+    """What is wrong with threads that make random calls, in one process, and in three over the lock service."""
+    compiler = next(it for it in library.COMPILERS if library.links(it, sanitizer))
+    made = made_program(HERE / "chaos.c", compiler, sanitizer)
+    yield from library.ran(made, CHAOS_SECONDS, 0, env=environment(DEADLOCK_WAIT=0.02))
+    with Daemon("search 10", made=PLAIN) as daemon, ThreadPoolExecutor(3) as pool:
+        def run(seed):
+            return list(library.ran(made, CHAOS_SECONDS, seed, env=environment(daemon)))
+        yield from (it for wrong in pool.map(run, (1, 2, 3)) for it in wrong)
+
+
+# The examples.
+
+class Stage:
+    """A daemon, and the examples as programs, with a folder for their files."""
+
+    def __init__(self, sanitizer):
+        compiler = next(it for it in library.COMPILERS if library.links(it, sanitizer))
+        self.made = {it.stem: made_program(it, compiler, sanitizer) for it in EXAMPLES}
+        self.folder = Path(tempfile.mkdtemp(dir=ROOM().name))
+        self.daemon = Daemon("search 10", made=PLAIN)
+
+    def __enter__(self):
+        return self
+
+    def __exit__(self, *told):
+        self.daemon.__exit__(*told)
+
+    def await_locks(self, count):
+        end = time.monotonic() + SECONDS
+        while self.daemon.metric("locks") != count and time.monotonic() < end:
+            time.sleep(0.01)
+
+    def file(self):
+        made = Path(tempfile.mkdtemp(dir=self.folder)) / "file"
+        made.touch()
+        return made
+
+    def start(self, name, *given, **how):
+        return subprocess.Popen([self.made[name], *map(str, given)], env={**environment(self.daemon), **IN_TESTS},
+                                stdin=subprocess.PIPE, stdout=subprocess.PIPE, stderr=subprocess.PIPE,
+                                text=True, errors="surrogateescape", **how)
+
+    def run(self, name, *given):
+        """What a program prints."""
+        return ended(self.start(name, *given))
+
+
+def ended(run):
+    """What a program printed that ends well."""
+    printed, told = run.communicate(timeout=SECONDS)
+    if run.returncode or "Sanitizer" in told:
+        raise RuntimeError(f"{run.args}: {run.returncode}: {told[-600:]}")
+    return printed
+
+
+def shown(name):
+    """The lines that an example is to print."""
+    return (TOP / "vms" / "examples" / f"{name}.out").read_text().splitlines()
+
+
+def cache(stage):
+    """Four processes keep a page. One is killed in the middle, and the others go on."""
+    file = stage.file()
+    runs = [stage.start("cache", file, 300) for _ in range(4)]
+    killed = stage.start("cache", file, 1000000)
+    time.sleep(0.3)
+    killed.kill()
+    killed.wait()
+    for run in runs:
+        yield from difference(ended(run).splitlines(), shown("cache"))
+    version, number = (int.from_bytes(file.read_bytes()[at:at + 4], "little") for at in (0, 4))
+    if number != version or number < 300:
+        yield f"the page has version {version} and number {number}"
+
+
+def doorbell(stage):
+    """Three callers leave messages. One whose connection ends while it is in leaves none."""
+    owner = stage.start("doorbell")
+    printed = [owner.stdout.readline()]
+    for message in ("hello", "is anybody there"):
+        stage.run("doorbell", message)
+        printed.append(owner.stdout.readline())
+    with stage.daemon.client().begin("P") as gone:
+        gone.ask("enq P EX name=DOORBELL block=1 ast=1")
+        gone.line()
+    printed.append(owner.stdout.readline())
+    stage.run("doorbell", "bye")
+    yield from difference([it.removesuffix("\n") for it in printed] + ended(owner).splitlines(), shown("doorbell"))
+
+
+def accounts(stage):
+    """Transfers of four processes leave the sum as it was, also for an audit meanwhile."""
+    file = stage.file()
+    yield from difference(stage.run("accounts", file).splitlines(), shown("accounts"))
+    runs = [stage.start("accounts", file, 25) for _ in range(4)]
+    yield from difference(stage.run("accounts", file).splitlines(), shown("accounts"))
+    yield from (it for run in runs for it in difference(ended(run), "25 transfers\n"))
+    yield from difference(stage.run("accounts", file).splitlines(), shown("accounts"))
+
+
+def leader(stage):
+    """Of three processes one leads, and is killed; the next one knows, and resigns; the third one leads then."""
+    runs = []
+    for name in "ABC":
+        runs.append(stage.start("leader", name))
+        stage.await_locks(len(runs))
+    printed = [runs[0].stdout.readline()]
+    runs[0].kill()
+    printed.append(runs[1].stdout.readline())
+    printed += [f"{it}\n" for it in ended(runs[1]).splitlines()]
+    printed.append(runs[2].stdout.readline())
+    printed += [f"{it}\n" for it in ended(runs[2]).splitlines()]
+    runs[0].wait()
+    yield from difference([it.removesuffix("\n") for it in printed], shown("leader"))
+
+
+def listing(stage):
+    """The locks of three clients of the service, listed. Numbers of processes differ from run to run."""
+    first, second, third = clients = [stage.daemon.client().begin(name) for name in "PQR"]
+    for client, line in ((first, "enq P PR name=BANK block=1"), (first, "enq P CW name=TABLE block=2 parent=@1"),
+                         (second, "enq Q PR name=BANK block=1"), (first, "cvt P @1 EX block=1"),
+                         (second, "enq Q EX name=x:01ff block=2 system"), (third, "enq R PW name=BANK block=1")):
+        client.ask(line)
+    found = stage.run("show_lock").replace("\x01\udcff", "01ff")
+    for client in clients:
+        client.close()
+    yield from difference(re.sub(r"process \d+", "process N", found).splitlines(), shown("show_lock"))
+
+
+def examples(check, sanitizer, _program):
+    """What is wrong with an example, with a sanitizer."""
+    with Stage(sanitizer) as stage:
+        yield from check(stage)
+
+
+def alone(_program):
+    """Examples in one process, without a lock service."""
+    compiler, sanitizer = first_links()
+    file = Path(tempfile.mkdtemp(dir=ROOM().name)) / "file"
+    cases = (("cache", ["20"], "20 rounds, 0 old pages\n"), ("counter", None, "1, 0\n1, 1\n1, 2\n"),
+             ("accounts", ["5"], "5 transfers\n"), ("leader", None, "A leads, term 1\nA resigns\n"),
+             ("show_lock", None, ""))
+    for name, given, wanted in cases:
+        file.write_bytes(b"")
+        made = made_program(TOP / "vms" / "examples" / f"{name}.c", compiler, sanitizer)
+        line = [made, file, *given] if given else [made, "A"] if name == "leader" else [made]
+        done = subprocess.run(line, env=environment(), stdin=subprocess.DEVNULL, capture_output=True, text=True,
+                              timeout=SECONDS)
+        yield from (f"{name}: {it}" for it in difference((done.returncode, done.stdout), (0, wanted)))
+
+
+# The installation.
+
+def declared():
+    """The services and routines that the headers declare."""
+    text = "\n".join(it.read_text() for it in HEADERS)
+    return set(re.findall(r"^(?:unsigned )?int ((?:sys|lib)\$\w+)\(", text, re.M))
+
+
+def names_shown(_program):
+    """Each library shows the services alone, and the shared one has its name for the loader and needs libvlm."""
+    lib = library.prefix() / "lib"
+    for name, given in (("libvlmvms.a", []), ("libvlmvms.so", ["-D"])):
+        told = library.told_by_kit("llvm-nm", "--defined-only", "--extern-only", "-j", *given, lib / name)
+        yield from difference({it for it in told.split() if not it.endswith(":")}, declared())
+    told = library.told_by_kit("llvm-readelf", "-d", lib / "libvlmvms.so")
+    for part in (f"soname: [{library.SONAME.replace('libvlm', 'libvlmvms')}]", f"library: [{library.SONAME}]"):
+        if part not in told:
+            yield f"the shared library has no {part}"
+
+
+def linked():
+    """The words by which a program is compiled over the shared libraries, as the package tells, and over the static
+    ones."""
+    lib = library.prefix() / "lib"
+    told = subprocess.run(["pkg-config", "--cflags", "--libs", "vlm-vms"], capture_output=True, text=True, check=True,
+                          env={**os.environ, "PKG_CONFIG_PATH": str(lib / "pkgconfig")}).stdout
+    return (shlex.split(told),
+            [f"-I{lib}/../include/vlm-vms", lib / "libvlmvms.a", lib / "libvlm.a", "-pthread"])
+
+
+def by_package(compiler, standard, _program):
+    """What is wrong with an example over the installed libraries, in a standard of C."""
+    env = {**os.environ, "LD_LIBRARY_PATH": str(library.prefix() / "lib")}
+    # (C23 has no type for a routine with any argument)
+    strict = [it for it in library.STRICT if it != "-Wpedantic" or standard != "c2x"]
+    for options in linked():
+        made = Path(tempfile.mkdtemp(dir=ROOM().name)) / "leader"
+        wrong = list(library.ran(compiler, f"-std={standard}", *strict, *DOLLARS[compiler],
+                                 TOP / "vms" / "examples" / "leader.c", *options, "-o", made))
+        yield from wrong
+        if not wrong:
+            done = subprocess.run([made, "A"], env=env, stdin=subprocess.DEVNULL, capture_output=True, text=True,
+                                  timeout=SECONDS)
+            yield from difference((done.returncode, done.stdout), (0, "A leads, term 1\nA resigns\n"))
+
+
+def headers(compiler, _program):
+    """Each header compiles alone, also as C++."""
+    for header in HEADERS:
+        for language, standard in (("c", "c11"), ("c", "c2x"), ("c++", "c++17")):
+            source = Path(tempfile.mkdtemp(dir=ROOM().name)) / "alone.c"
+            source.write_text(f"#include <{header.name}>\nint main(void) {{ return 0; }}\n")
+            yield from library.ran(compiler, "-x", language, f"-std={standard}", *library.STRICT, *DOLLARS[compiler],
+                                   "-fsyntax-only", f"-I{TOP}/vms/include", source)
+
+
+def page(_program):
+    """docs/VMS.md names each service, flag, item, condition and setting, and no other."""
+    text = (TOP / "docs" / "VMS.md").read_text()
+    there = {name for it in HEADERS for name in re.findall(r"^#define ((?:SS|LCK|LKI)\$_?\w+)", it.read_text(), re.M)}
+    there = declared() | {it for it in there if re.match(r"SS\$_|LCK\$M_|LKI\$_", it)}
+    named = set(re.findall(r"`((?:sys|lib)\$\w+|SS\$_\w+|LCK\$M_\w+|LKI\$_\w+)`", text))
+    yield from (f"docs/VMS.md has no {name}" for name in sorted(there - named))
+    settings = {name for it in SOURCES for name in re.findall(r'vms_setting\("(\w+)"\)', it.read_text())}
+    yield from (f"docs/VMS.md has no VLM${name}" for name in sorted(settings) if f"`VLM${name}`" not in text)
+
+
+def first():
+    return service.first()
+
+
+def once():
+    if missing():
+        return []
+    links = [(compiler, sanitizer) for compiler in library.COMPILERS for sanitizer in SANITIZERS
+             if library.links(compiler, sanitizer)]
+    found = [Test(f"the services by {compiler} with the sanitizer {sanitizer}", partial(services, compiler, sanitizer))
+             for compiler, sanitizer in links]
+    found += [Test(f"the example {check.__name__} with the sanitizer {sanitizer}", partial(examples, check, sanitizer))
+              for check in (cache, doorbell, accounts, leader, listing)
+              for sanitizer in sorted({it for _, it in links})]
+    found += [Test(f"random calls of threads with the sanitizer {sanitizer}", partial(chaos, sanitizer))
+              for sanitizer in sorted({it for _, it in links})]
+    found += [Test("examples alone", alone), Test("the names that the libraries for OpenVMS show", names_shown),
+              Test("docs/VMS.md against the headers", page)]
+    for compiler in filter(shutil.which, library.COMPILERS):
+        found.append(Test(f"the headers for OpenVMS by {compiler}", partial(headers, compiler)))
+        found += [Test(f"pkg-config of the layer for OpenVMS and {compiler} with {standard}",
+                       partial(by_package, compiler, standard))
+                  for standard in ("gnu11", "c11", "c2x") if shutil.which("pkg-config")]
+    return found + vms_scripts.tests(PLAYER)

@@ -1,0 +1,87 @@
+/* Which lock manager this process has, and its settings in the environment. */
+#include "parts.h"
+
+#include "ssdef.h"
+
+#include <stdio.h>
+#include <stdlib.h>
+#include <string.h>
+#include <unistd.h>
+
+enum { USUAL_QUOTA = VLM_MAX_QUOTA, DECIMAL = 10, SETTING = 64, FIRST_ROWS = 16 };
+
+static pthread_mutex_t opening = PTHREAD_MUTEX_INITIALIZER;
+/* Guarded by `opening`. */
+static const struct engine *opened;
+static pid_t owner;
+
+const char *vms_setting(const char *name) {
+    static const char *const prefixes[] = {"VLM$", "VLM_"}; /* (a shell has no names with a dollar) */
+    char text[SETTING];
+    for (size_t at = 0; at < sizeof prefixes / sizeof *prefixes; at++) {
+        snprintf(text, sizeof text, "%s%s", prefixes[at], name);
+        const char *value = getenv(text);
+        if (value != NULL && value[0] != 0)
+            return value;
+    }
+    return NULL;
+}
+
+static bool begins(const char *text, const char *with) { return strncmp(text, with, strlen(with)) == 0; }
+
+/* The lock manager that VLM$SERVICE names, with its address, or null. */
+static const struct engine *named(const char **address) {
+    const char *service = vms_setting("SERVICE");
+    *address = service;
+    if (service == NULL)
+        return &vms_in_process;
+    if (begins(service, "unix:"))
+        *address = service + strlen("unix:");
+    return begins(service, "unix:") || begins(service, "tcp:") || strchr(service, '/') != NULL ? &vms_by_vlmd : NULL;
+}
+
+static uint32_t quota(void) {
+    const char *text = vms_setting("ENQLM");
+    unsigned long asked = text != NULL ? strtoul(text, NULL, DECIMAL) : USUAL_QUOTA;
+    return asked < VLM_MAX_QUOTA ? (uint32_t)asked : VLM_MAX_QUOTA;
+}
+
+static uint32_t open_named(void) {
+    const char *address;
+    const struct engine *engine = named(&address);
+    if (engine == NULL)
+        return SS$_UNSUPPORTED;
+    if (!vms_start())
+        return SS$_INSFMEM;
+    uint32_t status = engine->open(address, quota());
+    if (status == VLM_LOST)
+        return SS$_UNREACHABLE;
+    if (status == VLM_NORMAL) {
+        opened = engine;
+        owner = getpid();
+    }
+    return vms_condition(status);
+}
+
+uint32_t vms_open(const struct engine **engine) {
+    pthread_mutex_lock(&opening);
+    uint32_t status = opened == NULL ? open_named() : SS$_NORMAL;
+    if (opened != NULL && owner != getpid())
+        status = SS$_UNSUPPORTED;
+    *engine = opened;
+    pthread_mutex_unlock(&opening);
+    return status;
+}
+
+bool vms_add_row(struct rows *rows, const struct row *row) {
+    if (rows->count == rows->room) {
+        size_t room = rows->room != 0 ? 2 * rows->room : FIRST_ROWS;
+        struct row *more = realloc(rows->rows, room * sizeof *more);
+        if (more == NULL)
+            return false;
+        rows->rows = more;
+        rows->room = room;
+    }
+    rows->rows[rows->count++] = *row;
+    return true;
+}
