@@ -191,13 +191,34 @@ static void wrong_readings(vlm *handle) {
     HOLD(count == 99);
 }
 
+/* Right words of readings, where the handle has no lock manager. */
+static void closed_readings(vlm *handle) {
+    vlm_process process = {.size = sizeof process};
+    vlm_resource resource = {.size = sizeof resource};
+    vlm_lock lock = {.size = sizeof lock};
+    EXPECT(vlm_next_process(handle, 0, &process), VLM_BADPARAM);
+    EXPECT(vlm_next_resource(handle, &resource), VLM_BADPARAM);
+    EXPECT(vlm_find(handle, &resource), VLM_BADPARAM);
+    EXPECT(vlm_find_lock(handle, 1, &lock), VLM_BADPARAM);
+    EXPECT(vlm_lock_resource(handle, 1, &resource), VLM_BADPARAM);
+    EXPECT(vlm_first_row(handle, &resource, VLM_GRANTED, &lock), VLM_BADPARAM);
+    EXPECT(vlm_next_row(handle, 1, &lock), VLM_BADPARAM);
+    EXPECT(vlm_first_own(handle, p, &lock), VLM_BADPARAM);
+    EXPECT(vlm_next_own(handle, 1, &lock), VLM_BADPARAM);
+    EXPECT(vlm_first_sublock(handle, 1, &lock), VLM_BADPARAM);
+    EXPECT(vlm_next_sublock(handle, 1, &lock), VLM_BADPARAM);
+    EXPECT(vlm_first_blocker(handle, 1, &lock), VLM_BADPARAM);
+    EXPECT(vlm_next_blocker(handle, 1, 1, &lock), VLM_BADPARAM);
+    EXPECT(vlm_first_blocked(handle, 1, &lock), VLM_BADPARAM);
+    EXPECT(vlm_next_blocked(handle, 1, 1, &lock), VLM_BADPARAM);
+    HOLD(vlm_lock_count(handle) == 0 && vlm_queued_count(handle) == 0);
+    HOLD(vlm_process_count(handle) == 0 && vlm_resource_count(handle) == 0);
+}
+
 /* Right words, where the handle has no lock manager. */
 static void closed_calls(vlm *handle) {
     vlm_lksb lksb = {.size = sizeof lksb};
     vlm_ast ast = {.size = sizeof ast, .kind = 9};
-    vlm_process process = {.size = sizeof process};
-    vlm_resource resource = {.size = sizeof resource};
-    vlm_lock lock = {.size = sizeof lock};
     size_t count = 99;
     number = 7;
     EXPECT(DECLARE, VLM_BADPARAM);
@@ -216,23 +237,8 @@ static void closed_calls(vlm *handle) {
     HOLD(number == 7);
     EXPECT(vlm_block(handle, p, 1, &lksb), VLM_BADPARAM);
     EXPECT(vlm_pending(handle, p, &count), VLM_BADPARAM);
-    EXPECT(vlm_next_process(handle, 0, &process), VLM_BADPARAM);
-    EXPECT(vlm_next_resource(handle, &resource), VLM_BADPARAM);
-    EXPECT(vlm_find(handle, &resource), VLM_BADPARAM);
-    EXPECT(vlm_find_lock(handle, 1, &lock), VLM_BADPARAM);
-    EXPECT(vlm_lock_resource(handle, 1, &resource), VLM_BADPARAM);
-    EXPECT(vlm_first_row(handle, &resource, VLM_GRANTED, &lock), VLM_BADPARAM);
-    EXPECT(vlm_next_row(handle, 1, &lock), VLM_BADPARAM);
-    EXPECT(vlm_first_own(handle, p, &lock), VLM_BADPARAM);
-    EXPECT(vlm_next_own(handle, 1, &lock), VLM_BADPARAM);
-    EXPECT(vlm_first_sublock(handle, 1, &lock), VLM_BADPARAM);
-    EXPECT(vlm_next_sublock(handle, 1, &lock), VLM_BADPARAM);
-    EXPECT(vlm_first_blocker(handle, 1, &lock), VLM_BADPARAM);
-    EXPECT(vlm_next_blocker(handle, 1, 1, &lock), VLM_BADPARAM);
-    EXPECT(vlm_first_blocked(handle, 1, &lock), VLM_BADPARAM);
-    EXPECT(vlm_next_blocked(handle, 1, 1, &lock), VLM_BADPARAM);
-    HOLD(vlm_lock_count(handle) == 0 && vlm_queued_count(handle) == 0);
-    HOLD(vlm_process_count(handle) == 0 && vlm_resource_count(handle) == 0 && ast.kind == 9 && count == 99);
+    HOLD(ast.kind == 9 && count == 99);
+    closed_readings(handle);
     HOLD(!handle->is_held && handle->core == NULL);
 }
 
