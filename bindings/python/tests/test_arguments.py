@@ -80,7 +80,7 @@ class Arguments(unittest.TestCase):
                     except REFUSALS:
                         pass
                 self.shows_all(manager)
-        self.assertEqual(len(made), 20)
+        self.assertEqual(len(made), 21)
 
     def test_any_argument_is_answered_to_threads(self):
         random.seed(61)
