@@ -122,7 +122,7 @@ def missing_call(program):
     """A library that has lost a call is no version of the same first two numbers: it can't be packed."""
     tree = room() / "a tree with one call more"
     shutil.copytree(TOP / "tools", tree / "tools", ignore=shutil.ignore_patterns("__pycache__"))
-    for name in ("include", "bindings", "docs", "man", "service", "examples", "KIT", "VERSION", "README.md",
+    for name in ("include", "bindings", "docs", "man", "service", "vms", "examples", "KIT", "VERSION", "README.md",
                  "CHANGELOG.md", "SECURITY.md", "crates.txt"):
         (tree / name).symlink_to(TOP / name)
     shutil.copytree(TOP / "packaging", tree / "packaging")
