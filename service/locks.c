@@ -87,23 +87,20 @@ static void tell_rows(struct reading *reading) {
         queue_rows(reading, queue, true);
 }
 
-/* `blockers L`: the locks that its request waits for. */
-static void tell_blockers(struct reading *reading) {
+/* Tells the locks on one side of a lock: those that it waits for, or those that wait for it. */
+static void tell_side(const struct reading *reading, walk_step first,
+                      uint32_t (*next)(vlm *manager, uint32_t lkid, uint32_t after, vlm_lock *lock)) {
     vlm_lock lock = {.size = sizeof lock};
-    uint32_t status = vlm_first_blocker(reading->manager, reading->lkid, &lock);
-    for (; status == VLM_NORMAL && lock.lkid != 0;
-         status = vlm_next_blocker(reading->manager, reading->lkid, lock.lkid, &lock))
+    uint32_t status = first(reading->manager, reading->lkid, &lock);
+    for (; status == VLM_NORMAL && lock.lkid != 0; status = next(reading->manager, reading->lkid, lock.lkid, &lock))
         tell_row(reading->client, &lock);
 }
 
+/* `blockers L`: the locks that its request waits for. */
+static void tell_blockers(struct reading *reading) { tell_side(reading, vlm_first_blocker, vlm_next_blocker); }
+
 /* `blocked L`: the locks whose requests wait for it. */
-static void tell_blocked(struct reading *reading) {
-    vlm_lock lock = {.size = sizeof lock};
-    uint32_t status = vlm_first_blocked(reading->manager, reading->lkid, &lock);
-    for (; status == VLM_NORMAL && lock.lkid != 0;
-         status = vlm_next_blocked(reading->manager, reading->lkid, lock.lkid, &lock))
-        tell_row(reading->client, &lock);
-}
+static void tell_blocked(struct reading *reading) { tell_side(reading, vlm_first_blocked, vlm_next_blocked); }
 
 /* `below L`: how many resources are below that of the lock. */
 static void tell_below(struct reading *reading) {

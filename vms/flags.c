@@ -36,31 +36,23 @@ void vms_clear_flag(uint32_t efn) {
 /* What a flag was, before it is changed. EFN$C_ENF counts as set. */
 static int state_of(uint32_t efn) { return efn >= LOCAL_FLAGS || flags & bit(efn) ? SS$_WASSET : SS$_WASCLR; }
 
-int sys$setef(unsigned int efn) {
+/* Sets or clears a flag, and answers what it was. */
+static int change(uint32_t efn, void (*make)(uint32_t efn)) {
     uint32_t status = vms_check_flag(efn);
     if (status != SS$_NORMAL)
         return (int)status;
     vms_enter();
     vms_lock();
     int was = state_of(efn);
-    vms_set_flag(efn);
+    make(efn);
     vms_unlock();
     vms_leave();
     return was;
 }
 
-int sys$clref(unsigned int efn) {
-    uint32_t status = vms_check_flag(efn);
-    if (status != SS$_NORMAL)
-        return (int)status;
-    vms_enter();
-    vms_lock();
-    int was = state_of(efn);
-    vms_clear_flag(efn);
-    vms_unlock();
-    vms_leave();
-    return was;
-}
+int sys$setef(unsigned int efn) { return change(efn, vms_set_flag); }
+
+int sys$clref(unsigned int efn) { return change(efn, vms_clear_flag); }
 
 int sys$readef(unsigned int efn, unsigned int *state) {
     uint32_t status = vms_check_flag(efn);

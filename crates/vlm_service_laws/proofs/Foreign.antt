@@ -1,5 +1,5 @@
 -- Resources without a lock of one process: what is granted on them is of others.
-use Rattle.std.proofs.Common.{◌≡◌, ◌+◌, ℕ, Bool, true, false, List, [], ◌∷◌, ◌++◌, cond, Option, None, Some, refl, sym, ap, ◌∙◌, subst, arith}
+use Rattle.std.proofs.Common.{◌≡◌, ℕ, Bool, true, false, List, [], ◌∷◌, cond, Option, None, Some, refl, sym, ap, ◌∙◌, subst, arith}
 use Rattle.std.specs.Prelude.{◌==◌}
 use Rattle.std.specs.List.{AllByRecursion, sum_by}
 use Rattle.std.proofs.lemmas.List.Sums.{sum_by-cons}
@@ -9,7 +9,7 @@ use Rattle.vlm_words.specs.Rows.{is_empty}
 use Rattle.vlm_words.specs.State.{Process, Resource}
 use Rattle.vlm_model.specs.Asts.{warnings}
 use Rattle.vlm_model.specs.Effects.{Blocks, blocks_after, blocks_after_asts, blocks_with}
-use Rattle.vlm_model.specs.Endings.{Ending, How, wanted_endings}
+use Rattle.vlm_model.specs.Endings.{wanted_endings}
 use Rattle.vlm_model.specs.Endings.How.{by_grant}
 use Rattle.vlm_model.specs.Grants.{Service, grant_act, grant_endings, no_service, resource_after_grant, service, service_after_grant, service_of_conversions, service_of_new_requests, service_of_waiting, wanted_fits}
 use Rattle.vlm_model.specs.Sweeps.{blocks_after_service, processes_after_service, resource_after_service, resources_after_service, served_with}

@@ -1,9 +1,8 @@
 -- The processes except one: what a step does to them, whether that one is there or not.
-use Rattle.std.proofs.Common.{◌≡◌, ℕ, Bool, true, false, not, List, [], ◌∷◌, ◌++◌, map, filter, cond, Option, None, Some, refl, sym, ap, ◌∙◌, subst}
+use Rattle.std.proofs.Common.{◌≡◌, ℕ, Bool, true, false, not, List, [], ◌∷◌, map, cond, Option, None, Some, refl, ap, ◌∙◌}
 use Rattle.std.specs.Prelude.{◌==◌, ◌-◌, nat_lt, slice_index_or}
 use Rattle.std.specs.List.{AllByRecursion}
 use Rattle.std.specs.Option.{option_map_or}
-use Rattle.std.proofs.lemmas.Bool.{eq-eqb, eqb-true}
 use Rattle.vlm_words.specs.declared.blocks.Block.{Block}
 use Rattle.vlm_words.specs.declared.asts.Ast.{Ast}
 use Rattle.vlm_words.specs.declared.asts.AstKind.TheVariants.{Completion}
@@ -12,9 +11,8 @@ use Rattle.vlm_words.specs.declared.conditions.Cond.TheVariants.{Abort, Cancel, 
 use Rattle.vlm_words.specs.Conditions.{condition_number}
 use Rattle.vlm_words.specs.Processes.{new_status_block, process_with_block, with_ast}
 use Rattle.vlm_words.specs.ValueBlocks.{value_block_written_from}
-use Rattle.vlm_words.specs.declared.modes.Act.{Act}
 use Rattle.vlm_words.specs.declared.modes.Act.TheVariants.{Nothing, Return, Write}
-use Rattle.vlm_words.specs.State.{Process, process_of}
+use Rattle.vlm_words.specs.State.{Process}
 use Rattle.vlm_model.specs.Asts.{Queued, asts_for, completion_asts, completions, is_synchronous, process_after_queueing, processes_after_asts}
 use Rattle.vlm_model.specs.Effects.{Blocks, blocks_after, blocks_after_asts, blocks_after_end, blocks_after_ending, blocks_after_return, blocks_after_status, blocks_after_writing, is_wide}
 use Rattle.vlm_model.specs.Endings.{Ending, How, is_told}

@@ -1,23 +1,20 @@
 -- The state after a process has given up all its locks, without that process, is that after its end.
-use Rattle.std.proofs.Common.{◌≡◌, ℕ, Bool, true, false, not, List, [], ◌∷◌, map, filter, cond, Option, None, Some, refl, sym, ap, eq-eqb, ◌∙◌, subst}
-use Rattle.std.specs.Prelude.{◌==◌, ◌||◌}
+use Rattle.std.proofs.Common.{◌≡◌, ℕ, Bool, true, not, List, [], ◌∷◌, map, filter, Option, None, Some, refl, sym, ap, eq-eqb, ◌∙◌}
 use Rattle.std.specs.List.{AllByRecursion}
 use Rattle.std.proofs.lemmas.Bool.{eqb-true}
 use Rattle.vlm_words.specs.declared.conditions.Cond.{Cond}
 use Rattle.vlm_words.specs.declared.steps.Dequeue.{Dequeue}
 use Rattle.vlm_words.specs.declared.steps.Step.TheVariants.{Deq, Rundown}
 use Rattle.vlm_words.specs.State.{Process, Resource, State}
-use Rattle.vlm_model.specs.Checks.{caller_refusal, lock_refusal, or_else, which_refusal}
-use Rattle.vlm_model.specs.Dequeue.{cancel_refusal, deq_change, deq_flags_refusal, deq_refusal, dequeue_lkid, dequeued_lock_refusal, dequeued_lkids, is_dequeued, leaves_none, sublocks_refusal, withdrawal_of, withdrawals_of}
+use Rattle.vlm_model.specs.Checks.{caller_refusal, or_else}
+use Rattle.vlm_model.specs.Dequeue.{deq_change, deq_refusal, is_dequeued, withdrawal_of, withdrawals_of}
 use Rattle.vlm_model.specs.Effects.{blocks_with}
-use Rattle.vlm_model.specs.Endings.{Ending}
 use Rattle.vlm_model.specs.Endings.How.{by_abort}
-use Rattle.vlm_words.specs.declared.resources.ValueBlock.{ValueBlock}
 use Rattle.vlm_words.specs.ValueBlocks.{new_value_block}
 use Rattle.vlm_model.specs.OwnLocks.{own_lkids}
-use Rattle.vlm_model.specs.Rundown.{is_ended_by, rundown_of, rundown_refusal, rundowns, state_after_rundown}
+use Rattle.vlm_model.specs.Rundown.{is_ended_by, rundown_of, rundowns, state_after_rundown}
 use Rattle.vlm_model.specs.Runs.{History, Run}
-use Rattle.vlm_model.specs.Stepped.{end_of_processes, refused_or, step_change, step_refusal, stepped, stepped_after_sweep}
+use Rattle.vlm_model.specs.Stepped.{refused_or, step_change, step_refusal}
 use Rattle.vlm_model.specs.Sweeps.{is_vacant, processes_after_service, resources_after_service, resources_after_sweep, state_after_sweep}
 use Rattle.vlm_model.specs.Withdrawals.{Withdrawal, processes_after, resource_after_each, resource_after_going, resource_after_withdrawals, resource_after_writer, withdrawn_endings}
 use Rattle.vlm_model.proofs.Apart.{Apart, apart_always}
