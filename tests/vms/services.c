@@ -469,7 +469,12 @@ static void test_waits(void) {
     CHECK(start(LCK$K_EXMODE, &first, LCK$M_SYNCSTS, 1) == SS$_SYNCH);
     CHECK(start(LCK$K_EXMODE, &second, 0, 2) == SS$_NORMAL);
     usleep(100 * THOUSAND);
-    CHECK(blockings == 0 && sys$clref(9) == SS$_WASCLR && blockings == 1);
+    CHECK(blockings == 0);
+    for (int tries = 0; tries < 500 && blockings == 0; tries++) {
+        usleep(10 * THOUSAND);
+        CHECK(sys$clref(9) == SS$_WASCLR);
+    }
+    CHECK(blockings == 1);
     give_all_up();
 }
 
