@@ -90,20 +90,25 @@ static void log_circle(const struct dispatcher *dispatcher, struct waits *waits,
         log_wait(dispatcher, &waits->all[at], "in its circle");
 }
 
-/* Searches for deadlocks, if a search is due, until there is none. */
-void search(struct dispatcher *dispatcher) {
+/* Searches for deadlocks until there is none. Returns whether there was one. */
+bool search(struct dispatcher *dispatcher) {
     struct waits waits;
-    if (search_due(dispatcher) > dispatcher->now)
-        return;
+    uint32_t victims = 0;
     dispatcher->searched = dispatcher->now;
-    for (uint32_t victims = 0; victims < MOST_VICTIMS; victims++) {
+    for (; victims < MOST_VICTIMS; victims++) {
         uint32_t victim;
         write_down(dispatcher, &waits);
         dispatcher->counts.searches++;
         if (vlm_search(&dispatcher->manager, 1, &victim) != VLM_NORMAL || victim == 0)
-            return;
+            break;
         dispatcher->counts.victims++;
         log_circle(dispatcher, &waits, victim);
         tell(dispatcher);
     }
+    return victims != 0;
+}
+
+void search_if_due(struct dispatcher *dispatcher) {
+    if (search_due(dispatcher) <= dispatcher->now)
+        search(dispatcher);
 }

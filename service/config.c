@@ -49,11 +49,21 @@ static uint32_t *limit_of(struct config *config, const char *word) {
                 {"search", &limits->search},
                 {"drain", &limits->drain},
                 {"grace", &config->grace},
+                {"tcp-group", &config->tcp_group},
+                {"chunk", &config->chunk},
                 {"identifications", &limits->identifications}};
     for (size_t at = 0; at < sizeof rows / sizeof *rows; at++)
         if (strcmp(word, rows[at].word) == 0)
             return rows[at].place;
     return NULL;
+}
+
+/* The place of a text of a replica by its word, or null. */
+static char *text_of(struct config *config, const char *word) {
+    return strcmp(word, "etcd") == 0     ? config->etcd
+           : strcmp(word, "prefix") == 0 ? config->prefix
+           : strcmp(word, "listen") == 0 ? config->listen
+                                         : NULL;
 }
 
 static bool add_group(struct config *config, const char *group, const char *uic) {
@@ -64,17 +74,22 @@ static bool add_group(struct config *config, const char *group, const char *uic)
     return true;
 }
 
-static bool set_words(struct config *config, char *const *words, size_t count) {
+bool set_words(struct config *config, char *const *words, size_t count) {
     if (count == WORDS && strcmp(words[0], "group") == 0)
         return add_group(config, words[1], words[2]);
     if (count != 2)
         return false;
     uint32_t *limit = limit_of(config, words[0]);
     if (limit != NULL)
-        return number_of(words[1], UINT32_MAX, limit) && config->limits.lines != 0
+        return number_of(words[1], UINT32_MAX, limit) && config->limits.lines != 0 && config->chunk != 0
                && config->limits.identifications >= FEWEST_IDENTIFICATIONS;
     if (strcmp(words[0], "socket") == 0)
         return snprintf(config->socket, PATH, "%s", words[1]) < PATH;
+    char *text = text_of(config, words[0]);
+    if (text != NULL)
+        return snprintf(text, WORD, "%s", words[1]) < WORD;
+    if (strcmp(words[0], "network") == 0)
+        return config->is_network_trusted = strcmp(words[1], "trusted") == 0;
     if (strcmp(words[0], "syslck") == 0)
         return config->has_syslck_group = gid_of(words[1], &config->syslck_group);
     if (strcmp(words[0], "admin") == 0)

@@ -1,20 +1,24 @@
 /* What the files of the daemon around the dispatcher share. Nothing here is proved.
  *
- * vlmd.c    the event loop: connections, signals, time
- * config.c  the configuration
- * start.c   the socket, the state file, the log, and what systemd is told
+ * vlmd.c         the event loop: turns, signals, time
+ * connections.c  connections of clients
+ * list.c         the list of a replica, which a program of its own keeps in etcd
+ * config.c       the configuration
+ * start.c        the sockets, the state file, the log, and what systemd is told
  */
 #ifndef DAEMON_H
 #define DAEMON_H
 
 #include "dispatcher.h"
+#include "replica.h"
 
 #include <sys/types.h>
+#include <uv.h>
 
-enum { MOST_GROUPS = 256, PATH = 108 };
+enum { MOST_GROUPS = 256, PATH = 108, WORD = 256, MOST_LISTENERS = 8 };
 
 /* Exit statuses. */
-enum { WRONG_WORDS = 2, NO_START = 4 };
+enum { LOST_LIST = 1, WRONG_WORDS = 2, NO_START = 4 };
 
 /* A group of the system and the UIC group of its members. */
 struct group_row {
@@ -31,7 +35,23 @@ struct config {
     uint32_t group_count;
     bool has_syslck_group, has_admin_group;
     gid_t syslck_group, admin_group;
+    /* Of a replica: etcd's members, or no text; the prefix of the keys; where clients connect by TCP, or no text; the
+     * UIC group of these; how many bytes of entries a chunk has; whether clients may come from other machines. */
+    char etcd[WORD], prefix[WORD], listen[WORD];
+    uint32_t tcp_group, chunk;
+    bool is_network_trusted;
 };
+
+/* The daemon: vlmd.c. */
+struct daemon {
+    struct config config;
+    const char *file;
+    bool is_file_named;
+    struct dispatcher *dispatcher;
+    struct replica *replica; /* null: this daemon is alone */
+    uv_loop_t loop;
+};
+extern struct daemon vlmd;
 
 /* Reads a configuration over `config`, which has the usual values. Without a file of the usual name these stay.
  * Returns false and logs the line if a line is wrong: then `config` is as it was. */
@@ -42,6 +62,12 @@ bool read_rights(const struct config *config, int descriptor, struct rights *rig
 
 /* Writes a line to standard error, unless that would block. `<6>` and so on before it are systemd's priorities. */
 void write_log(const char *text);
+
+/* A setting, as a line of the configuration has it. False if it is wrong. */
+bool set_words(struct config *config, char *const *words, size_t count);
+
+/* The listening sockets for TCP. Returns how many there are; 0, and logs why, if one can't be made. */
+size_t open_tcp_listeners(const struct config *config, int listeners[MOST_LISTENERS]);
 
 /* The listening socket: systemd's, or one at the path of the configuration. -1 if there is none. *is_own says whether
  * the daemon made it and is to remove it. */
@@ -59,5 +85,14 @@ void notify(const char *text);
 
 /* How often systemd wants to hear from the daemon, in milliseconds, or 0. */
 uint64_t watchdog_time(void);
+
+/* connections.c. A listening socket from which connections are taken from here on; what a client has to be sent. */
+bool listen_to(int listener, bool is_tcp);
+void flush_all(void);
+
+/* list.c. Starts the program that keeps the list; has it append what waits. `is_ready` is called once the replica has
+ * run all that was in the list. */
+bool list_open(const struct config *config, void (*is_ready)(void));
+void list_append(void);
 
 #endif

@@ -77,13 +77,15 @@ static void speak(struct dispatcher *dispatcher) {
 
 void dispatcher_tick(struct dispatcher *dispatcher, uint64_t now) {
     dispatcher->now = now;
+    if (dispatcher->is_replica)
+        return;
     if (dispatcher->quiet_until != 0 && now >= dispatcher->quiet_until)
         speak(dispatcher);
     if (dispatcher->left != NULL && now >= dispatcher->looked + LOOK) {
         dispatcher->looked = now;
         end_left_sessions(dispatcher);
     }
-    search(dispatcher);
+    search_if_due(dispatcher);
     check_identifications(dispatcher);
 }
 
@@ -145,7 +147,7 @@ static void greet(struct client *client) {
     }
 }
 
-struct client *client_open(struct dispatcher *dispatcher, const struct rights *rights, void *context) {
+struct client *client_open(struct dispatcher *dispatcher, const struct rights *rights, uint32_t salt, void *context) {
     struct client *client = calloc(1, sizeof *client);
     struct user *user = find_user(dispatcher, rights->uid);
     if (client == NULL || user == NULL) {
@@ -156,6 +158,8 @@ struct client *client_open(struct dispatcher *dispatcher, const struct rights *r
     client->rights = *rights;
     client->user = user;
     client->context = context;
+    client->salt = salt;
+    client->is_detached = context == NULL;
     client->next = dispatcher->clients;
     if (client->next != NULL)
         client->next->previous = client;
@@ -163,6 +167,14 @@ struct client *client_open(struct dispatcher *dispatcher, const struct rights *r
     dispatcher->connections++;
     greet(client);
     return client;
+}
+
+/* A replica that lacks memory for a step would answer other than the others. */
+void end_without_memory(const struct dispatcher *dispatcher) {
+    if (!dispatcher->is_replica)
+        return;
+    say(dispatcher, "no memory: this replica ends");
+    exit(EXIT_FAILURE);
 }
 
 void *client_context(const struct client *client) { return client->context; }

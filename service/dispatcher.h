@@ -77,9 +77,9 @@ void dispatcher_lose(struct dispatcher *dispatcher);
 /* A client with output, or one that is over, each once until it changes again; null after the last one. */
 struct client *dispatcher_changed(struct dispatcher *dispatcher);
 
-/* A new connection. `context` belongs to the daemon. Null without memory. A client over the user's limit is over at
- * once: it gets the reason as its only line. */
-struct client *client_open(struct dispatcher *dispatcher, const struct rights *rights, void *context);
+/* A new connection. `context` belongs to the daemon. `salt` makes the names of its sessions hard to guess. Null without
+ * memory. A client over the user's limit is over at once: it gets the reason as its only line. */
+struct client *client_open(struct dispatcher *dispatcher, const struct rights *rights, uint32_t salt, void *context);
 void *client_context(const struct client *client);
 
 /* The connection has ended and the client is freed. */
@@ -98,5 +98,53 @@ void client_sent(struct client *client, size_t len);
 /* Whether the connection is to be closed once its output has been sent, or at once. */
 bool client_is_over(const struct client *client);
 bool client_is_cut(const struct client *client);
+
+/* What follows is for replicas: each has a dispatcher, and all dispatchers take the same calls in the order of one list
+ * (replica.h). A call that changes anything is made when its entry of the list comes by. */
+
+/* Makes the dispatcher one of a replica. From here on it does nothing because of the time. A session has a lease of its
+ * `seconds` and ends by dispatcher_end alone. Without memory the program ends: else this replica would go another way
+ * than the others. */
+void dispatcher_follow(struct dispatcher *dispatcher);
+
+/* Tells the place in the list of the entry that comes by. Places rise. */
+void dispatcher_pass(struct dispatcher *dispatcher, uint64_t place);
+
+/* What a line may do, by its first word: change something, keep the lease of its session, or only read. */
+enum line_kind { LINE_CHANGES, LINE_KEEPS, LINE_READS };
+enum line_kind dispatcher_kind(const char *line, size_t len);
+
+/* Runs a line without its line feed. */
+void client_run(struct client *client, const char *line, size_t len);
+
+/* The connection of a client is another replica's, or has ended: nothing is sent to it. */
+void client_detach(struct client *client);
+
+/* The session of a client: its name, or 0. */
+uint64_t client_session(const struct client *client);
+
+/* A beat of a session comes by: its lease lasts its whole time again. Nothing happens if there is no such session. */
+void dispatcher_keep(struct dispatcher *dispatcher, uint64_t session);
+
+/* Ends a session, if the beat at this place was its last. Returns whether it did. */
+bool dispatcher_end(struct dispatcher *dispatcher, uint64_t session, uint64_t beat);
+
+/* Looks which leases are over by this replica's clock. It is called when the list is known to grow. */
+void dispatcher_look(struct dispatcher *dispatcher);
+
+/* A session whose lease has been over for a while, with the place of its last beat. Each is told once. False: none. */
+bool dispatcher_next_end(struct dispatcher *dispatcher, uint64_t *session, uint64_t *beat);
+
+/* How many clients and sessions there are. */
+uint32_t dispatcher_count(const struct dispatcher *dispatcher);
+
+/* When a search for deadlocks that may find one is due, or UINT64_MAX, and the search. It returns whether it has found
+ * one. */
+uint64_t dispatcher_search_due(const struct dispatcher *dispatcher);
+bool dispatcher_search(struct dispatcher *dispatcher);
+
+/* When the epoch has to end for want of identifications, or UINT64_MAX, and its end. */
+uint64_t dispatcher_drain_due(const struct dispatcher *dispatcher);
+void dispatcher_end_epoch(struct dispatcher *dispatcher);
 
 #endif

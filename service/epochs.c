@@ -105,6 +105,7 @@ static void change_manager(struct dispatcher *dispatcher) {
         if (dispatcher->processes[at]->session != NULL)
             is_copied = copy_process(dispatcher, dispatcher->processes[at], &manager, index++);
     if (!is_copied) {
+        end_without_memory(dispatcher);
         vlm_close(&manager);
         return;
     }
@@ -127,10 +128,12 @@ void dispatcher_lose(struct dispatcher *dispatcher) {
             end_session(dispatcher->sessions[place].session);
 }
 
-static void end_epoch(struct dispatcher *dispatcher) {
+void end_epoch(struct dispatcher *dispatcher) {
     vlm manager = VLM_CLOSED;
-    if (!open_manager(dispatcher, &manager))
+    if (!open_manager(dispatcher, &manager)) {
+        end_without_memory(dispatcher);
         return;
+    }
     say(dispatcher, "epoch %" PRIu32 " ends with %" PRIu32 " sessions: identifications have run out", dispatcher->epoch,
         dispatcher->session_count);
     dispatcher_lose(dispatcher);
@@ -149,7 +152,7 @@ void check_identifications(struct dispatcher *dispatcher) {
             "no identifications left: new requests are refused, and epoch %" PRIu32 " ends in %" PRIu32
             " ms unless all locks are given up",
             dispatcher->epoch, dispatcher->limits.drain);
-    } else if (dispatcher->drained != 0 && dispatcher->now >= dispatcher->drained) {
+    } else if (!dispatcher->is_replica && dispatcher->drained != 0 && dispatcher->now >= dispatcher->drained) {
         end_epoch(dispatcher);
     }
 }

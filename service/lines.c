@@ -61,17 +61,36 @@ bool decimal(struct word word, uint64_t most, uint64_t *number) {
     return word.len > 0 && *number <= most;
 }
 
-/* Takes the number of a line off: up to 18 digits and a blank. */
-static void take_number(struct client *client, const char **bytes, size_t *len) {
+/* The number of a line, up to 18 digits and a blank. Returns how many bytes it has; 0: the line has none. */
+static size_t read_number(const char *bytes, size_t len, uint64_t *number) {
     size_t digits = 0;
-    while (digits < *len && (*bytes)[digits] >= '0' && (*bytes)[digits] <= '9')
+    while (digits < len && bytes[digits] >= '0' && bytes[digits] <= '9')
         digits++;
-    client->has_number = digits > 0 && digits <= DIGITS && digits < *len && (*bytes)[digits] == ' '
-                         && decimal((struct word){*bytes, digits}, UINT64_MAX, &client->line_number);
-    if (client->has_number) {
-        *bytes += digits + 1;
-        *len -= digits + 1;
-    }
+    bool has_number = digits > 0 && digits <= DIGITS && digits < len && bytes[digits] == ' '
+                      && decimal((struct word){bytes, digits}, UINT64_MAX, number);
+    return has_number ? digits + 1 : 0;
+}
+
+/* Takes the number of a line off. */
+static void take_number(struct client *client, const char **bytes, size_t *len) {
+    size_t taken = read_number(*bytes, *len, &client->line_number);
+    client->has_number = taken != 0;
+    *bytes += taken;
+    *len -= taken;
+}
+
+enum line_kind dispatcher_kind(const char *line, size_t len) {
+    static const char *const changes[] = {"enq",     "cvt",  "deq",    "set",   "end",
+                                          "declare", "open", "resume", "close", "kill"};
+    struct word word;
+    uint64_t number;
+    size_t taken = read_number(line, len, &number);
+    if (len - taken > LINE || split(line + taken, len - taken, &word, 1) == 0)
+        return LINE_READS;
+    for (size_t at = 0; at < sizeof changes / sizeof *changes; at++)
+        if (is_word(word, changes[at]))
+            return LINE_CHANGES;
+    return is_word(word, "alive") ? LINE_KEEPS : LINE_READS;
 }
 
 /* A `declare` line of a client as a script has it: without its words for quota and blocks the usual ones, on some node,

@@ -20,7 +20,7 @@ void say(const struct dispatcher *dispatcher, const char *format, ...) {
 
 /* The daemon is to look at a client. */
 void note_change(struct client *client) {
-    if (client->is_changed)
+    if (client->is_changed || client->is_detached)
         return;
     client->is_changed = true;
     client->next_changed = client->dispatcher->changed;
@@ -31,7 +31,9 @@ void note_change(struct client *client) {
 static void cut_off(struct client *client, const char *reason) {
     if (client->is_cut)
         return;
-    client->is_cut = client->is_over = true;
+    client->is_cut = true;
+    /* (a replica runs the lines of a client until the others do not either) */
+    client->is_over |= !client->dispatcher->is_replica;
     client->dispatcher->counts.cut_off++;
     say(client->dispatcher, "client with pid %" PRIu32 " of user %" PRIu32 " is cut off: %s", client->rights.pid,
         client->rights.uid, reason);
@@ -53,7 +55,7 @@ static bool make_room(struct client *client, size_t len) {
 
 void put(struct client *client, const void *bytes, size_t len) {
     note_change(client);
-    if (client->is_cut || len == 0)
+    if (client->is_cut || client->is_detached || len == 0)
         return;
     if (client->out_len - client->out_from + len > MOST_UNSENT) {
         cut_off(client, "it does not read");

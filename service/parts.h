@@ -15,6 +15,7 @@
  * processes.c   processes kept for reuse, and what each user has
  * requests.c    records of requests, ASTs, and which requests wait
  * circles.c     searches for deadlocks, and the circle for the log
+ * leases.c      leases of sessions, and what else only replicas call
  * epochs.c      identifications that run out
  * output.c      bytes for clients, and printed lines with handles of 64 bits
  */
@@ -106,6 +107,8 @@ struct session {
     struct client *client;           /* null between connections */
     uint32_t seconds;                /* how long it waits for a resume */
     uint64_t until;                  /* without a client: when it ends */
+    uint64_t beat;                   /* of a replica: the place of the last beat */
+    uint64_t heard, overdue;         /* of a replica: when that came by, and since when the lease is over, or 0 */
     struct session *previous, *next; /* of the sessions without a client */
     uint64_t number;                 /* of its last step */
     uint8_t *answer;                 /* to its last step, if that line had a number */
@@ -129,6 +132,7 @@ struct client {
     struct user *user;
     struct session *session; /* or null */
     void *context;
+    uint32_t salt; /* of the names of its sessions */
     uint8_t *in; /* bytes that no line was made of yet */
     size_t in_from, in_len, in_room;
     uint8_t *out;
@@ -143,6 +147,7 @@ struct client {
     bool is_cut;     /* it ends at once */
     bool is_waiting; /* its next line is a request, and the dispatcher is quiet */
     bool is_long;    /* the bytes up to the next line feed are too many */
+    bool is_detached; /* it is another replica's, or its connection has ended */
     bool is_ready, is_changed;
     struct client *previous, *next; /* of all clients */
     struct client *next_ready, *next_changed;
@@ -169,6 +174,10 @@ struct dispatcher {
     vlm manager;
     uint8_t keys[16];
     logger log;
+    bool is_replica;
+    uint64_t place;    /* of a replica: in the list */
+    uint32_t next_end; /* of a replica: the place of the session that is asked for its end next */
+    uint64_t found_none; /* how many steps there had been at the last search without a victim */
     uint64_t now, quiet_until, searched, drained, looked;
     uint32_t epoch;
     uint32_t last_lkid;
@@ -201,6 +210,7 @@ struct word {
 /* dispatcher.c */
 void client_end(struct client *client);
 void make_ready(struct client *client);
+void end_without_memory(const struct dispatcher *dispatcher);
 
 /* input.c */
 void run_heard(struct client *client);
@@ -252,12 +262,17 @@ void tell(struct dispatcher *dispatcher);
 
 /* circles.c */
 uint64_t search_due(const struct dispatcher *dispatcher);
-void search(struct dispatcher *dispatcher);
+void search_if_due(struct dispatcher *dispatcher);
+bool search(struct dispatcher *dispatcher);
+
+/* leases.c */
+void keep_lease(struct session *session);
 
 /* epochs.c */
 bool has_identifications(const struct dispatcher *dispatcher);
 void share_identifications(struct dispatcher *dispatcher);
 void check_identifications(struct dispatcher *dispatcher);
+void end_epoch(struct dispatcher *dispatcher);
 uint64_t handle_of(const struct dispatcher *dispatcher, uint32_t lkid);
 
 /* output.c */

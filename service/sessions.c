@@ -7,7 +7,8 @@
 #include <stdlib.h>
 #include <string.h>
 
-enum { DIGITS = 16, FIRST_SESSIONS = 64, MOST_WORDS = 3 };
+/* (the seconds are those of a replica's sessions) */
+enum { DIGITS = 16, FIRST_SESSIONS = 64, MOST_WORDS = 3, FEWEST_SECONDS = 2, USUAL_SECONDS = 10 };
 
 static const char wrong_word[] = "wrong word\n";
 
@@ -45,13 +46,14 @@ static struct session *new_session(struct client *client, uint32_t seconds) {
     uint32_t place = dispatcher->free_place;
     dispatcher->free_place = dispatcher->sessions[place].next_free;
     dispatcher->sessions[place].session = session;
-    session->name = ++dispatcher->counts.sessions << 32 | place;
+    session->name = (++dispatcher->counts.sessions ^ client->salt) << 32 | place;
     session->dispatcher = dispatcher;
     session->rights = client->rights;
     session->user = client->user;
     session->client = client;
     session->seconds = seconds;
     session->kept = kept;
+    keep_lease(session);
     client->user->sessions++;
     dispatcher->session_count++;
     return session;
@@ -68,7 +70,7 @@ static bool is_label(struct word word) {
 /* `open [seconds=N] [command=WORD]` */
 static void run_open(struct client *client, const struct word *words, size_t count) {
     struct word rest, label = {"", 0};
-    uint64_t seconds = 0;
+    uint64_t seconds = client->dispatcher->is_replica ? USUAL_SECONDS : 0;
     if (count > MOST_WORDS) {
         answer_text(client, wrong_word);
         return;
@@ -82,11 +84,12 @@ static void run_open(struct client *client, const struct word *words, size_t cou
     }
     if (label.len != 0 && !is_label(label)) {
         answer_text(client, wrong_word);
-    } else if (seconds > MOST_SECONDS) {
+    } else if (seconds > MOST_SECONDS || (client->dispatcher->is_replica && seconds < FEWEST_SECONDS)) {
         answer_text(client, "number out of range\n");
     } else if (client->session != NULL) {
         answer_text(client, "session open\n");
     } else if ((client->session = new_session(client, (uint32_t)seconds)) == NULL) {
+        end_without_memory(client->dispatcher);
         answer_text(client, "no memory\n");
     } else {
         memcpy(client->session->label, label.bytes, label.len);
@@ -141,6 +144,7 @@ static void move(struct client *client, struct session *session) {
     }
     session->client = client;
     client->session = session;
+    keep_lease(session);
     tell_session(client);
 }
 

@@ -5,6 +5,8 @@
 
 #include <errno.h>
 #include <fcntl.h>
+#include <netdb.h>
+#include <netinet/in.h>
 #include <poll.h>
 #include <stdio.h>
 #include <stdlib.h>
@@ -64,6 +66,63 @@ int open_listener(const struct config *config, bool *is_own) {
     if (bound != 0 || listen(made, BACKLOG) != 0)
         return fail("can't be listened to", config->socket);
     return made;
+}
+
+static bool is_loopback(const struct addrinfo *address) {
+    if (address->ai_family == AF_INET)
+        return ntohl(((const struct sockaddr_in *)(const void *)address->ai_addr)->sin_addr.s_addr) >> 24 == IN_LOOPBACKNET;
+    return address->ai_family == AF_INET6
+           && IN6_IS_ADDR_LOOPBACK(&((const struct sockaddr_in6 *)(const void *)address->ai_addr)->sin6_addr);
+}
+
+static int open_tcp_listener(const struct addrinfo *address, const char *name) {
+    int made = socket(address->ai_family, SOCK_STREAM | SOCK_CLOEXEC | SOCK_NONBLOCK, 0), yes = 1;
+    if (made < 0)
+        return fail("can't be made", "a socket");
+    setsockopt(made, SOL_SOCKET, SO_REUSEADDR, &yes, sizeof yes);
+    if (address->ai_family == AF_INET6)
+        setsockopt(made, IPPROTO_IPV6, IPV6_V6ONLY, &yes, sizeof yes);
+    if (bind(made, address->ai_addr, address->ai_addrlen) != 0 || listen(made, BACKLOG) != 0)
+        return fail("can't be listened to", name);
+    return made;
+}
+
+/* Splits HOST:PORT, with brackets around a HOST that has colons. */
+static bool split_address(const char *text, char host[WORD], const char **port) {
+    const char *colon = strrchr(text, ':');
+    if (colon == NULL || colon == text || colon[1] == 0)
+        return false;
+    size_t len = (size_t)(colon - text);
+    bool has_brackets = text[0] == '[' && text[len - 1] == ']';
+    snprintf(host, WORD, "%.*s", (int)(len - 2 * has_brackets), text + has_brackets);
+    *port = colon + 1;
+    return host[0] != 0;
+}
+
+size_t open_tcp_listeners(const struct config *config, int listeners[MOST_LISTENERS]) {
+    char host[WORD];
+    const char *port;
+    struct addrinfo hints = {.ai_socktype = SOCK_STREAM, .ai_flags = AI_PASSIVE}, *found = NULL;
+    size_t count = 0;
+    if (!split_address(config->listen, host, &port) || getaddrinfo(host, port, &hints, &found) != 0) {
+        write_log("listen: no such address");
+        return 0;
+    }
+    for (const struct addrinfo *it = found; it != NULL && count < MOST_LISTENERS; it = it->ai_next) {
+        if (!is_loopback(it) && !config->is_network_trusted) {
+            write_log("listen: clients of other machines are asked for no name: say `network trusted` to let them in");
+            count = 0;
+            break;
+        }
+        listeners[count] = open_tcp_listener(it, config->listen);
+        if (listeners[count] < 0) {
+            count = 0;
+            break;
+        }
+        count++;
+    }
+    freeaddrinfo(found);
+    return count;
 }
 
 /* Makes the folder of a socket, if it is not there and the one above is. */

@@ -18,6 +18,8 @@ struct binding *find_binding(struct session *session, const uint8_t *name) {
 static void answer_step(struct client *client, const vlm_line *line, uint32_t status, uint32_t number) {
     struct dispatcher *dispatcher = client->dispatcher;
     vlm_text *text = &dispatcher->text;
+    if (status == VLM_INSFMEM)
+        end_without_memory(dispatcher);
     vlm_print_answer(line, status, number, text);
     if (number != 0 && dispatcher->epoch != 0)
         replace_word(text, LOCK_WORD, handle_of(dispatcher, number));

@@ -1,206 +1,77 @@
-/* vlmd [-c FILE] [-s SOCKET]: the lock manager for the processes of a machine. The event loop around the dispatcher:
- * docs/SERVICE.md. libuv waits; this file accepts, reads, sends and closes. Nothing here is proved. */
+/* vlmd: the lock manager for the processes of a machine, or one of several replicas. The event loop around the
+ * dispatcher: docs/SERVICE.md, docs/CLUSTER.md. libuv waits. Nothing here is proved. */
 #define _GNU_SOURCE
 #include "daemon.h"
 
-#include <errno.h>
+#include <getopt.h>
 #include <signal.h>
 #include <stdio.h>
 #include <stdlib.h>
 #include <string.h>
 #include <sys/random.h>
 #include <sys/resource.h>
-#include <sys/socket.h>
 #include <unistd.h>
-#include <uv.h>
 
-enum { READ = 64 << 10, ACCEPTED = 64, PAUSE = 100, KEYS = 16 };
+enum { KEYS = 16, NAMED = 256 };
 
-static const char usual_config[] = "/etc/vlmd.conf", usual_socket[] = "/run/vlm/lock.sock";
+static const char usual_file[] = "/etc/vlmd.conf", usual_socket[] = "/run/vlm/lock.sock";
+static const struct config usual_config = {
+    .mode = 0660, .grace = 2000, .prefix = "vlm/", .tcp_group = 1, .chunk = 1 << 20, .limits = USUAL_LIMITS};
 
-struct connection {
-    uv_poll_t poll;
-    int descriptor;
-    int events;
-    struct client *client;
-};
+struct daemon vlmd;
 
 static struct {
-    struct config config;
-    const char *file;
-    bool is_file_named;
-    struct dispatcher *dispatcher;
     int state;
     uint32_t epoch;
-    int listener;
+    int listener, tcp_listeners[MOST_LISTENERS];
+    size_t tcp_listener_count;
     bool is_own_listener;
-    uv_loop_t loop;
-    uv_poll_t listening;
     uv_check_t after;
     uv_idle_t busy; /* runs while lines are left, so that the loop does not wait */
-    uv_timer_t due, pause, watchdog;
+    uv_timer_t due, watchdog;
     uint64_t set_for; /* when `due` wakes the loop */
     uv_signal_t signals[3];
-} vlmd;
-
-static void forget(uv_handle_t *handle) { free(handle->data); }
-
-/* Closes a connection at once. */
-static void hang_up(struct connection *connection) {
-    client_close(connection->client);
-    uv_poll_stop(&connection->poll);
-    close(connection->descriptor);
-    uv_close((uv_handle_t *)&connection->poll, forget);
-}
-
-static void on_events(uv_poll_t *poll, int status, int events);
-
-/* Has the loop wait for what the client's state asks for. */
-static void wait_for(struct connection *connection, size_t unsent) {
-    int events = (client_is_heard(connection->client) ? UV_READABLE : 0) | (unsent != 0 ? UV_WRITABLE : 0);
-    if (events == connection->events)
-        return;
-    connection->events = events;
-    if (events == 0)
-        uv_poll_stop(&connection->poll);
-    else
-        uv_poll_start(&connection->poll, events, on_events);
-}
-
-/* Sends what waits for a client, as far as its socket takes it. */
-static void flush(struct client *client) {
-    struct connection *connection = client_context(client);
-    size_t len;
-    const uint8_t *bytes;
-    while (bytes = client_output(client, &len), len != 0) {
-        ssize_t sent = send(connection->descriptor, bytes, len, MSG_NOSIGNAL | MSG_DONTWAIT);
-        if (sent < 0 && errno == EINTR)
-            continue;
-        if (sent < 0 && errno == EAGAIN)
-            break;
-        if (sent < 0) {
-            hang_up(connection);
-            return;
-        }
-        client_sent(client, (size_t)sent);
-    }
-    if (client_is_cut(client) || (client_is_over(client) && len == 0))
-        hang_up(connection);
-    else
-        wait_for(connection, len);
-}
-
-static void hear(struct connection *connection) {
-    static uint8_t bytes[READ];
-    ssize_t len = recv(connection->descriptor, bytes, sizeof bytes, MSG_DONTWAIT);
-    if (len < 0 && (errno == EAGAIN || errno == EINTR))
-        return;
-    if (len < 0) {
-        hang_up(connection);
-        return;
-    }
-    client_hear(connection->client, bytes, (size_t)len);
-    size_t unsent;
-    client_output(connection->client, &unsent);
-    if (!client_is_over(connection->client))
-        wait_for(connection, unsent != 0 && (connection->events & UV_WRITABLE) != 0);
-}
-
-static void on_events(uv_poll_t *poll, int status, int events) {
-    struct connection *connection = poll->data;
-    dispatcher_tick(vlmd.dispatcher, uv_now(&vlmd.loop));
-    if (status < 0)
-        hang_up(connection);
-    else if ((events & UV_READABLE) != 0)
-        hear(connection);
-    else if ((events & UV_WRITABLE) != 0)
-        flush(connection->client);
-}
-
-static void welcome(int descriptor) {
-    struct rights rights;
-    static const char refusal[] = "no group\n";
-    struct connection *connection = calloc(1, sizeof *connection);
-    bool has_rights = connection != NULL && read_rights(&vlmd.config, descriptor, &rights);
-    if (connection != NULL && !has_rights)
-        send(descriptor, refusal, sizeof refusal - 1, MSG_NOSIGNAL | MSG_DONTWAIT);
-    if (!has_rights || uv_poll_init(&vlmd.loop, &connection->poll, descriptor) != 0) {
-        close(descriptor);
-        free(connection);
-        return;
-    }
-    connection->poll.data = connection;
-    connection->descriptor = descriptor;
-    connection->client = client_open(vlmd.dispatcher, &rights, connection);
-    if (connection->client == NULL) {
-        close(descriptor);
-        uv_close((uv_handle_t *)&connection->poll, forget);
-    }
-}
-
-static void on_connections(uv_poll_t *poll, int status, int events);
-
-static void on_pause(uv_timer_t *timer) {
-    (void)timer;
-    uv_poll_start(&vlmd.listening, UV_READABLE, on_connections);
-}
-
-static void on_connections(uv_poll_t *poll, int status, int events) {
-    (void)poll, (void)status, (void)events;
-    dispatcher_tick(vlmd.dispatcher, uv_now(&vlmd.loop));
-    for (int count = 0; count < ACCEPTED; count++) {
-        int descriptor = accept4(vlmd.listener, NULL, NULL, SOCK_CLOEXEC | SOCK_NONBLOCK);
-        if (descriptor >= 0) {
-            welcome(descriptor);
-            continue;
-        }
-        if (errno == EMFILE || errno == ENFILE || errno == ENOMEM || errno == ENOBUFS) {
-            uv_poll_stop(&vlmd.listening);
-            uv_timer_start(&vlmd.pause, on_pause, PAUSE, 0);
-        }
-        return;
-    }
-}
+} loop;
 
 static void on_busy(uv_idle_t *idle) { (void)idle; }
 
 /* The timer may be called before a poll, which then is to end at once: without a timer it would wait for a client. */
 static void on_due(uv_timer_t *timer) {
     (void)timer;
-    uv_idle_start(&vlmd.busy, on_busy);
-}
-
-static void flush_all(void) {
-    for (struct client *client; (client = dispatcher_changed(vlmd.dispatcher)) != NULL;)
-        flush(client);
+    uv_idle_start(&loop.busy, on_busy);
 }
 
 /* Has the loop wake when the dispatcher has something to do. */
 static void set_timer(uint64_t now) {
-    uint64_t due = dispatcher_due(vlmd.dispatcher);
-    if (due == vlmd.set_for && due > now)
+    uint64_t due = vlmd.replica != NULL ? replica_due(vlmd.replica) : dispatcher_due(vlmd.dispatcher);
+    if (due == loop.set_for && due > now)
         return;
-    vlmd.set_for = due;
+    loop.set_for = due;
     if (due == UINT64_MAX)
-        uv_timer_stop(&vlmd.due);
+        uv_timer_stop(&loop.due);
     else
-        uv_timer_start(&vlmd.due, on_due, due > now ? due - now : 0, 0);
+        uv_timer_start(&loop.due, on_due, due > now ? due - now : 0, 0);
 }
 
 /* After each poll: what is due, the lines that are left, all output, and when to wake. */
 static void on_turn(uv_check_t *check) {
     (void)check;
     uint64_t now = uv_now(&vlmd.loop);
-    dispatcher_tick(vlmd.dispatcher, now);
+    if (vlmd.replica != NULL)
+        replica_tick(vlmd.replica, now);
+    else
+        dispatcher_tick(vlmd.dispatcher, now);
     dispatcher_run(vlmd.dispatcher);
     flush_all();
+    if (vlmd.replica != NULL)
+        list_append();
     if (dispatcher_is_busy(vlmd.dispatcher))
-        uv_idle_start(&vlmd.busy, on_busy);
+        uv_idle_start(&loop.busy, on_busy);
     else
-        uv_idle_stop(&vlmd.busy);
-    if (dispatcher_epoch(vlmd.dispatcher) != vlmd.epoch) {
-        vlmd.epoch = dispatcher_epoch(vlmd.dispatcher);
-        if (!write_state(vlmd.state, vlmd.epoch, true))
+        uv_idle_stop(&loop.busy);
+    if (dispatcher_epoch(vlmd.dispatcher) != loop.epoch) {
+        loop.epoch = dispatcher_epoch(vlmd.dispatcher);
+        if (!write_state(loop.state, loop.epoch, true))
             write_log("the epoch can't be written down");
     }
     set_timer(now);
@@ -211,51 +82,62 @@ static void on_watchdog(uv_timer_t *timer) {
     notify("WATCHDOG=1");
 }
 
-/* Reads the configuration again. The socket stays. */
+/* Reads the configuration again. The socket stays, and whether this is a replica. */
 static void on_hangup(uv_signal_t *handle, int number) {
     (void)handle, (void)number;
-    struct config read = {.mode = vlmd.config.mode, .grace = vlmd.config.grace, .limits = USUAL_LIMITS};
-    memcpy(read.socket, vlmd.config.socket, PATH);
+    const struct config *old = &vlmd.config;
+    struct config read = usual_config;
+    read.mode = old->mode;
+    read.grace = old->grace;
     if (!read_config(vlmd.file, vlmd.is_file_named, &read))
         return;
-    memcpy(read.socket, vlmd.config.socket, PATH);
+    memcpy(read.socket, old->socket, sizeof read.socket);
+    memcpy(read.etcd, old->etcd, sizeof read.etcd);
+    memcpy(read.prefix, old->prefix, sizeof read.prefix);
+    memcpy(read.listen, old->listen, sizeof read.listen);
     vlmd.config = read;
-    dispatcher_limit(vlmd.dispatcher, &vlmd.config.limits);
+    if (vlmd.replica != NULL)
+        replica_limit(vlmd.replica, &vlmd.config.limits);
+    else
+        dispatcher_limit(vlmd.dispatcher, &vlmd.config.limits);
     write_log("the configuration is read again");
 }
 
-/* Ends in order: clients hear that their locks are lost. If there were locks, the next daemon waits a grace time. */
+/* Ends in order. A replica's clients go on at another one. Else clients hear that their locks are lost, and if there
+ * were locks, the next daemon waits a grace time. */
 static void on_end(uv_signal_t *handle, int number) {
     (void)handle, (void)number;
     notify("STOPPING=1");
+    if (loop.is_own_listener && vlmd.replica != NULL)
+        unlink(vlmd.config.socket);
+    if (vlmd.replica != NULL) {
+        write_log("ended");
+        exit(0);
+    }
     bool has_locks = dispatcher_has_locks(vlmd.dispatcher);
     dispatcher_lose(vlmd.dispatcher);
     flush_all();
-    if (vlmd.is_own_listener)
+    if (loop.is_own_listener)
         unlink(vlmd.config.socket);
-    if (!has_locks && !write_state(vlmd.state, dispatcher_epoch(vlmd.dispatcher), false))
+    if (!has_locks && !write_state(loop.state, dispatcher_epoch(vlmd.dispatcher), false))
         write_log("the state can't be written down");
     write_log("ended");
     exit(0);
 }
 
 static void start_loop(void) {
-    uv_loop_init(&vlmd.loop);
-    uv_poll_init(&vlmd.loop, &vlmd.listening, vlmd.listener);
-    uv_poll_start(&vlmd.listening, UV_READABLE, on_connections);
-    uv_check_init(&vlmd.loop, &vlmd.after);
-    uv_check_start(&vlmd.after, on_turn);
-    uv_idle_init(&vlmd.loop, &vlmd.busy);
-    uv_timer_init(&vlmd.loop, &vlmd.due);
-    uv_timer_init(&vlmd.loop, &vlmd.pause);
-    uv_timer_init(&vlmd.loop, &vlmd.watchdog);
+    uv_check_init(&vlmd.loop, &loop.after);
+    uv_check_start(&loop.after, on_turn);
+    uv_idle_init(&vlmd.loop, &loop.busy);
+    uv_timer_init(&vlmd.loop, &loop.due);
+    uv_timer_init(&vlmd.loop, &loop.watchdog);
     uint64_t watchdog = watchdog_time();
     if (watchdog != 0)
-        uv_timer_start(&vlmd.watchdog, on_watchdog, 0, watchdog / 2 + 1);
+        uv_timer_start(&loop.watchdog, on_watchdog, 0, watchdog / 2 + 1);
     const int numbers[] = {SIGHUP, SIGTERM, SIGINT};
     for (int at = 0; at < 3; at++) {
-        uv_signal_init(&vlmd.loop, &vlmd.signals[at]);
-        uv_signal_start(&vlmd.signals[at], at == 0 ? on_hangup : on_end, numbers[at]);
+        uv_signal_init(&vlmd.loop, &loop.signals[at]);
+        uv_signal_start(&loop.signals[at], at == 0 ? on_hangup : on_end, numbers[at]);
     }
 }
 
@@ -264,7 +146,7 @@ static bool start_dispatcher(bool was_unclean) {
     uint8_t keys[KEYS];
     if (getrandom(keys, sizeof keys, 0) != sizeof keys)
         return false;
-    vlmd.dispatcher = dispatcher_open(&vlmd.config.limits, vlmd.epoch, keys, write_log);
+    vlmd.dispatcher = dispatcher_open(&vlmd.config.limits, loop.epoch, keys, write_log);
     if (vlmd.dispatcher == NULL)
         return false;
     uint64_t now = uv_hrtime() / 1000000;
@@ -276,25 +158,82 @@ static bool start_dispatcher(bool was_unclean) {
     return true;
 }
 
-static bool read_words(int count, char **words) {
-    const char *socket = getenv("VLM_SOCKET");
+/* Lets clients in. */
+static void start_listening(void) {
+    bool is_listening = listen_to(loop.listener, false);
+    for (size_t at = 0; at < loop.tcp_listener_count; at++)
+        is_listening &= listen_to(loop.tcp_listeners[at], true);
+    if (!is_listening) {
+        write_log("not started");
+        exit(NO_START);
+    }
+    notify("READY=1");
+    write_log("ready");
+}
+
+/* The replica has run all that was in the list. An empty list gets the limits of this one. */
+static void on_current(void) {
+    if (!replica_has_limits(vlmd.replica))
+        replica_limit(vlmd.replica, &vlmd.config.limits);
+    start_listening();
+}
+
+/* Begins a replica. All of them begin with the usual limits, until the list says others. */
+static bool start_replica(void) {
+    static const struct limits usual = USUAL_LIMITS;
+    uint8_t keys[KEYS];
+    uint64_t name;
+    if (getrandom(keys, sizeof keys, 0) != sizeof keys || getrandom(&name, sizeof name, 0) != sizeof name)
+        return false;
+    vlmd.dispatcher = dispatcher_open(&usual, 0, keys, write_log);
+    vlmd.replica = vlmd.dispatcher == NULL ? NULL : replica_open(vlmd.dispatcher, name);
+    return vlmd.replica != NULL && list_open(&vlmd.config, on_current);
+}
+
+/* Words of the command line that are settings too. */
+struct named_words {
+    char *socket, *etcd, *prefix, *listen;
+};
+
+static bool take_words(int count, char **words, struct named_words *named) {
+    static const struct option options[] = {{"etcd", required_argument, NULL, NAMED},
+                                            {"prefix", required_argument, NULL, NAMED + 1},
+                                            {"listen", required_argument, NULL, NAMED + 2},
+                                            {NULL, 0, NULL, 0}};
+    char **const texts[] = {&named->etcd, &named->prefix, &named->listen};
     int option;
-    while ((option = getopt(count, words, "c:s:")) != -1) {
+    opterr = 0;
+    while ((option = getopt_long(count, words, "c:s:", options, NULL)) != -1) {
         if (option == 'c') {
             vlmd.file = optarg;
             vlmd.is_file_named = true;
         } else if (option == 's') {
-            socket = optarg;
+            named->socket = optarg;
+        } else if (option >= NAMED) {
+            *texts[option - NAMED] = optarg;
         } else {
             return false;
         }
     }
-    vlmd.config = (struct config){.mode = 0660, .grace = 2000, .limits = USUAL_LIMITS};
-    if (!read_config(vlmd.file, vlmd.is_file_named, &vlmd.config))
-        return false;
-    if (socket != NULL || vlmd.config.socket[0] == 0)
-        snprintf(vlmd.config.socket, PATH, "%s", socket != NULL ? socket : usual_socket);
     return optind == count;
+}
+
+static bool set_named(const char *setting, char *text) {
+    char word[WORD];
+    snprintf(word, sizeof word, "%s", setting);
+    return text == NULL || set_words(&vlmd.config, (char *[]){word, text}, 2);
+}
+
+static bool read_words(int count, char **words) {
+    struct named_words named = {.socket = getenv("VLM_SOCKET")};
+    bool is_right = take_words(count, words, &named);
+    vlmd.config = usual_config;
+    if (!is_right || !read_config(vlmd.file, vlmd.is_file_named, &vlmd.config))
+        return false;
+    if (named.socket != NULL || vlmd.config.socket[0] == 0)
+        snprintf(vlmd.config.socket, PATH, "%s", named.socket != NULL ? named.socket : usual_socket);
+    is_right = set_named("etcd", named.etcd) && set_named("prefix", named.prefix) && set_named("listen", named.listen);
+    return is_right && (vlmd.config.etcd[0] != 0 || vlmd.config.listen[0] == 0);
 }
 
 static void raise_limit(void) {
@@ -305,24 +244,37 @@ static void raise_limit(void) {
     }
 }
 
+static bool start(void) {
+    bool was_unclean, is_replica = vlmd.config.etcd[0] != 0;
+    loop.state = take_state(vlmd.config.socket, &loop.epoch, &was_unclean);
+    loop.listener = loop.state < 0 ? -1 : open_listener(&vlmd.config, &loop.is_own_listener);
+    if (loop.listener < 0)
+        return false;
+    if (vlmd.config.listen[0] != 0)
+        loop.tcp_listener_count = open_tcp_listeners(&vlmd.config, loop.tcp_listeners);
+    if (vlmd.config.listen[0] != 0 && loop.tcp_listener_count == 0)
+        return false;
+    uv_loop_init(&vlmd.loop);
+    if (is_replica ? !start_replica() : !start_dispatcher(was_unclean))
+        return false;
+    start_loop();
+    return true;
+}
+
 int main(int count, char **words) {
-    bool was_unclean;
-    vlmd.file = usual_config;
+    vlmd.file = usual_file;
     if (!read_words(count, words)) {
-        write_log("usage: vlmd [-c FILE] [-s SOCKET]");
+        write_log("usage: vlmd [-c FILE] [-s SOCKET] [--etcd MEMBERS [--prefix WORD] [--listen HOST:PORT]]");
         return WRONG_WORDS;
     }
     raise_limit();
     signal(SIGPIPE, SIG_IGN);
-    vlmd.state = take_state(vlmd.config.socket, &vlmd.epoch, &was_unclean);
-    vlmd.listener = vlmd.state < 0 ? -1 : open_listener(&vlmd.config, &vlmd.is_own_listener);
-    if (vlmd.listener < 0 || !start_dispatcher(was_unclean)) {
+    if (!start()) {
         write_log("not started");
         return NO_START;
     }
-    start_loop();
-    notify("READY=1");
-    write_log("ready");
+    if (vlmd.replica == NULL)
+        start_listening();
     uv_run(&vlmd.loop, UV_RUN_DEFAULT);
     return 0;
 }

@@ -1,0 +1,110 @@
+/* What only replicas call: leases of sessions, and what else an entry of the list does.
+ *
+ * A beat is an entry by which the leases of sessions last their whole time again. A client counts its lease from before
+ * it asked for a beat that was answered. A replica counts from when the last beat came by, which is later. The end of a
+ * session names that beat, and does nothing if another one came by first. So no session ends while its client counts on
+ * it. This rests on clocks that run equally fast and on the order of the list, and on nothing else. */
+#include "parts.h"
+
+#include <string.h>
+
+/* How long a session whose lease is over goes on while the list grows, in milliseconds. After a time in which it could
+ * not grow, the beats that wait at other replicas come in this time. */
+enum { GRACE = 1000 };
+
+void dispatcher_follow(struct dispatcher *dispatcher) { dispatcher->is_replica = true; }
+
+void dispatcher_pass(struct dispatcher *dispatcher, uint64_t place) {
+    check_identifications(dispatcher);
+    dispatcher->place = place;
+}
+
+void client_run(struct client *client, const char *line, size_t len) {
+    if (!client->is_over)
+        run_line(client, line, len);
+    note_change(client);
+}
+
+void client_detach(struct client *client) {
+    client->context = NULL;
+    client->is_detached = true;
+}
+
+uint64_t client_session(const struct client *client) { return client->session == NULL ? 0 : client->session->name; }
+
+static struct session *session_of(const struct dispatcher *dispatcher, uint64_t name) {
+    uint32_t place = (uint32_t)name;
+    struct session *session = place < dispatcher->session_room ? dispatcher->sessions[place].session : NULL;
+    return session != NULL && session->name == name ? session : NULL;
+}
+
+/* A beat of a session comes by. */
+void keep_lease(struct session *session) {
+    session->beat = session->dispatcher->place;
+    session->heard = session->dispatcher->now;
+    session->overdue = 0;
+}
+
+void dispatcher_keep(struct dispatcher *dispatcher, uint64_t name) {
+    struct session *session = session_of(dispatcher, name);
+    if (session != NULL)
+        keep_lease(session);
+}
+
+bool dispatcher_end(struct dispatcher *dispatcher, uint64_t name, uint64_t beat) {
+    struct session *session = session_of(dispatcher, name);
+    if (session == NULL || session->beat != beat)
+        return false;
+    struct client *client = session->client;
+    end_session(session);
+    if (client != NULL) {
+        put_text(client, "session ended\n");
+        client->is_over = true;
+    }
+    return true;
+}
+
+void dispatcher_look(struct dispatcher *dispatcher) {
+    for (uint32_t place = 0; place < dispatcher->session_room; place++) {
+        struct session *session = dispatcher->sessions[place].session;
+        if (session != NULL && session->overdue == 0
+            && dispatcher->now > session->heard + (uint64_t)session->seconds * 1000)
+            session->overdue = dispatcher->now;
+    }
+    dispatcher->next_end = 0;
+}
+
+bool dispatcher_next_end(struct dispatcher *dispatcher, uint64_t *name, uint64_t *beat) {
+    while (dispatcher->next_end < dispatcher->session_room) {
+        struct session *session = dispatcher->sessions[dispatcher->next_end++].session;
+        if (session == NULL || session->overdue == 0 || dispatcher->now <= session->overdue + GRACE)
+            continue;
+        *name = session->name;
+        *beat = session->beat;
+        return true;
+    }
+    return false;
+}
+
+uint32_t dispatcher_count(const struct dispatcher *dispatcher) {
+    return dispatcher->connections + dispatcher->session_count;
+}
+
+uint64_t dispatcher_search_due(const struct dispatcher *dispatcher) {
+    return dispatcher->found_none == dispatcher->counts.steps ? UINT64_MAX : search_due(dispatcher);
+}
+
+bool dispatcher_search(struct dispatcher *dispatcher) {
+    bool has_found = search(dispatcher);
+    dispatcher->found_none = has_found ? UINT64_MAX : dispatcher->counts.steps;
+    return has_found;
+}
+
+uint64_t dispatcher_drain_due(const struct dispatcher *dispatcher) {
+    return dispatcher->drained != 0 ? dispatcher->drained : UINT64_MAX;
+}
+
+void dispatcher_end_epoch(struct dispatcher *dispatcher) {
+    if (dispatcher->drained != 0 && vlm_lock_count(&dispatcher->manager) != 0)
+        end_epoch(dispatcher);
+}

@@ -1,0 +1,163 @@
+/* The list of a replica. A program of its own keeps it in etcd (service/list): so the daemon does not speak etcd's
+ * protocol, and another list may take its place. The two exchange frames by pipes: the length of what follows in 4
+ * bytes, a letter, and what it announces. All numbers are little-endian.
+ *
+ *     to the list      a BATCH                 to be appended, at its place in the list of all replicas
+ *                      k REVISION BATCH        what a chunk keeps of the batch at a revision
+ *     from the list    b REVISION BATCH        the next batch
+ *                      p REVISION BATCH        the same, of a chunk: it is kept already
+ *                      a                       the last batch to be appended is in the list
+ *                      r                       all that was in the list has come
+ */
+#define _GNU_SOURCE
+#include "daemon.h"
+
+#include <signal.h>
+#include <stdio.h>
+#include <stdlib.h>
+#include <string.h>
+#include <unistd.h>
+
+enum { HEAD = 4, MOST_FRAME = 64 << 20, LONGEST_PATH = 4096, FIRST_READ = 64 << 10 };
+
+static struct {
+    uv_process_t process;
+    uv_pipe_t to, from;
+    struct bytes heard;
+    void (*is_ready)(void);
+} list;
+
+static void fail(const char *text) {
+    write_log(text);
+    exit(LOST_LIST);
+}
+
+static void on_written(uv_write_t *write, int status) {
+    free(write->data);
+    free(write);
+    if (status != 0)
+        fail("the list takes nothing any more");
+}
+
+/* Sends a frame. Its bytes go to the list, and are freed then. */
+static void send_frame(struct bytes *frame) {
+    uv_write_t *write = malloc(sizeof *write);
+    if (write == NULL)
+        fail("no memory");
+    write->data = frame->all;
+    uv_buf_t buffer = uv_buf_init((char *)frame->all, (unsigned)frame->len);
+    if (uv_write(write, (uv_stream_t *)&list.to, &buffer, 1, on_written) != 0)
+        fail("the list takes nothing any more");
+}
+
+static void begin_frame(struct bytes *frame, char letter, size_t len) {
+    *frame = (struct bytes){NULL, 0, 0};
+    bytes_add_number(frame, 1 + len, HEAD);
+    bytes_add(frame, &letter, 1);
+}
+
+void list_append(void) {
+    struct bytes batch = replica_batch(vlmd.replica), frame;
+    if (batch.len == 0)
+        return;
+    begin_frame(&frame, 'a', batch.len);
+    bytes_add(&frame, batch.all, batch.len);
+    send_frame(&frame);
+}
+
+/* Runs a batch. What a chunk is to keep of it goes back. */
+static void run_batch(struct reader *read, bool is_kept) {
+    uint64_t revision = reader_number(read, 8);
+    struct bytes batch = {(uint8_t *)read->at, read->left, 0}, kept = {NULL, 0, 0}, frame;
+    replica_apply(vlmd.replica, revision, &batch, is_kept ? NULL : &kept);
+    if (is_kept)
+        return;
+    begin_frame(&frame, 'k', 8 + kept.len);
+    bytes_add_number(&frame, revision, 8);
+    bytes_add(&frame, kept.all, kept.len);
+    free(kept.all);
+    send_frame(&frame);
+}
+
+static void run_frame(struct reader *read) {
+    char letter = (char)reader_number(read, 1);
+    if (letter == 'b' || letter == 'p')
+        run_batch(read, letter == 'p');
+    else if (letter == 'a')
+        replica_appended(vlmd.replica);
+    else if (letter == 'r')
+        list.is_ready();
+    else
+        fail("the list says what no list says");
+}
+
+static void on_room(uv_handle_t *handle, size_t suggested, uv_buf_t *buffer) {
+    (void)handle, (void)suggested;
+    static char room[FIRST_READ];
+    *buffer = uv_buf_init(room, sizeof room);
+}
+
+static void on_heard(uv_stream_t *stream, ssize_t len, const uv_buf_t *buffer) {
+    (void)stream;
+    if (len < 0)
+        fail("the list has ended");
+    if (len == 0)
+        return;
+    /* (a lease is counted from when its beat came by, not from before) */
+    uv_update_time(&vlmd.loop);
+    replica_tick(vlmd.replica, uv_now(&vlmd.loop));
+    bytes_add(&list.heard, buffer->base, (size_t)len);
+    struct reader all = {list.heard.all, list.heard.len, false};
+    size_t done = 0;
+    while (all.left >= HEAD) {
+        size_t frame = (size_t)reader_number(&all, HEAD);
+        if (frame == 0 || frame > MOST_FRAME)
+            fail("the list says what no list says");
+        if (all.left < frame)
+            break;
+        run_frame(&(struct reader){all.at, frame, false});
+        all.at += frame;
+        all.left -= frame;
+        done += HEAD + frame;
+    }
+    bytes_drop(&list.heard, done);
+}
+
+static void on_end(uv_process_t *process, int64_t status, int number) {
+    (void)process, (void)status, (void)number;
+    fail("the list has ended");
+}
+
+/* The program that keeps the list: that of VLM_LIST in the environment, else the one that is installed beside us. */
+static bool find_program(char path[LONGEST_PATH]) {
+    const char *named = getenv("VLM_LIST");
+    if (named != NULL)
+        return snprintf(path, LONGEST_PATH, "%s", named) < LONGEST_PATH;
+    ssize_t len = readlink("/proc/self/exe", path, LONGEST_PATH - 1);
+    if (len <= 0)
+        return false;
+    path[len] = 0;
+    char *slash = strrchr(path, '/');
+    size_t room = LONGEST_PATH - (size_t)(slash - path);
+    return slash != NULL && (size_t)snprintf(slash, room, "/../libexec/vlm/list/vlm-list") < room;
+}
+
+bool list_open(const struct config *config, void (*is_ready)(void)) {
+    char path[LONGEST_PATH], members[WORD], prefix[WORD], chunk[WORD];
+    if (!find_program(path))
+        return false;
+    snprintf(members, WORD, "%s", config->etcd);
+    snprintf(prefix, WORD, "%s", config->prefix);
+    snprintf(chunk, WORD, "%u", (unsigned)config->chunk);
+    char *words[] = {path, members, prefix, chunk, NULL};
+    uv_pipe_init(&vlmd.loop, &list.to, 0);
+    uv_pipe_init(&vlmd.loop, &list.from, 0);
+    uv_stdio_container_t stdio[] = {
+        {.flags = UV_CREATE_PIPE | UV_READABLE_PIPE, .data.stream = (uv_stream_t *)&list.to},
+        {.flags = UV_CREATE_PIPE | UV_WRITABLE_PIPE, .data.stream = (uv_stream_t *)&list.from},
+        {.flags = UV_INHERIT_FD, .data.fd = STDERR_FILENO}};
+    uv_process_options_t options = {.file = path, .args = words, .stdio = stdio, .stdio_count = 3, .exit_cb = on_end};
+    list.is_ready = is_ready;
+    return uv_spawn(&vlmd.loop, &list.process, &options) == 0
+           && uv_read_start((uv_stream_t *)&list.from, on_room, on_heard) == 0;
+}

@@ -1,0 +1,122 @@
+"""Batches that are in no chunk yet, and chunks as bytes.
+
+A batch begins with 16 bytes, of which the last 8 name its replica. Its entries follow, each with a head of 8 bytes: its
+number in the batch, its type and the length of its payload. Here only beats are looked into: of each session a chunk
+keeps the last one. All numbers are little-endian."""
+
+import struct
+import zlib
+from dataclasses import dataclass
+from typing import Dict, Iterator, List, Tuple
+
+_HEAD, _ENTRY, _BEAT = 16, struct.Struct("<IHH"), 4
+# A batch in a chunk: its revision and its length. A chunk begins with the revision up to which it goes.
+_PLACED, _COVERED = struct.Struct("<QI"), struct.Struct("<Q")
+
+
+@dataclass(frozen=True)
+class Batch:
+    """Entries that were appended together."""
+
+    # etcd's revision of the append. It orders the batches.
+    revision: int
+    # The last part of its key; empty in a chunk.
+    name: str
+    entries: bytes
+
+
+def _entries(batch: bytes) -> Iterator[Tuple[int, int, int]]:
+    """Where each entry of a batch begins and ends, and its type."""
+    at = _HEAD
+    while at < len(batch):
+        _, kind, length = _ENTRY.unpack_from(batch, at)
+        yield at, at + _ENTRY.size + length, kind
+        at += _ENTRY.size + length
+
+
+def _sessions(entry: bytes) -> List[bytes]:
+    """The sessions of a beat. Its number comes before them."""
+    names = entry[_ENTRY.size + 8:]
+    return [names[at:at + 8] for at in range(0, len(names), 8)]
+
+
+def _without_beats(batches: List[Batch]) -> Iterator[Batch]:
+    """The batches with the last beat of each session alone."""
+    last: Dict[bytes, Tuple[int, int]] = {}
+    for batch in batches:
+        for begin, end, kind in _entries(batch.entries):
+            if kind == _BEAT:
+                last.update(dict.fromkeys(_sessions(batch.entries[begin:end]), (batch.revision, begin)))
+    for batch in batches:
+        kept = bytearray(batch.entries[:_HEAD])
+        for begin, end, kind in _entries(batch.entries):
+            entry = batch.entries[begin:end]
+            if kind == _BEAT:
+                names = b"".join(it for it in _sessions(entry) if last[it] == (batch.revision, begin))
+                number, _, _ = _ENTRY.unpack_from(entry)
+                entry = _ENTRY.pack(number, _BEAT, 8 + len(names)) + bytes(8) + names if names else b""
+            kept += entry
+        if len(kept) > _HEAD:
+            yield Batch(batch.revision, "", bytes(kept))
+
+
+def pack(batches: List[Batch]) -> bytes:
+    """Batches as one compressed value: a chunk. It goes up to the last of them."""
+    parts = [_COVERED.pack(batches[-1].revision)]
+    for batch in _without_beats(batches):
+        parts += [_PLACED.pack(batch.revision, len(batch.entries)), batch.entries]
+    return zlib.compress(b"".join(parts))
+
+
+def unpack(chunk: bytes) -> Tuple[int, List[Batch]]:
+    """The revision up to which a chunk goes, and its batches."""
+    plain = zlib.decompress(chunk)
+    (covered,) = _COVERED.unpack_from(plain)
+    at, batches = _COVERED.size, []
+    while at < len(plain):
+        revision, length = _PLACED.unpack_from(plain, at)
+        at += _PLACED.size
+        batches.append(Batch(revision, "", plain[at:at + length]))
+        at += length
+    return covered, batches
+
+
+class Log:
+    """The end of the list: what is to be kept of the batches after the last chunk. A chunk has about `size` bytes
+    before it is compressed."""
+
+    def __init__(self, size: int) -> None:
+        self.size = size
+        # How many chunks there are, and the revision up to which they go.
+        self.chunks, self.covered = 0, 0
+        self._batches: List[Batch] = []
+        self._bytes = 0
+
+    def add(self, batch: Batch) -> None:
+        """Notes what is to be kept of a batch."""
+        if batch.revision > self.covered:
+            self._batches.append(batch)
+            self._bytes += len(batch.entries)
+
+    @property
+    def is_full(self) -> bool:
+        """Whether there is enough for a chunk."""
+        return self._bytes >= self.size
+
+    def cover(self, chunks: int, covered: int) -> None:
+        """The batches up to a revision are in this many chunks. Fewer than are known are no news."""
+        if chunks > self.chunks:
+            self.chunks, self.covered = chunks, covered
+            self._batches = [it for it in self._batches if it.revision > covered]
+            self._bytes = sum(len(it.entries) for it in self._batches)
+
+    def next_chunk(self) -> Tuple[bytes, int]:
+        """The next chunk, and the revision up to which it goes."""
+        batches: List[Batch] = []
+        size = 0
+        for batch in self._batches:
+            if size >= self.size:
+                break
+            batches.append(batch)
+            size += len(batch.entries)
+        return pack(batches), batches[-1].revision

@@ -1,0 +1,60 @@
+/* What the files of a replica share. Not a header of the daemon.
+ *
+ * replica.c  entries that are made, and batches that are run
+ * links.c    connections of clients to this replica
+ * entries.c  entries as bytes
+ *
+ * Each replica has the dispatcher's clients of all replicas. A client that is connected here has a link: its bytes
+ * become lines, lines that may change something become entries, and a line that reads runs here once all earlier ones
+ * have run. */
+#ifndef REPLICA_PARTS_H
+#define REPLICA_PARTS_H
+
+#include "replica.h"
+
+#define NO_SLOT UINT32_MAX
+
+enum { MOST_SLOTS = 1 << 20, HAS_SYSLCK = 1, IS_ADMIN = 2 };
+
+/* A replica that has been heard of, this one too. */
+struct peer {
+    uint64_t name;
+    uint64_t revision; /* of its last batch */
+    uint64_t heard;    /* when that came by */
+    bool is_gone;
+    struct client **clients; /* by slot */
+    uint32_t room;
+};
+
+/* The number of a connection. It is free once all replicas know that the connection has ended. */
+struct slot {
+    struct link *link; /* or null */
+    uint32_t next_free;
+};
+
+struct replica {
+    struct dispatcher *dispatcher;
+    uint64_t name, now;
+    struct peer *peers;
+    uint32_t peer_count;
+    struct slot *slots;
+    uint32_t slot_count, free_slot;
+    struct bytes next, batch; /* entries to be appended, and those that are under way */
+    bool is_under_way, has_limits, is_searching, is_draining;
+    struct bytes asked; /* sessions that the next beat keeps */
+    uint64_t beats, beat_at, beat_heard;
+};
+
+/* replica.c */
+void replica_fail(const char *reason) __attribute__((noreturn));
+void *replica_need(void *memory);
+
+/* links.c */
+struct link *link_of(const struct replica *replica, uint32_t slot);
+void link_begin(struct link *link, struct client *client);
+void link_line_has_run(struct replica *replica, uint32_t slot);
+void links_go(struct replica *replica);
+void free_slot(struct replica *replica, uint32_t slot);
+void free_link(struct link *link);
+
+#endif
