@@ -5,9 +5,9 @@
 #include <stdlib.h>
 #include <string.h>
 
-static const uint8_t mark[BATCH_HEAD - 8] = "vlmlist1";
+enum { MARK = 8, FIRST_ROOM = 256, BITS = 8 };
 
-enum { FIRST_ROOM = 256, BITS = 8 };
+static const uint8_t mark[MARK] = "vlmlist1";
 
 static void make_room(struct bytes *bytes, size_t len) {
     if (bytes->len + len <= bytes->room)
@@ -64,22 +64,25 @@ uint64_t reader_number(struct reader *reader, size_t len) {
     return number;
 }
 
-uint64_t batch_open(struct reader *batch) {
-    if (batch->left < BATCH_HEAD || memcmp(batch->at, mark, sizeof mark) != 0) {
+struct batch_head batch_open(struct reader *batch) {
+    struct batch_head head = {0, 0};
+    if (batch->left < BATCH_HEAD || memcmp(batch->at, mark, MARK) != 0) {
         batch->is_short = true;
         batch->left = 0;
-        return 0;
+        return head;
     }
-    batch->at += sizeof mark;
-    batch->left -= sizeof mark;
-    return reader_number(batch, 8);
+    batch->at += MARK;
+    batch->left -= MARK;
+    head.replica = reader_number(batch, 8);
+    head.number = reader_number(batch, 8);
+    return head;
 }
 
 bool batch_next(struct reader *batch, struct entry *entry) {
     if (batch->left == 0)
         return false;
-    entry->head = batch->at;
     entry->number = (uint32_t)reader_number(batch, 4);
+    entry->rest = batch->at;
     entry->type = (enum entry_type)reader_number(batch, 2);
     size_t len = (size_t)reader_number(batch, 2);
     if (batch->is_short || batch->left < len) {
@@ -87,23 +90,24 @@ bool batch_next(struct reader *batch, struct entry *entry) {
         return false;
     }
     entry->payload = (struct reader){batch->at, len, false};
-    entry->len = ENTRY_HEAD + len;
+    entry->rest_len = ENTRY_HEAD - 4 + len;
     batch->at += len;
     batch->left -= len;
     return true;
 }
 
-void batch_make(struct bytes *batch, uint64_t replica, struct bytes *entries) {
+void batch_make(struct bytes *batch, struct batch_head head, struct bytes *entries) {
     struct reader reader = {entries->all, entries->len, false};
     struct entry entry;
     size_t taken = 0;
     batch->len = 0;
-    bytes_add(batch, mark, sizeof mark);
-    bytes_add_number(batch, replica, 8);
+    bytes_add(batch, mark, MARK);
+    bytes_add_number(batch, head.replica, 8);
+    bytes_add_number(batch, head.number, 8);
     for (uint32_t number = 0; taken < MOST_BATCH && batch_next(&reader, &entry); number++) {
         bytes_add_number(batch, number, 4);
-        bytes_add(batch, entry.head + 4, entry.len - 4);
-        taken += entry.len;
+        bytes_add(batch, entry.rest, entry.rest_len);
+        taken += 4 + entry.rest_len;
     }
     bytes_drop(entries, taken);
 }

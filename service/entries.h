@@ -1,6 +1,6 @@
-/* The entries of the list, as bytes. A batch begins with the name of the replica that made it; its entries follow, each
- * with its number in the batch, so that a batch without some of its entries has the others at their places. All numbers
- * are little-endian. Nothing here is proved. */
+/* The entries of the list, as bytes. A batch begins with the name of the replica that made it and with its number, which
+ * counts from 1. Its entries follow, each with a number too, so that a batch without some of its entries has the others
+ * at their places. All numbers are little-endian. Nothing here is proved. */
 #ifndef ENTRIES_H
 #define ENTRIES_H
 
@@ -20,7 +20,7 @@ enum entry_type {
     ENTRY_DRAINED        /* the epoch ends */
 };
 
-enum { BATCH_HEAD = 16, ENTRY_HEAD = 8, MOST_ENTRY = UINT16_MAX, MOST_BATCH = 512 << 10 };
+enum { BATCH_HEAD = 24, ENTRY_HEAD = 8, MOST_ENTRY = UINT16_MAX, MOST_BATCH = 512 << 10 };
 
 /* Bytes that grow. */
 struct bytes {
@@ -36,8 +36,13 @@ void bytes_drop(struct bytes *bytes, size_t len);
 /* Begins an entry, whose payload has this many bytes. Its number is given when it is put into a batch. */
 void entry_begin(struct bytes *bytes, enum entry_type type, size_t len);
 
+/* Whose a batch is. */
+struct batch_head {
+    uint64_t replica, number;
+};
+
 /* Makes a batch of the first entries, as many as fit, and drops them. */
-void batch_make(struct bytes *batch, uint64_t replica, struct bytes *entries);
+void batch_make(struct bytes *batch, struct batch_head head, struct bytes *entries);
 
 /* Reads bytes from the front: what is there, and whether all that was read was there. */
 struct reader {
@@ -53,12 +58,12 @@ struct entry {
     enum entry_type type;
     uint32_t number;
     struct reader payload;
-    const uint8_t *head; /* the entry as a whole */
-    size_t len;
+    const uint8_t *rest; /* the entry without its number */
+    size_t rest_len;
 };
 
-/* The replica that made a batch. */
-uint64_t batch_open(struct reader *batch);
+/* Reads the head of a batch. */
+struct batch_head batch_open(struct reader *batch);
 
 /* The next entry of a batch. False after the last one, or if the bytes are no batch: then the reader is short. */
 bool batch_next(struct reader *batch, struct entry *entry);

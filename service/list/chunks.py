@@ -1,15 +1,16 @@
 """Batches that are in no chunk yet, and chunks as bytes.
 
-A batch begins with 16 bytes, of which the last 8 name its replica. Its entries follow, each with a head of 8 bytes: its
-number in the batch, its type and the length of its payload. Here only beats are looked into: of each session a chunk
-keeps the last one. All numbers are little-endian."""
+A batch begins with 24 bytes: 8 that all have, the name of its replica, and its number. Its entries follow, each with a
+head of 8 bytes: its number, its type and the length of its payload. Here only beats are looked into: of each session a
+chunk keeps the last one. A chunk keeps the head of the last batch of each replica too, so that a new replica knows
+which number is next. All numbers are little-endian."""
 
 import struct
 import zlib
 from dataclasses import dataclass
 from typing import Dict, Iterator, List, Tuple
 
-_HEAD, _ENTRY, _BEAT = 16, struct.Struct("<IHH"), 4
+_HEAD, _REPLICA, _ENTRY, _BEAT = 24, slice(8, 16), struct.Struct("<IHH"), 4
 # A batch in a chunk: its revision and its length. A chunk begins with the revision up to which it goes.
 _PLACED, _COVERED = struct.Struct("<QI"), struct.Struct("<Q")
 
@@ -23,6 +24,8 @@ class Batch:
     # The last part of its key; empty in a chunk.
     name: str
     entries: bytes
+    # Whether a chunk may end with it.
+    is_end: bool = True
 
 
 def _entries(batch: bytes) -> Iterator[Tuple[int, int, int]]:
@@ -41,7 +44,8 @@ def _sessions(entry: bytes) -> List[bytes]:
 
 
 def _without_beats(batches: List[Batch]) -> Iterator[Batch]:
-    """The batches with the last beat of each session alone."""
+    """The batches with the last beat of each session alone, and without those of which nothing else is left."""
+    newest = {batch.entries[_REPLICA]: batch for batch in batches}
     last: Dict[bytes, Tuple[int, int]] = {}
     for batch in batches:
         for begin, end, kind in _entries(batch.entries):
@@ -56,7 +60,7 @@ def _without_beats(batches: List[Batch]) -> Iterator[Batch]:
                 number, _, _ = _ENTRY.unpack_from(entry)
                 entry = _ENTRY.pack(number, _BEAT, 8 + len(names)) + bytes(8) + names if names else b""
             kept += entry
-        if len(kept) > _HEAD:
+        if len(kept) > _HEAD or newest[batch.entries[_REPLICA]] is batch:
             yield Batch(batch.revision, "", bytes(kept))
 
 
@@ -111,12 +115,10 @@ class Log:
             self._bytes = sum(len(it.entries) for it in self._batches)
 
     def next_chunk(self) -> Tuple[bytes, int]:
-        """The next chunk, and the revision up to which it goes."""
-        batches: List[Batch] = []
+        """The next chunk, and the revision up to which it goes; no bytes if it can't end yet."""
         size = 0
-        for batch in self._batches:
-            if size >= self.size:
-                break
-            batches.append(batch)
+        for count, batch in enumerate(self._batches, 1):
             size += len(batch.entries)
-        return pack(batches), batches[-1].revision
+            if size >= self.size and batch.is_end:
+                return pack(self._batches[:count]), batch.revision
+        return b"", 0

@@ -119,15 +119,13 @@ class EtcdList:
 
     def append(self, name: str, batch: bytes) -> None:
         """Appends a batch, unless there is one of this name."""
-        self._put_new((self._entries + name, batch))
+        self._put_new(self._entries + name, batch)
 
-    def _put_new(self, *puts: Tuple[str, bytes]) -> bool:
-        """Puts keys with their values. Does nothing if the last of these keys exists. Returns whether it did."""
-
+    def _put_new(self, key: str, value: bytes) -> bool:
+        """Puts a key with its value, unless it exists. Returns whether it did."""
         def ask(client: Any) -> bool:
             make = client.transactions
-            return client.transaction([make.create(puts[-1][0]) == 0],
-                                      [make.put(*words) for words in puts], [])[0]
+            return client.transaction([make.create(key) == 0], [make.put(key, value)], [])[0]
 
         return self.call("append", ask)
 
@@ -183,7 +181,7 @@ class EtcdList:
 
     def pack(self, number: int, chunk: bytes) -> bool:
         """Writes a chunk. Returns whether it was written: of several writers of one chunk, one writes it."""
-        return self._put_new((self._chunk_key(number), chunk))
+        return self._put_new(self._chunk_key(number), chunk)
 
     def _chunk_key(self, number: int) -> str:
         return f"{self._chunks}{number:08}"
