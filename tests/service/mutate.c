@@ -32,7 +32,7 @@ static void be_silent(const char *text) { (void)text; }
 static void join(uint32_t at) {
     struct rights rights = {.uid = at / 2, .pid = at, .group = at % 2, .has_syslck = at == 0, .is_admin = at == 0};
     do
-        clients[at] = client_open(dispatcher, &rights, NULL);
+        clients[at] = client_open(dispatcher, &rights, 0, dispatcher);
     while (clients[at] == NULL);
 }
 
