@@ -43,6 +43,7 @@ struct node {
     struct replica *replica;
     size_t at;             /* how much of the list it has run */
     uint64_t stopped;      /* until then it does nothing */
+    uint32_t delay;        /* of its batches, or 0: random ones */
     struct placed sent[8]; /* batches that are on their way to the list; the revision is when they come there */
     uint32_t sent_count, unheard;
 };
@@ -187,7 +188,8 @@ static void carry(struct node *node) {
     struct bytes batch = node->sent_count < 8 ? replica_batch(node->replica) : (struct bytes){NULL, 0, 0};
     if (batch.len != 0) {
         struct placed *sent = &node->sent[node->sent_count++];
-        *sent = (struct placed){now + pick(pick(60) == 0 ? 8000 : 20), false, {NULL, 0, 0}};
+        uint32_t delay = node->delay != 0 ? node->delay : pick(pick(60) == 0 ? 8000 : 20);
+        *sent = (struct placed){now + delay, false, {NULL, 0, 0}};
         bytes_add(&sent->batch, batch.all, batch.len);
     }
     for (uint32_t at = 0; at < node->sent_count; at++)
@@ -203,13 +205,17 @@ static void carry(struct node *node) {
     }
 }
 
-static void move_node(struct node *node) {
+static void go(struct node *node) {
     carry(node);
     if (now < node->stopped)
         return;
     replica_tick(node->replica, now);
     while (node->at < list.count && pick(4) != 0)
         apply_next(node);
+}
+
+static void move_node(struct node *node) {
+    go(node);
     if (pick(4000) == 0)
         node->stopped = now + pick(12000);
     if (pick(4000) == 0) {
@@ -409,7 +415,7 @@ static void settle(void) {
         now += 20;
         for (uint32_t at = 0; at < REPLICAS; at++) {
             nodes[at].stopped = 0;
-            move_node(&nodes[at]);
+            go(&nodes[at]);
         }
     }
     for (uint32_t at = 0; at < REPLICAS; at++)
@@ -418,12 +424,23 @@ static void settle(void) {
     compare();
 }
 
-static void run(uint64_t first) {
+static void begin(uint64_t first) {
     seed = first * 0x9E3779B97F4A7C15U + 1;
     now = 1000;
     memset(clients, 0, sizeof clients);
     for (uint32_t at = 0; at < REPLICAS; at++)
         start(&nodes[at]);
+}
+
+static void end(void) {
+    for (uint32_t at = 0; at < REPLICAS; at++)
+        stop(&nodes[at]);
+    empty(&list);
+    empty(&kept);
+}
+
+static void run(uint64_t first) {
+    begin(first);
     for (uint32_t step = 0; step < STEPS; step++) {
         now += 1 + pick(20);
         for (uint32_t at = 0; at < REPLICAS; at++)
@@ -434,10 +451,39 @@ static void run(uint64_t first) {
             compare();
     }
     settle();
-    for (uint32_t at = 0; at < REPLICAS; at++)
-        stop(&nodes[at]);
-    empty(&list);
-    empty(&kept);
+    end();
+}
+
+static void pass_time(struct client *client, uint64_t until) {
+    for (; now < until; now += 10) {
+        for (uint32_t at = 0; at < REPLICAS; at++)
+            go(&nodes[at]);
+        if (link_client(client->link) != NULL)
+            hear(client);
+    }
+}
+
+/* A client's beats come late, so a replica has its session ended. But that comes later still, after the client was
+ * told of a beat: the session goes on. */
+static void run_late_end(void) {
+    struct client *client = &clients[0];
+    begin(1);
+    nodes[0].delay = nodes[1].delay = nodes[2].delay = 10;
+    connect_to(client, &nodes[1]);
+    pass_time(client, 2000);
+    nodes[1].delay = 4500;
+    pass_time(client, 5000);
+    ask(client, "alive");
+    pass_time(client, 7000);
+    nodes[0].delay = nodes[2].delay = 5000;
+    pass_time(client, 8000);
+    nodes[1].delay = 10;
+    pass_time(client, 10000);
+    ask(client, "alive");
+    pass_time(client, 13500);
+    if (client->session[0] == 0 || client->line[0] != 0 || now >= client->lease)
+        fail("a session ends before its lease");
+    end();
 }
 
 int main(int count, char **words) {
@@ -446,6 +492,7 @@ int main(int count, char **words) {
     unsigned long first = strtoul(words[1], NULL, 10), runs = strtoul(words[2], NULL, 10);
     list.all = calloc(MOST_BATCHES, sizeof *list.all);
     kept.all = calloc(MOST_BATCHES, sizeof *kept.all);
+    run_late_end();
     for (unsigned long it = first; it < first + runs; it++) {
         printf("seed %lu: ", it);
         fflush(stdout);
