@@ -76,6 +76,7 @@ static struct list list, kept;
 static struct node nodes[REPLICAS];
 static struct client clients[CLIENTS];
 static uint64_t now, seed;
+static uint32_t delay_of_ends; /* of batches that end sessions, or 0 */
 static unsigned long grants, resumes, ends, starts, victims;
 
 static uint32_t pick(uint32_t most) {
@@ -183,12 +184,24 @@ static void compare(void) {
         free(told[at].all);
 }
 
+static bool has_end(struct bytes batch) {
+    struct reader reader = {batch.all, batch.len, false};
+    struct entry entry;
+    batch_open(&reader);
+    while (batch_next(&reader, &entry))
+        if (entry.type == ENTRY_END)
+            return true;
+    return false;
+}
+
 /* A batch goes on its way; those that have arrived are in the list, and their replica hears so later. */
 static void carry(struct node *node) {
     struct bytes batch = node->sent_count < 8 ? replica_batch(node->replica) : (struct bytes){NULL, 0, 0};
     if (batch.len != 0) {
         struct placed *sent = &node->sent[node->sent_count++];
         uint32_t delay = node->delay != 0 ? node->delay : pick(pick(60) == 0 ? 8000 : 20);
+        if (delay_of_ends != 0 && has_end(batch))
+            delay = delay_of_ends;
         *sent = (struct placed){now + delay, false, {NULL, 0, 0}};
         bytes_add(&sent->batch, batch.all, batch.len);
     }
@@ -470,19 +483,19 @@ static void run_late_end(void) {
     begin(1);
     nodes[0].delay = nodes[1].delay = nodes[2].delay = 10;
     connect_to(client, &nodes[1]);
-    pass_time(client, 2000);
+    pass_time(client, 4900);
     nodes[1].delay = 4500;
     pass_time(client, 5000);
     ask(client, "alive");
-    pass_time(client, 7000);
-    nodes[0].delay = nodes[2].delay = 5000;
+    delay_of_ends = 4000;
     pass_time(client, 8000);
     nodes[1].delay = 10;
-    pass_time(client, 10000);
+    pass_time(client, 9900);
     ask(client, "alive");
-    pass_time(client, 13500);
+    pass_time(client, 14800);
     if (client->session[0] == 0 || client->line[0] != 0 || now >= client->lease)
         fail("a session ends before its lease");
+    delay_of_ends = 0;
     end();
 }
 
