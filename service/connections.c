@@ -104,7 +104,8 @@ static void flush(struct connection *connection) {
 
 void flush_all(void) {
     for (struct client *client; (client = dispatcher_changed(vlmd.dispatcher)) != NULL;)
-        flush(connection_of(client));
+        if (client_context(client) != NULL)
+            flush(connection_of(client));
 }
 
 static void hear(struct connection *connection) {

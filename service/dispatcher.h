@@ -117,7 +117,7 @@ enum line_kind dispatcher_kind(const char *line, size_t len);
 /* Runs a line without its line feed. */
 void client_run(struct client *client, const char *line, size_t len);
 
-/* The connection of a client is another replica's, or has ended: nothing is sent to it. */
+/* The connection of a client is another replica's, or has ended: nothing is sent to it. It has no context. */
 void client_detach(struct client *client);
 
 /* The session of a client: its name, or 0. */
@@ -129,8 +129,9 @@ void dispatcher_keep(struct dispatcher *dispatcher, uint64_t session);
 /* Ends a session, if the beat at this place was its last. Returns whether it did. */
 bool dispatcher_end(struct dispatcher *dispatcher, uint64_t session, uint64_t beat);
 
-/* Looks which leases are over by this replica's clock. It is called when the list is known to grow. */
-void dispatcher_look(struct dispatcher *dispatcher);
+/* Looks which leases are over by this replica's clock, and returns whether some are. It is called when the list is known
+ * to grow. */
+bool dispatcher_look(struct dispatcher *dispatcher);
 
 /* A session whose lease has been over for a while, with the place of its last beat. Each is told once. False: none. */
 bool dispatcher_next_end(struct dispatcher *dispatcher, uint64_t *session, uint64_t *beat);

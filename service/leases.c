@@ -8,9 +8,9 @@
 
 #include <string.h>
 
-/* How long a session whose lease is over goes on while the list grows, in milliseconds. After a time in which it could
- * not grow, the beats that wait at other replicas come in this time. */
-enum { GRACE = 1000 };
+/* In milliseconds: how long a session whose lease is over goes on while the list grows, so that beats which wait at other
+ * replicas come first; and how far looks are apart at most while it does. */
+enum { GRACE = 1000, GROWING = 1500 };
 
 void dispatcher_follow(struct dispatcher *dispatcher) { dispatcher->is_replica = true; }
 
@@ -64,14 +64,22 @@ bool dispatcher_end(struct dispatcher *dispatcher, uint64_t name, uint64_t beat)
     return true;
 }
 
-void dispatcher_look(struct dispatcher *dispatcher) {
+bool dispatcher_look(struct dispatcher *dispatcher) {
+    const uint64_t now = dispatcher->now;
+    uint64_t growing = now <= dispatcher->looked + GROWING ? dispatcher->looked : now;
+    bool has_overdue = false;
     for (uint32_t place = 0; place < dispatcher->session_room; place++) {
         struct session *session = dispatcher->sessions[place].session;
-        if (session != NULL && session->overdue == 0
-            && dispatcher->now > session->heard + (uint64_t)session->seconds * 1000)
-            session->overdue = dispatcher->now;
+        if (session == NULL)
+            continue;
+        uint64_t end = session->heard + (uint64_t)session->seconds * 1000;
+        if (session->overdue == 0 && now > end)
+            session->overdue = end > growing ? end : growing;
+        has_overdue |= session->overdue != 0;
     }
+    dispatcher->looked = now;
     dispatcher->next_end = 0;
+    return has_overdue;
 }
 
 bool dispatcher_next_end(struct dispatcher *dispatcher, uint64_t *name, uint64_t *beat) {

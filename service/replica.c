@@ -5,7 +5,7 @@
 #include <stdlib.h>
 #include <string.h>
 
-/* In milliseconds: how often a beat is sent at the soonest and, while there are clients, at the latest; how long a
+/* In milliseconds: how often a beat is sent at the soonest, and at the latest while there are clients; how long a
  * replica may be silent before the others end its connections; within which times replicas that want a search differ. */
 enum { SOONEST = 200, LATEST = 1000, SILENCE = 30000, JITTER = 256 };
 
@@ -80,7 +80,7 @@ static void beat(struct replica *replica) {
 }
 
 static uint64_t beat_due(const struct replica *replica) {
-    if (replica->asked.len != 0)
+    if (replica->asked.len != 0 || replica->is_ending)
         return replica->beat_at + SOONEST;
     return dispatcher_count(replica->dispatcher) != 0 ? replica->beat_at + LATEST : UINT64_MAX;
 }
@@ -214,7 +214,7 @@ static bool run_left(struct replica *replica, struct peer *peer, struct reader *
 /* Makes entries for what has ended: leases, and replicas. It is known that the list grows. */
 static void end_what_is_over(struct replica *replica) {
     uint64_t session, beat;
-    dispatcher_look(replica->dispatcher);
+    replica->is_ending = dispatcher_look(replica->dispatcher);
     while (dispatcher_next_end(replica->dispatcher, &session, &beat)) {
         entry_begin(&replica->next, ENTRY_END, 16);
         bytes_add_number(&replica->next, session, 8);

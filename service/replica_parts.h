@@ -46,7 +46,7 @@ struct replica {
     uint32_t under_way;       /* batches */
     uint64_t batches;
     uint32_t places; /* taken by entries at the revision */
-    bool has_limits, is_searching, is_draining;
+    bool has_limits, is_searching, is_draining, is_ending;
     struct bytes asked; /* sessions that the next beat keeps */
     uint64_t beats, beat_at, beat_heard;
 };

@@ -16,7 +16,7 @@ FOLDERS = ("bin", "include", "include/vlm-vms", "lib", "lib/pkgconfig", "lib/cma
            "libexec/vlm", "share", "share/bash-completion", "share/bash-completion/completions", "share/doc", DOCUMENTS,
            f"{DOCUMENTS}/docs", f"{DOCUMENTS}/examples", f"{DOCUMENTS}/examples/c", f"{DOCUMENTS}/vms",
            f"{DOCUMENTS}/vms/examples", "share/man", "share/man/man1", "share/man/man3", "share/vlm")
-SERVICE_FOLDERS = ("lib/systemd", "lib/systemd/system", "share/man/man8")
+SERVICE_FOLDERS = ("lib/systemd", "lib/systemd/system", "libexec/vlm/list", "share/man/man8")
 HEADERS = sorted((TOP / "include").glob("*.h*"))
 # Files that are installed as they are, and their folders. The documents keep their places, so that their links lead to
 # each other.
@@ -34,6 +34,7 @@ COPIED = {
 }
 # Of the service.
 SERVICE = {
+    **{file: "libexec/vlm/list" for file in sorted((TOP / "service" / "list").glob("*")) if file.is_file()},
     TOP / "service" / "systemd" / "vlmd.service": "lib/systemd/system",
     TOP / "service" / "systemd" / "vlmd.socket": "lib/systemd/system",
     TOP / "service" / "vlmd.conf": "share/vlm",

@@ -1,4 +1,4 @@
-"""Two replicas over one member of etcd, as processes, and clients of their lines. README.md has the language."""
+"""Two replicas of vlmd over one member of etcd, as processes, and clients of their lines."""
 
 import os
 import random
@@ -10,14 +10,15 @@ import time
 import unittest
 from pathlib import Path
 
-sys.path.insert(0, str(Path(__file__).resolve().parents[1]))
-from entries import Ended, Opened, Stepped  # noqa: E402
+from local import Local
+
+sys.path.insert(0, str(Path(__file__).resolve().parents[2] / "service" / "list"))
 from etcd_list import EtcdList  # noqa: E402
-from local import Local  # noqa: E402
 
 # How long an answer, an AST or a change may take.
 PATIENCE = 20.0
-CHUNK = 30
+# Bytes of a chunk, and steps that fill it.
+CHUNK, STEPS = 3_000, 60
 VALUE = "00112233445566778899aabbccddeeff"
 # How often two connections of one session race, and the longest head start of either in seconds.
 RACES, HEAD_START = int(os.environ.get("VLM_RACES", "80")), 0.004
@@ -29,6 +30,7 @@ class Lines:
     def __init__(self, place, *lines):
         self._socket = socket.create_connection(place, PATIENCE)
         self._file = self._socket.makefile("rb")
+        self.greeting = self.next()
         self.answers = [self.ask(line) for line in lines]
 
     def ask(self, line):
@@ -67,7 +69,7 @@ class Service(unittest.TestCase):
 
     def begun(self, replica, name="P", seconds=60):
         """A connection with a session and a process."""
-        made = self.lines(replica, f"open seconds={seconds}", f"declare {name} node=1 group=1 quota=9 blocks=4")
+        made = self.lines(replica, f"open seconds={seconds}", f"declare {name}")
         self.session = made.answers[0].split()[1]
         self.assertRegex(made.answers[0], f"^session [0-9a-f]{{16}} seconds {seconds} number 0 asts 0$")
         self.assertRegex(made.answers[1], f"^{name}: process [0-9]+$")
@@ -90,10 +92,10 @@ class Service(unittest.TestCase):
         self.assertEqual(p.next(), f"P: blocking 9 param 4 lock {held}")
         self.assertEqual(p.ask(f"deq P {held} value={VALUE}"), "P: NORMAL")
         self.assertEqual(q.next(), f"Q: completion 8 param 0 lock {asked}")
-        self.assertEqual(q.ask("block Q 1"), f"Q: block 1 status 1 lock {asked} value {VALUE}")
+        self.assertEqual(q.next(), f"Q: block 1 status 1 lock {asked} value {VALUE}")
 
     def test_a_wrong_line_gets_its_fault_and_ends_nothing(self):
-        self.assertEqual(self.lines(0, "declare P node=1 group=1 quota=9 blocks=4").answers, ["no session"])
+        self.assertEqual(self.lines(0, "declare P").answers, ["no session"])
         self.assertEqual(self.lines(0, "open seconds=1").answers, ["number out of range"])
         p = self.begun(0)
         for line, text in (("frobnicate", "unknown command"), ("ast P", "unknown command"), ("open", "session open"),
@@ -102,7 +104,7 @@ class Service(unittest.TestCase):
                            ("x" * 256, "too long"),
                            ("y" * 100_000, "too long"), ("block P 256", "number out of range"),
                            ("enq Q EX name=A block=1", "unknown name"), ("end Q", "unknown name"),
-                           ("declare P node=1 group=1 quota=9 blocks=4", "name used"), ("7 cvt P", "7 wrong word"),
+                           ("declare P", "name used"), ("7 cvt P", "7 wrong word"),
                            ("deq P 4294967295", "P: IVLOCKID"), ("enq P EX name=A block=5", "P: ACCVIO")):
             self.assertEqual(p.ask(line), text, line[:40])
         p.send("")
@@ -120,15 +122,6 @@ class Service(unittest.TestCase):
             self.assertEqual(p.ask(other), f"{other[0]} old number")
         shown = "\n".join(p.texts("show")).partition(" name numbered ")[2].split("resource")[0]
         self.assertEqual(shown.count(" CR"), 1)
-
-    def test_a_step_of_a_replaced_connection_comes_first(self):
-        self.begun(0)
-        session, store = self.session, EtcdList(self.local.members)
-        owner = next(it.owner for it in self.entries() if isinstance(it, Opened) and it.session == session)
-        again = self.lines(1, f"resume {session}")
-        store.append(f"late-{session}", [Stepped(session, owner, 2, "enq P CR name=late block=1")])
-        lock = self.lock_of(again.ask("enq P CR name=own block=1"))
-        self.assertEqual((self.locks_on(again, "late"), self.locks_on(again, "own")), ([], [lock]))
 
     def locks_on(self, connection, resource):
         """The locks that `show` has on a resource."""
@@ -163,10 +156,10 @@ class Service(unittest.TestCase):
     def test_a_session_goes_on_at_another_replica(self):
         p = self.begun(0)
         session, first = self.session, p.ask("7 enq P EX name=moved block=1 ast=3")
-        ast = p.next()
+        asts = [p.next(), p.next()]
         again = self.lines(1, f"resume {session} asts=0")
         self.assertEqual(again.answers, [f"session {session} seconds 60 number 7 asts 1"])
-        self.assertEqual(again.next(), ast)
+        self.assertEqual([again.next(), again.next()], asts)
         self.assertEqual((p.next(), p.next()), ("session moved", None))
         self.assertEqual(again.ask("7 enq P EX name=moved block=1 ast=3"), first)
         self.assertEqual(again.ask("deq P @1"), "P: NORMAL")
@@ -178,7 +171,7 @@ class Service(unittest.TestCase):
         self.lock_of(q.ask(f"cvt Q {locks[1]} EX block=1 ast=1"), "Q")
         self.assertEqual(q.next(), f"Q: completion 1 param 0 lock {locks[1]}")
         # Condition 6 is DEADLOCK: the most recent request is the victim.
-        self.assertEqual(q.ask("block Q 1").split()[:5], ["Q:", "block", "1", "status", "6"])
+        self.assertEqual(q.next().split()[:5], ["Q:", "block", "1", "status", "6"])
 
     def test_a_silent_session_ends_with_its_locks(self):
         lost, other = self.begun(0, seconds=2), self.begun(1, "Q")
@@ -187,19 +180,13 @@ class Service(unittest.TestCase):
         asked = self.lock_of(other.ask("enq Q PR name=silent block=1 valblk ast=1"), "Q")
         self.assertEqual(other.next(), f"Q: completion 1 param 0 lock {asked}")
         # Condition 7 is VALNOTVALID.
-        self.assertEqual(other.ask("block Q 1").split()[:5], ["Q:", "block", "1", "status", "7"])
+        self.assertEqual(other.next().split()[:5], ["Q:", "block", "1", "status", "7"])
         self.assertEqual((lost.next(), lost.next()), ("session ended", None))
         again = self.lines(1, f"resume {session}")
         self.assertEqual((again.answers, again.next()), (["session ended"], None))
-        self.assertEqual(len([it for it in self.entries() if isinstance(it, Ended) and it.session == session]), 1)
 
     def session_of(self, connection):
         return connection.answers[0].split()[1]
-
-    def entries(self):
-        """The list, as it is in etcd."""
-        reading = EtcdList(self.local.members).read(0, 0)
-        return [entry for batch in (*reading.packed, *reading.live) for entry in batch.entries]
 
     def test_a_closed_session_leaves_nothing(self):
         p = self.begun(0)
@@ -207,7 +194,7 @@ class Service(unittest.TestCase):
         self.assertEqual(p.ask("close"), "closed")
         self.assertNotIn(" name closed ", "\n".join(p.texts("show")))
         self.assertEqual(p.ask("enq P EX name=closed block=1"), "no session")
-        self.assertRegex(p.ask("open"), "^session [0-9a-f]{16} seconds 5 number 0 asts 0$")
+        self.assertRegex(p.ask("open"), "^session [0-9a-f]{16} seconds 10 number 0 asts 0$")
         p.ask("close")
 
     def make_steps(self, connection, count):
@@ -215,25 +202,33 @@ class Service(unittest.TestCase):
         for number in range(count):
             self.assertEqual(connection.ask(f"set P block=1 value={number:032x}"), "P: NORMAL")
         self.assertEqual(connection.ask("deq P 4294967295"), "P: IVLOCKID")
+        self.eventually(self.is_packed)
+
+    def is_packed(self):
+        """Whether there are several chunks, and little beside them."""
         store = EtcdList(self.local.members)
-        self.eventually(lambda: store.read(0, 0).chunks >= 3 and len(store.read(0, 0).live) < 2 * CHUNK)
+        revision = store.revision()
+        chunks = list(store.chunks(0, revision))
+        left = sum(len(it.entries) for it in store.batches(chunks[-1].covered if chunks else 0, revision))
+        return len(chunks) >= 3 and left < 3 * CHUNK
 
     def assert_equal_replicas(self, connection, count):
-        """Replica 1 becomes equal to the other one, and shows the last value that was set."""
-        self.eventually(lambda: self.lines(1).ask("digest") == connection.ask("digest"))
+        """Replica 1 shows what the other one shows, and the last value that was set."""
+        shown = [connection.texts(line) for line in ("show", "tails", "locks")]
         again = self.lines(1, f"resume {self.session_of(connection)}")
         self.assertEqual(again.ask("block P 1"), f"P: block 1 status 0 lock 0 value {count - 1:032x}")
+        self.assertEqual([again.texts(line) for line in ("show", "tails", "locks")], shown)
 
     def test_a_new_replica_starts_from_the_chunks(self):
         p = self.begun(0)
-        self.make_steps(p, 3 * CHUNK)
+        self.make_steps(p, 6 * STEPS)
         self.local.kill("replica 1")
         self.local.start_replica(1)
         self.local.wait()
-        self.assert_equal_replicas(p, 3 * CHUNK)
+        self.assert_equal_replicas(p, 6 * STEPS)
 
     def test_a_replica_that_was_away_reads_on(self):
-        p, count = self.begun(0), 20 * CHUNK
+        p, count = self.begun(0), 20 * STEPS
         self.local.signal("replica 1", signal.SIGSTOP)
         self.addCleanup(self.local.signal, "replica 1", signal.SIGCONT)
         self.make_steps(p, count)

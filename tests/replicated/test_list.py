@@ -9,10 +9,10 @@ from pathlib import Path
 from types import SimpleNamespace
 from unittest import mock
 
-sys.path.insert(0, str(Path(__file__).resolve().parents[1]))
+sys.path.insert(0, str(Path(__file__).resolve().parents[2] / "service" / "list"))
 import grpc  # noqa: E402
 from etcd3.client import Transactions  # noqa: E402
-from entries import Batch, Searched, encode  # noqa: E402
+from chunks import Batch  # noqa: E402
 from etcd_list import EtcdList  # noqa: E402
 from members import Place  # noqa: E402
 
@@ -62,13 +62,13 @@ class Members(unittest.TestCase):
         self.members[0].fails = {"append", "presence"}
         self.members[0].before_failure = threading.Barrier(MEMBERS, timeout=PATIENCE).wait
         with ThreadPoolExecutor(MEMBERS) as threads:
-            list(threads.map(lambda number: self.store.append(f"a-{number}", []), range(MEMBERS)))
+            list(threads.map(lambda number: self.store.append(f"a-{number}", b""), range(MEMBERS)))
         self.assertEqual(self.calls("append"), [MEMBERS, MEMBERS, 0])
 
     def test_appends_that_fail_leave_reads_where_they_are(self):
         self.members[0].fails = {"append"}
-        self.store.append("a", [])
-        self.store.read(0, 0)
+        self.store.append("a", b"")
+        self.store.revision()
         self.assertEqual([sum(it.calls[kind] for kind in ("read", "append")) > 0 for it in self.members],
                          [True, True, False])
         self.assertEqual(self.calls("read")[1:], [0, 0])
@@ -76,7 +76,7 @@ class Members(unittest.TestCase):
     def test_a_member_that_hangs_is_passed_over(self):
         self.members[0].fails = {"append"}
         self.members[1].fails = {"append", "presence"}
-        self.store.append("a", [])
+        self.store.append("a", b"")
         self.assertEqual(self.calls("append"), [1, 0, 1])
 
     def test_a_call_that_fails_late_moves_nothing(self):
@@ -99,7 +99,7 @@ class Members(unittest.TestCase):
             while not events.done():
                 watch.check()
                 time.sleep(0.01)
-            self.assertEqual(events.result(), [Batch(9, "a", (Searched(1),))])
+            self.assertEqual(events.result(), [Batch(9, "a", b"batch")])
         self.assertEqual(opened, [0, 1])
 
 
@@ -119,7 +119,7 @@ class Silent:
 def a_batch(name):
     """A watch response with a batch."""
     pair = SimpleNamespace(create_revision=9, mod_revision=9, key=b"vlm/entries/" + name.encode(),
-                           value=encode([Searched(1)]))
+                           value=b"batch")
     return SimpleNamespace(compact_revision=0, canceled=False, events=[SimpleNamespace(kv=pair, type=0, PUT=0)])
 
 

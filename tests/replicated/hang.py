@@ -8,13 +8,11 @@ import signal
 import sys
 import threading
 import time
-from pathlib import Path
 
-sys.path.insert(0, str(Path(__file__).resolve().parents[1]))
-import etcd3  # noqa: E402
-from etcd3.exceptions import ConnectionFailedError, ConnectionTimeoutError, InternalServerError  # noqa: E402
-from local import Local  # noqa: E402
-from lock_client import Client, SessionEnded  # noqa: E402
+import etcd3
+from etcd3.exceptions import ConnectionFailedError, ConnectionTimeoutError, InternalServerError
+from local import Local
+from lock_client import Client, SessionEnded
 
 MEMBERS, REPLICAS = 3, 3
 # How long all goes well before and after, and how long a member may take for a put.
@@ -64,7 +62,7 @@ def stepping(local, number, seconds):
     """A client of the service, which locks a resource of its own and gives it up, in turn."""
     first = number % len(local.places)
     client = Client(local.places[first:] + local.places[:first], seconds)
-    client.ask("declare P node=1 group=1 quota=9 blocks=1")
+    client.ask("declare P")
 
     def step():
         client.ask(("enq P EX name=own%d block=1" % number, "deq P @1")[client.number % 2])

@@ -8,12 +8,10 @@ import signal
 import sys
 import threading
 import time
-from pathlib import Path
 
-sys.path.insert(0, str(Path(__file__).resolve().parents[1]))
-from hang import leader  # noqa: E402
-from local import Local  # noqa: E402
-from lock_client import Client, SessionEnded  # noqa: E402
+from hang import leader
+from local import Local
+from lock_client import Client, SessionEnded
 
 MEMBERS, REPLICAS = 3, 3
 LEASE = 5
@@ -30,7 +28,7 @@ class Pair:
     def __init__(self, places, name):
         self.holder, self.other = (Client(it, LEASE) for it in (places, places[1:] + places[:1]))
         for client, words in ((self.holder, ""), (self.other, "ast=1")):
-            client.ask("declare P node=1 group=1 quota=9 blocks=1")
+            client.ask("declare P")
             client.ask(f"enq P EX name={name} block=1 {words}")
         # Until when the holder hangs, when it heard that its session had ended, and when the other one was granted.
         self.hangs_until, self.ended, self.granted = 0.0, None, None

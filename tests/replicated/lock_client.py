@@ -1,7 +1,8 @@
-"""A client of the lock service: a session at whichever replica answers. It needs nothing but Python.
+"""A client of a replicated vlmd: a session at whichever replica answers. It needs nothing but Python, and shares nothing
+with the client of the library.
 
     client = Client([("127.0.0.1", 7001), ("127.0.0.1", 7002)])
-    client.ask("declare P node=1 group=1 quota=9 blocks=4")
+    client.ask("declare P")
     client.ask("enq P EX name=A block=1 ast=8")
     client.next_ast(10.0)
 """
@@ -35,6 +36,7 @@ class Client:
         self.on_lease: Callable[[], None] = lambda: None
         # The number of its last line.
         self.number = 0
+        # Completions and blocking ASTs. A completion comes with the line of its status block, which is left out.
         self._asts: Deque[str] = deque()
         self._got = 0
         self._socket: Optional[socket.socket] = None
@@ -105,7 +107,7 @@ class Client:
             raise OSError(text)
         if text.startswith("lost "):
             self._got += int(text.split()[1])
-        else:
+        elif ": block " not in text:
             self._asts.append(text)
             self._got += 1
 
@@ -117,6 +119,9 @@ class Client:
                 self._socket = socket.create_connection(self.replicas[0], _CONNECT)
                 self._socket.setsockopt(socket.IPPROTO_TCP, socket.TCP_NODELAY, 1)
                 begin = f"resume {self.session} asts={self._got}" if self.session else f"open seconds={self.seconds}"
+                greeting = self._line(self._patience)
+                if not greeting.startswith("vlm protocol 1 "):
+                    raise ConnectionError(greeting)
                 self._send(begin)
                 answer = self._line(self._patience).split()
                 if answer == ["session", "ended"]:

@@ -1,6 +1,6 @@
 #!/usr/bin/env python3
 """Kills and stops replicas, members of etcd and clients, again and again, while clients count under locks, and then
-checks what they were told. README.md beside the service says what is checked."""
+checks what they were told, and what is left."""
 
 import argparse
 import heapq
@@ -11,43 +11,17 @@ import threading
 import time
 from pathlib import Path
 
-sys.path.insert(0, str(Path(__file__).resolve().parents[1]))
-from etcd_list import Compacted, EtcdList  # noqa: E402
-from local import Local, start  # noqa: E402
-from lock_client import Client  # noqa: E402
-from vlm import script  # noqa: E402
-from witness import (NAMED, Replay, Witness, conflicts, left_behind, lost_updates, of_kind,  # noqa: E402
-                     statuses_after_kills, still_valid, unlisted_answers)
-from worker import LEASE, LONG_LEASE, WRITERS  # noqa: E402
+from local import Local, start
+from lock_client import Client
+from witness import NAMED, Witness, conflicts, left_behind, lost_updates, of_kind, statuses_after_kills, still_valid
+from worker import LEASE, LONG_LEASE, WRITERS
 
-MEMBERS, REPLICAS, KEEPERS, READERS, CHUNK = 3, 3, 3, 8, 1_500
+sys.path.insert(0, str(Path(__file__).resolve().parents[2] / "service" / "list"))
+from etcd_list import EtcdList  # noqa: E402
+
+MEMBERS, REPLICAS, KEEPERS, READERS, CHUNK = 3, 3, 3, 8, 60_000
 # How long the service may take to come to rest at the end.
 REST = 40.0
-
-
-class Observer:
-    """Reads the list of etcd as it grows, entries included that no chunk keeps."""
-
-    def __init__(self, members):
-        self.batches, self.gaps, self.revision = [], 0, 0
-        self._store = EtcdList(members)
-        threading.Thread(target=self._observe, daemon=True).start()
-
-    def _observe(self):
-        while True:
-            reading = self._store.read(0, 0)
-            self._add([*reading.packed, *reading.live])
-            watch = self._store.watch(reading.revision + 1)
-            try:
-                while True:
-                    self._add(watch.next())
-            except Compacted:
-                self.gaps += 1
-
-    def _add(self, batches):
-        new = [it for it in batches if it.revision > self.revision]
-        self.batches += new
-        self.revision = new[-1].revision if new else self.revision
 
 
 class Run:
@@ -57,7 +31,6 @@ class Run:
         self.local, self.seed = local, seed
         self.rng = random.Random(seed)
         self.witness = Witness()
-        self.observer = Observer(local.members)
         # A holder is a writer that holds its own counter.
         self.counts = dict.fromkeys(("member killed", "replica killed", "replica stopped", "client killed",
                                      "holder killed", "client stopped"), 0)
@@ -127,8 +100,8 @@ class Run:
         return [name for name, process in self.local.processes.items() if process.poll() is not None]
 
     def come_to_rest(self):
-        """Has the workers stop, and waits until all replicas and the observer are equal. One replica starts from the
-        chunks. Returns what each shows."""
+        """Has the workers stop, and waits until all replicas are equal. One of them starts from the chunks. Returns what
+        each shows."""
         self.local.kill("replica 0")
         self.local.start_replica(0)
         self.local.wait()
@@ -138,14 +111,15 @@ class Run:
         wait_until(lambda: self.witness.count("idle") >= len(workers), lambda: f"not idle: {self.ended()}")
         time.sleep(2 * LEASE)
         clients = [Client([place], LONG_LEASE) for place in self.local.places]
-        digests = []
+        shown = []
 
         def are_equal():
-            digests[:] = [client.ask("digest") for client in clients]
-            return len(set(digests)) == 1 and int(digests[0].split()[1]) == self.observer.revision
+            before = list(shown)
+            shown[:] = [[client.texts(line) for line in ("show", "tails", "locks")] for client in clients]
+            return shown == before and all(it == shown[0] for it in shown)
 
-        wait_until(are_equal, lambda: f"the replicas differ: {digests}, observed {self.observer.revision}")
-        return [(client.texts("show"), client.texts("tails")) for client in clients]
+        wait_until(are_equal, lambda: f"the replicas differ: {shown}")
+        return shown[0]
 
 
 def wait_until(is_so, told=lambda: ""):
@@ -156,32 +130,31 @@ def wait_until(is_so, told=lambda: ""):
         time.sleep(0.2)
 
 
-def problems(run, shown):
+def problems(run, show):
     """What is wrong with a run, kind by kind."""
-    told, replay = run.witness.told(), Replay(run.observer.batches)
-    show, tails = shown[0]
+    told = run.witness.told()
     counters = {line.split(" name ")[1].split()[0]: line for line in show if line.startswith("resource ")}
-    yield "replicas show different things", [it for it in shown if it != shown[0]]
-    yield "the list again shows other things", [it for it in ((script.Show(), show), (script.ShowTails(), tails))
-                                                if replay.shown(it[0]) != it[1]]
     yield "conflicts", conflicts(told)
     yield "lost updates", lost_updates(told, counters)
-    yield "answers that are not the list's", unlisted_answers(told, replay)
     yield "locks of the dead", left_behind(told, show)
     yield "value blocks that stayed valid", still_valid(told)
-    live = sum(len(batch.entries) for batch in EtcdList(run.local.members).read(0, 0).live)
-    yield "the list in etcd is long", [live] if live > 3 * CHUNK else []
+    live = sum(len(it.entries) for it in unpacked(run.local.members))
+    yield "the list in etcd is long", [live] if live > 4 * CHUNK else []
     yield "processes that ended by themselves", run.ended()
     yield "kinds of fault that were not made", [kind for kind, count in run.counts.items() if not count]
     yield "nothing was counted", [] if of_kind(told, "done") else ["no write was acknowledged"]
 
 
+def unpacked(members):
+    """The batches that are in no chunk."""
+    store = EtcdList(members)
+    revision = store.revision()
+    return list(store.batches(0, revision))
+
+
 def report(run):
     told = run.witness.told()
-    entries = sum(len(batch.entries) for batch in run.observer.batches)
     print(f"faults: {', '.join(f'{kind} {count}' for kind, count in run.counts.items())}")
-    print(f"{entries} entries in {len(run.observer.batches)} appends, {len(of_kind(told, 'answer'))} answers compared, "
-          f"the observer lost its place {run.observer.gaps} times")
     print(f"{len(of_kind(told, 'done'))} acknowledged of {len(of_kind(told, 'try'))} writes, "
           f"{len(of_kind(told, 'hold'))} grants, {len(of_kind(told, 'ended'))} sessions ended under their clients, "
           f"{len(list(statuses_after_kills(told)))} writers killed while they held their counter", flush=True)
@@ -210,9 +183,9 @@ def tried(run, seconds):
     run.local.wait()
     run.start_workers()
     run.make_faults(seconds)
-    shown = run.come_to_rest()
+    show, _, _ = run.come_to_rest()
     report(run)
-    for kind, found in problems(run, shown):
+    for kind, found in problems(run, show):
         yield from (f"{kind}: {it}" for it in list(found)[:NAMED])
 
 

@@ -10,10 +10,8 @@ import signal
 import socket
 import sys
 import time
-from pathlib import Path
 
-sys.path.insert(0, str(Path(__file__).resolve().parents[1]))
-from lock_client import Client, SessionEnded  # noqa: E402
+from lock_client import Client, SessionEnded
 
 WRITERS, SHARED = 50, 4
 LEASE, LONG_LEASE = 4, 60
@@ -42,7 +40,7 @@ class Worker:
         return answer
 
     def declare(self, quota=9):
-        answer = self.step(f"declare P node={self.number % 8 + 1} group=1 quota={quota} blocks=2")
+        answer = self.step(f"declare P quota={quota}")
         self.tell("process", int(answer.split()[-1]))
 
     def granted(self, name, mode):

@@ -6,10 +6,6 @@ import threading
 from collections import defaultdict
 from typing import NamedTuple
 
-from vlm import LockManager, script
-
-from entries import Closed, Ended, Kept, Opened, Resumed, Searched, Stepped, Taken
-
 VALNOTVALID = 7
 # How many problems of a kind are named.
 NAMED = 5
@@ -142,63 +138,3 @@ def left_behind(told, show):
     living = {[words[2] for words in lines if words[0] == "process"][-1]
               for lines in told if any(words[0] == "idle" for words in lines)}
     yield from (line for line in show if line.startswith("  ") and int(line.split()[3]) not in living)
-
-
-class Replay:
-    """A list, made again on a fresh lock manager, from its entries alone."""
-
-    def __init__(self, batches):
-        self.manager, self.names, self.answers, self._last = LockManager(), {}, {}, defaultdict(int)
-        self._owners, self._beats = {}, {}
-        for batch in batches:
-            for entry in batch.entries:
-                self._make(entry)
-
-    def _make(self, entry):
-        if isinstance(entry, (Opened, Resumed)):
-            self._owners[entry.session] = self._beats[entry.session] = entry.owner
-        if isinstance(entry, Opened):
-            self.names.setdefault(entry.session, script.Names())
-        elif isinstance(entry, Searched):
-            script.make(self.manager, 0, script.Search(entry.node))
-        elif isinstance(entry, Kept):
-            self._beats.update(dict.fromkeys(entry.sessions, entry.beat))
-        elif isinstance(entry, (Stepped, Taken, Ended, Closed)) and entry.session in self.names:
-            self._of_session(entry, self.names[entry.session])
-
-    def _of_session(self, entry, names):
-        if isinstance(entry, Stepped):
-            self._step(names, entry)
-        elif isinstance(entry, Taken):
-            for pid in names.pids.values():
-                while script.make(self.manager, pid, script.Take()).ast:
-                    pass
-        elif self._is_over(entry):
-            for pid in self.names.pop(entry.session).pids.values():
-                script.make(self.manager, pid, script.Rundown())
-
-    def _is_over(self, entry):
-        """Whether the end of a session is one: of its owner, or after the last beat that the list has."""
-        if isinstance(entry, Closed):
-            return entry.owner == self._owners[entry.session]
-        return entry.beat in (None, self._beats[entry.session])
-
-    def _step(self, names, entry):
-        if entry.owner == self._owners[entry.session] and entry.number > self._last[entry.session]:
-            self._last[entry.session] = entry.number
-            line = script.read_line(entry.line.encode("latin-1"))
-            outcome = script.make(self.manager, names.pid_of(line), line.does)
-            names.learn(line, outcome)
-            self.answers[entry.session, entry.number] = script.printed(line, outcome).rstrip("\n")
-
-    def shown(self, view):
-        """What `show` or `tails` prints."""
-        return script.shown(self.manager, 0, script.Line(None, view)).splitlines()
-
-
-def unlisted_answers(told, replay):
-    """Each answer that a worker got is the list's."""
-    for session, number, line, answer in of_kind(told, "answer"):
-        listed = replay.answers.get((session, number))
-        if listed != answer:
-            yield f"session {session} was told {answer} of its line {number}, {line}: the list has {listed}"

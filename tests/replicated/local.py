@@ -1,17 +1,17 @@
-"""Members of etcd and replicas as processes of this machine, for tests and measurements."""
+"""Members of etcd and replicas of vlmd as processes of this machine, for tests and measurements. VLM_PREFIX names the
+folder into which vlmd is installed."""
 
+import os
 import shutil
 import signal
 import socket
 import subprocess
-import sys
 import tempfile
 import time
 from pathlib import Path
 from types import TracebackType
 from typing import Dict, List, Optional, Tuple, Type
 
-HERE = Path(__file__).resolve().parent
 HOST = "127.0.0.1"
 # How long a process may take until it serves.
 START = 60.0
@@ -38,11 +38,12 @@ def start(words: List[str], log: Path) -> "subprocess.Popen[bytes]":
 class Local:
     """A number of etcd's members and of replicas, in a temporary folder. Each can be killed and started again."""
 
-    def __init__(self, members: int, replicas: int, chunk: int = 2_000) -> None:
+    def __init__(self, members: int, replicas: int, chunk: int = 1 << 20) -> None:
+        """`chunk` is how many bytes of entries a chunk has."""
         self.folder = Path(tempfile.mkdtemp(prefix="vlm-replicated-"))
         ports = free_ports(2 * members + replicas)
         self._clients, self._peers, self.ports = ports[:members], ports[members:2 * members], ports[2 * members:]
-        self._chunk = chunk
+        (self.folder / "conf").write_text(f"chunk {chunk}\n")
         self.processes: Dict[str, "subprocess.Popen[bytes]"] = {}
         for number in range(members):
             self.start_member(number)
@@ -72,8 +73,12 @@ class Local:
         """Starts a replica, which asks this member first."""
         members = self.members[first:] + self.members[:first]
         self._start(f"replica {number}", [
-            sys.executable, str(HERE / "serve.py"), "--etcd", ",".join(members), "--chunk", str(self._chunk),
-            "--listen", f"{HOST}:{self.ports[number]}"])
+            f"{os.environ['VLM_PREFIX']}/bin/vlmd", "-c", str(self.folder / "conf"), "-s", self.socket(number),
+            "--etcd", ",".join(members), "--listen", f"{HOST}:{self.ports[number]}"])
+
+    def socket(self, number: int) -> str:
+        """The Unix socket of a replica."""
+        return str(self.folder / f"socket {number}")
 
     def _start(self, name: str, words: List[str]) -> None:
         self.processes[name] = start(words, self.folder / f"{name}.log")
