@@ -12,6 +12,7 @@
  * readings.c    block, tail, show and tails
  * who.c         who and metrics
  * locks.c       readings of single locks
+ * tokens.c      fencing tokens of locks
  * processes.c   processes kept for reuse, and what each user has
  * requests.c    records of requests, ASTs, and which requests wait
  * circles.c     searches for deadlocks, and the circle for the log
@@ -153,11 +154,19 @@ struct request {
     struct process *process;
     struct user *user; /* while it waits, else null */
     uint32_t lkid;
+    uint32_t mode; /* that it wants */
     uint32_t block;
     uint32_t ast; /* the client's completion routine */
     bool has_ast;
+    bool has_token; /* it has taken its fencing token */
     uint64_t since;
     uint32_t previous, next; /* of the waiting ones, or of the free records */
+};
+
+/* The fencing token of a lock: 0 before its first grant. A place of the table without a lock has lkid 0. */
+struct token {
+    uint32_t lkid;
+    uint64_t number;
 };
 
 struct counts {
@@ -186,6 +195,9 @@ struct dispatcher {
     struct request *requests;
     uint32_t request_room, free_request;
     uint32_t first_waiting, last_waiting, waiting_count;
+    uint64_t token;       /* the last one that was taken */
+    struct token *tokens; /* hashed by their locks */
+    size_t token_room, token_count;
     vlm_line line;  /* the line that is run */
     vlm_text text;  /* the answer to it */
     vlm_line shown; /* names a process whose AST or block is printed */
@@ -232,6 +244,14 @@ void metrics(struct client *client);
 /* locks.c */
 bool run_lock_line(struct client *client, const struct word *words, size_t count);
 
+/* tokens.c */
+bool reserve_token(struct dispatcher *dispatcher);
+void note_lock(struct dispatcher *dispatcher, uint32_t lkid);
+void take_token(struct dispatcher *dispatcher, struct request *record);
+uint64_t token_of(const struct dispatcher *dispatcher, uint32_t lkid);
+void forget_token(struct dispatcher *dispatcher, uint32_t lkid);
+void forget_tokens_of(struct dispatcher *dispatcher, uint32_t pid);
+
 /* processes.c */
 struct user *find_user(struct dispatcher *dispatcher, uint32_t uid);
 void drop_user(struct dispatcher *dispatcher, struct user *user);
@@ -246,7 +266,7 @@ void set_bit(uint8_t *bits, uint32_t number);
 /* requests.c */
 uint32_t new_request(struct process *process, vlm_request *request);
 void drop_request(struct dispatcher *dispatcher, uint32_t place);
-void accept_request(struct dispatcher *dispatcher, uint32_t place, uint32_t lkid);
+void accept_request(struct dispatcher *dispatcher, uint32_t place, uint32_t lkid, bool is_new);
 bool wait_if_queued(struct dispatcher *dispatcher, uint32_t place, uint32_t lkid);
 void tell(struct dispatcher *dispatcher);
 

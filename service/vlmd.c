@@ -187,22 +187,27 @@ static void set_timer(uint64_t now) {
         uv_timer_start(&vlmd.due, on_due, due > now ? due - now : 0, 0);
 }
 
+/* Writes another epoch down before a client hears of it: the next daemon begins with a later one, also after a kill. */
+static void write_epoch(void) {
+    if (dispatcher_epoch(vlmd.dispatcher) == vlmd.epoch)
+        return;
+    vlmd.epoch = dispatcher_epoch(vlmd.dispatcher);
+    if (!write_state(vlmd.state, vlmd.epoch, true))
+        write_log("the epoch can't be written down");
+}
+
 /* After each poll: what is due, the lines that are left, all output, and when to wake. */
 static void on_turn(uv_check_t *check) {
     (void)check;
     uint64_t now = uv_now(&vlmd.loop);
     dispatcher_tick(vlmd.dispatcher, now);
     dispatcher_run(vlmd.dispatcher);
+    write_epoch();
     flush_all();
     if (dispatcher_is_busy(vlmd.dispatcher))
         uv_idle_start(&vlmd.busy, on_busy);
     else
         uv_idle_stop(&vlmd.busy);
-    if (dispatcher_epoch(vlmd.dispatcher) != vlmd.epoch) {
-        vlmd.epoch = dispatcher_epoch(vlmd.dispatcher);
-        if (!write_state(vlmd.state, vlmd.epoch, true))
-            write_log("the epoch can't be written down");
-    }
     set_timer(now);
 }
 
@@ -267,6 +272,7 @@ static bool start_dispatcher(bool was_unclean) {
     vlmd.dispatcher = dispatcher_open(&vlmd.config.limits, vlmd.epoch, keys, write_log);
     if (vlmd.dispatcher == NULL)
         return false;
+    dispatcher_set_token(vlmd.dispatcher, (uint64_t)vlmd.epoch << TOKEN_BITS);
     uint64_t now = uv_hrtime() / 1000000;
     dispatcher_tick(vlmd.dispatcher, now);
     if (was_unclean && vlmd.config.grace != 0) {

@@ -9,7 +9,7 @@
 #include <string.h>
 #include <time.h>
 
-enum { CLIENTS = 4, MOST_FILES = 256, MOST_BYTES = 8192, KEYS = 16 };
+enum { CLIENTS = 4, MOST_FILES = 256, MOST_BYTES = 8192, KEYS = 16, QUEUES = 3 };
 
 static const struct limits limits = {.connections = 3,
                                      .processes = 12,
@@ -68,6 +68,27 @@ static void check_counts(void) {
         abort();
 }
 
+/* A lock has a token from its first grant on, and a place in their table as long as it is there. */
+static void check_tokens(void) {
+    size_t count = 0;
+    for (size_t at = 0; at < dispatcher->token_room; at++)
+        count += dispatcher->tokens[at].lkid != 0;
+    if (count != dispatcher->token_count || count < vlm_lock_count(&dispatcher->manager))
+        abort();
+    vlm_resource resource = {.size = sizeof resource};
+    uint32_t found = vlm_next_resource(&dispatcher->manager, &resource);
+    for (; found == VLM_NORMAL && resource.serial != 0; found = vlm_next_resource(&dispatcher->manager, &resource))
+        for (uint32_t queue = 0; queue < QUEUES; queue++) {
+            vlm_lock lock = {.size = sizeof lock};
+            uint32_t status = vlm_first_row(&dispatcher->manager, &resource, queue, &lock);
+            for (; status == VLM_NORMAL && lock.lkid != 0;
+                 status = vlm_next_row(&dispatcher->manager, lock.lkid, &lock))
+                if ((token_of(dispatcher, lock.lkid) == 0) != (queue == VLM_WAITING)
+                    || token_of(dispatcher, lock.lkid) > dispatcher->token)
+                    abort();
+        }
+}
+
 /* A line of a client. Its first byte chooses the client, and what happens besides. */
 static void play(const uint8_t *line, size_t len, bool is_whole) {
     uint32_t at = line[0] % CLIENTS, what = line[0] / CLIENTS % 8;
@@ -85,6 +106,7 @@ static void play(const uint8_t *line, size_t len, bool is_whole) {
     while (dispatcher_is_busy(dispatcher));
     send_all(what == 3 ? at : CLIENTS);
     check_counts();
+    check_tokens();
     if (what == 4)
         client_hear(clients[at], line, 0);
     if (what == 5)
