@@ -475,7 +475,7 @@ def under_systemd(_program):
         notices.bind(f"{folder}/notices")
         notices.settimeout(20)
         env = {**os.environ, "LISTEN_FDS": "1", "NOTIFY_SOCKET": f"{folder}/notices", "WATCHDOG_USEC": "100000",
-               "RUNTIME_DIRECTORY": str(folder)}
+               "STATE_DIRECTORY": str(folder)}
         words = ["sh", "-c", f'LISTEN_PID=$$ exec "$0" -c /dev/null 3<&{listener.fileno()}', CHECKED()]
         daemon = subprocess.Popen(words, env=env, pass_fds=[listener.fileno()], stderr=subprocess.DEVNULL)
         told = [notices.recv(100) for _ in range(3)]

@@ -1,16 +1,18 @@
 """Fencing tokens of the lock service. A witness that knows only the rule has random clients lock, convert and give up
 locks: each grant has a greater token than all grants of earlier lines, over restarts and changes of lock managers."""
 
+import os
 import random
 import re
 import signal
+import subprocess
 import tempfile
 from functools import partial
 from pathlib import Path
 
 import library
-from daemons import SOURCES, Daemon
-from harness import ROOM, TOP, Test, difference
+from daemons import PLAIN, SOURCES, Daemon
+from harness import PLAIN_ROOM, ROOM, TOP, Test, difference
 from service_scripts import MODES
 
 NONE = ["no such lock"]
@@ -277,6 +279,19 @@ def changed(_program):
         yield from difference((daemon.metric("epoch"), found), (1, [(1 << 40) + 1, None]))
 
 
+def unsynced(_program):
+    """A daemon whose epoch does not come to the disk does not start: after a crash of the machine the next one would
+    give the same tokens."""
+    folder = Path(PLAIN_ROOM().name)
+    (folder / "unsynced.c").write_text("int fdatasync(int descriptor) { return descriptor < 0 ? 0 : -1; }\n")
+    wrong = list(library.ran("cc", "-shared", "-fPIC", folder / "unsynced.c", "-o", folder / "unsynced.so"))
+    env = {**os.environ, "LD_PRELOAD": str(folder / "unsynced.so")}
+    ended = subprocess.run([PLAIN(), "-c", "/dev/null", "-s", folder / "unsynced"], capture_output=True, text=True,
+                           timeout=20, env=env)
+    yield from wrong
+    yield from difference((ended.returncode, "unsynced.state can't be written" in ended.stderr), (4, True))
+
+
 def ranges(_program):
     """The dispatcher alone: its last token never gets smaller, and an epoch that has no tokens left takes those of the
     next one."""
@@ -292,6 +307,7 @@ def ranges(_program):
 def tests():
     checks = {"tokens of many locks": many, "tokens of another lock manager": changed,
               "tokens over restarts": restarted, "tokens of waiting requests": waiting, "tokens of victims": victims,
-              "tokens of one status block": blocks, "tokens of another session": hidden, "ranges of tokens": ranges}
+              "tokens of one status block": blocks, "tokens of another session": hidden, "ranges of tokens": ranges,
+              "a disk that takes no epoch": unsynced}
     return [Test(name, check) for name, check in checks.items()] \
         + [Test(f"tokens of random clients, seed {seed}", partial(witnessed, seed)) for seed in range(3)]
