@@ -89,6 +89,12 @@ uint32_t vlm_client_deq(vlm_client *client, const vlm_threads_dequeue *dequeue);
  * INSFMEM: memory was refused. BADPARAM: the word has a line feed or more than 256 bytes. */
 uint32_t vlm_client_read(vlm_client *client, const char *word, uint32_t lkid, char **text);
 
+/* Reads the fencing token of a lock: of its last request that ended well. docs/SERVICE.md says what it is for. A later
+ * grant has a greater one. *token is 0 unless the answer is NORMAL.
+ * IVLOCKID: there is no such lock, or it waits for its first grant. UNSUPPORTED: the service has no tokens. INSFMEM:
+ * memory was refused. */
+uint32_t vlm_client_token(vlm_client *client, uint32_t lkid, uint64_t *token);
+
 /* Deliver events, as the calls of vlm_threads.h with the same ends do. The completion routine of a request that is
  * under way when the locks are lost is called with the status VLM_LOST, before on_lost. If the locks of a next session
  * are lost before on_lost is called, one call tells both, after the completions of both. */

@@ -54,8 +54,7 @@ static void on_events(uv_poll_t *poll, int status, int events);
 
 /* Has the loop wait for what the client's state asks for. */
 static void wait_for(struct connection *connection, size_t unsent) {
-    bool is_heard =
-        connection->link != NULL ? link_is_heard(connection->link) : client_is_heard(connection->client);
+    bool is_heard = connection->link != NULL ? link_is_heard(connection->link) : client_is_heard(connection->client);
     int events = (is_heard ? UV_READABLE : 0) | (unsent != 0 ? UV_WRITABLE : 0);
     if (events == connection->events)
         return;

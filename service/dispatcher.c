@@ -60,6 +60,7 @@ void dispatcher_close(struct dispatcher *dispatcher) {
     free(dispatcher->processes);
     free(dispatcher->sessions);
     free(dispatcher->requests);
+    free(dispatcher->tokens);
     free(dispatcher);
 }
 
@@ -123,8 +124,6 @@ void dispatcher_run(struct dispatcher *dispatcher) {
 }
 
 bool dispatcher_is_busy(const struct dispatcher *dispatcher) { return dispatcher->ready != NULL; }
-
-uint32_t dispatcher_epoch(const struct dispatcher *dispatcher) { return dispatcher->epoch; }
 
 bool dispatcher_has_locks(struct dispatcher *dispatcher) { return vlm_lock_count(&dispatcher->manager) != 0; }
 

@@ -27,6 +27,8 @@ struct limits {
 #define USUAL_LIMITS { 20000, 20000, 10000, 2000, 8 << 20, 1024, 64, 10000, 1000, 60000, UINT32_MAX }
 /* clang-format on */
 
+enum { TOKEN_BITS = 40 };
+
 /* What a connection may do, as the system says who it is. */
 struct rights {
     uint32_t uid;
@@ -67,9 +69,16 @@ void dispatcher_run(struct dispatcher *dispatcher);
 /* Whether such lines are left. Sent output may let more lines run. */
 bool dispatcher_is_busy(const struct dispatcher *dispatcher);
 
-/* The epoch of the lock manager, and whether a client holds a lock or waits for one. */
+/* The last epoch of which a client may have a handle or a token: that of the lock manager, or a later one if more
+ * tokens were taken than an epoch has. The next dispatcher has to begin with a later one. */
 uint32_t dispatcher_epoch(const struct dispatcher *dispatcher);
+
+/* Whether a client holds a lock or waits for one. */
 bool dispatcher_has_locks(struct dispatcher *dispatcher);
+
+/* Sets the last fencing token, unless that is greater already: each grant takes the next one. The tokens of an epoch
+ * are those above `epoch << TOKEN_BITS`. */
+void dispatcher_set_token(struct dispatcher *dispatcher, uint64_t token);
 
 /* Tells all clients that their locks are lost, and ends them. */
 void dispatcher_lose(struct dispatcher *dispatcher);

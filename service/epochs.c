@@ -94,6 +94,7 @@ static void use_manager(struct dispatcher *dispatcher, vlm *manager) {
     dispatcher->last_lkid = 0;
     dispatcher->drained = 0;
     dispatcher->epoch++;
+    dispatcher_set_token(dispatcher, (uint64_t)dispatcher->epoch << TOKEN_BITS);
 }
 
 /* Changes to a new manager at a moment without locks. Its cost grows with the processes. */

@@ -45,9 +45,9 @@ struct link *link_open(struct replica *replica, const struct rights *rights, uin
     link->replica = replica;
     link->context = context;
     link->slot = slot;
-    const uint32_t numbers[] = {
-        slot, rights->uid, rights->pid,
-        rights->group, salt, (rights->has_syslck ? HAS_SYSLCK : 0) | (rights->is_admin ? IS_ADMIN : 0)};
+    const uint32_t numbers[] = {slot,        rights->uid,
+                                rights->pid, rights->group,
+                                salt,        (rights->has_syslck ? HAS_SYSLCK : 0) | (rights->is_admin ? IS_ADMIN : 0)};
     entry_begin(&replica->next, ENTRY_CONNECTED, sizeof numbers);
     for (size_t at = 0; at < sizeof numbers / sizeof *numbers; at++)
         bytes_add_number(&replica->next, numbers[at], 4);
@@ -72,7 +72,9 @@ struct link *link_of(const struct replica *replica, uint32_t slot) {
 
 void *link_context(const struct link *link) { return link->context; }
 
-struct client *link_client(const struct link *link) { return link->client; }
+struct client *link_client(const struct link *link) {
+    return link->client;
+}
 
 void link_close(struct link *link) {
     struct replica *replica = link->replica;
@@ -200,9 +202,7 @@ void link_hear(struct link *link, const uint8_t *bytes, size_t len) {
     note_excess(link);
 }
 
-bool link_is_heard(const struct link *link) {
-    return !link->is_ended && may_go(link) && link->in.len < MOST_HEARD;
-}
+bool link_is_heard(const struct link *link) { return !link->is_ended && may_go(link) && link->in.len < MOST_HEARD; }
 
 bool link_is_over(const struct link *link) {
     size_t len;

@@ -1,5 +1,5 @@
-/* What a program reads of single locks: locks, lock, rows, blockers, blocked and below. Each answer ends with a blank
- * line. A client reads what `who` shows it. */
+/* What a program reads of single locks: locks, lock, rows, blockers, blocked, below and token. Each answer ends with a
+ * blank line. A client reads what `who` shows it. */
 #include "parts.h"
 
 #include <inttypes.h>
@@ -112,13 +112,23 @@ static void tell_below(struct reading *reading) {
     put_format(reading->client, "below %" PRIu64 "\n", count);
 }
 
+/* `token L`: its fencing token, which a waiting new request has not. */
+static void tell_token(struct reading *reading) {
+    uint64_t token = token_of(reading->client->dispatcher, reading->lkid);
+    if (token != 0)
+        put_format(reading->client, "token %" PRIu64 "\n", token);
+    else
+        put_text(reading->client, "no such lock\n");
+}
+
 static const struct {
     const char *word;
     void (*tell)(struct reading *reading);
     bool names_lock, is_limited;
 } readings[] = {{"locks", tell_all, false, true},      {"lock", tell_lock, true, false},
                 {"rows", tell_rows, true, true},       {"blockers", tell_blockers, true, true},
-                {"blocked", tell_blocked, true, true}, {"below", tell_below, true, true}};
+                {"blocked", tell_blocked, true, true}, {"below", tell_below, true, true},
+                {"token", tell_token, true, false}};
 
 /* Finds the lock of a line. A lock that the client may not see is not there. */
 static bool find(struct reading *reading, uint64_t handle) {

@@ -12,6 +12,7 @@
  * readings.c    block, tail, show and tails
  * who.c         who and metrics
  * locks.c       readings of single locks
+ * tokens.c      fencing tokens of locks
  * processes.c   processes kept for reuse, and what each user has
  * requests.c    records of requests, ASTs, and which requests wait
  * circles.c     searches for deadlocks, and the circle for the log
@@ -133,7 +134,7 @@ struct client {
     struct session *session; /* or null */
     void *context;
     uint32_t salt; /* of the names of its sessions */
-    uint8_t *in; /* bytes that no line was made of yet */
+    uint8_t *in;   /* bytes that no line was made of yet */
     size_t in_from, in_len, in_room;
     uint8_t *out;
     size_t out_from, out_len, out_room;
@@ -142,11 +143,11 @@ struct client {
     bool has_number;
     bool is_step;
     /* What is known of the client. */
-    bool is_ended;   /* no more bytes come */
-    bool is_over;    /* the connection ends once all is sent */
-    bool is_cut;     /* it ends at once */
-    bool is_waiting; /* its next line is a request, and the dispatcher is quiet */
-    bool is_long;    /* the bytes up to the next line feed are too many */
+    bool is_ended;    /* no more bytes come */
+    bool is_over;     /* the connection ends once all is sent */
+    bool is_cut;      /* it ends at once */
+    bool is_waiting;  /* its next line is a request, and the dispatcher is quiet */
+    bool is_long;     /* the bytes up to the next line feed are too many */
     bool is_detached; /* it is another replica's, or its connection has ended */
     bool is_ready, is_changed;
     struct client *previous, *next; /* of all clients */
@@ -158,11 +159,19 @@ struct request {
     struct process *process;
     struct user *user; /* while it waits, else null */
     uint32_t lkid;
+    uint32_t mode; /* that it wants */
     uint32_t block;
     uint32_t ast; /* the client's completion routine */
     bool has_ast;
+    bool has_token; /* it has taken its fencing token */
     uint64_t since;
     uint32_t previous, next; /* of the waiting ones, or of the free records */
+};
+
+/* The fencing token of a lock: 0 before its first grant. A place of the table without a lock has lkid 0. */
+struct token {
+    uint32_t lkid;
+    uint64_t number;
 };
 
 struct counts {
@@ -175,8 +184,8 @@ struct dispatcher {
     uint8_t keys[16];
     logger log;
     bool is_replica;
-    uint64_t place;    /* of a replica: in the list */
-    uint32_t next_end; /* of a replica: the place of the session that is asked for its end next */
+    uint64_t place;      /* of a replica: in the list */
+    uint32_t next_end;   /* of a replica: the place of the session that is asked for its end next */
     uint64_t found_none; /* how many steps there had been at the last search without a victim */
     uint64_t now, quiet_until, searched, drained, looked;
     uint32_t epoch;
@@ -195,6 +204,9 @@ struct dispatcher {
     struct request *requests;
     uint32_t request_room, free_request;
     uint32_t first_waiting, last_waiting, waiting_count;
+    uint64_t token;       /* the last one that was taken */
+    struct token *tokens; /* hashed by their locks */
+    size_t token_room, token_count;
     vlm_line line;  /* the line that is run */
     vlm_text text;  /* the answer to it */
     vlm_line shown; /* names a process whose AST or block is printed */
@@ -242,6 +254,14 @@ void metrics(struct client *client);
 /* locks.c */
 bool run_lock_line(struct client *client, const struct word *words, size_t count);
 
+/* tokens.c */
+bool reserve_token(struct dispatcher *dispatcher);
+void note_lock(struct dispatcher *dispatcher, uint32_t lkid);
+void take_token(struct dispatcher *dispatcher, struct request *record);
+uint64_t token_of(const struct dispatcher *dispatcher, uint32_t lkid);
+void forget_token(struct dispatcher *dispatcher, uint32_t lkid);
+void forget_tokens_of(struct dispatcher *dispatcher, uint32_t pid);
+
 /* processes.c */
 struct user *find_user(struct dispatcher *dispatcher, uint32_t uid);
 void drop_user(struct dispatcher *dispatcher, struct user *user);
@@ -256,7 +276,7 @@ void set_bit(uint8_t *bits, uint32_t number);
 /* requests.c */
 uint32_t new_request(struct process *process, vlm_request *request);
 void drop_request(struct dispatcher *dispatcher, uint32_t place);
-void accept_request(struct dispatcher *dispatcher, uint32_t place, uint32_t lkid);
+void accept_request(struct dispatcher *dispatcher, uint32_t place, uint32_t lkid, bool is_new);
 bool wait_if_queued(struct dispatcher *dispatcher, uint32_t place, uint32_t lkid);
 void tell(struct dispatcher *dispatcher);
 

@@ -158,6 +158,7 @@ void release_process(struct process *process) {
     session->user->locks -= process->locks;
     session->user->processes--;
     process->session = NULL;
+    forget_tokens_of(dispatcher, process->pid);
     vlm_deq(&dispatcher->manager, &all);
     tell(dispatcher);
     clear_values(process, &dispatcher->manager);

@@ -293,24 +293,15 @@ static bool run_drained(struct replica *replica, const struct peer *peer) {
 static bool run_entry(struct replica *replica, struct peer *peer, struct entry *entry) {
     struct reader *payload = &entry->payload;
     switch (entry->type) {
-    case ENTRY_CONNECTED:
-        return run_connected(replica, peer, payload);
-    case ENTRY_LINE:
-        return run_line(replica, peer, payload);
-    case ENTRY_LEFT:
-        return run_left(replica, peer, payload);
-    case ENTRY_BEAT:
-        return run_beat(replica, peer, payload);
-    case ENTRY_END:
-        return run_end(replica, payload);
-    case ENTRY_SEARCH:
-        return run_search(replica, peer);
-    case ENTRY_GONE:
-        return run_gone(replica, payload);
-    case ENTRY_LIMITS:
-        return run_limits(replica, payload);
-    case ENTRY_DRAINED:
-        return run_drained(replica, peer);
+    case ENTRY_CONNECTED: return run_connected(replica, peer, payload);
+    case ENTRY_LINE: return run_line(replica, peer, payload);
+    case ENTRY_LEFT: return run_left(replica, peer, payload);
+    case ENTRY_BEAT: return run_beat(replica, peer, payload);
+    case ENTRY_END: return run_end(replica, payload);
+    case ENTRY_SEARCH: return run_search(replica, peer);
+    case ENTRY_GONE: return run_gone(replica, payload);
+    case ENTRY_LIMITS: return run_limits(replica, payload);
+    case ENTRY_DRAINED: return run_drained(replica, peer);
     }
     replica_fail("the list has an entry of a later version");
     return false;
@@ -325,6 +316,7 @@ static void run_batch(struct replica *replica, uint64_t revision, struct reader 
     struct entry entry;
     uint32_t before = replica->places;
     peer->next++;
+    dispatcher_set_token(replica->dispatcher, revision << PLACE_BITS);
     while (!peer->is_gone && batch_next(&batch, &entry)) {
         uint32_t number = before + entry.number;
         dispatcher_pass(replica->dispatcher, revision << PLACE_BITS | number);

@@ -19,8 +19,8 @@ enum { MOST_SLOTS = 1 << 20, HAS_SYSLCK = 1, IS_ADMIN = 2 };
 /* A replica that has been heard of, this one too. */
 struct peer {
     uint64_t name;
-    uint64_t next;  /* the number of its next batch */
-    uint64_t heard; /* when the last one came by */
+    uint64_t next;       /* the number of its next batch */
+    uint64_t heard;      /* when the last one came by */
     struct bytes *early; /* batches that came before their turn, by their numbers' distance from the next one */
     uint32_t early_room;
     bool is_gone;

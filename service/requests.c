@@ -32,6 +32,7 @@ uint32_t new_request(struct process *process, vlm_request *request) {
     struct request *record = &dispatcher->requests[place];
     dispatcher->free_request = record->next;
     *record = (struct request){.process = process,
+                               .mode = request->mode,
                                .block = request->block,
                                .ast = request->ast,
                                .has_ast = request->has_ast != 0,
@@ -48,14 +49,18 @@ void drop_request(struct dispatcher *dispatcher, uint32_t place) {
     dispatcher->free_request = place;
 }
 
-/* The manager has accepted a request: from here on its status block is its own. */
-void accept_request(struct dispatcher *dispatcher, uint32_t place, uint32_t lkid) {
+/* The manager has accepted a request: from here on its status block is its own. If it was granted at once, it takes its
+ * token before those that its step has granted as well. */
+void accept_request(struct dispatcher *dispatcher, uint32_t place, uint32_t lkid, bool is_new) {
     struct request *record = &dispatcher->requests[place];
     record->lkid = lkid;
     record->process->since[record->block] = dispatcher->now;
     set_bit(record->process->named, record->block);
     if (lkid > dispatcher->last_lkid)
         dispatcher->last_lkid = lkid;
+    if (is_new)
+        note_lock(dispatcher, lkid);
+    take_token(dispatcher, record);
 }
 
 /* Once all ASTs of its step were taken, a request that has its record still is queued. Returns whether it is. */
@@ -134,6 +139,7 @@ static void complete(struct dispatcher *dispatcher, vlm_ast *ast) {
     struct request *record = &dispatcher->requests[place];
     struct process *process = record->process;
     wait_no_more(dispatcher, record);
+    take_token(dispatcher, record);
     process->since[record->block] = dispatcher->now;
     if (process->session != NULL) {
         count_locks(process);

@@ -70,7 +70,8 @@ int open_listener(const struct config *config, bool *is_own) {
 
 static bool is_loopback(const struct addrinfo *address) {
     if (address->ai_family == AF_INET)
-        return ntohl(((const struct sockaddr_in *)(const void *)address->ai_addr)->sin_addr.s_addr) >> 24 == IN_LOOPBACKNET;
+        return ntohl(((const struct sockaddr_in *)(const void *)address->ai_addr)->sin_addr.s_addr) >> 24
+               == IN_LOOPBACKNET;
     return address->ai_family == AF_INET6
            && IN6_IS_ADDR_LOOPBACK(&((const struct sockaddr_in6 *)(const void *)address->ai_addr)->sin6_addr);
 }
@@ -139,7 +140,7 @@ static void make_folder(const char *socket) {
 
 int take_state(const char *socket, uint32_t *epoch, bool *was_unclean) {
     char name[LONGEST_PATH], text[STATE + 1] = "";
-    const char *folder = getenv("RUNTIME_DIRECTORY");
+    const char *folder = getenv("STATE_DIRECTORY");
     /* (a folder that systemd made for the daemon) */
     if (folder != NULL)
         snprintf(name, sizeof name, "%s/state", folder);
@@ -164,7 +165,8 @@ int take_state(const char *socket, uint32_t *epoch, bool *was_unclean) {
 bool write_state(int descriptor, uint32_t epoch, bool is_running) {
     char text[STATE];
     int len = snprintf(text, sizeof text, "%010u %s\n", (unsigned)epoch, is_running ? "running" : "ended  ");
-    return pwrite(descriptor, text, (size_t)len, 0) == len;
+    /* (an epoch that a crash of the machine undoes would give its tokens twice) */
+    return pwrite(descriptor, text, (size_t)len, 0) == len && fdatasync(descriptor) == 0;
 }
 
 void notify(const char *text) {

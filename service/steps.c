@@ -111,13 +111,14 @@ static void ask(struct client *client, const vlm_line *line, struct process *pro
     request.pid = process->pid;
     request.block = declared_block(process, request.block);
     resolve_lock(process, &request.lock, &request.lock_kind);
-    uint32_t place = status == VLM_INSFMEM ? new_request(process, &request) : NOBODY;
+    bool is_made = status == VLM_INSFMEM && (!is_new || reserve_token(dispatcher));
+    uint32_t place = is_made ? new_request(process, &request) : NOBODY;
     if (place != NOBODY && is_new)
         status = vlm_enq(&dispatcher->manager, &request, line->resource, line->resource_len, &lkid);
     else if (place != NOBODY)
         status = vlm_convert(&dispatcher->manager, &request, &lkid);
     if (status == VLM_NORMAL || status == VLM_SYNCH)
-        accept_request(dispatcher, place, lkid);
+        accept_request(dispatcher, place, lkid, is_new);
     if (place != NOBODY && status != VLM_NORMAL)
         drop_request(dispatcher, place);
     answer_step(client, line, status, lkid);
@@ -129,12 +130,26 @@ static void ask(struct client *client, const vlm_line *line, struct process *pro
         count_locks(process);
 }
 
+/* The only lock that a dequeue may give up, or 0. */
+static uint32_t only_lock(vlm *manager, const vlm_dequeue *dequeue) {
+    vlm_lksb block = {.size = sizeof block};
+    if ((dequeue->flags & (VLM_DEQALL | VLM_DEQ_CANCEL)) != 0)
+        return 0;
+    if (dequeue->lock_kind != VLM_BY_BLOCK)
+        return dequeue->lock;
+    return vlm_block(manager, dequeue->pid, dequeue->lock, &block) == VLM_NORMAL ? block.lkid : 0;
+}
+
 static void give_up(struct client *client, const vlm_line *line, struct process *process) {
+    struct dispatcher *dispatcher = client->dispatcher;
     vlm_dequeue dequeue = line->dequeue;
     dequeue.pid = process->pid;
     resolve_lock(process, &dequeue.lock, &dequeue.lock_kind);
-    answer_step(client, line, vlm_deq(&client->dispatcher->manager, &dequeue), 0);
-    tell(client->dispatcher);
+    uint32_t lkid = only_lock(&dispatcher->manager, &dequeue), status = vlm_deq(&dispatcher->manager, &dequeue);
+    if (status == VLM_NORMAL)
+        forget_token(dispatcher, lkid);
+    answer_step(client, line, status, 0);
+    tell(dispatcher);
     count_locks(process);
 }
 

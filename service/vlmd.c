@@ -53,6 +53,15 @@ static void set_timer(uint64_t now) {
         uv_timer_start(&loop.due, on_due, due > now ? due - now : 0, 0);
 }
 
+/* Writes another epoch down before a client hears of it: the next daemon begins with a later one, also after a kill. */
+static void write_epoch(void) {
+    if (vlmd.replica != NULL || dispatcher_epoch(vlmd.dispatcher) == loop.epoch)
+        return;
+    loop.epoch = dispatcher_epoch(vlmd.dispatcher);
+    if (!write_state(loop.state, loop.epoch, true))
+        write_log("the epoch can't be written down");
+}
+
 /* After each poll: what is due, the lines that are left, all output, and when to wake. */
 static void on_turn(uv_check_t *check) {
     (void)check;
@@ -62,6 +71,7 @@ static void on_turn(uv_check_t *check) {
     else
         dispatcher_tick(vlmd.dispatcher, now);
     dispatcher_run(vlmd.dispatcher);
+    write_epoch();
     flush_all();
     if (vlmd.replica != NULL)
         list_append();
@@ -69,11 +79,6 @@ static void on_turn(uv_check_t *check) {
         uv_idle_start(&loop.busy, on_busy);
     else
         uv_idle_stop(&loop.busy);
-    if (dispatcher_epoch(vlmd.dispatcher) != loop.epoch) {
-        loop.epoch = dispatcher_epoch(vlmd.dispatcher);
-        if (!write_state(loop.state, loop.epoch, true))
-            write_log("the epoch can't be written down");
-    }
     set_timer(now);
 }
 
@@ -149,6 +154,7 @@ static bool start_dispatcher(bool was_unclean) {
     vlmd.dispatcher = dispatcher_open(&vlmd.config.limits, loop.epoch, keys, write_log);
     if (vlmd.dispatcher == NULL)
         return false;
+    dispatcher_set_token(vlmd.dispatcher, (uint64_t)loop.epoch << TOKEN_BITS);
     uint64_t now = uv_hrtime() / 1000000;
     dispatcher_tick(vlmd.dispatcher, now);
     if (was_unclean && vlmd.config.grace != 0) {

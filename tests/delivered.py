@@ -334,13 +334,13 @@ systemctl show --property MainPID vlmd >before
 systemctl show --property MainPID vlmd | diff before - && vlm who | grep -c '^backup.* granted '
 apt-get remove vlm >remove.log 2>&1
 cat held.log
-ls -d /run/vlm /run/vlmd
+ls -d /run/vlm /var/lib/vlmd
 systemctl is-active vlmd.socket vlmd.service
 """
 KEPT_PRINTS = """1
 vlm lock: the lock is lost
 ls: cannot access '/run/vlm': No such file or directory
-ls: cannot access '/run/vlmd': No such file or directory
+/var/lib/vlmd
 inactive
 inactive
 """
@@ -356,10 +356,12 @@ def is_served(machine):
 
 
 def is_kept(machine):
-    """An upgrade lets the daemon and its locks be. A removal ends it and tells holders, a purge takes the group."""
+    """An upgrade lets the daemon and its locks be. A removal ends it and tells holders, a purge takes the group and the
+    last epoch."""
     yield from difference(machine.run(KEPT).stdout, KEPT_PRINTS)
     machine.need("gpasswd --delete user vlm && apt-get purge vlm")
-    yield from difference(machine.run("getent group vlm").stdout, "")
+    left = machine.run("getent group vlm; ls -d /var/lib/vlmd /var/lib/private/vlmd 2>/dev/null").stdout
+    yield from difference(left, "")
 
 
 def with_systemd(program):

@@ -20,6 +20,7 @@ from pathlib import Path
 import library
 import service_commands
 import service_scripts
+import service_tokens
 from daemons import CHECKED, NOBODY, PLAIN, SOURCES, Client, Daemon
 from harness import PLAY, ROOM, TOP, Test, difference
 from service_scripts import MODES
@@ -325,7 +326,7 @@ def other_users(_program):
             yield from difference([it.split()[:4] for it in other.ask_all("who")],
                                   [["A", "2", "0", "2"], ["A", "3", "0", "system"]])
             yield from difference([it.split()[1] for it in other.ask_all("locks")], ["2", "3"])
-            for word in ("lock", "rows", "blockers", "blocked", "below"):
+            for word in ("lock", "rows", "blockers", "blocked", "below", "token"):
                 yield from difference(other.ask_all(f"{word} 1"), ["no such lock"])
             yield from difference(len(other.ask_all("lock 3")), 4)
             yield from difference(len(client.ask_all("who")), 3)
@@ -474,7 +475,7 @@ def under_systemd(_program):
         notices.bind(f"{folder}/notices")
         notices.settimeout(20)
         env = {**os.environ, "LISTEN_FDS": "1", "NOTIFY_SOCKET": f"{folder}/notices", "WATCHDOG_USEC": "100000",
-               "RUNTIME_DIRECTORY": str(folder)}
+               "STATE_DIRECTORY": str(folder)}
         words = ["sh", "-c", f'LISTEN_PID=$$ exec "$0" -c /dev/null 3<&{listener.fileno()}', CHECKED()]
         daemon = subprocess.Popen(words, env=env, pass_fds=[listener.fileno()], stderr=subprocess.DEVNULL)
         told = [notices.recv(100) for _ in range(3)]
@@ -711,5 +712,5 @@ def once():
                    partial(clients, compiler, sanitizer))
               for compiler in library.COMPILERS for sanitizer in library.SANITIZERS[1:]
               if library.links(compiler, sanitizer)]
-    found += service_scripts.tests() + service_commands.tests()
+    found += service_scripts.tests() + service_commands.tests() + service_tokens.tests()
     return [] if missing() else found

@@ -5,9 +5,11 @@ import json
 import os
 import re
 import signal
+import socket
 import subprocess
 import tempfile
 import time
+from argparse import Namespace
 from pathlib import Path
 
 import library
@@ -102,6 +104,42 @@ def values(_program):
         yield from difference(run(daemon, "lock", "A", "sh", "-c", "echo ${VLM_VALUE-none}"), (0, "none\n"))
 
 
+def tokens(_program):
+    """The fencing token of the lock goes to the command: a later one is greater, whatever became of the first."""
+    with Daemon() as daemon, daemon.client() as client:
+        script = "echo $VLM_TOKEN; exec sleep 100"
+        holder = start(daemon, "lock", "A", "sh", "-c", script)
+        first = int(holder.stdout.readline())
+        _, lock, *_ = client.ask_all("locks")[0].split()
+        yield from difference(client.ask_all(f"token {lock}"), [f"token {first}"])
+        yield from difference(run(daemon, "kill", run(daemon, "who")[1].splitlines()[1].split()[4]), (0, ""))
+        other = start(daemon, "lock", "A", "sh", "-c", script)
+        second = int(other.stdout.readline())
+        yield from difference((holder.wait(20), second > first), (75, True))
+        other.terminate()
+        yield from difference(other.wait(20), 143)
+
+
+def no_tokens(_program):
+    """A service that does not know tokens runs the command without one."""
+    with socket.socket(socket.AF_UNIX) as listener, tempfile.TemporaryDirectory() as folder:
+        listener.bind(f"{folder}/socket")
+        listener.listen()
+        listener.settimeout(20)
+        made = start(Namespace(socket=f"{folder}/socket"), "lock", "A", "sh", "-c", "echo ${VLM_TOKEN-none}")
+        with listener.accept()[0] as service:
+            service.settimeout(20)
+            service.sendall(b"vlm protocol 1 epoch 0\n")
+            for wanted, answer in ((b"enq P", "P: NORMAL lock 1\nP: completion 1 param 0 lock 1\n"
+                                    f"P: block 1 status 1 lock 1 value {VALUE}\n"),
+                                   (b"token 1\n", "unknown command\n"), (b"close\n", "P: NORMAL\nclosed\n")):
+                heard = b""
+                while wanted not in heard:
+                    heard += service.recv(1000)
+                service.sendall(answer.encode())
+            yield from difference((made.wait(20), made.stdout.read()), (0, "none\n"))
+
+
 def blocking(_program):
     """A command that asked for it gets a signal when its lock is in the way."""
     with Daemon() as daemon:
@@ -110,6 +148,18 @@ def blocking(_program):
         holder.stdout.readline()
         yield from difference(run(daemon, "lock", "A", "echo", "a"), (0, "a\n"))
         yield from difference(holder.wait(20), 5)
+
+
+def blocking_at_start(_program):
+    """A command gets the signal too if another request waits when its lock is granted."""
+    with Daemon() as daemon, daemon.client().begin("P") as client:
+        client.ask("enq P EX name=A block=1")
+        holder = start(daemon, "lock", "--on-blocking", "USR1", "A", "sleep", "100")
+        holds(daemon, 2)
+        waiter = start(daemon, "lock", "A", "true")
+        holds(daemon, 3)
+        client.ask("deq P @1")
+        yield from difference((holder.wait(50), waiter.wait(50)), (128 + signal.SIGUSR1, 0))
 
 
 def lost(_program):
@@ -213,6 +263,8 @@ def completed(_program):
 
 def tests():
     checks = {"statuses of vlm lock": statuses, "the value block of vlm lock": values, "signals to commands": blocking,
+              "signals at the start": blocking_at_start, "the token of vlm lock": tokens,
+              "a service without tokens": no_tokens,
               "locks that are lost": lost, "killed commands": killed, "commands and a witness": witnessed,
               "vlm who, metrics and kill": told, "words of the program": front, "./vlm lock": by_launcher,
               "completion": completed}

@@ -10,6 +10,7 @@
  * vlm_client_lines.c     lines and answers as text
  * vlm_client_requests.c  enq, convert, deq
  * vlm_client_readings.c  answers of several lines
+ * vlm_client_tokens.c    fencing tokens
  * vlm_client_records.c   records of requests and locks, and how a request ends
  * vlm_client_events.c    calls of routines
  *

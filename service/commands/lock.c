@@ -5,6 +5,7 @@
 
 #include <errno.h>
 #include <getopt.h>
+#include <inttypes.h>
 #include <poll.h>
 #include <signal.h>
 #include <stdio.h>
@@ -29,6 +30,9 @@ struct wanted {
     int conflict; /* the status if the lock can't be had */
     int signal;   /* to the command when its lock is in the way, or 0 */
     char **command;
+    /* What the service has told. */
+    uint64_t lock;  /* its handle, once it is granted */
+    bool is_warned; /* it was in the way before the command ran */
 };
 
 /* Writes the name of a resource as a line has it. */
@@ -145,16 +149,36 @@ static void hand_on_value(const char *line, int status) {
         unsetenv("VLM_VALUE");
 }
 
+static bool is_warning(const char *line) { return strncmp(line, "P: blocking ", strlen("P: blocking ")) == 0; }
+
+/* Hands the fencing token of the lock on. A service without tokens does not know the line. Returns false if the service
+ * has gone. */
+static bool hand_on_token(struct link *link, struct wanted *wanted) {
+    char line[LINE_ROOM];
+    unsetenv("VLM_TOKEN");
+    snprintf(line, sizeof line, "token %" PRIu64 "\n", wanted->lock);
+    int got = link_send(link, line) ? 1 : -1;
+    while (got == 1 && (got = link_line(link, line, FOREVER)) == 1 && line[0] != 0) {
+        wanted->is_warned |= is_warning(line);
+        if (strncmp(line, "token ", strlen("token ")) == 0)
+            setenv("VLM_TOKEN", line + strlen("token "), 1);
+        if (strcmp(line, "unknown command") == 0)
+            break;
+    }
+    return got == 1;
+}
+
 /* What a line says of the request: it has ended, was refused, or neither (-1). */
-static int outcome(const char *line) {
+static int outcome(const char *line, struct wanted *wanted) {
     int status;
-    if (sscanf(line, "P: block 1 status %d", &status) == 1) {
+    wanted->is_warned |= is_warning(line);
+    if (sscanf(line, "P: block 1 status %d lock %" SCNu64, &status, &wanted->lock) == 2) {
         hand_on_value(line, status);
         return status == STATUS_NORMAL || status == STATUS_INVALID ? GRANTED : CONFLICT;
     }
     if (strcmp(line, "P: NOTQUEUED") == 0)
         return CONFLICT;
-    if (strncmp(line, "session ", 8) == 0 || strncmp(line, "P: process ", 11) == 0
+    if (is_warning(line) || strncmp(line, "session ", 8) == 0 || strncmp(line, "P: process ", 11) == 0
         || strncmp(line, "P: NORMAL ", 10) == 0 || strncmp(line, "P: completion ", 14) == 0)
         return -1;
     fprintf(stderr, "vlm lock: %s\n", line);
@@ -162,7 +186,7 @@ static int outcome(const char *line) {
 }
 
 /* The time has passed: cancels the request, unless its grant is on the way. */
-static int cancel(struct link *link) {
+static int cancel(struct link *link, struct wanted *wanted) {
     char line[LINE_ROOM];
     int found = CONFLICT;
     if (!link_send(link, "deq P @1 cancel\n"))
@@ -172,18 +196,18 @@ static int cancel(struct link *link) {
             return CONFLICT;
         if (strcmp(line, "P: CANCELGRANT") == 0)
             return found;
-        if (outcome(line) == GRANTED)
+        if (outcome(line, wanted) == GRANTED)
             found = GRANTED;
     }
     return GONE;
 }
 
-static int await(struct link *link, const struct wanted *wanted) {
+static int await(struct link *link, struct wanted *wanted) {
     char line[LINE_ROOM];
     int64_t until = wanted->wait == FOREVER ? FOREVER : milliseconds() + wanted->wait;
     for (;;) {
         int got = link_line(link, line, until);
-        int found = got == 1 ? outcome(line) : got == 0 ? cancel(link) : GONE;
+        int found = got == 1 ? outcome(line, wanted) : got == 0 ? cancel(link, wanted) : GONE;
         if (found >= 0)
             return found;
     }
@@ -206,7 +230,7 @@ static bool hear(struct link *link, const struct wanted *wanted, pid_t child) {
     char line[LINE_ROOM];
     int got;
     while ((got = link_line(link, line, 0)) == 1)
-        if (strncmp(line, "P: blocking ", 12) == 0 && wanted->signal != 0)
+        if (is_warning(line) && wanted->signal != 0)
             kill(child, wanted->signal);
     if (got == 0)
         return true;
@@ -226,6 +250,10 @@ static void hand_on_signal(int descriptor, pid_t child) {
 /* Waits until the command ends. *is_lost says whether the lock went before. */
 static int oversee(struct link *link, const struct wanted *wanted, pid_t child, int signals, bool *is_lost) {
     int status;
+    if (wanted->is_warned)
+        kill(child, wanted->signal);
+    /* (lines may have come with the grant) */
+    *is_lost = !hear(link, wanted, child);
     struct pollfd ready[] = {{.fd = signals, .events = POLLIN}, {.fd = link->descriptor, .events = POLLIN}};
     while (waitpid(child, &status, WNOHANG) == 0) {
         if (poll(ready, *is_lost ? 1 : 2, -1) <= 0)
@@ -281,9 +309,14 @@ int run_lock(int count, char **words) {
     if (!link_open(&link) || !ask(&link, &wanted))
         return NO_SERVICE;
     switch (await(&link, &wanted)) {
-    case GRANTED: return run_command(&link, &wanted);
+    case GRANTED:
+        if (hand_on_token(&link, &wanted))
+            return run_command(&link, &wanted);
+        break;
     case CONFLICT: return wanted.conflict;
     case REFUSED: return NO_SERVICE;
-    default: fprintf(stderr, "vlm lock: the service has gone\n"); return NO_SERVICE;
+    default: break;
     }
+    fprintf(stderr, "vlm lock: the service has gone\n");
+    return NO_SERVICE;
 }

@@ -854,6 +854,46 @@ static void test_readings(void) {
     start_daemon();
 }
 
+/* Tokens of locks that have had one status block, of a conversion, and of requests without a grant. */
+static void test_tokens(void) {
+    vlm_client *client = opened((vlm_client_options){0});
+    uint32_t pid = declared(client);
+    uint64_t first = 0, second = 0, third = 0;
+    vlm_threads_request one = wanted(pid, VLM_EX, 0), other = wanted(pid, VLM_PR, 0), waiting = wanted(pid, VLM_PR, 0);
+    CHECK(enq(client, &one, "A") == VLM_NORMAL && vlm_client_token(client, one.lkid, &first) == VLM_NORMAL);
+    CHECK(enq(client, &other, "B") == VLM_NORMAL && vlm_client_token(client, other.lkid, &second) == VLM_NORMAL);
+    CHECK(first != 0 && second > first);
+    waiting.completion = on_completion;
+    waiting.completion_context = &told;
+    CHECK(vlm_client_start_enq(client, &waiting, (const uint8_t *)"A", 1) == VLM_NORMAL);
+    CHECK(vlm_client_token(client, waiting.lkid, &third) == VLM_IVLOCKID && third == 0);
+    CHECK(vlm_client_token(client, one.lkid, &third) == VLM_NORMAL && third == first);
+    one.lock = one.lkid;
+    one.mode = VLM_CW;
+    CHECK(vlm_client_convert(client, &one) == VLM_NORMAL);
+    CHECK(vlm_client_token(client, one.lkid, &third) == VLM_NORMAL && third > second);
+    CHECK(deq(client, pid, one.lkid, 0) == VLM_NORMAL);
+    CHECK(vlm_client_token(client, one.lkid, &third) == VLM_IVLOCKID);
+    CHECK(vlm_client_token(client, 0, &third) == VLM_IVLOCKID);
+    kill_daemon();
+    CHECK(vlm_client_token(client, other.lkid, &third) == VLM_LOST && third == 0);
+    CHECK(vlm_client_close(client) == VLM_NORMAL);
+    start_daemon();
+}
+
+/* A service without tokens. */
+static void test_no_tokens(void) {
+    static const struct row rows[] = {
+        OPEN, DECLARE, {"enq", GRANTED("0")}, {"token 1", "unknown command\n"}, {NULL, NULL}};
+    vlm_client *client;
+    pthread_t thread = served(rows, &client);
+    vlm_threads_request request = wanted(declared(client), VLM_EX, 0);
+    uint64_t token;
+    CHECK(enq(client, &request, "A") == VLM_NORMAL);
+    CHECK(vlm_client_token(client, request.lkid, &token) == VLM_UNSUPPORTED && token == 0);
+    end_service(thread, client);
+}
+
 int main(int count, char **words) {
     if (count != 4)
         return 2;
@@ -884,6 +924,8 @@ int main(int count, char **words) {
     test_late_lock();
     test_signals();
     test_readings();
+    test_tokens();
+    test_no_tokens();
     kill(daemon_pid, SIGTERM);
     waitpid(daemon_pid, NULL, 0);
     puts("all calls answer as they should");

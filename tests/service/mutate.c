@@ -9,7 +9,9 @@
 #include <string.h>
 #include <time.h>
 
-enum { CLIENTS = 4, MOST_FILES = 256, MOST_BYTES = 8192, KEYS = 16 };
+enum { CLIENTS = 4, MOST_FILES = 256, MOST_BYTES = 8192, KEYS = 16, QUEUES = 3 };
+/* A byte that chooses a client, from CHOICE on, and what does not happen besides. */
+enum { CHOICE = 128, NOTHING = 7 };
 
 static const struct limits limits = {.connections = 3,
                                      .processes = 12,
@@ -21,7 +23,7 @@ static const struct limits limits = {.connections = 3,
                                      .shown = 40,
                                      .search = 30,
                                      .drain = 100,
-                                     .identifications = 150};
+                                     .identifications = 10};
 
 static struct dispatcher *dispatcher;
 static struct client *clients[CLIENTS];
@@ -68,10 +70,37 @@ static void check_counts(void) {
         abort();
 }
 
-/* A line of a client. Its first byte chooses the client, and what happens besides. */
+/* A lock has a token from its first grant on, and a place in their table as long as it is there. */
+static void check_tokens(void) {
+    size_t count = 0;
+    for (size_t at = 0; at < dispatcher->token_room; at++)
+        count += dispatcher->tokens[at].lkid != 0;
+    if (count != dispatcher->token_count || count < vlm_lock_count(&dispatcher->manager))
+        abort();
+    vlm_resource resource = {.size = sizeof resource};
+    uint32_t found = vlm_next_resource(&dispatcher->manager, &resource);
+    for (; found == VLM_NORMAL && resource.serial != 0; found = vlm_next_resource(&dispatcher->manager, &resource))
+        for (uint32_t queue = 0; queue < QUEUES; queue++) {
+            vlm_lock lock = {.size = sizeof lock};
+            uint32_t status = vlm_first_row(&dispatcher->manager, &resource, queue, &lock);
+            for (; status == VLM_NORMAL && lock.lkid != 0;
+                 status = vlm_next_row(&dispatcher->manager, lock.lkid, &lock))
+                if ((token_of(dispatcher, lock.lkid) == 0) != (queue == VLM_WAITING)
+                    || token_of(dispatcher, lock.lkid) > dispatcher->token)
+                    abort();
+        }
+}
+
+/* A line of a client. A first byte that is no letter chooses the client, and what happens besides. */
 static void play(const uint8_t *line, size_t len, bool is_whole) {
-    uint32_t at = line[0] % CLIENTS, what = line[0] / CLIENTS % 8;
-    if (client_is_heard(clients[at])) {
+    uint32_t at = 0, what = NOTHING;
+    if (line[0] >= CHOICE) {
+        at = line[0] % CLIENTS;
+        what = line[0] / CLIENTS % 8;
+        line++;
+        len--;
+    }
+    if (len > 0 && client_is_heard(clients[at])) {
         client_hear(clients[at], line, what == 0 ? len / 2 + 1 : len);
         if (what != 0 && is_whole)
             client_hear(clients[at], (const uint8_t *)"\n", 1);
@@ -85,6 +114,7 @@ static void play(const uint8_t *line, size_t len, bool is_whole) {
     while (dispatcher_is_busy(dispatcher));
     send_all(what == 3 ? at : CLIENTS);
     check_counts();
+    check_tokens();
     if (what == 4)
         client_hear(clients[at], line, 0);
     if (what == 5)
@@ -173,18 +203,31 @@ static size_t line_at(size_t file, size_t from) {
     return feed == NULL ? files[file].len - from : (size_t)(feed - files[file].bytes) - from + 1;
 }
 
-/* Lines of several files, some of them with other bytes. */
+/* Gives each client a session with two processes. */
+static size_t open_all(uint8_t *bytes) {
+    size_t len = 0;
+    for (int at = 0; at < CLIENTS; at++)
+        for (int line = 0; line < 3; line++) {
+            const char *const lines[] = {"open", "declare P quota=9 blocks=4", "declare Q"};
+            len += (size_t)sprintf((char *)bytes + len, "%c%s\n", CHOICE + CLIENTS * NOTHING + at, lines[line]);
+        }
+    return len;
+}
+
+/* Lines of several files, half of them of the last one, some of them with other bytes. */
 static size_t mix(uint8_t *bytes) {
     static const char marks[] = " @=:x09#\n\t\rEXP4294967296";
-    size_t len = 0;
-    for (size_t lines = 20 + below(60); lines > 0; lines--) {
-        size_t file = below(file_count), line = 0;
-        for (size_t at = 0, wanted = below(30); at < files[file].len; at += line) {
+    size_t len = below(4) == 0 ? 0 : open_all(bytes);
+    for (size_t lines = 20 + below(300); lines > 0; lines--) {
+        size_t file = below(2) == 0 ? file_count - 1 : below(file_count), line = 0;
+        for (size_t at = 0, wanted = below(40); at < files[file].len; at += line) {
             line = line_at(file, at);
             if (wanted-- != 0)
                 continue;
-            if (len + line > MOST_BYTES)
+            if (len + 1 + line > MOST_BYTES)
                 return len;
+            bytes[len++] =
+                (uint8_t)(below(4) == 0 ? CHOICE + below(CHOICE) : CHOICE + CLIENTS * NOTHING + below(CLIENTS));
             memcpy(bytes + len, files[file].bytes + at, line);
             for (size_t changes = below(4) == 0 ? below(6) : 0; changes > 0; changes--)
                 bytes[len + below(line)] = below(2) == 0 ? (uint8_t)below(256) : (uint8_t)marks[below(sizeof marks)];

@@ -60,14 +60,14 @@ struct client {
     struct link *link;
     struct node *node;
     char session[32];
-    uint64_t number, asts;      /* of its last line; how many ASTs it was told */
-    char line[LINE];            /* that waits for its answer, or nothing */
-    uint64_t asked;             /* when that was sent */
-    uint64_t lease;             /* until then its locks are its own */
-    uint64_t stopped;           /* until then it neither reads nor writes */
-    bool is_declared;           /* its process */
-    struct want wants[2];       /* by status block: 1 and 2 */
-    unsigned asking;            /* the status block for which the line asks for a lock, or 0 */
+    uint64_t number, asts; /* of its last line; how many ASTs it was told */
+    char line[LINE];       /* that waits for its answer, or nothing */
+    uint64_t asked;        /* when that was sent */
+    uint64_t lease;        /* until then its locks are its own */
+    uint64_t stopped;      /* until then it neither reads nor writes */
+    bool is_declared;      /* its process */
+    struct want wants[2];  /* by status block: 1 and 2 */
+    unsigned asking;       /* the status block for which the line asks for a lock, or 0 */
     char in[ROOM];
     size_t len;
 };
@@ -156,17 +156,34 @@ static void stop(struct node *node) {
     dispatcher_close(node->dispatcher);
 }
 
-/* All that a node tells of resources and locks, as an administrator sees it. */
-static void tell(struct node *node, struct bytes *told) {
-    static const struct rights rights = {.group = 1, .is_admin = true};
-    static const char *const lines[] = {"show", "tails", "locks"};
+/* Has a client run a line, and moves what it answers. */
+static void tell_line(struct client *reader, const char *line, struct bytes *told) {
     size_t len;
-    struct client *reader = client_open(node->dispatcher, &rights, 0, told);
-    for (size_t at = 0; at < sizeof lines / sizeof *lines; at++)
-        client_run(reader, lines[at], strlen(lines[at]));
+    client_run(reader, line, strlen(line));
     const uint8_t *bytes = client_output(reader, &len);
     bytes_add(told, bytes, len);
+    /* (so that it can be read as a text) */
+    bytes_add(told, "", 1);
+    told->len--;
     client_sent(reader, len);
+}
+
+/* All that a node tells of resources and locks, as an administrator sees it, and the token of each lock. */
+static void tell(struct node *node, struct bytes *told) {
+    static const struct rights rights = {.group = 1, .is_admin = true};
+    struct client *reader = client_open(node->dispatcher, &rights, 0, told);
+    tell_line(reader, "show", told);
+    tell_line(reader, "tails", told);
+    size_t from = told->len;
+    tell_line(reader, "locks", told);
+    for (size_t end = told->len; from < end; from++) {
+        unsigned lkid;
+        char line[LINE];
+        if (sscanf((const char *)told->all + from, "lock %u pid", &lkid) != 1)
+            continue;
+        snprintf(line, sizeof line, "token %u", lkid);
+        tell_line(reader, line, told);
+    }
     client_close(reader);
 }
 
@@ -258,9 +275,9 @@ static void connect_to(struct client *client, struct node *node) {
     client->len = 0;
     client->asked = now;
     char text[LINE];
-    int len = client->session[0] == 0 ? snprintf(text, sizeof text, "open seconds=%d\n", LEASE)
-                                      : snprintf(text, sizeof text, "resume %s asts=%lu\n", client->session,
-                                                 (unsigned long)client->asts);
+    int len = client->session[0] == 0
+                  ? snprintf(text, sizeof text, "open seconds=%d\n", LEASE)
+                  : snprintf(text, sizeof text, "resume %s asts=%lu\n", client->session, (unsigned long)client->asts);
     link_hear(client->link, (const uint8_t *)text, (size_t)len);
     if (client->session[0] != 0)
         resumes++;

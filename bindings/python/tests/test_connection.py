@@ -93,6 +93,20 @@ class Connections(unittest.TestCase):
         p.rundown()
         self.assertRaises(NonExprError, p.lock, "A", Mode.EX)
 
+    def test_tokens_rise_with_grants(self):
+        p, q = self.pair()
+        with p.lock("A", Mode.EX) as held:
+            first = held.token()
+            waiting = q.start("A", Mode.EX, lambda _: None)
+            self.assertRaises(IvLockIdError, q.connection.token, waiting)
+            held.convert(Mode.PR)
+            self.assertGreater(held.token(), first)
+            self.assertEqual(held.token(), q.connection.token(held.lock))
+            last = held.token()
+        self.assertTrue(q.connection.wait(SECONDS))
+        self.assertGreater(q.connection.token(waiting), last)
+        self.assertRaises(IvLockIdError, held.token)
+
     def test_a_deadlock_ends(self):
         p, q = self.pair()
         with ThreadPoolExecutor(1) as pool, p.lock("A", Mode.EX), q.lock("B", Mode.EX) as other:

@@ -1,6 +1,6 @@
 """The structs and calls of include/vlm_client.h. They are looked for at the first connection."""
 
-from ctypes import CFUNCTYPE, POINTER, c_char_p, c_int, c_size_t, c_uint32, c_void_p
+from ctypes import CFUNCTYPE, POINTER, c_char_p, c_int, c_size_t, c_uint32, c_uint64, c_void_p
 from functools import lru_cache
 from typing import Any, Dict, List
 
@@ -26,6 +26,7 @@ _CALLS: Dict[str, List[Any]] = {
     "convert": [_HANDLE, POINTER(Request)],
     "start_enq": [_HANDLE, POINTER(Request), _BYTES, c_size_t],
     "deq": [_HANDLE, POINTER(Dequeue)],
+    "token": [_HANDLE, c_uint32, POINTER(c_uint64)],
     "fd": [_HANDLE, POINTER(c_int)],
     "dispatch": [_HANDLE, _NUMBER],
 }

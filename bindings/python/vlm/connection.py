@@ -4,7 +4,7 @@ import os
 import select
 import weakref
 from contextlib import suppress
-from ctypes import byref, c_int, c_uint32, c_void_p
+from ctypes import byref, c_int, c_uint32, c_uint64, c_void_p
 from dataclasses import dataclass
 from types import TracebackType
 from typing import Any, Callable, Dict, Optional, Type
@@ -90,6 +90,13 @@ class Connection:
         words = raw.Declaration(quota=word(quota, "the quota"), requests=word(requests, "the number of requests"))
         self.call("declare", byref(words), byref(pid))
         return ServedProcess(self, pid.value)
+
+    def token(self, lock: int) -> int:
+        """Asks the service for the fencing token of a lock: of its last request that was granted. A later grant has a
+        greater one. IvLockIdError: there is no such lock, or it waits for its first grant."""
+        token = c_uint64()
+        self.call("token", word(lock, "the lock"), byref(token))
+        return token.value
 
     def fileno(self) -> int:
         """The file descriptor that is readable while a routine is to be called."""
@@ -244,6 +251,11 @@ class ServedLock(HeldLock):
         elif is_written:
             self._value = self._tail = None
         self._routine, self.mode = request.routine, Mode(mode)
+
+    def token(self) -> int:
+        """Asks the service for the fencing token of the lock, for storage that refuses a smaller one than it has seen.
+        A conversion takes another one."""
+        return self.process.connection.token(self.lock)
 
     def release(self) -> None:
         """Gives the lock up, and writes the value that was named. A second call does nothing."""

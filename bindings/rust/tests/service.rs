@@ -113,6 +113,31 @@ fn locks_exclude_each_other_and_hand_values_over() {
 }
 
 #[test]
+fn tokens_rise_with_grants() {
+    let Some(daemon) = Daemon::new("tokens") else {
+        return;
+    };
+    let (one, other) = (daemon.connection(|| ()), daemon.connection(|| ()));
+    let (p, q) = (one.declare(9, 2).unwrap(), other.declare(9, 2).unwrap());
+    let mut guard = one.lock(p, b"A", Mode::Ex).unwrap();
+    let first = guard.token().unwrap();
+    let waiting = other
+        .start(q, b"A", Mode::Ex, Terms::new(), |_| ())
+        .unwrap();
+    assert_eq!(other.token(waiting), Err(Error::Ivlockid));
+    guard.convert(Mode::Pr, Terms::new()).unwrap();
+    let last = guard.token().unwrap();
+    assert!(last > first);
+    let lock = guard.lock();
+    drop(guard);
+    while other.deliver() == 0 {
+        thread::sleep(Duration::from_millis(1));
+    }
+    assert!(other.token(waiting).unwrap() > last);
+    assert_eq!(one.token(lock), Err(Error::Ivlockid));
+}
+
+#[test]
 fn routines_are_called_by_a_delivery() {
     let Some(daemon) = Daemon::new("routines") else {
         return;

@@ -63,6 +63,11 @@ impl ServedGuard {
         self.mode
     }
 
+    /// The fencing token of the lock: see [`Connection::token`]. A conversion takes another one.
+    pub fn token(&self) -> Result<u64, Error> {
+        self.connection.token(self.lock)
+    }
+
     /// The 16 bytes of the value block at the last grant that returned it, and the other 48 if its request had the flag
     /// WIDE.
     pub fn value(&self) -> &[u8] {

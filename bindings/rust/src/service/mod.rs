@@ -210,6 +210,15 @@ impl Connection {
         )
     }
 
+    /// The fencing token of a lock: of its last request that was granted. A later grant has a greater one, so storage
+    /// that refuses a smaller token than it has seen keeps out a client that has lost its lock and does not know yet.
+    /// Ivlockid: there is no such lock, or it waits for its first grant.
+    pub fn token(&self, lock: LockId) -> Result<u64, Error> {
+        let mut token = 0;
+        checked(self.client().token(lock.0, &mut token))?;
+        Ok(token)
+    }
+
     /// Calls the routines whose requests have ended or whose locks are in the way, oldest first. Returns how many it
     /// called. A routine may make any call. A panic of a routine goes on in the caller.
     pub fn deliver(&self) -> u32 {

@@ -201,6 +201,11 @@ impl Connected {
         unsafe { vlm_client_deq(self.0, &raw) }
     }
 
+    pub fn token(&self, lock: u32, token: &mut u64) -> u32 {
+        // SAFETY: the client is open, and the reference lives as long as the call.
+        unsafe { vlm_client_token(self.0, lock, token) }
+    }
+
     /// Runs the routines that are to be called. A panic of one of them goes on here.
     pub fn dispatch(&self) -> u32 {
         let mut delivered = 0;

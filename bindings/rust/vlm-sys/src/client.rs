@@ -50,6 +50,7 @@ extern "C" {
     ) -> u32;
     pub fn vlm_client_start_convert(client: *mut Client, request: *mut Request) -> u32;
     pub fn vlm_client_deq(client: *mut Client, dequeue: *const Dequeue) -> u32;
+    pub fn vlm_client_token(client: *mut Client, lkid: u32, token: *mut u64) -> u32;
     pub fn vlm_client_fd(client: *mut Client, descriptor: *mut c_int) -> u32;
     pub fn vlm_client_dispatch(client: *mut Client, delivered: *mut u32) -> u32;
     pub fn vlm_client_settle(client: *mut Client) -> u32;
