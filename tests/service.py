@@ -19,6 +19,7 @@ from pathlib import Path
 
 import library
 import service_commands
+import service_replicas
 import service_scripts
 from daemons import CHECKED, NOBODY, PLAIN, SOURCES, Client, Daemon
 from harness import PLAY, ROOM, TOP, Test, difference
@@ -64,7 +65,8 @@ TALKS = {
     "numbers": [("open", ...), ("1 declare P", "1 P: process 65537"), ("1 declare P", "1 P: process 65537"),
                 ("2 enq P EX name=A block=1", "2 P: NORMAL lock 1"),
                 ("2 enq P EX name=A block=1", "2 P: NORMAL lock 1"),
-                ("1 declare P", "1 old number"), ("2 enq P PR name=A block=1", "2 old number"), ("2 block P 1", "2 P: block 1 status 1 lock 1 value " + ZEROS),
+                ("1 declare P", "1 old number"), ("2 enq P PR name=A block=1", "2 old number"),
+                ("2 block P 1", "2 P: block 1 status 1 lock 1 value " + ZEROS),
                 ("3 frob", "3 unknown command"), ("3 deq P @1", "3 P: NORMAL"), ("deq P @1", "P: IVLOCKID"),
                 ("4 deq P @1", "4 old number"), ("9 deq P @1", "9 P: IVLOCKID")],
     "an ended process": [("open", ...), ("declare P", ...), ("end P", "P: NORMAL"), ("end P", "P: NONEXPR"),
@@ -734,5 +736,5 @@ def once():
                    partial(clients, compiler, sanitizer))
               for compiler in library.COMPILERS for sanitizer in library.SANITIZERS[1:]
               if library.links(compiler, sanitizer)]
-    found += service_scripts.tests() + service_commands.tests()
+    found += service_scripts.tests() + service_commands.tests() + service_replicas.tests()
     return [] if missing() else found
