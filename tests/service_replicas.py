@@ -20,8 +20,9 @@ from proxies import Proxy, addresses
 
 HERE = Path(__file__).resolve().parent / "service"
 CLIENT = sorted((TOP / "bindings" / "c").glob("vlm_client*.c"))
-# How many connections are cut, and after how many bytes at most.
+# How many connections are cut while how many steps are made at least, and after how many bytes at most.
 CUTS = 400
+STEPS = 300
 MOST_BYTES = 1500
 # How late a slow replica is, in seconds.
 DELAY = 0.01
@@ -109,16 +110,19 @@ def until(holds, seconds=PATIENCE):
 def cuts(word, made, _program):
     """What is wrong with counts under locks while connections are cut anywhere, and one of two replicas is slow: none
     is lost, each request ends once, and no step is made twice."""
-    with Daemon(made=PLAIN) as daemon, Proxy(daemon.socket, MOST_BYTES, 1, delay=DELAY) as one:
-        with Proxy(daemon.socket, MOST_BYTES, 2) as two, Program(made(), word, addresses(one, two), LONG) as program:
+    with Daemon(made=PLAIN) as daemon, Proxy(daemon.socket, seed=1, delay=DELAY) as one:
+        with Proxy(daemon.socket, seed=2) as two, Program(made(), word, addresses(one, two), LONG) as program:
             yield from difference(program.line(), "ready")
-            if not until(lambda: one.cuts + two.cuts >= CUTS or program.run.poll() is not None):
-                yield f"{one.cuts + two.cuts} cuts"
+            one.most = two.most = MOST_BYTES
+            one.cut()
+            if not until(lambda: (one.cuts + two.cuts >= CUTS and daemon.metric("steps_total") >= STEPS)
+                         or program.run.poll() is not None):
+                yield f"{one.cuts + two.cuts} cuts and {daemon.metric('steps_total')} steps"
             one.most = two.most = None
             program.go()
-            found = re.fullmatch(r"steps (\d+) cancels (\d+) counts (\d+)", program.line() or "")
-            steps, most, counts = map(int, found.groups() if found else (0, 0, 0))
-            if not steps <= daemon.metric("steps_total") <= steps + most or counts < 10:
+            found = re.fullmatch(r"steps (\d+) cancels (\d+)", program.line() or "")
+            steps, cancels = map(int, found.groups() if found else (0, 0))
+            if not steps <= daemon.metric("steps_total") <= steps + cancels:
                 yield f"{found}, and {daemon.metric('steps_total')} steps of the service"
             program.go()
             yield from difference(program.line(), "closed")

@@ -253,7 +253,7 @@ static void test_cuts(void) {
     end_hand_over(clients[0], threads);
     for (int at = CLIENTS; at < CLIENTS * (WORKERS + 1); at++)
         pthread_join(threads[at], NULL);
-    printf("steps %lu cancels %lu counts %lu\n", (unsigned long)steps, (unsigned long)cancels, counters[0].count);
+    printf("steps %lu cancels %lu\n", (unsigned long)steps, (unsigned long)cancels);
     fflush(stdout);
     hear();
     for (int at = 0; at < CLIENTS; at++)
