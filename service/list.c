@@ -3,7 +3,7 @@
  * bytes, a letter, and what it announces. All numbers are little-endian.
  *
  *     to the list      a BATCH                 to be appended
- *                      k REVISION END BATCH    what a chunk keeps of a batch that has run; END is 1 if a chunk may end here
+ *                      k REVISION END BATCH    what a chunk keeps of a batch that has run; END is 1 if it may end here
  *     from the list    b REVISION BATCH        the next batch
  *                      p REVISION BATCH        the same, of a chunk: it is kept already
  *                      a                       the last batch to be appended is in the list

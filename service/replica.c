@@ -6,7 +6,8 @@
 #include <string.h>
 
 /* In milliseconds: how often a beat is sent at the soonest, and at the latest while there are clients; how long a
- * replica may be silent before the others end its connections; within which times replicas that want a search differ. */
+ * replica may be silent before the others end its connections; within which times replicas that want a search differ.
+ */
 enum { SOONEST = 200, LATEST = 1000, SILENCE = 30000, JITTER = 256 };
 
 /* A batch's entries have places beside its revision. */
@@ -307,8 +308,8 @@ static bool run_entry(struct replica *replica, struct peer *peer, struct entry *
     return false;
 }
 
-/* Runs the entries of a batch of a peer, at places of a revision behind those that are taken. `kept` gets the length and
- * the bytes of what is to be kept. */
+/* Runs the entries of a batch of a peer, at places of a revision behind those that are taken. `kept` gets the length
+ * and the bytes of what is to be kept. */
 static void run_batch(struct replica *replica, uint64_t revision, struct reader batch, struct bytes *kept) {
     const uint8_t *head = batch.at;
     struct peer *peer = find_peer(replica, batch_open(&batch).replica);

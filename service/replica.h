@@ -38,9 +38,9 @@ struct bytes replica_batch(struct replica *replica);
 void replica_appended(struct replica *replica);
 
 /* Runs a batch of the list. Revisions rise. The batches of a replica run in the order of their numbers: one that comes
- * early waits for those before it. `kept` gets the batches that have run, without what did nothing, each with its length
- * in 4 bytes before it: they rebuild the same state. It is null for batches that were kept. Without memory the program
- * ends, as it does for a batch that no replica has made. */
+ * early waits for those before it. `kept` gets the batches that have run, without what did nothing, each with its
+ * length in 4 bytes before it: they rebuild the same state. It is null for batches that were kept. Without memory the
+ * program ends, as it does for a batch that no replica has made. */
 void replica_apply(struct replica *replica, uint64_t revision, const struct bytes *batch, struct bytes *kept);
 
 /* Whether no batch waits for others: what was kept up to here, and what follows in the list, make the state. */

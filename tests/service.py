@@ -21,19 +21,19 @@ import library
 import service_commands
 import service_scripts
 import service_tokens
-from daemons import CHECKED, NOBODY, PLAIN, SOURCES, Client, Daemon
+from daemons import CHECKED, DISPATCHER, NOBODY, PLAIN, Client, Daemon
 from harness import PLAY, ROOM, TOP, Test, difference
 from service_scripts import MODES
 
 HERE = Path(__file__).resolve().parent / "service"
-# The files of the dispatcher, without the daemon around it.
-DAEMON = ("vlmd.c", "config.c", "start.c")
 CLIENT = sorted((TOP / "bindings" / "c").glob("vlm_client*.c"))
-DISPATCHER = [it for it in SOURCES if it.name not in DAEMON]
 # How long the mutated lines run.
 MUTATED_SECONDS = 8
+# How many lists replicas run: a processor runs some 15 in a second.
+LISTS = 200
 # How long clients come and go.
 STORM_SECONDS = 6
+SANITIZED = ("-fsanitize=address,undefined", "-fno-sanitize-recover=all")
 ZEROS = 32 * "0"
 # Gives a program another time of day.
 FAKED_TIME = Path("/usr/lib/x86_64-linux-gnu/faketime/libfaketime.so.1")
@@ -596,11 +596,11 @@ def idle(_program):
             client.close()
 
 
-def over_dispatcher(name, compiler, *words):
-    """Compiles the program of strange bytes over the dispatcher. Gives its path, and what is wrong with that."""
+def over_dispatcher(name, source, compiler, *words):
+    """Compiles a program over the dispatcher. Gives its path, and what is wrong with that."""
     made = Path(ROOM().name) / name
     return made, list(library.ran(compiler, "-std=gnu11", *library.STRICT, "-O1", "-g", *words,
-                                  f"-I{library.prefix()}/include", f"-I{TOP}/service", HERE / "mutate.c", *DISPATCHER,
+                                  f"-I{library.prefix()}/include", f"-I{TOP}/service", HERE / source, *DISPATCHER,
                                   library.prefix() / "lib" / "libvlm.a", "-pthread", "-o", made))
 
 
@@ -654,19 +654,25 @@ def mutated(_program):
     """What is wrong with the dispatcher when clients send mutated lines, also while allocations are refused: no
     sanitizer finds anything."""
     refused = [f"-Wl,--wrap={name}" for name in ("malloc", "calloc", "realloc")]
-    made, wrong = over_dispatcher("mutated", "cc", "-fsanitize=address,undefined", "-fno-sanitize-recover=all",
-                                  *refused)
+    made, wrong = over_dispatcher("mutated", "mutate.c", "cc", *SANITIZED, *refused)
     scripts = [it.with_suffix("") for it in sorted(PLAY.glob("*.stdout"))]
     yield from wrong or library.ran(made, MUTATED_SECONDS, *scripts, HERE / "lines")
 
 
 def fuzzed(_program):
     """What is wrong with the dispatcher under libFuzzer, for a few seconds."""
-    made, wrong = over_dispatcher("fuzzed", "clang", "-DFUZZER", "-fsanitize=fuzzer,address,undefined")
+    made, wrong = over_dispatcher("fuzzed", "mutate.c", "clang", "-DFUZZER", "-fsanitize=fuzzer,address,undefined")
     corpus = Path(ROOM().name) / "corpus"
     corpus.mkdir()
     shutil.copy(HERE / "lines", corpus)
     yield from wrong or library.ran(made, f"-max_total_time={MUTATED_SECONDS}", "-max_len=4000", "-timeout=10", corpus)
+
+
+def replicas(_program):
+    """What is wrong with replicas over lists in one program, with time and chance made up: other states, wrong answers,
+    or two clients that believe to hold one lock."""
+    made, wrong = over_dispatcher("replicas", "replicas.c", "cc", *SANITIZED)
+    yield from wrong or library.ran(made, 1, LISTS)
 
 
 def clients(compiler, sanitizer, _program):
@@ -688,7 +694,8 @@ BEHAVIOURS = {"the first session of the page": shown_talk, "half lines": half_li
               "a daemon that ends": restarted, "a second daemon": one_daemon, "configurations": configured,
               "a daemon of systemd": under_systemd, "a deadlock": deadlocked, "no searches": not_searched,
               "a change of managers": changed, "no identifications left": drained, "10,000 idle connections": idle,
-              "a storm of clients": stormy, "mutated lines": mutated}
+              "a storm of clients": stormy, "mutated lines": mutated,
+              "replicas in one program": replicas}
 
 
 def installed(_program):
