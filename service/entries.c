@@ -81,8 +81,8 @@ struct batch_head batch_open(struct reader *batch) {
 bool batch_next(struct reader *batch, struct entry *entry) {
     if (batch->left == 0)
         return false;
+    entry->head = batch->at;
     entry->number = (uint32_t)reader_number(batch, 4);
-    entry->rest = batch->at;
     entry->type = (enum entry_type)reader_number(batch, 2);
     size_t len = (size_t)reader_number(batch, 2);
     if (batch->is_short || batch->left < len) {
@@ -90,7 +90,7 @@ bool batch_next(struct reader *batch, struct entry *entry) {
         return false;
     }
     entry->payload = (struct reader){batch->at, len, false};
-    entry->rest_len = ENTRY_HEAD - 4 + len;
+    entry->len = ENTRY_HEAD + len;
     batch->at += len;
     batch->left -= len;
     return true;
@@ -106,8 +106,8 @@ void batch_make(struct bytes *batch, struct batch_head head, struct bytes *entri
     bytes_add_number(batch, head.number, 8);
     for (uint32_t number = 0; taken < MOST_BATCH && batch_next(&reader, &entry); number++) {
         bytes_add_number(batch, number, 4);
-        bytes_add(batch, entry.rest, entry.rest_len);
-        taken += 4 + entry.rest_len;
+        bytes_add(batch, entry.head + 4, entry.len - 4);
+        taken += entry.len;
     }
     bytes_drop(entries, taken);
 }

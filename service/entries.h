@@ -59,8 +59,8 @@ struct entry {
     enum entry_type type;
     uint32_t number;
     struct reader payload;
-    const uint8_t *rest; /* the entry without its number */
-    size_t rest_len;
+    const uint8_t *head; /* the entry as a whole */
+    size_t len;
 };
 
 /* Reads the head of a batch. */

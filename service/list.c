@@ -3,7 +3,7 @@
  * bytes, a letter, and what it announces. All numbers are little-endian.
  *
  *     to the list      a BATCH                 to be appended
- *                      k REVISION END BATCH    what a chunk keeps of a batch that has run; END is 1 if it may end here
+ *                      k REVISION BATCH        what a chunk keeps of the batch at a revision
  *     from the list    b REVISION BATCH        the next batch
  *                      p REVISION BATCH        the same, of a chunk: it is kept already
  *                      a                       the last batch to be appended is in the list
@@ -70,18 +70,13 @@ static void run_batch(struct reader *read, bool is_kept) {
     uint64_t revision = reader_number(read, 8);
     struct bytes batch = {(uint8_t *)read->at, read->left, 0}, kept = {NULL, 0, 0}, frame;
     replica_apply(vlmd.replica, revision, &batch, is_kept ? NULL : &kept);
-    struct reader parts = {kept.all, kept.len, false};
-    while (parts.left != 0) {
-        size_t len = (size_t)reader_number(&parts, 4);
-        begin_frame(&frame, 'k', 9 + len);
-        bytes_add_number(&frame, revision, 8);
-        bytes_add_number(&frame, parts.left == len && replica_is_whole(vlmd.replica), 1);
-        bytes_add(&frame, parts.at, len);
-        parts.at += len;
-        parts.left -= len;
-        send_frame(&frame);
-    }
+    if (is_kept)
+        return;
+    begin_frame(&frame, 'k', 8 + kept.len);
+    bytes_add_number(&frame, revision, 8);
+    bytes_add(&frame, kept.all, kept.len);
     free(kept.all);
+    send_frame(&frame);
 }
 
 static void run_frame(struct reader *read) {

@@ -6,12 +6,11 @@
 #include <string.h>
 
 /* In milliseconds: how often a beat is sent at the soonest, and at the latest while there are clients; how long a
- * replica may be silent before the others end its connections; within which times replicas that want a search differ.
- */
+ * replica may be silent before the others end its connections; within which times replicas that want a search differ. */
 enum { SOONEST = 200, LATEST = 1000, SILENCE = 30000, JITTER = 256 };
 
 /* A batch's entries have places beside its revision. */
-enum { PLACE_BITS = 20, BEAT_SESSIONS = 4096, LIMITS = 11, MOST_UNDER_WAY = 2, MOST_EARLY = 64 };
+enum { PLACE_BITS = 20, BEAT_SESSIONS = 4096, LIMITS = 11 };
 
 struct replica *replica_open(struct dispatcher *dispatcher, uint64_t name) {
     struct replica *replica = calloc(1, sizeof *replica);
@@ -24,21 +23,9 @@ struct replica *replica_open(struct dispatcher *dispatcher, uint64_t name) {
     return replica;
 }
 
-static void drop_early(struct replica *replica, struct peer *peer) {
-    for (uint32_t at = 0; at < peer->early_room; at++) {
-        replica->early_count -= peer->early[at].len != 0;
-        free(peer->early[at].all);
-    }
-    free(peer->early);
-    peer->early = NULL;
-    peer->early_room = 0;
-}
-
 void replica_close(struct replica *replica) {
-    for (uint32_t at = 0; at < replica->peer_count; at++) {
+    for (uint32_t at = 0; at < replica->peer_count; at++)
         free(replica->peers[at].clients);
-        drop_early(replica, &replica->peers[at]);
-    }
     for (uint32_t slot = 0; slot < replica->slot_count; slot++)
         if (replica->slots[slot].link != NULL)
             free_link(replica->slots[slot].link);
@@ -122,14 +109,14 @@ void replica_tick(struct replica *replica, uint64_t now) {
 }
 
 struct bytes replica_batch(struct replica *replica) {
-    if (replica->under_way == MOST_UNDER_WAY || replica->next.len == 0)
+    if (replica->is_under_way || replica->next.len == 0)
         return (struct bytes){NULL, 0, 0};
     batch_make(&replica->batch, (struct batch_head){replica->name, ++replica->batches}, &replica->next);
-    replica->under_way++;
+    replica->is_under_way = true;
     return replica->batch;
 }
 
-void replica_appended(struct replica *replica) { replica->under_way--; }
+void replica_appended(struct replica *replica) { replica->is_under_way = false; }
 
 void replica_limit(struct replica *replica, const struct limits *limits) {
     const uint32_t *numbers = (const uint32_t *)limits;
@@ -152,7 +139,7 @@ static struct peer *add_peer(struct replica *replica, uint64_t name) {
     size_t len = (replica->peer_count + 1) * sizeof *replica->peers;
     replica->peers = replica_need(realloc(replica->peers, len));
     struct peer *peer = &replica->peers[replica->peer_count++];
-    *peer = (struct peer){.name = name, .next = 1};
+    *peer = (struct peer){.name = name};
     return peer;
 }
 
@@ -227,7 +214,7 @@ static void end_what_is_over(struct replica *replica) {
             continue;
         entry_begin(&replica->next, ENTRY_GONE, 16);
         bytes_add_number(&replica->next, peer->name, 8);
-        bytes_add_number(&replica->next, peer->next, 8);
+        bytes_add_number(&replica->next, peer->last, 8);
     }
 }
 
@@ -246,14 +233,13 @@ static bool run_beat(struct replica *replica, const struct peer *peer, struct re
 
 /* A replica that was silent has no connections any more. */
 static bool run_gone(struct replica *replica, struct reader *payload) {
-    uint64_t name = reader_number(payload, 8), next = reader_number(payload, 8);
+    uint64_t name = reader_number(payload, 8), last = reader_number(payload, 8);
     struct peer *peer = find_peer(replica, name);
-    if (peer == NULL || peer->next != next || peer->is_gone)
+    if (peer == NULL || peer->last != last || peer->is_gone)
         return false;
     if (name == replica->name)
         replica_fail("the others have not heard of it for too long");
     peer->is_gone = true;
-    drop_early(replica, peer);
     for (uint32_t slot = 0; slot < peer->room; slot++)
         if (peer->clients[slot] != NULL)
             client_close(peer->clients[slot]);
@@ -308,64 +294,6 @@ static bool run_entry(struct replica *replica, struct peer *peer, struct entry *
     return false;
 }
 
-/* Runs the entries of a batch of a peer, at places of a revision behind those that are taken. `kept` gets the length
- * and the bytes of what is to be kept. */
-static void run_batch(struct replica *replica, uint64_t revision, struct reader batch, struct bytes *kept) {
-    const uint8_t *head = batch.at;
-    struct peer *peer = find_peer(replica, batch_open(&batch).replica);
-    struct bytes left = {NULL, 0, 0};
-    struct entry entry;
-    uint32_t before = replica->places;
-    peer->next++;
-    dispatcher_set_token(replica->dispatcher, revision << PLACE_BITS);
-    while (!peer->is_gone && batch_next(&batch, &entry)) {
-        uint32_t number = before + entry.number;
-        dispatcher_pass(replica->dispatcher, revision << PLACE_BITS | number);
-        replica->places = number + 1;
-        if (!run_entry(replica, peer, &entry) || kept == NULL)
-            continue;
-        bytes_add_number(&left, number, 4);
-        bytes_add(&left, entry.rest, entry.rest_len);
-    }
-    if (batch.is_short)
-        replica_fail("the list has a batch that no replica has made");
-    if (kept != NULL) {
-        bytes_add_number(kept, BATCH_HEAD + left.len, 4);
-        bytes_add(kept, head, BATCH_HEAD);
-        bytes_add(kept, left.all, left.len);
-    }
-    free(left.all);
-}
-
-/* Keeps a batch that came before its turn. */
-static void put_early(struct replica *replica, struct peer *peer, uint64_t distance, const struct bytes *batch) {
-    if (distance >= MOST_EARLY)
-        replica_fail("the list lacks batches of a replica");
-    if (distance >= peer->early_room) {
-        uint32_t room = (uint32_t)distance + 1;
-        peer->early = replica_need(realloc(peer->early, room * sizeof *peer->early));
-        memset(peer->early + peer->early_room, 0, (room - peer->early_room) * sizeof *peer->early);
-        peer->early_room = room;
-    }
-    bytes_add(&peer->early[distance], batch->all, batch->len);
-    replica->early_count++;
-}
-
-/* The batch whose turn it is, of those that came early. Called after the one before it. */
-static struct bytes take_early(struct replica *replica, struct peer *peer) {
-    static const struct bytes none = {NULL, 0, 0};
-    if (peer->early_room == 0)
-        return none;
-    /* (the first place is of the batch that has run) */
-    memmove(peer->early, peer->early + 1, (peer->early_room - 1) * sizeof *peer->early);
-    peer->early[peer->early_room - 1] = none;
-    struct bytes taken = peer->early[0];
-    peer->early[0] = none;
-    replica->early_count -= taken.len != 0;
-    return taken;
-}
-
-/* The peer of a batch. Batches of a new one count from 1. */
 static struct peer *peer_of(struct replica *replica, struct batch_head head) {
     struct peer *peer = find_peer(replica, head.replica);
     return peer != NULL ? peer : add_peer(replica, head.replica);
@@ -374,22 +302,18 @@ static struct peer *peer_of(struct replica *replica, struct batch_head head) {
 void replica_apply(struct replica *replica, uint64_t revision, const struct bytes *batch, struct bytes *kept) {
     struct reader reader = {batch->all, batch->len, false};
     struct batch_head head = batch_open(&reader);
+    struct peer *peer = peer_of(replica, head);
+    struct entry entry;
+    peer->last = head.number;
+    peer->heard = replica->now;
+    dispatcher_set_token(replica->dispatcher, revision << PLACE_BITS);
+    if (kept != NULL)
+        bytes_add(kept, batch->all, batch->len < BATCH_HEAD ? batch->len : BATCH_HEAD);
+    while (!peer->is_gone && batch_next(&reader, &entry)) {
+        dispatcher_pass(replica->dispatcher, revision << PLACE_BITS | entry.number);
+        if (run_entry(replica, peer, &entry) && kept != NULL)
+            bytes_add(kept, entry.head, entry.len);
+    }
     if (reader.is_short)
         replica_fail("the list has a batch that no replica has made");
-    struct peer *peer = peer_of(replica, head);
-    peer->heard = replica->now;
-    replica->places = 0;
-    if (kept == NULL)
-        peer->next = head.number;
-    if (peer->is_gone || head.number < peer->next)
-        return;
-    if (head.number > peer->next) {
-        put_early(replica, peer, head.number - peer->next, batch);
-        return;
-    }
-    run_batch(replica, revision, (struct reader){batch->all, batch->len, false}, kept);
-    for (struct bytes next; (next = take_early(replica, peer)).len != 0; free(next.all))
-        run_batch(replica, revision, (struct reader){next.all, next.len, false}, kept);
 }
-
-bool replica_is_whole(const struct replica *replica) { return replica->early_count == 0; }

@@ -32,19 +32,14 @@ void replica_tick(struct replica *replica, uint64_t now);
 /* When an entry is due next, or UINT64_MAX. */
 uint64_t replica_due(const struct replica *replica);
 
-/* What is to be appended to the list next, behind what was given before. From the list it comes back by replica_apply.
- * No bytes: nothing, or several batches are still under way. replica_appended says that one of them is in the list. */
+/* What is to be appended to the list. From there it comes back by replica_apply. No bytes: nothing, or the last batch is
+ * still under way. replica_appended says that it is in the list, so batches of a replica are there in their order. */
 struct bytes replica_batch(struct replica *replica);
 void replica_appended(struct replica *replica);
 
-/* Runs a batch of the list. Revisions rise. The batches of a replica run in the order of their numbers: one that comes
- * early waits for those before it. `kept` gets the batches that have run, without what did nothing, each with its
- * length in 4 bytes before it: they rebuild the same state. It is null for batches that were kept. Without memory the
- * program ends, as it does for a batch that no replica has made. */
+/* Runs a batch of the list. Revisions rise. `kept`, if it is not null, gets the batch without what did nothing: that
+ * rebuilds the same state. Without memory the program ends, as it does for a batch that no replica has made. */
 void replica_apply(struct replica *replica, uint64_t revision, const struct bytes *batch, struct bytes *kept);
-
-/* Whether no batch waits for others: what was kept up to here, and what follows in the list, make the state. */
-bool replica_is_whole(const struct replica *replica);
 
 /* Has all replicas use other limits. The list keeps them. */
 void replica_limit(struct replica *replica, const struct limits *limits);

@@ -19,10 +19,8 @@ enum { MOST_SLOTS = 1 << 20, HAS_SYSLCK = 1, IS_ADMIN = 2 };
 /* A replica that has been heard of, this one too. */
 struct peer {
     uint64_t name;
-    uint64_t next;       /* the number of its next batch */
-    uint64_t heard;      /* when the last one came by */
-    struct bytes *early; /* batches that came before their turn, by their numbers' distance from the next one */
-    uint32_t early_room;
+    uint64_t last;  /* the number of its last batch */
+    uint64_t heard; /* when that came by */
     bool is_gone;
     struct client **clients; /* by slot */
     uint32_t room;
@@ -39,14 +37,11 @@ struct replica {
     uint64_t name, now;
     struct peer *peers;
     uint32_t peer_count;
-    uint32_t early_count; /* of all peers */
     struct slot *slots;
     uint32_t slot_count, free_slot;
-    struct bytes next, batch; /* entries to be appended, and the last batch that was made of them */
-    uint32_t under_way;       /* batches */
-    uint64_t batches;
-    uint32_t places; /* taken by entries at the revision */
-    bool has_limits, is_searching, is_draining, is_ending;
+    struct bytes next, batch; /* entries to be appended, and those that are under way */
+    uint64_t batches;         /* that were made */
+    bool is_under_way, has_limits, is_searching, is_draining, is_ending;
     struct bytes asked; /* sessions that the next beat keeps */
     uint64_t beats, beat_at, beat_heard;
 };

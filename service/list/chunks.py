@@ -24,8 +24,6 @@ class Batch:
     # The last part of its key; empty in a chunk.
     name: str
     entries: bytes
-    # Whether a chunk may end with it.
-    is_end: bool = True
 
 
 def _entries(batch: bytes) -> Iterator[Tuple[int, int, int]]:
@@ -115,10 +113,10 @@ class Log:
             self._bytes = sum(len(it.entries) for it in self._batches)
 
     def next_chunk(self) -> Tuple[bytes, int]:
-        """The next chunk, and the revision up to which it goes; no bytes if it can't end yet."""
+        """The next chunk, and the revision up to which it goes; no bytes if there is not enough."""
         size = 0
         for count, batch in enumerate(self._batches, 1):
             size += len(batch.entries)
-            if size >= self.size and batch.is_end:
+            if size >= self.size:
                 return pack(self._batches[:count]), batch.revision
         return b"", 0

@@ -1,7 +1,7 @@
 /* replicas FIRST COUNT: replicas of the lock service over a list in this program, one run for each seed from FIRST on.
  *
  * Time, the list, the replicas and their clients are all made up here and driven by random numbers. Batches reach the
- * list late and in any order, replicas run it at their own pace, stop for a while, end and start anew, from what was
+ * list late, replicas run it at their own pace, stop for a while, end and start anew, from what was
  * kept or from the whole list. Clients ask for locks with sessions that have leases, stop for a while, and go on at
  * another replica. A run fails
  * - if two clients believe to hold one resource at a time, each counting its lease from before it sent what was
@@ -29,7 +29,6 @@ enum {
 /* A batch of the list, or what was kept of one. */
 struct placed {
     uint64_t revision;
-    bool is_end;
     struct bytes batch;
 };
 
@@ -41,11 +40,12 @@ struct list {
 struct node {
     struct dispatcher *dispatcher;
     struct replica *replica;
-    size_t at;             /* how much of the list it has run */
-    uint64_t stopped;      /* until then it does nothing */
-    uint32_t delay;        /* of its batches, or 0: random ones */
-    struct placed sent[8]; /* batches that are on their way to the list; the revision is when they come there */
-    uint32_t sent_count, unheard;
+    size_t at;         /* how much of the list it has run */
+    uint64_t stopped;  /* until then it does nothing */
+    uint32_t delay;    /* of its batches, or 0: random ones */
+    struct bytes sent; /* a batch that is on its way to the list, and when it comes there */
+    uint64_t arrival;
+    bool is_unheard; /* it is in the list, and the replica does not know */
 };
 
 /* A resource that a client asks for or has. */
@@ -93,11 +93,11 @@ static void fail(const char *what) {
 
 static void say_nothing(const char *text) { (void)text; }
 
-static void add(struct list *to, uint64_t revision, bool is_end, const uint8_t *bytes, size_t len) {
+static void add(struct list *to, uint64_t revision, const uint8_t *bytes, size_t len) {
     if (to->count == MOST_BATCHES)
         fail("the list is full");
     struct placed *placed = &to->all[to->count++];
-    *placed = (struct placed){revision, is_end, {NULL, 0, 0}};
+    *placed = (struct placed){revision, {NULL, 0, 0}};
     bytes_add(&placed->batch, bytes, len);
 }
 
@@ -107,25 +107,14 @@ static void empty(struct list *of) {
     of->count = 0;
 }
 
-/* Notes what a node has kept of a revision, unless another one did. */
-static void keep(const struct node *node, uint64_t revision, const struct bytes *parts) {
-    struct reader reader = {parts->all, parts->len, false};
-    bool is_news = kept.count == 0 || kept.all[kept.count - 1].revision < revision;
-    while (is_news && reader.left != 0) {
-        size_t len = (size_t)reader_number(&reader, 4);
-        add(&kept, revision, reader.left == len && replica_is_whole(node->replica), reader.at, len);
-        reader.at += len;
-        reader.left -= len;
-    }
-}
-
 static void apply_next(struct node *node) {
     const struct placed *next = &list.all[node->at++];
-    struct bytes parts = {NULL, 0, 0};
+    struct bytes left = {NULL, 0, 0};
     replica_tick(node->replica, now);
-    replica_apply(node->replica, next->revision, &next->batch, &parts);
-    keep(node, next->revision, &parts);
-    free(parts.all);
+    replica_apply(node->replica, next->revision, &next->batch, &left);
+    if (kept.count < next->revision)
+        add(&kept, next->revision, left.all, left.len);
+    free(left.all);
 }
 
 /* Starts a node, from what was kept up to some end of it or from nothing. */
@@ -136,12 +125,9 @@ static void start(struct node *node) {
     node->replica = replica_open(node->dispatcher, (uint64_t)pick(UINT32_MAX) << 32 | ++starts);
     replica_tick(node->replica, now);
     size_t end = kept.count == 0 || pick(3) == 0 ? 0 : pick((uint32_t)kept.count);
-    while (end != 0 && !kept.all[end - 1].is_end)
-        end--;
     for (size_t at = 0; at < end; at++)
         replica_apply(node->replica, kept.all[at].revision, &kept.all[at].batch, NULL);
-    while (end != 0 && node->at < list.count && list.all[node->at].revision <= kept.all[end - 1].revision)
-        node->at++;
+    node->at = end;
     while (node->at < list.count)
         apply_next(node);
 }
@@ -150,8 +136,7 @@ static void stop(struct node *node) {
     for (uint32_t at = 0; at < CLIENTS; at++)
         if (clients[at].node == node && clients[at].link != NULL)
             clients[at].link = NULL;
-    for (uint32_t at = 0; at < node->sent_count; at++)
-        free(node->sent[at].batch.all);
+    free(node->sent.all);
     replica_close(node->replica);
     dispatcher_close(node->dispatcher);
 }
@@ -211,26 +196,23 @@ static bool has_end(struct bytes batch) {
     return false;
 }
 
-/* A batch goes on its way; those that have arrived are in the list, and their replica hears so later. */
+/* A batch goes on its way. One that has arrived is in the list, and its replica hears so later. */
 static void carry(struct node *node) {
-    struct bytes batch = node->sent_count < 8 ? replica_batch(node->replica) : (struct bytes){NULL, 0, 0};
+    struct bytes batch = replica_batch(node->replica);
     if (batch.len != 0) {
-        struct placed *sent = &node->sent[node->sent_count++];
         uint32_t delay = node->delay != 0 ? node->delay : pick(pick(60) == 0 ? 8000 : 20);
         if (delay_of_ends != 0 && has_end(batch))
             delay = delay_of_ends;
-        *sent = (struct placed){now + delay, false, {NULL, 0, 0}};
-        bytes_add(&sent->batch, batch.all, batch.len);
+        node->arrival = now + delay;
+        bytes_add(&node->sent, batch.all, batch.len);
     }
-    for (uint32_t at = 0; at < node->sent_count; at++)
-        if (node->sent[at].revision <= now) {
-            add(&list, list.count + 1, false, node->sent[at].batch.all, node->sent[at].batch.len);
-            free(node->sent[at].batch.all);
-            node->sent[at--] = node->sent[--node->sent_count];
-            node->unheard++;
-        }
-    if (node->unheard != 0 && pick(2) == 0) {
-        node->unheard--;
+    if (node->sent.len != 0 && node->arrival <= now) {
+        add(&list, list.count + 1, node->sent.all, node->sent.len);
+        node->sent.len = 0;
+        node->is_unheard = true;
+    }
+    if (node->is_unheard && pick(2) == 0) {
+        node->is_unheard = false;
         replica_appended(node->replica);
     }
 }
