@@ -138,9 +138,9 @@ def a_beat(number, *sessions, beat=7):
     return an_entry(number, BEAT, struct.pack("<Q", beat) + b"".join(sessions))
 
 
-def placed(revision, replica, number, *entries, is_end=True):
+def placed(revision, replica, number, *entries):
     """A batch of a replica, the one of this number, at a revision."""
-    return Batch(revision, "", struct.pack("<8sQQ", b"vlmlist1", replica, number) + b"".join(entries), is_end)
+    return Batch(revision, "", struct.pack("<8sQQ", b"vlmlist1", replica, number) + b"".join(entries))
 
 
 class Chunks(unittest.TestCase):
@@ -173,33 +173,23 @@ class Chunks(unittest.TestCase):
         kept = self.packed(placed(1, 1, 1), placed(2, 1, 2), placed(3, 2, 1, line), placed(4, 2, 2))
         self.assertEqual(kept, [placed(2, 1, 2), placed(3, 2, 1, line), placed(4, 2, 2)])
 
-    def test_a_chunk_ends_only_where_it_may(self):
-        line, log = an_entry(0, LINE, bytes(100)), Log(200)
-        for revision, is_end in ((1, True), (2, False), (3, False)):
-            log.add(placed(revision, 1, revision, line, is_end=is_end))
-        self.assertTrue(log.is_full)
-        self.assertEqual(log.next_chunk(), (b"", 0))
-        for revision in (4, 5):
-            log.add(placed(revision, 1, revision, line))
-        chunk, covered = log.next_chunk()
-        self.assertEqual((covered, len(unpack(chunk)[1])), (4, 4))
-        log.cover(1, covered)
-        self.assertEqual((log.is_full, log.next_chunk()), (False, (b"", 0)))
-
-    def test_batches_at_one_revision_stay_together(self):
+    def test_a_chunk_ends_once_it_is_full(self):
         line = an_entry(0, LINE, bytes(100))
-        batches = [placed(1, 1, 1, line, is_end=False), placed(1, 1, 2, line, is_end=False), placed(1, 1, 3, line),
-                   placed(2, 1, 4, line)]
-        log, later = Log(100), Log(100)
-        later.cover(1, 1)
+        batches = [placed(revision, 1, revision, line) for revision in range(1, 6)]
+        log, later = Log(200), Log(200)
+        later.cover(1, 2)
         for batch in batches:
             log.add(batch)
             later.add(batch)
-        chunk, covered = log.next_chunk()
-        self.assertEqual([it.entries for it in unpack(chunk)[1]], [it.entries for it in batches[:3]])
-        log.cover(1, covered)
+        self.assertTrue(log.is_full)
+        self.assertEqual(unpack(log.next_chunk()[0]), (2, batches[:2]))
+        log.cover(1, 2)
         self.assertEqual(log.next_chunk(), later.next_chunk())
-        self.assertEqual(unpack(later.next_chunk()[0]), (2, batches[3:]))
+        self.assertEqual(unpack(log.next_chunk()[0]), (4, batches[2:4]))
+        log.cover(2, 4)
+        self.assertEqual((log.is_full, log.next_chunk()), (False, (b"", 0)))
+        log.cover(1, 2)
+        self.assertEqual((log.chunks, log.covered), (2, 4))
 
 
 if __name__ == "__main__":
