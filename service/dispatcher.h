@@ -116,7 +116,8 @@ bool client_is_cut(const struct client *client);
  * than the others. */
 void dispatcher_follow(struct dispatcher *dispatcher);
 
-/* Tells the place in the list of the entry that comes by. Places rise. */
+/* Tells the place in the list of the entry that comes by: the revision of its batch, and its number there. */
+enum { PLACE_BITS = 20 };
 void dispatcher_pass(struct dispatcher *dispatcher, uint64_t place);
 
 /* What a line may do, by its first word: change something, keep the lease of its session, or only read. */

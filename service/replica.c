@@ -9,8 +9,7 @@
  * replica may be silent before the others end its connections; within which times replicas that want a search differ. */
 enum { SOONEST = 200, LATEST = 1000, SILENCE = 30000, JITTER = 256 };
 
-/* A batch's entries have places beside its revision. */
-enum { PLACE_BITS = 20, BEAT_SESSIONS = 4096, LIMITS = 11 };
+enum { BEAT_SESSIONS = 4096, LIMITS = 11 };
 
 struct replica *replica_open(struct dispatcher *dispatcher, uint64_t name) {
     struct replica *replica = calloc(1, sizeof *replica);

@@ -232,6 +232,9 @@ static bool set_named(const char *setting, char *text) {
 
 static bool read_words(int count, char **words) {
     struct named_words named = {.socket = getenv("VLM_SOCKET")};
+    /* (clients may have the address of a replica there) */
+    if (named.socket != NULL && strncmp(named.socket, "tcp:", 4) == 0)
+        named.socket = NULL;
     bool is_right = take_words(count, words, &named);
     vlmd.config = usual_config;
     if (!is_right || !read_config(vlmd.file, vlmd.is_file_named, &vlmd.config))

@@ -116,6 +116,7 @@ void metrics(struct client *client) {
                 {"waiting_requests", "gauge", dispatcher->waiting_count},
                 {"identifications_used", "gauge", dispatcher->last_lkid},
                 {"epoch", "gauge", dispatcher->epoch},
+                {"list_revision", "gauge", dispatcher->place >> PLACE_BITS},
                 {"sessions_total", "counter", counts->sessions},
                 {"steps_total", "counter", counts->steps},
                 {"refused_steps_total", "counter", counts->refused},

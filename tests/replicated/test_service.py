@@ -112,6 +112,13 @@ class Service(unittest.TestCase):
         self.lock_of(p.ask("enq P EX name=after-faults block=1"))
         self.assertEqual(p.ask("alive"), "alive")
 
+    def test_answers_come_in_the_order_of_the_lines(self):
+        p = self.begun(0)
+        p.send("\n".join(["set P block=1 value=" + VALUE, "block P 1", "alive", "deq P 7", "7", "cvt P 7 EX block=1"]))
+        self.assertEqual([p.next() for _ in range(6)],
+                         ["P: NORMAL", f"P: block 1 status 0 lock 0 value {VALUE}", "alive", "P: IVLOCKID",
+                          "unknown command", "P: IVLOCKID"])
+
     def test_a_number_names_one_step(self):
         p = self.begun(0)
         first = p.ask("5 enq P CR name=numbered block=1")
