@@ -1,5 +1,5 @@
-"""The sessions that docs/CLUSTER.md shows, with the daemons that it starts. A name of a session is another one each time,
-and so are the seconds of a lock."""
+"""The sessions that docs/CLUSTER.md shows, with the daemons that it starts. A session has another name each time, and a
+lock other seconds."""
 
 import os
 import re
