@@ -5,14 +5,16 @@ head of 8 bytes: its number, its type and the length of its payload. Here only b
 chunk keeps the last one. A chunk keeps the head of the last batch of each replica too, so that a new replica knows
 which number is next. All numbers are little-endian."""
 
+import lzma
 import struct
-import zlib
 from dataclasses import dataclass
 from typing import Dict, Iterator, List, Tuple
 
 _HEAD, _REPLICA, _ENTRY, _BEAT = 24, slice(8, 16), struct.Struct("<IHH"), 4
 # A batch in a chunk: its revision and its length. A chunk begins with the revision up to which it goes.
 _PLACED, _COVERED = struct.Struct("<QI"), struct.Struct("<Q")
+# How hard a chunk is compressed: more takes ten times as long, for a fifth less.
+_PRESET = 3
 
 
 @dataclass(frozen=True)
@@ -67,12 +69,12 @@ def pack(batches: List[Batch]) -> bytes:
     parts = [_COVERED.pack(batches[-1].revision)]
     for batch in _without_beats(batches):
         parts += [_PLACED.pack(batch.revision, len(batch.entries)), batch.entries]
-    return zlib.compress(b"".join(parts))
+    return lzma.compress(b"".join(parts), preset=_PRESET)
 
 
 def unpack(chunk: bytes) -> Tuple[int, List[Batch]]:
     """The revision up to which a chunk goes, and its batches."""
-    plain = zlib.decompress(chunk)
+    plain = lzma.decompress(chunk)
     (covered,) = _COVERED.unpack_from(plain)
     at, batches = _COVERED.size, []
     while at < len(plain):
@@ -112,11 +114,11 @@ class Log:
             self._batches = [it for it in self._batches if it.revision > covered]
             self._bytes = sum(len(it.entries) for it in self._batches)
 
-    def next_chunk(self) -> Tuple[bytes, int]:
-        """The next chunk, and the revision up to which it goes; no bytes if there is not enough."""
+    def next_batches(self) -> List[Batch]:
+        """The batches of the next chunk; none if there is not enough for one."""
         size = 0
         for count, batch in enumerate(self._batches, 1):
             size += len(batch.entries)
             if size >= self.size:
-                return pack(self._batches[:count]), batch.revision
-        return b"", 0
+                return self._batches[:count]
+        return []

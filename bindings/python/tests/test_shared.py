@@ -11,8 +11,8 @@ import unittest
 import weakref
 
 import vlm
-from vlm import (AbortError, AstKind, BadParamError, ClosedError, Condition, DeadlockError, DepartedError, Event, Flags,
-                 Mode, NonExprError, NotQueuedError, Shared)
+from vlm import (AbortError, AstKind, BadParamError, CancelError, ClosedError, Condition, DeadlockError, DepartedError,
+                 Event, Flags, Mode, NonExprError, NotQueuedError, Shared)
 
 EMPTY = bytes(16)
 SECONDS = 30
@@ -251,6 +251,46 @@ class Tasks(unittest.IsolatedAsyncioTestCase):
         with self.assertRaises(asyncio.CancelledError):
             await task
         self.assertEqual(self.count("locks"), 0)
+
+    async def test_a_task_converts(self):
+        with self.p.lock("A", Mode.CR) as held, self.q.lock("A", Mode.PR) as other:
+            task = asyncio.ensure_future(held.convert_async(Mode.PW))
+            await asyncio.sleep(0.01)
+            self.assertEqual((task.done(), self.count("waiting"), held.mode), (False, 1, Mode.CR))
+            await other.convert_async(Mode.NL)
+            await task
+            self.assertEqual((held.mode, other.mode), (Mode.PW, Mode.NL))
+            held.write(b"by a task")
+            await held.convert_async(Mode.CR)
+            await other.convert_async(Mode.PR)
+            self.assertEqual(other.value, b"by a task".ljust(16, b"\0"))
+
+    async def test_a_cancelled_conversion_leaves_nothing(self):
+        with self.p.lock("A", Mode.NL) as held:
+            with self.q.lock("A", Mode.EX):
+                with self.assertRaises(asyncio.TimeoutError):
+                    await asyncio.wait_for(held.convert_async(Mode.EX), 0.02)
+                self.assertEqual((self.count("waiting"), held.mode), (0, Mode.NL))
+                task = asyncio.ensure_future(held.convert_async(Mode.EX))
+                await asyncio.sleep(0.01)
+            # (it is granted by now, and has not been told)
+            task.cancel()
+            with self.assertRaises(asyncio.CancelledError):
+                await task
+            self.assertEqual(held.mode, Mode.EX)
+            with self.assertRaises(NotQueuedError):
+                self.q.lock("A", Mode.CR, flags=Flags.NOQUEUE)
+
+    async def test_a_conversion_ends_as_its_request_does(self):
+        with self.p.lock("A", Mode.PR), self.q.lock("A", Mode.CR) as held:
+            task = asyncio.ensure_future(held.convert_async(Mode.EX))
+            await asyncio.sleep(0.01)
+            self.q.cancel_all()
+            with self.assertRaises(CancelError):
+                await task
+            self.assertEqual(held.mode, Mode.CR)
+            with self.assertRaises(NotQueuedError):
+                await held.convert_async(Mode.EX, flags=Flags.NOQUEUE)
 
     async def test_a_wait_ends_as_its_request_does(self):
         with self.p.lock("A", Mode.EX):

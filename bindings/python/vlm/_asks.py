@@ -1,15 +1,19 @@
 """Requests to the layer for threads, and waits for their ends."""
 
 import threading
+from contextlib import suppress
 from math import ceil
 from typing import TYPE_CHECKING, Any, Callable, Optional
 
 from . import _library as raw
 from ._arguments import seconds
 from ._contexts import Call, Context, forget, give
+from .errors import checked
 from .values import Condition, Event, Flags
 
 if TYPE_CHECKING:
+    import asyncio
+
     from .clients import Client
 
 _NORMAL, _SYNCH, _NOTQUEUED = int(Condition.NORMAL), int(Condition.SYNCH), int(Condition.NOTQUEUED)
@@ -47,6 +51,25 @@ class Asked:
         if status != _NOTQUEUED or flags & Flags.NOQUEUE:
             return status
         return Waiting(self, longest).wait()
+
+    def start_in_task(self) -> "asyncio.Future[Optional[Event]]":
+        """Makes the request for a task: a future of the event that ends it, or of None if its process ends."""
+        # (a program without tasks needs no asyncio, which takes long to import)
+        import asyncio
+        loop = asyncio.get_running_loop()
+        ended: "asyncio.Future[Optional[Event]]" = loop.create_future()
+
+        def end(event: Optional[Event]) -> None:
+            if not ended.done():
+                ended.set_result(event)
+
+        def tell(event: Optional[Event] = None) -> None:
+            # (the loop may have ended)
+            with suppress(RuntimeError):
+                loop.call_soon_threadsafe(end, event)
+
+        checked(self.start(tell, tell))
+        return ended
 
     def start(self, completion: Call, released: Optional[Callable[[], object]] = None) -> int:
         """Makes the request, and does not wait: NORMAL if the completion routine is called."""

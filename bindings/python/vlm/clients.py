@@ -1,6 +1,5 @@
 """A process of a lock manager for threads, with its locks."""
 
-from contextlib import suppress
 from ctypes import c_int, c_uint32
 from types import TracebackType
 from typing import TYPE_CHECKING, Any, Generator, Optional, Type
@@ -11,7 +10,7 @@ from ._asks import Asked
 from ._contexts import Call
 from .errors import checked, error_of
 from .held import Held
-from .values import Condition, DequeueFlags, Event, Flags, Mode, Name
+from .values import Condition, DequeueFlags, Flags, Mode, Name
 
 if TYPE_CHECKING:
     from .shared import Shared
@@ -145,21 +144,7 @@ class AsyncLock:
             self._held.__exit__(kind, error, trace)
 
     async def _granted(self) -> Held:
-        # (a program without tasks needs no asyncio, which takes long to import)
-        import asyncio
-        loop = asyncio.get_running_loop()
-        ended: "asyncio.Future[Optional[Event]]" = loop.create_future()
-
-        def end(event: Optional[Event]) -> None:
-            if not ended.done():
-                ended.set_result(event)
-
-        def tell(event: Optional[Event] = None) -> None:
-            # (the loop may have ended)
-            with suppress(RuntimeError):
-                loop.call_soon_threadsafe(end, event)
-
-        checked(self._asked.start(tell, tell))
+        ended = self._asked.start_in_task()
         try:
             status = self._asked.end(await ended)
         except BaseException:

@@ -90,18 +90,42 @@ class Held(HeldLock):
                 blocking: Optional[Call] = None) -> None:
         """Asks for another mode and waits for the grant. If it fails, the lock holds what it held. Without another
         blocking routine the old one stays: the grant arms it again."""
+        asked = self._conversion(mode, flags, blocking)
+        self._converted(mode, asked, asked.wait(timeout))
+
+    async def convert_async(self, mode: Mode, *, flags: Flags = Flags.NONE, blocking: Optional[Call] = None) -> None:
+        """The same for asyncio. A task that is cancelled leaves nothing queued. If the conversion was granted by then,
+        the lock holds the new mode."""
+        import asyncio
+        asked = self._conversion(mode, flags, blocking)
+        ended = asked.start_in_task()
+        try:
+            status = asked.end(await asyncio.shield(ended))
+        except BaseException:
+            if not asked.cancel():
+                self._converted(mode, asked, asked.end(await ended))
+            raise
+        self._converted(mode, asked, status)
+
+    def _conversion(self, mode: Mode, flags: Flags, blocking: Optional[Call]) -> Asked:
         words = raw.ThreadsRequest(pid=self.client.pid, mode=word(mode, "mode"), lock=self.lock,
                                    flags=self._flags_to(mode, flags))
         asked = Asked(self.client, words, None, blocking or self._blocking)
-        is_written = self.mode >= Mode.PW and self._value is not None
-        if is_written:
+        if self._is_written_by(mode):
             asked.value[:] = self._written()
-        status = asked.wait(timeout)
+        return asked
+
+    def _is_written_by(self, mode: Mode) -> bool:
+        """Whether a conversion to a mode writes the value that was named."""
+        return not self._is_read_by(mode) and self.mode >= Mode.PW and self._value is not None
+
+    def _converted(self, mode: Mode, asked: Asked, status: int) -> None:
+        """The request for another mode has ended so."""
         if status != Condition.NORMAL:
             raise error_of(status)
         if self._is_read_by(mode):
             self._granted = asked
-        elif is_written:
+        elif self._is_written_by(mode):
             self._value = self._tail = None
         self.mode, self._blocking = Mode(mode), asked.blocking
 
