@@ -366,7 +366,7 @@ apt-get install etcd-server python3-etcd3 && systemd-run --unit=list etcd --data
 REPLICAS = """echo etcd 127.0.0.1:23790 >/etc/vlmd.conf
 systemctl daemon-reload && systemctl restart vlmd
 vlmd -s /tmp/other.sock 2>/dev/null &
-until VLM_SOCKET=/tmp/other.sock vlm who; do sleep 0.1; done 2>/dev/null
+until VLM_SOCKET=/tmp/other.sock vlm who; do sleep 0.1; done >/dev/null 2>&1
 vlm lock backup sh -c 'VLM_SOCKET=/tmp/other.sock vlm lock -n backup echo mine || echo busy'
 VLM_SOCKET=/tmp/other.sock vlm lock -w 5 backup echo mine
 kill %1

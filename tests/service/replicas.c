@@ -311,8 +311,8 @@ static void hear_end(struct client *client, unsigned block, unsigned status) {
 static void hear_answer(struct client *client, const char *text) {
     if (strcmp(client->line, "declare P") == 0)
         client->is_declared = true;
-    else if (strcmp(client->line, "alive") == 0 && client->asked + (uint64_t)LEASE * 1000 > client->lease)
-        client->lease = client->asked + (uint64_t)LEASE * 1000;
+    else if (strcmp(client->line, "alive") == 0 && client->asked + LEASE * 1000 > client->lease)
+        client->lease = client->asked + LEASE * 1000;
     client->line[0] = 0;
     if (client->asking == 0)
         return;
@@ -334,8 +334,8 @@ static void hear_line(struct client *client, const char *text) {
     if (strncmp(text, "session ended", 13) == 0 || strncmp(text, "session moved", 13) == 0) {
         forget_session(client);
     } else if (sscanf(text, "session %31s seconds", client->session) == 1) {
-        if (client->asked + (uint64_t)LEASE * 1000 > client->lease)
-            client->lease = client->asked + (uint64_t)LEASE * 1000;
+        if (client->asked + LEASE * 1000 > client->lease)
+            client->lease = client->asked + LEASE * 1000;
     } else if (strstr(text, ": completion ") != NULL) {
         client->asts++;
     } else if (sscanf(text, "P: block %u status %u", &block, &status) == 2 && (block == 1 || block == 2)) {
@@ -391,7 +391,7 @@ static void want(struct client *client, unsigned block) {
 }
 
 static void act(struct client *client) {
-    if (client->lease < now + (uint64_t)LEASE * 1000 * 2 / 3)
+    if (client->lease < now + LEASE * 1000 * 2 / 3)
         ask(client, "alive");
     else if (!client->is_declared)
         ask(client, "declare P");
@@ -403,7 +403,7 @@ static void move_client(struct client *client) {
     if (now < client->stopped)
         return;
     if (pick(3000) == 0) {
-        client->stopped = now + pick(2 * (uint64_t)LEASE * 1000);
+        client->stopped = now + pick(2 * LEASE * 1000);
         return;
     }
     if (client->session[0] != 0 && now >= client->lease) {
