@@ -139,8 +139,8 @@ void dispatcher_keep(struct dispatcher *dispatcher, uint64_t session);
 /* Ends a session, if the beat at this place was its last. Returns whether it did. */
 bool dispatcher_end(struct dispatcher *dispatcher, uint64_t session, uint64_t beat);
 
-/* Looks which leases are over by this replica's clock, and returns whether some are. It is called when the list is known
- * to grow. */
+/* Looks which leases are over by this replica's clock, and returns whether some are. The list is known to grow when it
+ * is called. */
 bool dispatcher_look(struct dispatcher *dispatcher);
 
 /* A session whose lease has been over for a while, with the place of its last beat. Each is told once. False: none. */

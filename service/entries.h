@@ -1,6 +1,6 @@
-/* The entries of the list, as bytes. A batch begins with the name of the replica that made it and with its number, which
- * counts from 1. Its entries follow, each with a number too, so that a batch without some of its entries has the others
- * at their places. All numbers are little-endian. Nothing here is proved. */
+/* The entries of the list, as bytes. A batch begins with the name of the replica that made it and with its number,
+ * which counts from 1. Its entries follow, each with a number too, so that a batch without some of its entries has the
+ * others at their places. All numbers are little-endian. Nothing here is proved. */
 #ifndef ENTRIES_H
 #define ENTRIES_H
 
@@ -20,7 +20,7 @@ enum entry_type {
     ENTRY_DRAINED        /* the epoch ends */
 };
 
-enum { BATCH_HEAD = 24, ENTRY_HEAD = 8, MOST_ENTRY = UINT16_MAX, MOST_BATCH = 512 << 10 };
+enum { BATCH_HEAD = 24, ENTRY_HEAD = 8, SESSION = 8, MOST_ENTRY = UINT16_MAX, MOST_BATCH = 512 << 10 };
 
 /* Bytes that grow. */
 struct bytes {
@@ -28,7 +28,7 @@ struct bytes {
     size_t len, room;
 };
 
-/* Each of these ends the program without memory: a replica that leaves out an entry goes another way than the others. */
+/* Each of these ends the program without memory: a replica that leaves an entry out goes another way than others. */
 void bytes_add(struct bytes *bytes, const void *added, size_t len);
 void bytes_add_number(struct bytes *bytes, uint64_t number, size_t len);
 void bytes_drop(struct bytes *bytes, size_t len);

@@ -8,8 +8,8 @@
 
 #include <string.h>
 
-/* In milliseconds: how long a session whose lease is over goes on while the list grows, so that beats which wait at other
- * replicas come first; and how far looks are apart at most while it does. */
+/* In milliseconds: how long a session whose lease is over goes on while the list grows, so that beats which wait at
+ * other replicas come first; and how far looks are apart at most while it does. */
 enum { GRACE = 1000, GROWING = 1500 };
 
 void dispatcher_follow(struct dispatcher *dispatcher) { dispatcher->is_replica = true; }

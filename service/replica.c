@@ -6,10 +6,13 @@
 #include <string.h>
 
 /* In milliseconds: how often a beat is sent at the soonest, and at the latest while there are clients; how long a
- * replica may be silent before the others end its connections; within which times replicas that want a search differ. */
+ * replica may be silent before the others end its connections; by how much replicas that want a search differ. */
 enum { SOONEST = 200, LATEST = 1000, SILENCE = 30000, JITTER = 256 };
 
-enum { BEAT_SESSIONS = 4096, LIMITS = 11 };
+enum { LIMITS = 11 };
+
+/* Bytes of the sessions that an entry has at most, and of the limits. */
+static const size_t beat_room = (size_t)4096 * SESSION, limits_len = (size_t)LIMITS * sizeof(uint32_t);
 
 struct replica *replica_open(struct dispatcher *dispatcher, uint64_t name) {
     struct replica *replica = calloc(1, sizeof *replica);
@@ -55,7 +58,7 @@ static void beat(struct replica *replica) {
     replica->beats++;
     replica->beat_at = replica->now;
     do {
-        size_t len = left < BEAT_SESSIONS * 8 ? left : BEAT_SESSIONS * 8;
+        size_t len = left < beat_room ? left : beat_room;
         entry_begin(&replica->next, ENTRY_BEAT, 8 + len);
         /* (the last part of a beat has its number) */
         bytes_add_number(&replica->next, len == left ? replica->beats : 0, 8);
@@ -120,7 +123,7 @@ void replica_appended(struct replica *replica) { replica->is_under_way = false; 
 void replica_limit(struct replica *replica, const struct limits *limits) {
     const uint32_t *numbers = (const uint32_t *)limits;
     _Static_assert(sizeof *limits == LIMITS * sizeof(uint32_t), "each limit goes into the list");
-    entry_begin(&replica->next, ENTRY_LIMITS, LIMITS * 4);
+    entry_begin(&replica->next, ENTRY_LIMITS, limits_len);
     for (uint32_t at = 0; at < LIMITS; at++)
         bytes_add_number(&replica->next, numbers[at], 4);
 }

@@ -32,8 +32,9 @@ void replica_tick(struct replica *replica, uint64_t now);
 /* When an entry is due next, or UINT64_MAX. */
 uint64_t replica_due(const struct replica *replica);
 
-/* What is to be appended to the list. From there it comes back by replica_apply. No bytes: nothing, or the last batch is
- * still under way. replica_appended says that it is in the list, so batches of a replica are there in their order. */
+/* What is to be appended to the list. From there it comes back by replica_apply. No bytes: nothing, or the last batch
+ * is still under way. replica_appended says that it is in the list, so batches of a replica are there in their order.
+ */
 struct bytes replica_batch(struct replica *replica);
 void replica_appended(struct replica *replica);
 

@@ -95,7 +95,11 @@ static bool split_address(const char *text, char host[WORD], const char **port) 
         return false;
     size_t len = (size_t)(colon - text);
     bool has_brackets = text[0] == '[' && text[len - 1] == ']';
-    snprintf(host, WORD, "%.*s", (int)(len - 2 * has_brackets), text + has_brackets);
+    if (has_brackets) {
+        text++;
+        len -= 2;
+    }
+    snprintf(host, WORD, "%.*s", (int)len, text);
     *port = colon + 1;
     return host[0] != 0;
 }

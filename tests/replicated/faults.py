@@ -100,8 +100,8 @@ class Run:
         return [name for name, process in self.local.processes.items() if process.poll() is not None]
 
     def come_to_rest(self):
-        """Has the workers stop, and waits until all replicas are equal. One of them starts from the chunks. Returns what
-        each shows."""
+        """Has the workers stop, and waits until all replicas are equal. One of them starts from the chunks. Returns
+        what each shows."""
         self.local.kill("replica 0")
         self.local.start_replica(0)
         self.local.wait()

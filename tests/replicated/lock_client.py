@@ -1,5 +1,5 @@
-"""A client of a replicated vlmd: a session at whichever replica answers. It needs nothing but Python, and shares nothing
-with the client of the library.
+"""A client of a replicated vlmd: a session at whichever replica answers. It needs nothing but Python, and shares
+nothing with the client of the library.
 
     client = Client([("127.0.0.1", 7001), ("127.0.0.1", 7002)])
     client.ask("declare P")

@@ -18,7 +18,7 @@ enum {
     REPLICAS = 3,
     CLIENTS = 6,
     RESOURCES = 4,
-    LEASE = 5,
+    SECONDS = 5, /* of leases */
     STEPS = 6000,
     MOST_BATCHES = 1 << 16,
     MOST_SENT = 256,
@@ -72,6 +72,7 @@ struct client {
     size_t len;
 };
 
+static const uint64_t lease = (uint64_t)SECONDS * 1000; /* in milliseconds */
 static struct list list, kept;
 static struct node nodes[REPLICAS];
 static struct client clients[CLIENTS];
@@ -258,7 +259,7 @@ static void connect_to(struct client *client, struct node *node) {
     client->asked = now;
     char text[LINE];
     int len = client->session[0] == 0
-                  ? snprintf(text, sizeof text, "open seconds=%d\n", LEASE)
+                  ? snprintf(text, sizeof text, "open seconds=%d\n", SECONDS)
                   : snprintf(text, sizeof text, "resume %s asts=%lu\n", client->session, (unsigned long)client->asts);
     link_hear(client->link, (const uint8_t *)text, (size_t)len);
     if (client->session[0] != 0)
@@ -311,8 +312,8 @@ static void hear_end(struct client *client, unsigned block, unsigned status) {
 static void hear_answer(struct client *client, const char *text) {
     if (strcmp(client->line, "declare P") == 0)
         client->is_declared = true;
-    else if (strcmp(client->line, "alive") == 0 && client->asked + LEASE * 1000 > client->lease)
-        client->lease = client->asked + LEASE * 1000;
+    else if (strcmp(client->line, "alive") == 0 && client->asked + lease > client->lease)
+        client->lease = client->asked + lease;
     client->line[0] = 0;
     if (client->asking == 0)
         return;
@@ -334,8 +335,8 @@ static void hear_line(struct client *client, const char *text) {
     if (strncmp(text, "session ended", 13) == 0 || strncmp(text, "session moved", 13) == 0) {
         forget_session(client);
     } else if (sscanf(text, "session %31s seconds", client->session) == 1) {
-        if (client->asked + LEASE * 1000 > client->lease)
-            client->lease = client->asked + LEASE * 1000;
+        if (client->asked + lease > client->lease)
+            client->lease = client->asked + lease;
     } else if (strstr(text, ": completion ") != NULL) {
         client->asts++;
     } else if (sscanf(text, "P: block %u status %u", &block, &status) == 2 && (block == 1 || block == 2)) {
@@ -391,7 +392,7 @@ static void want(struct client *client, unsigned block) {
 }
 
 static void act(struct client *client) {
-    if (client->lease < now + LEASE * 1000 * 2 / 3)
+    if (client->lease < now + lease * 2 / 3)
         ask(client, "alive");
     else if (!client->is_declared)
         ask(client, "declare P");
@@ -403,7 +404,7 @@ static void move_client(struct client *client) {
     if (now < client->stopped)
         return;
     if (pick(3000) == 0) {
-        client->stopped = now + pick(2 * LEASE * 1000);
+        client->stopped = now + pick(2 * (uint32_t)lease);
         return;
     }
     if (client->session[0] != 0 && now >= client->lease) {
