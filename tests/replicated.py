@@ -50,6 +50,7 @@ def over_etcd():
     """The tests, whether they can run here or not."""
     return [Test("members of etcd that fail, and chunks", runs("test_list.py")),
             Test("replicas by their lines", runs("test_service.py")),
+            Test("settings of replicas", runs("test_settings.py")),
             Test("the sessions of the page", runs("test_page.py")),
             Test("a leader of etcd that hangs", runs("hang.py", "--clients", 12, "--seconds", 5, "--lease", 5)),
             Test("leases while etcd's leader or their clients hang",

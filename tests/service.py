@@ -445,7 +445,10 @@ def one_daemon(_program):
 def configured(_program):
     """Wrong words and configurations are refused, SIGHUP reads the configuration again, and a full disk for the log
     holds up nobody."""
-    for words, status in ((["-x"], 2), (["-c", "/nowhere"], 2), (["here"], 2), (["-s", "/nowhere/to/socket"], 4)):
+    replica = ["-s", f"{ROOM().name}/replica", "--etcd", "127.0.0.1:1"]
+    for words, status in ((["-x"], 2), (["-c", "/nowhere"], 2), (["here"], 2), (["-s", "/nowhere/to/socket"], 4),
+                          (["--listen", "127.0.0.1:0"], 2), (["--etcd", 300 * "x"], 2),
+                          ([*replica, "--listen", "127.0.0.1"], 4), ([*replica, "--listen", "0.0.0.0:0"], 4)):
         ended = subprocess.run([PLAIN(), *words], capture_output=True, text=True, timeout=20)
         yield from difference((words, ended.returncode), (words, status))
     made = Path(ROOM().name) / "made by the daemon"
@@ -457,7 +460,8 @@ def configured(_program):
     daemon.terminate()
     yield from difference((daemon.wait(20), [it.name for it in made.iterdir()]), (0, ["socket.state"]))
     with Daemon("lines 5", log="/dev/full") as daemon, daemon.client().begin("P") as client:
-        for setting in ("locks 1", "locks 0x", "lines 0", "identifications 99", "frob 1"):
+        for setting in ("locks 1", "locks 0x", "lines 0", "identifications 99", "frob 1", "chunk 1048577", "chunk 0",
+                        "network open", "etcd", "etcd " + 300 * "x"):
             daemon.config.write_text(f"mode 666\n{setting}\n")
             daemon.run.send_signal(signal.SIGHUP)
             time.sleep(0.2)
