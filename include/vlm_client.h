@@ -25,6 +25,8 @@
  * - A limit of the service is answered EXENQLM, and a want of identifications NOLOCKID.
  * - The service searches for deadlocks. There are no calls to search, to look, to count, or for nodes.
  * - A call of a forked child answers VLM_BADPARAM: the connection is its parent's.
+ * - With addresses of TCP a connection that fails is replaced, at the next address, and no call notices it. At most 64
+ *   lines are under way; other calls wait. The locks are lost once no address was heard for the time of the lease.
  *
  * Threads, routines, memory and what the caller owes are as there, except that each call sends a line and waits for the
  * answer: two ways through the socket. */
@@ -43,14 +45,17 @@ typedef struct vlm_client vlm_client;
 typedef struct vlm_client_options {
     uint32_t size;
     uint32_t delivery;              /* VLM_THREADS_BY_LAYER or VLM_THREADS_BY_PROGRAM */
-    const char *socket;             /* null: that of VLM_SOCKET in the environment, or /run/vlm/lock.sock */
+    const char *socket;             /* null: that of VLM_SOCKET in the environment, or /run/vlm/lock.sock. A path, or
+                                       addresses of replicas as in tcp:HOST:PORT,HOST:PORT */
     void (*on_lost)(void *context); /* called as a routine after the locks are lost; or null */
     void *lost_context;
-    uint32_t reserved[8];
+    uint32_t lease_seconds; /* with addresses of TCP: 2 to 600; 0 means 10 */
+    uint32_t reserved[7];
 } vlm_client_options;
 
 /* Connects and begins a session. Starts a thread that reads, and one that runs routines (VLM_THREADS_BY_LAYER).
- * *client is null unless the answer is NORMAL.
+ * *client is null unless the answer is NORMAL. Addresses of TCP are tried in turn, each once, and names of hosts are
+ * resolved here and in vlm_client_reopen.
  * VLM_LOST: there is no service, it speaks another protocol, or it refuses the connection.
  * INSFMEM: memory, a thread or an eventfd was refused. BADPARAM: the options are malformed. */
 uint32_t vlm_client_open(const vlm_client_options *options, vlm_client **client);
@@ -62,7 +67,8 @@ uint32_t vlm_client_open(const vlm_client_options *options, vlm_client **client)
 uint32_t vlm_client_reopen(vlm_client *client);
 
 /* Ends the session with all its locks, waits for the routine that runs, and frees everything. No other call may be
- * under way. NORMAL, also with a null client. BADPARAM: a routine calls it, or a forked child; nothing happens. */
+ * under way. At addresses of TCP of which none answers within 3 seconds the locks last until the lease has run out.
+ * NORMAL, also with a null client. BADPARAM: a routine calls it, or a forked child; nothing happens. */
 uint32_t vlm_client_close(vlm_client *client);
 
 /* Declare a process and run it down, as vlm_threads_declare and vlm_threads_rundown do. The service keeps the name of a

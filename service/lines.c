@@ -160,19 +160,6 @@ static bool read_with_handle(struct dispatcher *dispatcher, struct word whole, c
 static const char *const faults[] = {
     "", "too long\n", "unknown command\n", "wrong word\n", "number out of range\n", "unknown name\n", "name used\n"};
 
-/* A step of a session that is not made again: its number came before. */
-static bool is_repeated(struct client *client) {
-    struct session *session = client->session;
-    if (!client->has_number || client->line_number > session->number)
-        return false;
-    client->is_step = false;
-    if (client->line_number == session->number && session->answer_len != 0)
-        answer(client, session->answer, session->answer_len);
-    else
-        answer_text(client, "old number\n");
-    return true;
-}
-
 static void run_read_line(struct client *client, const vlm_line *line) {
     bool is_reading = line->kind == VLM_LINE_BLOCK || line->kind == VLM_LINE_TAIL;
     if (line->kind == VLM_LINE_EMPTY)
@@ -192,6 +179,11 @@ static void run_read_line(struct client *client, const vlm_line *line) {
     client->is_step = !is_reading;
     if (client->is_step && is_repeated(client))
         return;
+    if (client->is_step && !reserve_step(client)) {
+        end_without_memory(client->dispatcher);
+        answer_text(client, "no memory\n");
+        return;
+    }
     struct binding *binding = find_binding(client->session, line->name);
     if ((binding == NULL) != (line->kind == VLM_LINE_DECLARE))
         answer_text(client, faults[binding == NULL ? VLM_FAULT_UNKNOWN_NAME : VLM_FAULT_NAME_USED]);
@@ -199,6 +191,7 @@ static void run_read_line(struct client *client, const vlm_line *line) {
         run_reading(client, line);
     else
         run_step(client, line);
+    drop_reserved_step(client);
 }
 
 /* Whether a line has to wait: requests do while the dispatcher is quiet. */
@@ -221,6 +214,8 @@ bool run_line(struct client *client, const char *bytes, size_t len) {
         answer_text(client, faults[VLM_FAULT_TOO_LONG]);
         return true;
     }
+    client->line = bytes;
+    client->line_len = len;
     size_t count = split(bytes, len, words, MOST_WORDS), kept = count < MOST_WORDS ? count : MOST_WORDS;
     if (has_to_wait(client, words, count))
         return false;

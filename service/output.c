@@ -89,26 +89,11 @@ void begin_answer(struct client *client) {
         note_change(client);
 }
 
-/* Keeps the answer to a numbered step, in case the line comes again. */
-static void keep_answer(struct client *client, const void *bytes, size_t len) {
-    struct session *session = client->session;
-    session->number = client->has_number ? client->line_number : session->number + 1;
-    session->answer_len = 0;
-    if (!client->has_number)
-        return;
-    if (session->answer == NULL)
-        session->answer = malloc(KEPT_ANSWER);
-    if (session->answer == NULL || len > KEPT_ANSWER)
-        return;
-    memcpy(session->answer, bytes, len);
-    session->answer_len = (uint32_t)len;
-}
-
 void answer(struct client *client, const void *bytes, size_t len) {
     begin_answer(client);
     put(client, bytes, len);
     if (client->is_step)
-        keep_answer(client, bytes, len);
+        keep_step(client, bytes, len);
 }
 
 /* The answer is no step's: nothing was done. */

@@ -7,6 +7,7 @@
  * dispatcher.c  opening and closing, ticks, turns, and clients
  * input.c       bytes of a client become lines
  * lines.c       what a line asks for: its number, its words, and the handles of locks in it
+ * repeats.c     numbered lines that come again
  * sessions.c    open, resume, close, alive and kill
  * steps.c       declare, enq, cvt, deq, set and end
  * readings.c    block, tail, show and tails
@@ -33,15 +34,16 @@ enum {
     NUMBERED = LINE + 20, /* with its number; more bytes are too long in any case */
     PAUSE = 64 << 10,     /* unsent bytes of a client whose lines are not run */
     MOST_UNSENT = 1 << 20,
-    KEPT_ASTS = 64, /* of a session that may be resumed */
+    KEPT_ASTS = 64,  /* of a session that may be resumed */
+    KEPT_STEPS = 64, /* likewise, if its lines have numbers */
     MOST_SECONDS = 600,
     BLOCK_BITS = 256 / 8,
     USER_BUCKETS = 256,
     POOL_BUCKETS = 256,
     NODE_PROCESSES = 65535,
-    KEPT_ANSWER = 256,
-    KEPT_ROOM = 256, /* of a client's output between two answers */
-    PAIR = 512       /* bytes of an AST and its block line */
+    STEP_ANSWER = 256, /* bytes of the longest answer to a step */
+    KEPT_ROOM = 256,   /* of a client's output between two answers */
+    PAIR = 512         /* bytes of an AST and its block line */
 };
 
 #define NOBODY UINT32_MAX  /* no record */
@@ -112,8 +114,8 @@ struct session {
     uint64_t heard, overdue;         /* of a replica: when that came by, and since when the lease is over, or 0 */
     struct session *previous, *next; /* of the sessions without a client */
     uint64_t number;                 /* of its last step */
-    uint8_t *answer;                 /* to its last step, if that line had a number */
-    uint32_t answer_len;
+    struct step **steps;             /* a ring of the last steps whose lines had numbers, or null */
+    uint32_t next_step;              /* in that ring */
     struct binding *bindings;
     uint32_t binding_count, binding_room;
     uint64_t asts;  /* how many it was told */
@@ -139,9 +141,12 @@ struct client {
     uint8_t *out;
     size_t out_from, out_len, out_room;
     /* The line that is run. */
+    const char *line; /* without its number */
+    size_t line_len;
     uint64_t line_number;
     bool has_number;
     bool is_step;
+    struct step *step; /* memory for the step of a numbered line, or null */
     /* What is known of the client. */
     bool is_ended;    /* no more bytes come */
     bool is_over;     /* the connection ends once all is sent */
@@ -233,6 +238,13 @@ size_t split(const char *bytes, size_t len, struct word *words, size_t most);
 bool is_word(struct word word, const char *text);
 bool keyed(struct word word, const char *key, struct word *rest);
 bool decimal(struct word word, uint64_t most, uint64_t *number);
+
+/* repeats.c */
+bool is_repeated(struct client *client);
+bool reserve_step(struct client *client);
+void drop_reserved_step(struct client *client);
+void keep_step(struct client *client, const void *bytes, size_t len);
+void free_steps(struct session *session);
 
 /* sessions.c */
 bool run_session_line(struct client *client, const struct word *words, size_t count);

@@ -95,6 +95,8 @@ static void keep_ast(struct session *session, const char *text, size_t len) {
     *kept = malloc(len + 1);
     if (*kept != NULL)
         memcpy(*kept, text, len + 1);
+    else
+        end_without_memory(session->dispatcher);
 }
 
 static void tell_session(struct session *session, const char *text, size_t len) {

@@ -173,7 +173,7 @@ static void free_session(struct session *session) {
     for (uint32_t at = 0; session->kept != NULL && at < KEPT_ASTS; at++)
         free(session->kept[at]);
     free(session->kept);
-    free(session->answer);
+    free_steps(session);
     free(session->bindings);
     free(session);
 }

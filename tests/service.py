@@ -19,6 +19,7 @@ from pathlib import Path
 
 import library
 import service_commands
+import service_replicas
 import service_scripts
 import service_tokens
 from daemons import CHECKED, DISPATCHER, NOBODY, PLAIN, Client, Daemon
@@ -65,7 +66,8 @@ TALKS = {
     "numbers": [("open", ...), ("1 declare P", "1 P: process 65537"), ("1 declare P", "1 P: process 65537"),
                 ("2 enq P EX name=A block=1", "2 P: NORMAL lock 1"),
                 ("2 enq P EX name=A block=1", "2 P: NORMAL lock 1"),
-                ("1 declare P", "1 old number"), ("2 block P 1", "2 P: block 1 status 1 lock 1 value " + ZEROS),
+                ("1 declare P", "1 old number"), ("2 enq P PR name=A block=1", "2 old number"),
+                ("2 block P 1", "2 P: block 1 status 1 lock 1 value " + ZEROS),
                 ("3 frob", "3 unknown command"), ("3 deq P @1", "3 P: NORMAL"), ("deq P @1", "P: IVLOCKID"),
                 ("4 deq P @1", "4 old number"), ("9 deq P @1", "9 P: IVLOCKID")],
     "an ended process": [("open", ...), ("declare P", ...), ("end P", "P: NORMAL"), ("end P", "P: NONEXPR"),
@@ -358,6 +360,29 @@ def resumed(_program):
         time.sleep(5.2)
         with daemon.client() as late:
             yield from difference((late.ask(f"resume {name}"), late.line()), ("session ended", None))
+
+
+# How many steps a session keeps that may be resumed.
+KEPT_STEPS = 64
+
+
+def repeated(_program):
+    """What is wrong with steps that come again after a connection: the kept ones get their first answers, with another
+    line they do not, and none is made twice."""
+    with Daemon() as daemon, daemon.client() as client:
+        name = client.ask("open seconds=60").split()[1]
+        lines = ["1 declare P", *(f"{it} enq P NL name=A{it} block=1" for it in range(2, KEPT_STEPS + 7))]
+        answers = [client.ask(it) for it in lines]
+        client.close()
+        with daemon.client() as again:
+            again.ask(f"resume {name} asts=0")
+            yield from difference([again.ask(it) for it in lines[-KEPT_STEPS:]], answers[-KEPT_STEPS:])
+            for line in lines[:-KEPT_STEPS]:
+                yield from difference(again.ask(line), line.split()[0] + " old number")
+            for line in (lines[-1] + " ", lines[-1].replace("NL", "CR"), lines[-1][:-1] + "2", lines[-1] + " noqueue"):
+                yield from difference(again.ask(line), lines[-1].split()[0] + " old number")
+            yield from difference(daemon.metric("locks"), len(lines) - 1)
+            yield from difference(again.ask("99 deq P @1"), "99 P: NORMAL")
 
 
 def set_clock(_program):
@@ -672,10 +697,10 @@ def fuzzed(_program):
     yield from wrong or library.ran(made, f"-max_total_time={MUTATED_SECONDS}", "-max_len=4000", "-timeout=10", corpus)
 
 
-def replicas(_program):
+def lists(_program):
     """What is wrong with replicas over lists in one program, with time and chance made up: other states, wrong answers,
     or two clients that believe to hold one lock."""
-    made, wrong = over_dispatcher("replicas", "replicas.c", "cc", *SANITIZED)
+    made, wrong = over_dispatcher("lists", "lists.c", "cc", *SANITIZED)
     yield from wrong or library.ran(made, 1, LISTS)
 
 
@@ -694,12 +719,12 @@ BEHAVIOURS = {"the first session of the page": shown_talk, "half lines": half_li
               "a client that reads no answers": deaf, "a client that reads no ASTs": cut_off,
               "many long answers": long_answers, "many lines of one client": fair, "limits of a user": limits,
               "what show and who print": shown, "readings of single locks": readings,
-              "sessions that are resumed": resumed, "processes of another session": hidden,
+              "sessions that are resumed": resumed, "repeated steps": repeated, "processes of another session": hidden,
               "a daemon that ends": restarted, "a second daemon": one_daemon, "configurations": configured,
               "a daemon of systemd": under_systemd, "a deadlock": deadlocked, "no searches": not_searched,
               "a change of managers": changed, "no identifications left": drained, "10,000 idle connections": idle,
               "a storm of clients": stormy, "mutated lines": mutated,
-              "replicas in one program": replicas}
+              "replicas in one program": lists}
 
 
 def installed(_program):
@@ -723,5 +748,5 @@ def once():
                    partial(clients, compiler, sanitizer))
               for compiler in library.COMPILERS for sanitizer in library.SANITIZERS[1:]
               if library.links(compiler, sanitizer)]
-    found += service_scripts.tests() + service_commands.tests() + service_tokens.tests()
+    found += service_scripts.tests() + service_commands.tests() + service_tokens.tests() + service_replicas.tests()
     return [] if missing() else found

@@ -15,9 +15,12 @@ from pathlib import Path
 import library
 from daemons import Daemon
 from harness import ROOM, TOP, Once, Test, difference
+from proxies import Proxy, addresses
 
-SOURCES = sorted((TOP / "service" / "commands").glob("*.c"))
+SOURCES = [*sorted((TOP / "service" / "commands").glob("*.c")), *sorted((TOP / "bindings" / "c").glob("vlm_client*.c"))]
 VALUE = "000102030405060708090a0b0c0d0e0f"
+# How long a command may take.
+SECONDS = 60
 
 
 def compiled():
@@ -26,7 +29,8 @@ def compiled():
     for folder in ("bin", "libexec/vlm"):
         (prefix / folder).mkdir(parents=True)
     wrong = list(library.ran("cc", "-std=gnu11", *library.STRICT, "-O1", "-g", "-fsanitize=address,undefined",
-                             "-fno-sanitize-recover=all", *SOURCES, "-o", prefix / "bin" / "vlm"))
+                             "-fno-sanitize-recover=all", f"-I{TOP}/include", *SOURCES, "-pthread", "-o",
+                             prefix / "bin" / "vlm"))
     if wrong:
         raise RuntimeError(wrong[0])
     stub = prefix / "libexec" / "vlm" / "vlm"
@@ -38,16 +42,16 @@ def compiled():
 VLM = Once(compiled)
 
 
-def start(daemon, *words, **how):
-    env = {**os.environ, "VLM_SOCKET": daemon.socket, "ASAN_OPTIONS": "detect_leaks=0"}
+def start(daemon, *words, socket=None, **how):
+    env = {**os.environ, "VLM_SOCKET": socket or daemon.socket, "ASAN_OPTIONS": "detect_leaks=0"}
     return subprocess.Popen([VLM(), *map(str, words)], env=env, stdout=subprocess.PIPE, stderr=subprocess.PIPE,
                             text=True, **how)
 
 
-def run(daemon, *words):
+def run(daemon, *words, socket=None):
     """The status of a command, and what it printed."""
-    made = start(daemon, *words)
-    printed, told = made.communicate(timeout=20)
+    made = start(daemon, *words, socket=socket)
+    printed, told = made.communicate(timeout=SECONDS)
     return made.returncode, printed or told
 
 
@@ -213,6 +217,58 @@ def witnessed(_program):
         yield from difference(holds(daemon, 0), True)
 
 
+def replicated(_program):
+    """What is wrong with the commands at addresses of replicas, of which the first is dead: statuses, values, signals,
+    waits, and a connection that ends."""
+    with Daemon() as daemon, Proxy(daemon.socket) as dead, Proxy(daemon.socket) as proxy:
+        dead.refuse()
+        words = addresses(dead, proxy)
+        with daemon.client().begin("P") as client:
+            client.ask("enq P NL name=A block=1")
+            for asked, wanted in ((["--value", VALUE, "A", "sh", "-c", "exit 7"], (7, "")),
+                                  (["-m", "PR", "A", "sh", "-c", "echo $VLM_VALUE"], (0, VALUE + "\n")),
+                                  (["a b", "echo", "a"], (0, "a\n")), ([32 * "n", "true"], (64, None))):
+                status, printed = run(daemon, "lock", *asked, socket=words)
+                yield from difference((status, wanted[1] and printed), wanted)
+            client.ask("cvt P @1 EX block=1")
+            for asked in (["-n", "A", "true"], ["-w", "0.1", "A", "true"]):
+                yield from difference(run(daemon, "lock", *asked, socket=words), (1, ""))
+        script = "trap 'exit 5' USR1; echo ready; sleep 50 >/dev/null 2>&1 & wait"
+        holder = start(daemon, "lock", "--connect", words, "--on-blocking", "USR1", "A", "sh", "-c", script)
+        holder.stdout.readline()
+        rows = [it.split() for it in run(daemon, "who", "--connect", words, "A")[1].splitlines()[1:]]
+        yield from difference([it[:4] for it in rows], [["A", "EX", "-", "granted"]])
+        proxy.cut()
+        yield from difference(run(daemon, "lock", "-n", "A", "true")[0], 1)
+        yield from difference(run(daemon, "lock", "A", "echo", "a"), (0, "a\n"))
+        yield from difference(holder.wait(SECONDS), 5)
+        yield from difference(daemon.metric("sessions"), 0)
+
+
+def replicas_lost(_program):
+    """A command at replicas gets SIGTERM when its session is killed, when no replica answers for the time of the lease,
+    and when its wrapper is killed. The first two have the status 75."""
+    with Daemon() as daemon, Proxy(daemon.socket) as proxy:
+        words = addresses(proxy)
+        for end in (lambda: run(daemon, "kill", "--connect", words, run(daemon, "who")[1].splitlines()[1].split()[4]),
+                    proxy.refuse):
+            script = "trap 'echo told; exit 1' TERM; echo ready; sleep 50 >/dev/null 2>&1 & wait"
+            holder = start(daemon, "lock", "A", "sh", "-c", script, socket=words)
+            holder.stdout.readline()
+            end()
+            printed, wrong = holder.communicate(timeout=SECONDS)
+            yield from difference((holder.returncode, printed, wrong), (75, "told\n", "vlm lock: the lock is lost\n"))
+        for asked in (["lock", "A", "true"], ["who"], ["metrics"], ["kill", 16 * "0"]):
+            status, wrong = run(daemon, *asked, socket=words)
+            yield from difference((asked, status, words in wrong), (asked, 69, True))
+        proxy.listen()
+        script = "trap 'echo told' TERM; echo ready; sleep 50 >/dev/null 2>&1 & wait"
+        wrapper = start(daemon, "lock", "A", "sh", "-c", script, socket=words)
+        wrapper.stdout.readline()
+        wrapper.kill()
+        yield from difference(wrapper.communicate(timeout=SECONDS)[0], "told\n")
+
+
 def told(_program):
     """What who, metrics and kill print."""
     with Daemon() as daemon:
@@ -231,7 +287,9 @@ def told(_program):
         yield from difference(run(daemon, "kill", 16 * "0"), (1, "vlm kill: no such session\n"))
         yield from difference(run(daemon, "kill", rows[1][4]), (0, ""))
         yield from difference((holder.wait(20), waiter.wait(20)), (75, 0))
-        for words in (["kill"], ["kill", "1"], ["metrics", "all"], ["who", "A", "B"], ["who", "-x"], ["who", "a b"]):
+        yield from difference(run(daemon, "metrics", "--connect", daemon.socket, socket="/nowhere")[0], 0)
+        for words in (["kill"], ["kill", "1"], ["kill", "--connect"], ["metrics", "--all"], ["metrics", "all"],
+                      ["who", "A", "B"], ["who", "-x"], ["who", "a b"]):
             yield from difference((words, run(daemon, *words)[0]), (words, 64))
 
 
@@ -255,7 +313,9 @@ def completed(_program):
     """The completion for bash offers the commands, modes and signals."""
     script = ('. "$0"; COMP_WORDS=(vlm "$@"); COMP_CWORD=$#; _vlm; echo "${COMPREPLY[@]}"')
     for words, wanted in ((["lo"], "lock"), (["lock", "-m", "P"], "PR PW"), (["lock", "--va"], "--value"),
-                          (["who", "--j"], "--json"), (["lock", "--on-blocking", "SIGUSR"], "SIGUSR1 SIGUSR2")):
+                          (["who", "--j"], "--json"), (["lock", "--co"], "--connect"), (["who", "--co"], "--connect"),
+                          (["kill", "-"], "--connect"), (["metrics", "-"], "--connect"),
+                          (["lock", "--on-blocking", "SIGUSR"], "SIGUSR1 SIGUSR2")):
         made = subprocess.run(["bash", "-c", script, TOP / "service/commands/completion.bash", *words],
                               capture_output=True, text=True, timeout=20)
         yield from difference((words, made.stdout.strip(), made.stderr), (words, wanted, ""))
@@ -264,8 +324,9 @@ def completed(_program):
 def tests():
     checks = {"statuses of vlm lock": statuses, "the value block of vlm lock": values, "signals to commands": blocking,
               "signals at the start": blocking_at_start, "the token of vlm lock": tokens,
-              "a service without tokens": no_tokens,
-              "locks that are lost": lost, "killed commands": killed, "commands and a witness": witnessed,
+              "a service without tokens": no_tokens, "locks that are lost": lost, "commands at replicas": replicated,
+              "locks at replicas that are lost": replicas_lost, "killed commands": killed,
+              "commands and a witness": witnessed,
               "vlm who, metrics and kill": told, "words of the program": front, "./vlm lock": by_launcher,
               "completion": completed}
     return [Test(name, check) for name, check in checks.items()]

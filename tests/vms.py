@@ -19,6 +19,7 @@ import service
 import vms_scripts
 from daemons import PLAIN, SECONDS, Daemon
 from harness import ROOM, TOP, Once, Test, difference
+from proxies import Proxy, addresses
 
 HERE = Path(__file__).resolve().parent / "vms"
 HEADERS = sorted((TOP / "vms" / "include").glob("*.h"))
@@ -29,6 +30,8 @@ DOLLARS = {"gcc": [], "clang": ["-Wno-dollar-in-identifier-extension"]}
 SANITIZERS = library.SANITIZERS[1:]
 # Milliseconds of the deadlock wait in tests.services, and the quota of locks that it reaches.
 WAIT, QUOTA = 300, 40
+# After how many bytes at most a connection is cut.
+MOST_BYTES = 5000
 # How long random calls are made.
 CHAOS_SECONDS = 5
 # Of a program that is killed, and of the library below it, which closes nothing at a loss.
@@ -102,6 +105,19 @@ def services(compiler, sanitizer, _program):
         yield from library.ran(made, "lost", daemon.run.pid, env=lost)
     yield from library.ran(made, "unreachable", env=environment(SERVICE="/nowhere/at/all"))
     yield from library.ran(made, "unsupported", env=environment(SERVICE="etcd"))
+
+
+def replicas(_program):
+    """What is wrong with the services at replicas of the lock service, of which one is dead, while the connections of
+    the other one are cut."""
+    made = made_program(HERE / "services.c", *first_links(), "-Wl,--wrap=calloc,--wrap=realloc")
+    with Daemon(f"search {WAIT}", made=PLAIN) as daemon, Proxy(daemon.socket) as dead:
+        with Proxy(daemon.socket, most=MOST_BYTES) as proxy:
+            dead.refuse()
+            given = environment(SERVICE=addresses(dead, proxy), ENQLM=QUOTA)
+            yield from library.ran(made, env={**given, "CARRIER": str(os.getpid())})
+            yield from difference(proxy.cuts > 0, True)
+        yield from library.ran(made, "unreachable", env=environment(SERVICE=addresses(dead)))
 
 
 def chaos(sanitizer, _program):
@@ -339,6 +355,7 @@ def once():
               for sanitizer in sorted({it for _, it in links})]
     found += [Test(f"random calls of threads with the sanitizer {sanitizer}", partial(chaos, sanitizer))
               for sanitizer in sorted({it for _, it in links})]
+    found += [Test("the services at replicas", replicas)] * bool(links)
     found += [Test("examples alone", alone), Test("the names that the libraries for OpenVMS show", names_shown),
               Test("docs/VMS.md against the headers", page)]
     for compiler in filter(shutil.which, library.COMPILERS):

@@ -25,8 +25,8 @@ VMS = sorted((TOP / "vms").glob("*.c"))
 VMS_SHOWN = ("sys$*", "lib$*")
 # The daemon of the service.
 DAEMON = sorted((TOP / "service").glob("*.c"))
-# The commands of the service, which hand all other words to the proved program.
-COMMANDS = sorted((TOP / "service" / "commands").glob("*.c"))
+# The commands of the service, which hand all other words to the proved program, and its client.
+COMMANDS = sorted((TOP / "service" / "commands").glob("*.c")) + LAYERS["vlm_client"]
 SHARE = ["-shared", "-pthread", "-Wl,-Bsymbolic", "-Wl,-z,defs", "-Wl,-z,now", "-Wl,-z,relro"]
 
 
@@ -102,7 +102,8 @@ def make_daemon(made, lib):
 
 def make_commands(made):
     """Makes the command vlm."""
-    make(made, *compiler(), "-std=gnu11", "-O2", "-Wl,-z,now", "-Wl,-z,relro", *COMMANDS, "-o", made)
+    make(made, *compiler(), "-std=gnu11", "-O2", "-pthread", f"-I{TOP / 'include'}", *COMMANDS, "-Wl,-z,now",
+         "-Wl,-z,relro", "-o", made)
 
 
 def fits_of(version):

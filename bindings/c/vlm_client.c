@@ -11,6 +11,8 @@
 
 enum { FIRST_QUEUE = 16 };
 
+static const char usual_socket[] = "/run/vlm/lock.sock";
+
 /* A forked child may not use its parent's connection. */
 bool vlmc_is_usable(const vlm_client *client) { return client->owner == getpid(); }
 
@@ -23,6 +25,8 @@ static bool are_zeros(const uint32_t *words, size_t count) {
 
 static bool is_valid(const vlm_client_options *options) {
     return options->size == sizeof *options && options->delivery <= VLM_THREADS_BY_PROGRAM
+           && (options->lease_seconds == 0
+               || (options->lease_seconds >= LEAST_LEASE && options->lease_seconds <= MOST_LEASE))
            && are_zeros(options->reserved, sizeof options->reserved / sizeof *options->reserved);
 }
 
@@ -32,17 +36,45 @@ static void free_client(vlm_client *client) {
         close(client->descriptor);
     if (client->event_descriptor >= 0)
         close(client->event_descriptor);
+    if (client->wake_descriptor >= 0)
+        close(client->wake_descriptor);
     vlmc_drop_events(client);
+    vlmc_drop_early(client);
     pthread_cond_destroy(&client->events);
     pthread_cond_destroy(&client->settled);
+    pthread_cond_destroy(&client->has_room);
     pthread_mutex_destroy(&client->state);
     pthread_mutex_destroy(&client->sending);
     free(client->queue);
     free(client->records);
     free(client->hashed);
     free(client->processes);
+    free(client->addresses);
+    free(client->kept);
     free(client->path);
     free(client);
+}
+
+static const char *path_of(const vlm_client_options *options) {
+    const char *given = getenv("VLM_SOCKET");
+    return options->socket != NULL ? options->socket : given != NULL ? given : usual_socket;
+}
+
+/* Makes the queue. With a lease it does not grow, and its lines are kept. */
+static bool has_queue(vlm_client *client) {
+    if (strncmp(client->path, "tcp:", strlen("tcp:")) == 0)
+        client->lease = 1000 * (client->options.lease_seconds != 0 ? client->options.lease_seconds : USUAL_LEASE);
+    client->room = client->lease != 0 ? LEASED_QUEUE : FIRST_QUEUE;
+    client->queue = malloc(client->room * sizeof *client->queue);
+    client->kept = client->lease != 0 ? malloc(LEASED_QUEUE * sizeof *client->kept) : NULL;
+    return client->queue != NULL && (client->lease == 0 || client->kept != NULL);
+}
+
+static bool has_descriptors(vlm_client *client) {
+    bool is_by_program = client->options.delivery == VLM_THREADS_BY_PROGRAM;
+    client->event_descriptor = is_by_program ? eventfd(0, EFD_CLOEXEC | EFD_NONBLOCK) : -1;
+    client->wake_descriptor = client->lease != 0 ? eventfd(0, EFD_CLOEXEC | EFD_NONBLOCK) : -1;
+    return (!is_by_program || client->event_descriptor >= 0) && (client->lease == 0 || client->wake_descriptor >= 0);
 }
 
 static vlm_client *made(const vlm_client_options *options) {
@@ -53,18 +85,14 @@ static vlm_client *made(const vlm_client_options *options) {
     pthread_mutex_init(&client->sending, NULL);
     pthread_cond_init(&client->events, NULL);
     pthread_cond_init(&client->settled, NULL);
+    pthread_cond_init(&client->has_room, NULL);
     client->owner = getpid();
     client->options = *options;
     client->last_event = &client->first_event;
     client->free_record = NO_RECORD;
-    client->room = FIRST_QUEUE;
-    client->queue = malloc(FIRST_QUEUE * sizeof *client->queue);
-    client->path = options->socket != NULL ? strdup(options->socket) : NULL;
-    bool is_by_program = options->delivery == VLM_THREADS_BY_PROGRAM;
-    client->descriptor = -1;
-    client->event_descriptor = is_by_program ? eventfd(0, EFD_CLOEXEC | EFD_NONBLOCK) : -1;
-    if (client->queue != NULL && (options->socket == NULL || client->path != NULL)
-        && (!is_by_program || client->event_descriptor >= 0))
+    client->descriptor = client->event_descriptor = client->wake_descriptor = -1;
+    client->path = strdup(path_of(options));
+    if (client->path != NULL && has_queue(client) && has_descriptors(client))
         return client;
     free_client(client);
     return NULL;
@@ -85,9 +113,11 @@ static void stop(vlm_client *client) {
     pthread_mutex_lock(&client->state);
     client->is_ending = true;
     pthread_cond_broadcast(&client->events);
-    pthread_mutex_unlock(&client->state);
     if (client->descriptor >= 0)
         shutdown(client->descriptor, SHUT_RDWR);
+    pthread_mutex_unlock(&client->state);
+    if (client->wake_descriptor >= 0)
+        eventfd_write(client->wake_descriptor, 1);
     if (client->has_reader)
         pthread_join(client->reader, NULL);
     if (client->has_deliverer)
@@ -149,10 +179,11 @@ static void forget(vlm_client *client) {
 /* Begins a new session instead of a lost one. Wants `sending` held. */
 static uint32_t begin_again(vlm_client *client) {
     pthread_mutex_lock(&client->state);
-    bool is_lost = client->is_lost;
+    bool is_lost = vlmc_is_lost(client);
     pthread_mutex_unlock(&client->state);
     if (!is_lost)
         return VLM_BADPARAM;
+    /* (once a lease has run out, the reader ends by itself) */
     if (client->has_reader)
         pthread_join(client->reader, NULL);
     client->has_reader = false;
@@ -182,13 +213,31 @@ uint32_t vlm_client_reopen(vlm_client *client) {
     return status;
 }
 
+/* Ends a session that would wait for another connection. A service that does not answer in time ends it by itself. The
+ * call is under way until the reader has ended. */
+static void close_session(vlm_client *client, struct call *call) {
+    const struct pending wanted = {CLOSED, call, NO_RECORD, 0};
+    struct timespec until = vlmc_moment_after(vlmc_patience(client));
+    if (vlmc_send(client, "close\n", &wanted, 1) != VLM_NORMAL)
+        return;
+    pthread_mutex_lock(&client->state);
+    while (call->left > 0 && pthread_cond_timedwait(&call->changed, &client->state, &until) == 0)
+        continue;
+    pthread_mutex_unlock(&client->state);
+}
+
 uint32_t vlm_client_close(vlm_client *client) {
     if (client == NULL)
         return VLM_NORMAL;
     if (!vlmc_is_usable(client) || is_own_routine(client))
         return VLM_BADPARAM;
     int before = cancels_off();
+    struct call call = {.session = client->session, .is_reserved = true};
+    vlmc_begin_call(&call, 1);
+    if (client->lease != 0)
+        close_session(client, &call);
     stop(client);
+    pthread_cond_destroy(&call.changed);
     free_client(client);
     cancels_back(before);
     return VLM_NORMAL;
@@ -215,8 +264,8 @@ static uint32_t declare(vlm_client *client, const vlm_threads_declaration *decla
     char line[LINE_ROOM];
     struct call call = {0};
     pthread_mutex_lock(&client->state);
-    uint32_t made = client->is_lost ? 0 : new_process(client, declaration->requests);
-    uint32_t status = client->is_lost ? VLM_LOST : VLM_INSFMEM;
+    uint32_t status = vlmc_is_lost(client) ? VLM_LOST : VLM_INSFMEM;
+    uint32_t made = status == VLM_LOST ? 0 : new_process(client, declaration->requests);
     call.session = client->session;
     pthread_mutex_unlock(&client->state);
     if (made == 0)

@@ -4,7 +4,6 @@
 #include <stdlib.h>
 #include <string.h>
 #include <sys/eventfd.h>
-#include <sys/socket.h>
 #include <unistd.h>
 
 /* The descriptor is readable while an event is pending and no dispatch runs. */
@@ -31,7 +30,7 @@ static void append(vlm_client *client, struct event *event) {
 static void add(vlm_client *client, const struct event *event) {
     struct event *made = malloc(sizeof *made);
     if (made == NULL) {
-        shutdown(client->descriptor, SHUT_RDWR);
+        vlmc_ruin(client);
         return;
     }
     *made = *event;
@@ -85,7 +84,16 @@ void vlmc_tell_loss(vlm_client *client) {
 
 static bool is_stale(const vlm_client *client, const struct event *event) {
     return event->record != NO_RECORD
-           && (client->is_lost || client->records[event->record].generation != event->generation);
+           && (vlmc_is_lost(client) || client->records[event->record].generation != event->generation);
+}
+
+/* A grant is not told once the locks are lost. */
+static void look_at_lease(const vlm_client *client, struct event *event) {
+    vlm_threads_event *told = &event->told;
+    if (told->kind != VLM_COMPLETION || !vlmc_is_grant(told->status) || !vlmc_is_gone(client, event->session))
+        return;
+    told->status = VLM_LOST;
+    told->value_len = event->tail_of = 0;
 }
 
 static void run_routine(vlm_client *client, struct event *event) {
@@ -102,6 +110,7 @@ static bool run_one(vlm_client *client) {
     if (client->first_event == NULL)
         client->last_event = &client->first_event;
     if (is_told) {
+        look_at_lease(client, event);
         client->is_running = true;
         client->runs++;
         client->runner = pthread_self();

@@ -6,7 +6,8 @@
 #include <string.h>
 
 /* What an answer says, and the handle of its lock if it has one. A text of the service's own is a limit, except that
- * identifications may have run out, and that another thread may have ended the process. */
+ * identifications may have run out, and that another thread may have ended the process. A step that is sent again and
+ * has an old number was not made: it was over a limit. */
 uint32_t vlmc_status(const char *answer, uint64_t *handle) {
     const char *word = strchr(answer, ':');
     const char *lock = strstr(answer, " lock ");
@@ -14,6 +15,8 @@ uint32_t vlmc_status(const char *answer, uint64_t *handle) {
     if (word == NULL || word[1] == 0)
         return strncmp(answer, "no ident", 8) == 0        ? VLM_NOLOCKID
                : strncmp(answer, "too many", 8) == 0      ? VLM_EXENQLM
+               : strncmp(answer, "old number", 10) == 0   ? VLM_EXENQLM
+               : strncmp(answer, "no memory", 9) == 0     ? VLM_INSFMEM
                : strncmp(answer, "unknown name", 12) == 0 ? VLM_NONEXPR
                                                           : VLM_BADPARAM;
     word += 2;

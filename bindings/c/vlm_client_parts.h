@@ -4,19 +4,28 @@
  * line; one thread reads and hands each answer to the first of the queue. ASTs come between answers and name a record.
  * A request has a record from its line on; a granted lock keeps it, for its blocking ASTs.
  *
- * vlm_client.c           opening, closing, processes
- * vlm_client_reader.c    the thread that reads: answers, ASTs, the loss of the session
- * vlm_client_calls.c     lines that are sent, and calls that wait for answers
- * vlm_client_lines.c     lines and answers as text
- * vlm_client_requests.c  enq, convert, deq
- * vlm_client_readings.c  answers of several lines
- * vlm_client_tokens.c    fencing tokens
- * vlm_client_records.c   records of requests and locks, and how a request ends
- * vlm_client_events.c    calls of routines
+ * A session at addresses of TCP has a lease, and goes on at another address when its connection fails: the reader
+ * connects anew, and sends again what has no answer. So its lines have numbers and are kept.
+ *
+ * vlm_client.c            opening, closing, processes
+ * vlm_client_addresses.c  where the service is, and connecting
+ * vlm_client_sessions.c   the first lines of a connection, which open a session or resume it
+ * vlm_client_resume.c     lines that are kept, and another connection of a session
+ * vlm_client_lease.c      until when a session surely has its locks, and waiting for bytes meanwhile
+ * vlm_client_reader.c     the thread that reads: answers, ASTs, the loss of the session
+ * vlm_client_asts.c       ASTs, also those that come before the answer to their request
+ * vlm_client_calls.c      lines that are sent, and calls that wait for answers
+ * vlm_client_lines.c      lines and answers as text
+ * vlm_client_requests.c   enq, convert, deq
+ * vlm_client_readings.c   answers of several lines
+ * vlm_client_tokens.c     fencing tokens
+ * vlm_client_records.c    records of requests and locks, and how a request ends
+ * vlm_client_events.c     calls of routines
  *
  * Two mutexes: `sending` is taken first and orders queue and lines; `state` guards everything else. A thread that sends
- * may wait for the service with `sending`, never with `state`: so the reader always goes on. Functions that are
- * declared here want `state` held, except where they say otherwise.
+ * may wait for the service with `sending`, never with `state`: so the reader always goes on. With a lease a thread that
+ * sends does not wait for the service, and holds `state` too: so the reader may send. Functions that are declared here
+ * want `state` held, except where they say otherwise.
  */
 #ifndef VLM_CLIENT_PARTS_H
 #define VLM_CLIENT_PARTS_H
@@ -26,15 +35,24 @@
 #include "vlm_client.h"
 
 #include <pthread.h>
+#include <sys/socket.h>
 #include <sys/types.h>
 
 enum { MOST_REQUESTS = 255, SHORT_VALUE = 16, WHOLE_VALUE = 64, LINE_ROOM = 512, LINES_ROOM = 1024 };
 
+/* With a lease: how many lines may be under way, and what the queue has room for: those of calls, an `alive` and a
+ * `close`. */
+enum { MOST_UNDER_WAY = 64, LEASED_QUEUE = MOST_UNDER_WAY + 2 };
+
+enum { SESSION_NAME = 17, USUAL_LEASE = 10, LEAST_LEASE = 2, MOST_LEASE = 600 };
+
+#define NEVER UINT64_MAX
+
 #define NO_RECORD UINT32_MAX
 
-/* What is taken from an answer: its status and lock, a value, the tail of a value, nothing, or lines up to a blank
- * one. */
-enum { STATUS, VALUE, TAIL, NOTHING, LINES };
+/* What is taken from an answer: its status and lock, a value, the tail of a value, nothing, lines up to a blank one,
+ * that the service heard an `alive`, or that it closed the session. */
+enum { STATUS, VALUE, TAIL, NOTHING, LINES, ALIVE, CLOSED };
 
 /* A call that waits: on its thread's stack. */
 struct call {
@@ -58,6 +76,24 @@ struct pending {
     uint32_t taken;
     struct call *call;
     uint32_t record; /* of the request that is asked for, or NO_RECORD */
+    uint64_t number; /* of the line, or 0: with a lease each step has one */
+};
+
+/* An AST that came before the answer to its request, or a warning before the answer to its lock's conversion: a resumed
+ * session brings all ASTs first. */
+struct early {
+    struct early *next;
+    uint32_t record, lkid;
+    uint32_t awaited; /* the record of the request that has no answer */
+    bool is_warning;
+    uint32_t status;
+    uint8_t value[SHORT_VALUE];
+};
+
+/* Where a service may be. */
+struct address {
+    struct sockaddr_storage name;
+    socklen_t len;
 };
 
 /* A request, and then its lock. */
@@ -103,7 +139,9 @@ struct vlm_client {
     pid_t owner; /* the process that opened it */
     vlm_client_options options;
     char *path;
-    int descriptor;
+    struct address *addresses;
+    uint32_t address_count, address; /* `address`: of the last connection */
+    int descriptor;                  /* -1 while there is no connection */
     uint64_t epoch;
     uint32_t session; /* how often it was opened again */
     bool is_lost, is_ending, has_reader, has_deliverer;
@@ -124,14 +162,72 @@ struct vlm_client {
     uint64_t runs; /* how many routines have begun */
     pthread_cond_t events, settled;
     int event_descriptor;
+    /* With a lease, the rest counts. */
+    uint32_t lease;      /* milliseconds, or 0: a session on a socket of Unix ends with its connection */
+    uint64_t lease_end;  /* as vlmc_now counts */
+    uint64_t asked;      /* when the last line was sent that makes the lease longer */
+    uint64_t awaited;    /* since when the first of the queue is waited for */
+    bool is_asking;      /* an `alive` is in the queue */
+    bool is_linked;      /* a line is sent at once; else the reader sends it once there is a connection */
+    bool is_ruined;      /* the session can't go on: an AST was lost, or an answer is not of its line */
+    int wake_descriptor; /* readable once the reader is to end */
+    char session_name[SESSION_NAME];
+    uint64_t number, answered; /* of the last step that has a line, and that has an answer */
+    uint64_t asts;             /* how many were heard */
+    uint32_t abandoned;        /* connections that were given up with a `resume` that no answer came to */
+    char (*kept)[LINE_ROOM];   /* the lines of the queue, in its order */
+    struct early *early;
+    pthread_cond_t has_room; /* in the queue */
 };
 
 /* vlm_client.c: takes no mutex. */
 bool vlmc_is_usable(const vlm_client *client);
 
-/* vlm_client_reader.c. vlmc_connect and vlmc_read take no mutex held; vlmc_connect gives VLM_NORMAL or VLM_LOST. */
+/* vlm_client_addresses.c: none takes a mutex held. vlmc_find_addresses tells whether there is an address.
+ * vlmc_connect_to gives a descriptor, or -1. vlmc_wait_for waits until a descriptor is ready for events of poll, a
+ * moment has come, or the client is to end: whether it is ready. */
+bool vlmc_find_addresses(vlm_client *client);
+int vlmc_connect_to(vlm_client *client, const struct address *address, uint64_t until);
+bool vlmc_wait_for(const vlm_client *client, int descriptor, short events, uint64_t until);
+
+/* vlm_client_sessions.c: none takes a mutex held. vlmc_connect begins a session: VLM_NORMAL or VLM_LOST. vlmc_go_on
+ * resumes it at the address whose turn it is. vlmc_is_end tells whether a line says that the session is over, and
+ * vlmc_is_own_move whether it says only that an abandoned `resume` of this client was heard late. */
+enum { WENT_ON, NOT_THERE, OVER };
 uint32_t vlmc_connect(vlm_client *client);
+int vlmc_go_on(vlm_client *client);
+bool vlmc_is_end(const char *line);
+bool vlmc_is_own_move(vlm_client *client, const char *line);
+
+/* vlm_client_resume.c. vlmc_resume gives the session another connection, by the reader, with no mutex held: whether it
+ * goes on. vlmc_keep_line keeps a line of the queue, and gives what follows it; vlmc_send_kept sends the last kept
+ * lines. vlmc_link has a connection used, by which the lease was asked for at a moment. */
+bool vlmc_resume(vlm_client *client);
+const char *vlmc_keep_line(vlm_client *client, struct pending *noted, const char *line);
+void vlmc_send_kept(vlm_client *client, uint32_t count);
+void vlmc_link(vlm_client *client, int descriptor, uint64_t asked);
+
+/* vlm_client_lease.c. vlmc_now takes no mutex, and vlmc_await none held: it waits until bytes have come, and tells
+ * whether they have. vlmc_is_lost tells whether the locks are lost, vlmc_is_gone whether those of a session are, where
+ * there is a lease. */
+uint64_t vlmc_now(void);
+uint64_t vlmc_patience(const vlm_client *client);
+bool vlmc_is_out(const vlm_client *client);
+bool vlmc_is_lost(const vlm_client *client);
+bool vlmc_is_gone(const vlm_client *client, uint32_t session);
+bool vlmc_may_go_on(vlm_client *client);
+void vlmc_renew(vlm_client *client, uint64_t asked);
+bool vlmc_await(vlm_client *client);
+void vlmc_ruin(vlm_client *client);
+
+/* vlm_client_reader.c: takes no mutex held. */
 void *vlmc_read(void *client);
+
+/* vlm_client_asts.c. The lines of an AST were read: `block` is null for a warning. */
+uint32_t vlmc_record_of(const char *line, const char *kind);
+void vlmc_take_ast(vlm_client *client, uint32_t place, uint32_t lkid, const char *block);
+void vlmc_take_early(vlm_client *client, uint32_t place);
+void vlmc_drop_early(vlm_client *client);
 
 /* vlm_client_calls.c. Notes what is waited for, and sends lines. Takes no mutex held. NORMAL; VLM_LOST, INSFMEM, and
  * CANCELGRANT where a request that is to be cancelled has ended: nothing was sent. A reserved call is not answered
@@ -146,8 +242,10 @@ bool vlmc_read_value(const char *line, uint8_t *value, size_t len);
 /* vlm_client_readings.c */
 bool vlmc_read_line(vlm_client *client, struct call *call, const char *line);
 
-/* vlm_client_calls.c. vlmc_ask begins a call, sends its line and waits for its answer; it takes no mutex held. */
+/* vlm_client_calls.c. vlmc_ask begins a call, sends its line and waits for its answer; it takes no mutex held, as does
+ * vlmc_moment_after. */
 void vlmc_begin_call(struct call *call, uint32_t answers);
+struct timespec vlmc_moment_after(uint64_t milliseconds);
 uint32_t vlmc_ask(vlm_client *client, struct call *call, const char *line, uint32_t taken);
 
 /* vlm_client_records.c */

@@ -2,26 +2,20 @@
 #include "vlm_client_parts.h"
 
 #include <errno.h>
-#include <stdio.h>
 #include <stdlib.h>
 #include <string.h>
 #include <sys/socket.h>
-#include <sys/un.h>
-#include <unistd.h>
 
 enum { READ = 1 << 16 };
 
-static const char greeting[] = "vlm protocol 1 ", usual_socket[] = "/run/vlm/lock.sock";
-
 /* Lines as they come. */
 struct lines {
-    int descriptor;
     size_t from, len;
     char bytes[READ];
 };
 
-/* The next line without its line feed, or null at the end of the connection. */
-static char *next_line(struct lines *lines) {
+/* The next line without its line feed, or null at the end of the connection, or once it is to be given up. */
+static char *next_line(vlm_client *client, struct lines *lines) {
     for (;;) {
         char *begin = lines->bytes + lines->from, *feed = memchr(begin, '\n', lines->len);
         if (feed != NULL) {
@@ -32,65 +26,15 @@ static char *next_line(struct lines *lines) {
         }
         memmove(lines->bytes, begin, lines->len);
         lines->from = 0;
-        ssize_t len = recv(lines->descriptor, lines->bytes + lines->len, READ - lines->len, 0);
-        if (len < 0 && errno == EINTR)
+        if (!vlmc_await(client))
+            return NULL;
+        ssize_t len = recv(client->descriptor, lines->bytes + lines->len, READ - lines->len, 0);
+        if (len < 0 && (errno == EINTR || errno == EAGAIN))
             continue;
         if (len <= 0)
             return NULL;
         lines->len += (size_t)len;
     }
-}
-
-/* Connects a socket and sends the first line. A signal may interrupt each call. */
-static bool ask_for_session(int descriptor, const struct sockaddr_un *address) {
-    ssize_t done;
-    while ((done = connect(descriptor, (const struct sockaddr *)address, sizeof *address)) < 0 && errno == EINTR)
-        continue;
-    while (done == 0 && (done = send(descriptor, "open\n", 5, MSG_NOSIGNAL)) < 0 && errno == EINTR)
-        done = 0;
-    return done == 5;
-}
-
-static bool read_byte(int descriptor, char *byte) {
-    ssize_t len;
-    while ((len = recv(descriptor, byte, 1, 0)) < 0 && errno == EINTR)
-        continue;
-    return len == 1;
-}
-
-/* Whether the second line names a session, by 16 digits. */
-static bool has_session(const char *text) {
-    static const char before[] = "\nsession ";
-    const char *line = strstr(text, before);
-    return line != NULL && strspn(line + strlen(before), "0123456789abcdef") == 16;
-}
-
-/* Begins a session on a new connection. Its two answers come before anything else. */
-uint32_t vlmc_connect(vlm_client *client) {
-    struct sockaddr_un address = {.sun_family = AF_UNIX};
-    const char *given = getenv("VLM_SOCKET"), *path = client->path != NULL ? client->path : given;
-    if (path == NULL)
-        path = usual_socket;
-    char text[LINE_ROOM] = "";
-    size_t have = 0;
-    if (strlen(path) >= sizeof address.sun_path)
-        return VLM_LOST;
-    memcpy(address.sun_path, path, strlen(path));
-    client->descriptor = socket(AF_UNIX, SOCK_STREAM | SOCK_CLOEXEC, 0);
-    bool is_open = client->descriptor >= 0 && ask_for_session(client->descriptor, &address);
-    /* (byte by byte, so that nothing is taken from the reader) */
-    for (int feeds = 0; is_open && feeds < 2 && have < LINE_ROOM - 1; have++) {
-        is_open = read_byte(client->descriptor, text + have);
-        feeds += text[have] == '\n';
-    }
-    if (is_open && strncmp(text, greeting, strlen(greeting)) == 0 && has_session(text)) {
-        client->epoch = strtoull(text + strlen(greeting) + strlen("epoch "), NULL, 10);
-        return VLM_NORMAL;
-    }
-    if (client->descriptor >= 0)
-        close(client->descriptor);
-    client->descriptor = -1;
-    return VLM_LOST;
 }
 
 /* The request of a record was accepted, granted at once, or refused. */
@@ -105,27 +49,68 @@ static void settle_request(vlm_client *client, uint32_t place, const struct call
     }
     if (call->answer == VLM_SYNCH)
         vlmc_grant_at_once(client, place);
+    vlmc_take_early(client, place);
+}
+
+/* Takes the number off an answer to a numbered line. Another line's answer ruins the session. */
+static const char *without_number(vlm_client *client, const struct pending *first, const char *line) {
+    char *rest;
+    if (first->number == 0)
+        return line;
+    if (strtoull(line, &rest, 10) != first->number || *rest != ' ') {
+        vlmc_ruin(client);
+        return NULL;
+    }
+    if (rest[1] == 'p')
+        client->answered = first->number;
+    return rest + 1;
+}
+
+/* Nobody waits for the first of the queue any more. */
+static void pop(vlm_client *client) {
+    client->first = (client->first + 1) % client->room;
+    client->count--;
+    if (client->lease == 0)
+        return;
+    client->awaited = vlmc_now();
+    pthread_cond_signal(&client->has_room);
+}
+
+static void read_answer(const struct pending *first, const char *line) {
+    struct call *call = first->call;
+    const char *status = strstr(line, " status ");
+    if (first->taken == STATUS)
+        call->answer = vlmc_status(line, &call->handle);
+    if (first->taken == VALUE) {
+        call->status = status != NULL ? (uint32_t)strtoul(status + strlen(" status "), NULL, 10) : 0;
+        vlmc_read_value(line, call->value, SHORT_VALUE);
+    }
+    if (first->taken == TAIL && !vlmc_read_value(line, call->value + SHORT_VALUE, WHOLE_VALUE - SHORT_VALUE))
+        call->answer = VLM_NONEXPR;
+}
+
+/* The service heard the client, unless it has another thing to say. */
+static void take_alive(vlm_client *client, const char *line) {
+    client->is_asking = false;
+    if (strcmp(line, "alive") == 0)
+        vlmc_renew(client, client->asked);
+    else
+        vlmc_ruin(client);
 }
 
 /* An answer has come for the first of the queue. */
 static void take_answer(vlm_client *client, const char *line) {
-    if (client->count == 0)
-        return;
     struct pending first = client->queue[client->first];
     struct call *call = first.call;
-    const char *status = strstr(line, " status ");
-    if (first.taken == LINES && !vlmc_read_line(client, call, line))
+    if (client->count == 0 || (line = without_number(client, &first, line)) == NULL
+        || (first.taken == LINES && !vlmc_read_line(client, call, line)))
         return;
-    client->first = (client->first + 1) % client->room;
-    client->count--;
-    if (first.taken == STATUS)
-        call->answer = vlmc_status(line, &call->handle);
-    if (first.taken == VALUE) {
-        call->status = status != NULL ? (uint32_t)strtoul(status + strlen(" status "), NULL, 10) : 0;
-        vlmc_read_value(line, call->value, SHORT_VALUE);
+    pop(client);
+    if (first.taken == ALIVE) {
+        take_alive(client, line);
+        return;
     }
-    if (first.taken == TAIL && !vlmc_read_value(line, call->value + SHORT_VALUE, WHOLE_VALUE - SHORT_VALUE))
-        call->answer = VLM_NONEXPR;
+    read_answer(&first, line);
     if (first.record != NO_RECORD)
         settle_request(client, first.record, call);
     /* (here, since locks that are granted after the dequeue stay) */
@@ -135,32 +120,17 @@ static void take_answer(vlm_client *client, const char *line) {
         pthread_cond_signal(&call->changed);
 }
 
-/* A completion, and the line of its status block: how the request ended, and the value. */
-static void take_completion(vlm_client *client, uint32_t place, const char *block) {
-    uint32_t status = 0;
-    const char *word = strstr(block, " status ");
-    if (word != NULL)
-        status = (uint32_t)strtoul(word + strlen(" status "), NULL, 10);
-    if (place >= client->record_room || !client->records[place].is_used)
-        return;
-    vlmc_read_value(block, client->records[place].value, SHORT_VALUE);
-    vlmc_end(client, place, status);
-}
-
-/* The record that an AST names, or NO_RECORD for another line. */
-static uint32_t record_of(const char *line, const char *kind) {
-    const char *word = strchr(line, ' ');
-    if (line[0] != 'p' || word == NULL || strncmp(word + 1, kind, strlen(kind)) != 0)
-        return NO_RECORD;
-    return (uint32_t)strtoul(word + 1 + strlen(kind), NULL, 10);
-}
-
 /* All that waits learns that the locks are lost. */
 static void lose(vlm_client *client) {
     client->is_lost = true;
+    client->is_linked = false;
+    vlmc_drop_early(client);
+    pthread_cond_broadcast(&client->has_room);
     for (; client->count > 0; client->count--) {
         struct pending first = client->queue[client->first];
         client->first = (client->first + 1) % client->room;
+        if (first.call == NULL)
+            continue;
         first.call->answer = VLM_LOST;
         if (first.record != NO_RECORD)
             settle_request(client, first.record, first.call);
@@ -173,36 +143,47 @@ static void lose(vlm_client *client) {
     vlmc_tell_loss(client);
 }
 
-/* Whether a line says that the session is over. */
-static bool is_end(const char *line) {
-    static const char *const ends[] = {"lost", "session killed", "session moved", "session ended"};
-    for (size_t at = 0; at < sizeof ends / sizeof *ends; at++)
-        if (strcmp(line, ends[at]) == 0)
+/* The lock that an AST names. */
+static uint32_t lock_of(const char *line) {
+    const char *lock = strstr(line, " lock ");
+    return lock != NULL ? (uint32_t)strtoull(lock + strlen(" lock "), NULL, 10) : 0;
+}
+
+/* Takes what comes on a connection up to its end. Whether the session may go on: not after a line that says so. */
+static bool hear(vlm_client *client, struct lines *lines) {
+    char *line;
+    lines->from = lines->len = 0;
+    while ((line = next_line(client, lines)) != NULL) {
+        uint32_t completed = vlmc_record_of(line, "completion "), warned = vlmc_record_of(line, "blocking ");
+        bool is_ast = completed != NO_RECORD || warned != NO_RECORD;
+        uint32_t lkid = is_ast ? lock_of(line) : 0;
+        if (vlmc_is_end(line))
+            return vlmc_is_own_move(client, line);
+        char *block = completed != NO_RECORD ? next_line(client, lines) : NULL;
+        if (completed != NO_RECORD && block == NULL)
             return true;
-    return false;
+        pthread_mutex_lock(&client->state);
+        bool is_out = vlmc_is_out(client);
+        if (!is_out && is_ast)
+            vlmc_take_ast(client, completed != NO_RECORD ? completed : warned, lkid, block);
+        else if (!is_out)
+            take_answer(client, line);
+        pthread_mutex_unlock(&client->state);
+        if (is_out)
+            return false;
+    }
+    return true;
 }
 
 void *vlmc_read(void *argument) {
     vlm_client *client = argument;
     struct lines *lines = calloc(1, sizeof *lines);
-    char *line;
-    while (lines != NULL && (lines->descriptor = client->descriptor, line = next_line(lines)) != NULL) {
-        uint32_t completed = record_of(line, "completion "), warned = record_of(line, "blocking ");
-        char *block = completed != NO_RECORD ? next_line(lines) : NULL;
-        if ((completed != NO_RECORD && block == NULL) || is_end(line))
-            break;
-        pthread_mutex_lock(&client->state);
-        if (completed != NO_RECORD)
-            take_completion(client, completed, block);
-        else if (warned == NO_RECORD)
-            take_answer(client, line);
-        else if (warned < client->record_room && client->records[warned].is_used)
-            vlmc_warn(client, warned);
-        pthread_mutex_unlock(&client->state);
-    }
+    while (lines != NULL && hear(client, lines) && vlmc_resume(client))
+        continue;
     free(lines);
-    shutdown(client->descriptor, SHUT_RDWR); /* no thread waits to send what nobody would answer */
     pthread_mutex_lock(&client->state);
+    if (client->descriptor >= 0)
+        shutdown(client->descriptor, SHUT_RDWR); /* no thread waits to send what nobody would answer */
     lose(client);
     pthread_mutex_unlock(&client->state);
     return NULL;

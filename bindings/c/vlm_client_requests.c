@@ -26,7 +26,7 @@ static bool is_valid(const vlm_threads_request *request, bool is_start) {
 }
 
 uint32_t vlmc_standing(const vlm_client *client, uint32_t pid) {
-    if (client->is_lost)
+    if (vlmc_is_lost(client))
         return VLM_LOST;
     bool is_living = pid != 0 && pid <= client->process_count && client->processes[pid - 1].is_living;
     return is_living ? VLM_NORMAL : VLM_NONEXPR;
@@ -92,7 +92,7 @@ static uint32_t prepare(vlm_client *client, const vlm_threads_request *request, 
 }
 
 static void want(struct lines *lines, struct call *call, uint32_t taken, uint32_t record) {
-    lines->wanted[lines->count++] = (struct pending){taken, call, record};
+    lines->wanted[lines->count++] = (struct pending){taken, call, record, 0};
 }
 
 static uint64_t handle_of(const vlm_client *client, uint32_t lkid) {
@@ -161,18 +161,6 @@ static bool wait_for_end(vlm_client *client, struct call *call, const struct tim
     return call->is_ended;
 }
 
-static struct timespec moment_after(uint32_t milliseconds) {
-    struct timespec moment;
-    clock_gettime(CLOCK_MONOTONIC, &moment);
-    moment.tv_sec += milliseconds / 1000;
-    moment.tv_nsec += (long)(milliseconds % 1000) * 1000000;
-    if (moment.tv_nsec >= 1000000000) {
-        moment.tv_sec++;
-        moment.tv_nsec -= 1000000000;
-    }
-    return moment;
-}
-
 /* Whatever the answer, the request ends: if the locks are lost, with VLM_LOST. */
 static void cancel(vlm_client *client, const vlm_threads_request *request, const struct call *cancelled) {
     char line[LINE_ROOM];
@@ -183,7 +171,7 @@ static void cancel(vlm_client *client, const vlm_threads_request *request, const
 
 /* Waits for the end of an accepted request. A wait that is too long cancels it; a grant that came before counts. */
 static uint32_t await_end(vlm_client *client, const vlm_threads_request *request, struct call *call) {
-    struct timespec until = moment_after(request->milliseconds);
+    struct timespec until = vlmc_moment_after(request->milliseconds);
     pthread_mutex_lock(&client->state);
     bool is_ended = wait_for_end(client, call, request->milliseconds != 0 ? &until : NULL);
     pthread_mutex_unlock(&client->state);
@@ -237,6 +225,14 @@ static void give(vlm_threads_request *request, const struct call *call, bool is_
         memcpy(request->value, call->value, (request->flags & VLM_WIDE) != 0 ? WHOLE_VALUE : SHORT_VALUE);
 }
 
+/* A grant that would be told after the locks were lost is none. */
+static bool is_too_late(vlm_client *client, const struct call *call) {
+    pthread_mutex_lock(&client->state);
+    bool is_gone = vlmc_is_gone(client, call->session);
+    pthread_mutex_unlock(&client->state);
+    return is_gone;
+}
+
 /* What a request that was sent comes to. `block` is its status block. */
 static uint32_t follow(vlm_client *client, vlm_threads_request *request, struct call *call, uint32_t block,
                        bool is_conversion) {
@@ -246,21 +242,23 @@ static uint32_t follow(vlm_client *client, vlm_threads_request *request, struct 
     if (call->answer == VLM_SYNCH)
         vlmc_free_block(client, request->pid, block);
     pthread_mutex_unlock(&client->state);
-    if (call->answer == VLM_SYNCH) {
+    if (call->answer == VLM_SYNCH && !is_too_late(client, call)) {
         call->status = (request->flags & VLM_VALBLK) != 0 ? call->status : VLM_NORMAL;
         give(request, call, is_conversion);
         return VLM_SYNCH;
     }
-    if (call->answer != VLM_NORMAL)
+    if (call->answer != VLM_NORMAL && call->answer != VLM_SYNCH)
         return call->answer;
-    if (request->completion != NULL) {
+    if (request->completion != NULL && call->answer == VLM_NORMAL) {
         request->lkid = (uint32_t)call->handle;
         return VLM_NORMAL;
     }
-    uint32_t answer = await_end(client, request, call);
+    uint32_t answer = call->answer == VLM_NORMAL ? await_end(client, request, call) : VLM_LOST;
     bool is_wide = (request->flags & VLM_VALBLK) != 0 && (request->flags & VLM_WIDE) != 0;
     if (answer == VLM_NORMAL && is_wide)
         answer = read_tail(client, call->session, request->pid, block, call->value);
+    if (is_too_late(client, call))
+        answer = VLM_LOST;
     if (answer == VLM_LOST || answer == VLM_NONEXPR)
         call->status = answer;
     give(request, call, is_conversion);

@@ -13,16 +13,18 @@ _vlm() {
         lock,--on-blocking) mapfile -t COMPREPLY < <(compgen -A signal -- "$current") ;;
         lock,*)
             if [[ $current == -* ]]; then
-                mapfile -t COMPREPLY < <(compgen -W '-m -n -w -E --value --on-blocking --help' -- "$current")
+                mapfile -t COMPREPLY < <(compgen -W '--connect -m -n -w -E --value --on-blocking --help' -- "$current")
             else
                 mapfile -t COMPREPLY < <(compgen -A command -A file -- "$current")
             fi
             ;;
         kill,*)
+            [[ $current == -* ]] && COMPREPLY=(--connect) && return
             sessions=$(vlm who 2>/dev/null | awk 'NR > 1 {print $5}' | sort -u)
             mapfile -t COMPREPLY < <(compgen -W "$sessions" -- "$current")
             ;;
-        who,*) mapfile -t COMPREPLY < <(compgen -W '-w --json' -- "$current") ;;
+        metrics,*) [[ $current == -* ]] && COMPREPLY=(--connect) ;;
+        who,*) mapfile -t COMPREPLY < <(compgen -W '--connect -w --json' -- "$current") ;;
     esac
 }
 complete -F _vlm vlm

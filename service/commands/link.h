@@ -19,8 +19,17 @@ struct link {
     size_t len;
 };
 
-/* Connects to the service that VLM_SOCKET names, or the usual one. Says why not, and returns false. */
-bool link_open(struct link *link);
+/* Connects to the service at an address: a socket of Unix, or the first that answers of replicas at addresses of TCP.
+ * Says why not, and returns false. */
+bool link_open(struct link *link, const char *address);
+
+/* The address that VLM_SOCKET names, or the usual socket, and whether an address is of replicas. */
+const char *usual_address(void);
+bool is_replicated(const char *address);
+
+/* Reads the option `--connect ADDRESS` of a command that has no others. Returns the place of the next word, or 0 if the
+ * words are wrong. */
+int read_address(int count, char **words, const char **address);
 
 /* Sends text. Returns false if the service has gone. */
 bool link_send(const struct link *link, const char *text);

@@ -7,7 +7,7 @@
 
 enum { COLUMNS = 13, WANTED = 5, STATE = 6, COMMAND = 10, SESSION = 8, BLOCKER = 12 };
 
-static const char usage[] = "vlm who [-w] [--json] [NAME]";
+static const char usage[] = "vlm who [--connect ADDRESS] [-w] [--json] [NAME]";
 static const char *const keys[COLUMNS] = {"name", "serial",  "parent", "domain", "held",    "wanted", "state",
                                           "lock", "session", "pid",    "uid",    "command", "seconds"};
 
@@ -93,8 +93,11 @@ static int print_rows(struct link *link, const struct shown *shown) {
 }
 
 int run_who(int count, char **words) {
-    static const struct option longer[] = {
-        {"json", no_argument, NULL, 'j'}, {"waiting", no_argument, NULL, 'w'}, {NULL, 0, NULL, 0}};
+    static const struct option longer[] = {{"json", no_argument, NULL, 'j'},
+                                           {"waiting", no_argument, NULL, 'w'},
+                                           {"connect", required_argument, NULL, 'c'},
+                                           {NULL, 0, NULL, 0}};
+    const char *address = usual_address();
     struct shown shown = {false, false};
     struct link link;
     char text[LINE_ROOM];
@@ -102,7 +105,10 @@ int run_who(int count, char **words) {
     while ((option = getopt_long(count, words, "w", longer, NULL)) != -1) {
         if (option == '?')
             return wrong_words(usage);
-        *(option == 'j' ? &shown.is_json : &shown.is_waiting_only) = true;
+        if (option == 'c')
+            address = optarg;
+        shown.is_json |= option == 'j';
+        shown.is_waiting_only |= option == 'w';
     }
     bool has_name = optind < count;
     if (count - optind > 1 || (has_name && (words[optind][0] == 0 || strpbrk(words[optind], " \t\r\n") != NULL)))
@@ -110,7 +116,7 @@ int run_who(int count, char **words) {
     int len = snprintf(text, sizeof text, "who %s\n", has_name ? words[optind] : "");
     if (len >= (int)sizeof text)
         return wrong_words(usage);
-    if (!link_open(&link) || !link_send(&link, text))
+    if (!link_open(&link, address) || !link_send(&link, text))
         return NO_SERVICE;
     return print_rows(&link, &shown);
 }
@@ -118,10 +124,11 @@ int run_who(int count, char **words) {
 int run_metrics(int count, char **words) {
     struct link link;
     char line[LINE_ROOM];
-    (void)words;
-    if (count != 1)
-        return wrong_words("vlm metrics");
-    if (!link_open(&link) || !link_send(&link, "metrics\n"))
+    const char *address;
+    int from = read_address(count, words, &address);
+    if (from == 0 || from != count)
+        return wrong_words("vlm metrics [--connect ADDRESS]");
+    if (!link_open(&link, address) || !link_send(&link, "metrics\n"))
         return NO_SERVICE;
     int got;
     while ((got = link_line(&link, line, FOREVER)) == 1 && line[0] != 0)
@@ -132,10 +139,12 @@ int run_metrics(int count, char **words) {
 int run_kill(int count, char **words) {
     struct link link;
     char line[LINE_ROOM];
-    if (count != 2 || strlen(words[1]) != 16 || strspn(words[1], "0123456789abcdef") != 16)
-        return wrong_words("vlm kill SESSION");
-    snprintf(line, sizeof line, "kill %s\n", words[1]);
-    if (!link_open(&link) || !link_send(&link, line))
+    const char *address;
+    int from = read_address(count, words, &address);
+    if (from == 0 || from != count - 1 || strlen(words[from]) != 16 || strspn(words[from], "0123456789abcdef") != 16)
+        return wrong_words("vlm kill [--connect ADDRESS] SESSION");
+    snprintf(line, sizeof line, "kill %s\n", words[from]);
+    if (!link_open(&link, address) || !link_send(&link, line))
         return NO_SERVICE;
     if (link_line(&link, line, FOREVER) == 1 && strcmp(line, "killed") == 0)
         return 0;

@@ -1,520 +1,470 @@
-/* replicas FIRST COUNT: replicas of the lock service over a list in this program, one run for each seed from FIRST on.
- *
- * Time, the list, the replicas and their clients are all made up here and driven by random numbers. Batches reach the
- * list late, replicas run it at their own pace, stop for a while, end and start anew, from what was
- * kept or from the whole list. Clients ask for locks with sessions that have leases, stop for a while, and go on at
- * another replica. A run fails
- * - if two clients believe to hold one resource at a time, each counting its lease from before it sent what was
- *   answered;
- * - if replicas that have run the same part of the list tell different resources, locks or sessions;
- * - if an answer is not that of the line whose turn it is. */
-#include "replica.h"
+/* A client of a replicated service: replicas TEST ADDRESS LEASE makes calls while a driver fails its connections. It
+ * tells the driver by lines how far it is, and goes on at each line of the driver. */
+#define _GNU_SOURCE
+#include "vlm_client.h"
 
+#include <pthread.h>
+#include <stdatomic.h>
 #include <stdio.h>
 #include <stdlib.h>
 #include <string.h>
+#include <time.h>
+#include <unistd.h>
 
-enum {
-    REPLICAS = 3,
-    CLIENTS = 6,
-    RESOURCES = 4,
-    SECONDS = 5, /* of leases */
-    STEPS = 6000,
-    MOST_BATCHES = 1 << 16,
-    MOST_SENT = 256,
-    ROOM = 1 << 16,
-    LINE = 128
-};
+enum { CLIENTS = 2, WORKERS = 3, COUNTERS = 3, KINDS = 4, CALLERS = 100, WAIT = 120000, MOST_SECONDS = 240 };
 
-/* A batch of the list, or what was kept of one. */
-struct placed {
-    uint64_t revision;
-    struct bytes batch;
-};
+static vlm_client_options options = {.size = sizeof options};
+static atomic_ulong steps, cancels;
+static atomic_bool is_over, is_impatient;
 
-struct list {
-    struct placed *all;
-    size_t count;
-};
+#define CHECK(fact) check(fact, __LINE__, #fact)
 
-struct node {
-    struct dispatcher *dispatcher;
-    struct replica *replica;
-    size_t at;         /* how much of the list it has run */
-    uint64_t stopped;  /* until then it does nothing */
-    uint32_t delay;    /* of its batches, or 0: random ones */
-    struct bytes sent; /* a batch that is on its way to the list, and when it comes there */
-    uint64_t arrival;
-    bool is_unheard; /* it is in the list, and the replica does not know */
-};
-
-/* A resource that a client asks for or has. */
-struct want {
-    unsigned resource;
-    bool is_waiting, is_held; /* for the end of its request; whether it was told that it has the resource */
-    bool is_ended;            /* the end came again before the answer */
-    unsigned status;
-};
-
-struct client {
-    struct link *link;
-    struct node *node;
-    char session[32];
-    uint64_t number, asts; /* of its last line; how many ASTs it was told */
-    char line[LINE];       /* that waits for its answer, or nothing */
-    uint64_t asked;        /* when that was sent */
-    uint64_t lease;        /* until then its locks are its own */
-    uint64_t stopped;      /* until then it neither reads nor writes */
-    bool is_declared;      /* its process */
-    struct want wants[2];  /* by status block: 1 and 2 */
-    unsigned asking;       /* the status block for which the line asks for a lock, or 0 */
-    char in[ROOM];
-    size_t len;
-};
-
-static const uint64_t lease = (uint64_t)SECONDS * 1000; /* in milliseconds */
-static struct list list, kept;
-static struct node nodes[REPLICAS];
-static struct client clients[CLIENTS];
-static uint64_t now, seed;
-static uint32_t delay_of_ends; /* of batches that end sessions, or 0 */
-static unsigned long grants, resumes, ends, starts, victims;
-
-static uint32_t pick(uint32_t most) {
-    seed ^= seed << 13;
-    seed ^= seed >> 7;
-    seed ^= seed << 17;
-    return (uint32_t)((seed * 0x2545F4914F6CDD1DU) >> 33) % most;
-}
-
-static void fail(const char *what) {
-    printf("%s at %lu ms\n", what, (unsigned long)now);
+static void check(bool fact, int line, const char *text) {
+    if (fact)
+        return;
+    fprintf(stderr, "line %d: %s\n", line, text);
     exit(1);
 }
 
-static void say_nothing(const char *text) { (void)text; }
-
-static void add(struct list *to, uint64_t revision, const uint8_t *bytes, size_t len) {
-    if (to->count == MOST_BATCHES)
-        fail("the list is full");
-    struct placed *placed = &to->all[to->count++];
-    *placed = (struct placed){revision, {NULL, 0, 0}};
-    bytes_add(&placed->batch, bytes, len);
+static void tell(const char *line) {
+    puts(line);
+    fflush(stdout);
 }
 
-static void empty(struct list *of) {
-    for (size_t at = 0; at < of->count; at++)
-        free(of->all[at].batch.all);
-    of->count = 0;
+/* Waits for a line of the driver. */
+static void hear(void) {
+    char line[64];
+    CHECK(fgets(line, sizeof line, stdin) != NULL);
 }
 
-static void apply_next(struct node *node) {
-    const struct placed *next = &list.all[node->at++];
-    struct bytes left = {NULL, 0, 0};
-    replica_tick(node->replica, now);
-    replica_apply(node->replica, next->revision, &next->batch, &left);
-    if (kept.count < next->revision)
-        add(&kept, next->revision, left.all, left.len);
-    free(left.all);
+static vlm_client *opened(void) {
+    vlm_client *client;
+    CHECK(vlm_client_open(&options, &client) == VLM_NORMAL);
+    return client;
 }
 
-/* Starts a node, from what was kept up to some end of it or from nothing. */
-static void start(struct node *node) {
-    static const struct limits limits = USUAL_LIMITS;
-    static const uint8_t keys[16];
-    *node = (struct node){.dispatcher = dispatcher_open(&limits, 0, keys, say_nothing)};
-    node->replica = replica_open(node->dispatcher, (uint64_t)pick(UINT32_MAX) << 32 | ++starts);
-    replica_tick(node->replica, now);
-    size_t end = kept.count == 0 || pick(3) == 0 ? 0 : pick((uint32_t)kept.count);
-    for (size_t at = 0; at < end; at++)
-        replica_apply(node->replica, kept.all[at].revision, &kept.all[at].batch, NULL);
-    node->at = end;
-    while (node->at < list.count)
-        apply_next(node);
+static uint32_t declared(vlm_client *client) {
+    vlm_threads_declaration declaration = {.size = sizeof declaration, .quota = 200, .requests = 200};
+    uint32_t pid;
+    CHECK(vlm_client_declare(client, &declaration, &pid) == VLM_NORMAL && pid != 0);
+    steps++;
+    return pid;
 }
 
-static void stop(struct node *node) {
-    for (uint32_t at = 0; at < CLIENTS; at++)
-        if (clients[at].node == node && clients[at].link != NULL)
-            clients[at].link = NULL;
-    free(node->sent.all);
-    replica_close(node->replica);
-    dispatcher_close(node->dispatcher);
+static vlm_threads_request wanted(uint32_t pid, uint32_t mode, uint32_t flags, uint8_t *value) {
+    return (vlm_threads_request){.size = sizeof(vlm_threads_request),
+                                 .pid = pid,
+                                 .mode = mode,
+                                 .flags = flags,
+                                 .milliseconds = WAIT,
+                                 .value = value};
 }
 
-/* Has a client run a line, and moves what it answers. */
-static void tell_line(struct client *reader, const char *line, struct bytes *told) {
-    size_t len;
-    client_run(reader, line, strlen(line));
-    const uint8_t *bytes = client_output(reader, &len);
-    bytes_add(told, bytes, len);
-    /* (so that it can be read as a text) */
-    bytes_add(told, "", 1);
-    told->len--;
-    client_sent(reader, len);
+static uint32_t enq(vlm_client *client, vlm_threads_request *request, const char *name) {
+    steps++;
+    return vlm_client_enq(client, request, (const uint8_t *)name, strlen(name));
 }
 
-/* All that a node tells of resources and locks, as an administrator sees it, and the token of each lock. */
-static void tell(struct node *node, struct bytes *told) {
-    static const struct rights rights = {.group = 1, .is_admin = true};
-    struct client *reader = client_open(node->dispatcher, &rights, 0, told);
-    tell_line(reader, "show", told);
-    tell_line(reader, "tails", told);
-    size_t from = told->len;
-    tell_line(reader, "locks", told);
-    for (size_t end = told->len; from < end; from++) {
-        unsigned lkid;
-        char line[LINE];
-        if (sscanf((const char *)told->all + from, "lock %u pid", &lkid) != 1)
-            continue;
-        snprintf(line, sizeof line, "token %u", lkid);
-        tell_line(reader, line, told);
-    }
-    client_close(reader);
+/* A conversion with a value sets the status block first. */
+static uint32_t convert(vlm_client *client, vlm_threads_request *request, uint32_t mode) {
+    steps += (request->flags & VLM_VALBLK) != 0 ? 2 : 1;
+    request->lock = request->lkid;
+    request->mode = mode;
+    return vlm_client_convert(client, request);
 }
 
-static void compare(void) {
-    struct bytes told[REPLICAS] = {{NULL, 0, 0}};
-    for (uint32_t at = 0; at < REPLICAS; at++)
-        tell(&nodes[at], &told[at]);
-    for (uint32_t at = 1; at < REPLICAS; at++)
-        if (nodes[at].at == nodes[0].at
-            && (told[at].len != told[0].len || memcmp(told[at].all, told[0].all, told[0].len) != 0)) {
-            printf("%.*s---\n%.*s", (int)told[0].len, (char *)told[0].all, (int)told[at].len, (char *)told[at].all);
-            fail("replicas differ");
-        }
-    for (uint32_t at = 0; at < REPLICAS; at++)
-        free(told[at].all);
+static uint32_t deq(vlm_client *client, const vlm_threads_request *request, uint8_t *value) {
+    vlm_threads_dequeue dequeue = {
+        .size = sizeof dequeue, .pid = request->pid, .lock = request->lkid, .value = value, .wide = value != NULL};
+    steps++;
+    return vlm_client_deq(client, &dequeue);
 }
 
-static bool has_end(struct bytes batch) {
-    struct reader reader = {batch.all, batch.len, false};
-    struct entry entry;
-    batch_open(&reader);
-    while (batch_next(&reader, &entry))
-        if (entry.type == ENTRY_END)
-            return true;
-    return false;
+/* What the locks guard: each count is also in the value block of its lock. */
+static struct counter {
+    char name[24];
+    unsigned long count;
+    int holders;
+} counters[COUNTERS];
+
+static uint8_t *count_up(struct counter *counter, uint8_t *value) {
+    unsigned long found;
+    memcpy(&found, value, sizeof found);
+    CHECK(counter->holders++ == 0 && found == counter->count);
+    counter->count++;
+    memcpy(value, &counter->count, sizeof found);
+    memcpy(value + 40, &counter->count, sizeof found);
+    counter->holders--;
+    return value;
 }
 
-/* A batch goes on its way. One that has arrived is in the list, and its replica hears so later. */
-static void carry(struct node *node) {
-    struct bytes batch = replica_batch(node->replica);
-    if (batch.len != 0) {
-        uint32_t delay = node->delay != 0 ? node->delay : pick(pick(60) == 0 ? 8000 : 20);
-        if (delay_of_ends != 0 && has_end(batch))
-            delay = delay_of_ends;
-        node->arrival = now + delay;
-        bytes_add(&node->sent, batch.all, batch.len);
-    }
-    if (node->sent.len != 0 && node->arrival <= now) {
-        add(&list, list.count + 1, node->sent.all, node->sent.len);
-        node->sent.len = 0;
-        node->is_unheard = true;
-    }
-    if (node->is_unheard && pick(2) == 0) {
-        node->is_unheard = false;
-        replica_appended(node->replica);
-    }
-}
+struct worker {
+    vlm_client *client;
+    uint32_t pid;
+    unsigned seed;
+    pthread_mutex_t mutex;
+    pthread_cond_t changed;
+    unsigned long completions, warnings;
+    uint32_t status;
+    uint8_t value[64];
+};
 
-static void go(struct node *node) {
-    carry(node);
-    if (now < node->stopped)
-        return;
-    replica_tick(node->replica, now);
-    while (node->at < list.count && pick(4) != 0)
-        apply_next(node);
-}
-
-static void move_node(struct node *node) {
-    go(node);
-    if (pick(4000) == 0)
-        node->stopped = now + pick(12000);
-    if (pick(4000) == 0) {
-        stop(node);
-        start(node);
-    }
-}
-
-static void send_line(struct client *client) {
-    char text[LINE + 32];
-    int len = snprintf(text, sizeof text, "%lu %s\n", (unsigned long)client->number, client->line);
-    link_hear(client->link, (const uint8_t *)text, (size_t)len);
-}
-
-static void ask(struct client *client, const char *line) {
-    client->number++;
-    client->asked = now;
-    snprintf(client->line, sizeof client->line, "%s", line);
-    send_line(client);
-}
-
-/* Begins a session at a node, or goes on with the one that the client has. */
-static void connect_to(struct client *client, struct node *node) {
-    static const struct rights rights = {.uid = 1000, .group = 1};
-    client->node = node;
-    client->link = link_open(node->replica, &rights, pick(UINT32_MAX), client);
-    client->len = 0;
-    client->asked = now;
-    char text[LINE];
-    int len = client->session[0] == 0
-                  ? snprintf(text, sizeof text, "open seconds=%d\n", SECONDS)
-                  : snprintf(text, sizeof text, "resume %s asts=%lu\n", client->session, (unsigned long)client->asts);
-    link_hear(client->link, (const uint8_t *)text, (size_t)len);
-    if (client->session[0] != 0)
-        resumes++;
-    /* (what was not answered is asked again) */
-    if (client->session[0] != 0 && client->line[0] != 0)
-        send_line(client);
-}
-
-static void forget_session(struct client *client) {
-    struct link *link = client->link;
-    struct node *node = client->node;
-    ends += client->session[0] != 0;
-    *client = (struct client){.link = link, .node = node};
-}
-
-static bool holds(const struct client *client, unsigned resource) {
-    return now < client->lease
-           && ((client->wants[0].is_held && client->wants[0].resource == resource)
-               || (client->wants[1].is_held && client->wants[1].resource == resource));
-}
-
-static void check_grant(const struct client *client, unsigned resource) {
-    grants++;
-    for (uint32_t at = 0; at < CLIENTS; at++)
-        if (&clients[at] != client && holds(client, resource) && holds(&clients[at], resource))
-            fail("two clients hold one resource");
-}
-
-static void end_request(struct client *client, struct want *want) {
-    *want = (struct want){.resource = want->resource, .is_held = want->status == VLM_NORMAL, .status = want->status};
-    victims += want->status == VLM_DEADLOCK;
-    if (want->is_held)
-        check_grant(client, want->resource);
-    else if (want->status != VLM_DEADLOCK)
-        fail("a request ends with another status");
-}
-
-/* A request has ended. If the line that made it was not answered yet, that comes first. */
-static void hear_end(struct client *client, unsigned block, unsigned status) {
-    struct want *want = &client->wants[block - 1];
-    want->status = status;
-    want->is_ended = client->asking == block;
-    if (!want->is_ended && !want->is_waiting)
-        fail("the end of a request that nobody made");
-    if (!want->is_ended)
-        end_request(client, want);
-}
-
-static void hear_answer(struct client *client, const char *text) {
-    if (strcmp(client->line, "declare P") == 0)
-        client->is_declared = true;
-    else if (strcmp(client->line, "alive") == 0 && client->asked + lease > client->lease)
-        client->lease = client->asked + lease;
-    client->line[0] = 0;
-    if (client->asking == 0)
-        return;
-    struct want *want = &client->wants[client->asking - 1];
-    client->asking = 0;
-    want->is_waiting = true;
-    if (strncmp(text, "P: NORMAL", 9) != 0)
-        fail(text);
-    if (want->is_ended)
-        end_request(client, want);
-}
-
-static void hear_line(struct client *client, const char *text) {
-    char *rest;
-    unsigned long number = strtoul(text, &rest, 10);
-    unsigned block, status;
-    if (strncmp(text, "vlm protocol", 12) == 0)
-        return;
-    if (strncmp(text, "session ended", 13) == 0 || strncmp(text, "session moved", 13) == 0) {
-        forget_session(client);
-    } else if (sscanf(text, "session %31s seconds", client->session) == 1) {
-        if (client->asked + lease > client->lease)
-            client->lease = client->asked + lease;
-    } else if (strstr(text, ": completion ") != NULL) {
-        client->asts++;
-    } else if (sscanf(text, "P: block %u status %u", &block, &status) == 2 && (block == 1 || block == 2)) {
-        hear_end(client, block, status);
-    } else if (rest != text && client->line[0] != 0 && number == client->number) {
-        hear_answer(client, rest + 1);
+static void on_event(void *context, const vlm_threads_event *event) {
+    struct worker *worker = context;
+    pthread_mutex_lock(&worker->mutex);
+    if (event->kind == VLM_COMPLETION) {
+        worker->completions++;
+        worker->status = event->status;
+        memcpy(worker->value, event->value, event->value_len);
     } else {
-        fail(text);
+        worker->warnings++;
     }
+    pthread_cond_signal(&worker->changed);
+    pthread_mutex_unlock(&worker->mutex);
 }
 
-static void hear(struct client *client) {
-    size_t len;
-    const uint8_t *bytes = client_output(link_client(client->link), &len);
-    if (client->len + len >= ROOM)
-        fail("too much output");
-    if (len != 0)
-        memcpy(client->in + client->len, bytes, len);
-    client->len += len;
-    client_sent(link_client(client->link), len);
-    link_go(client->link);
-    for (char *end; (end = memchr(client->in, '\n', client->len)) != NULL;) {
-        char text[512];
-        size_t line = (size_t)(end - client->in);
-        snprintf(text, sizeof text, "%.*s", (int)line, client->in);
-        client->len -= line + 1;
-        memmove(client->in, end + 1, client->len);
-        hear_line(client, text);
-    }
+/* Waits until as many events have come. */
+static void await(struct worker *worker, const unsigned long *count, unsigned long value) {
+    pthread_mutex_lock(&worker->mutex);
+    while (*count < value)
+        pthread_cond_wait(&worker->changed, &worker->mutex);
+    CHECK(*count == value);
+    pthread_mutex_unlock(&worker->mutex);
 }
 
-static void leave(struct client *client) {
-    if (client->link != NULL)
-        link_close(client->link);
-    client->link = NULL;
+static void lock_and_write(struct worker *worker, struct counter *counter, uint32_t flags) {
+    uint8_t value[64] = {0};
+    vlm_threads_request request = wanted(worker->pid, VLM_EX, VLM_VALBLK | VLM_WIDE | flags, value);
+    uint32_t status = enq(worker->client, &request, counter->name);
+    CHECK(status == VLM_NORMAL || (status == VLM_SYNCH && flags == VLM_SYNCSTS));
+    CHECK(memcmp(value, value + 40, sizeof counter->count) == 0);
+    CHECK(deq(worker->client, &request, count_up(counter, value)) == VLM_NORMAL);
 }
 
-static void want(struct client *client, unsigned block) {
-    struct want *want = &client->wants[block - 1];
-    char line[LINE];
-    if (want->is_waiting)
-        return;
-    if (want->is_held && pick(30) == 0) {
-        want->is_held = false;
-        snprintf(line, sizeof line, "deq P @%u", block);
-        ask(client, line);
-    } else if (!want->is_held && pick(6) == 0) {
-        want->resource = pick(RESOURCES);
-        client->asking = block;
-        snprintf(line, sizeof line, "enq P EX name=R%u block=%u ast=1", want->resource, block);
-        ask(client, line);
-    }
+/* Waits a moment. The cancel of a wait is a step, if it is still made. */
+static void lock_shortly(struct worker *worker, struct counter *counter) {
+    uint8_t value[64] = {0};
+    vlm_threads_request request = wanted(worker->pid, VLM_EX, VLM_VALBLK | VLM_WIDE, value);
+    request.milliseconds = 1;
+    uint32_t status = enq(worker->client, &request, counter->name);
+    CHECK(status == VLM_NORMAL || status == VLM_TIMEOUT);
+    cancels++;
+    if (status == VLM_NORMAL)
+        CHECK(deq(worker->client, &request, count_up(counter, value)) == VLM_NORMAL);
 }
 
-static void act(struct client *client) {
-    if (client->lease < now + lease * 2 / 3)
-        ask(client, "alive");
-    else if (!client->is_declared)
-        ask(client, "declare P");
-    else
-        want(client, 1 + pick(2));
+static void convert_and_write(struct worker *worker, struct counter *counter) {
+    uint8_t value[64] = {0};
+    vlm_threads_request request = wanted(worker->pid, VLM_NL, 0, value);
+    CHECK(enq(worker->client, &request, counter->name) == VLM_NORMAL);
+    request.flags = VLM_VALBLK | VLM_WIDE;
+    CHECK(convert(worker->client, &request, VLM_EX) == VLM_NORMAL);
+    count_up(counter, value);
+    CHECK(convert(worker->client, &request, VLM_NL) == VLM_NORMAL);
+    CHECK(deq(worker->client, &request, NULL) == VLM_NORMAL);
 }
 
-static void move_client(struct client *client) {
-    if (now < client->stopped)
-        return;
-    if (pick(3000) == 0) {
-        client->stopped = now + pick(2 * (uint32_t)lease);
-        return;
-    }
-    if (client->session[0] != 0 && now >= client->lease) {
-        /* (what it holds is lost, and the session ends by itself) */
-        leave(client);
-        forget_session(client);
-    }
-    if (client->link == NULL)
-        connect_to(client, &nodes[pick(REPLICAS)]);
-    if (link_client(client->link) != NULL)
-        hear(client);
-    if (link_is_over(client->link) || (now > client->asked + 1500 && client->line[0] != 0))
-        leave(client);
-    else if (client->session[0] != 0 && client->line[0] == 0)
-        act(client);
+static void start_and_write(struct worker *worker, struct counter *counter) {
+    unsigned long before = worker->completions;
+    vlm_threads_request request = wanted(worker->pid, VLM_EX, VLM_VALBLK | VLM_WIDE, worker->value);
+    memset(worker->value, 0, sizeof worker->value);
+    request.completion = on_event;
+    request.completion_context = worker;
+    steps++;
+    CHECK(vlm_client_start_enq(worker->client, &request, (const uint8_t *)counter->name, strlen(counter->name))
+          == VLM_NORMAL);
+    await(worker, &worker->completions, before + 1);
+    CHECK(worker->status == VLM_NORMAL);
+    CHECK(deq(worker->client, &request, count_up(counter, worker->value)) == VLM_NORMAL);
 }
 
-/* Lets all that is under way come to its end. */
-static void settle(void) {
-    for (uint32_t turn = 0; turn < 20000; turn += 20) {
-        now += 20;
-        for (uint32_t at = 0; at < REPLICAS; at++) {
-            nodes[at].stopped = 0;
-            go(&nodes[at]);
+static void *work(void *argument) {
+    struct worker *worker = argument;
+    while (!is_over) {
+        struct counter *counter = &counters[(unsigned)rand_r(&worker->seed) % COUNTERS];
+        switch ((unsigned)rand_r(&worker->seed) % (is_impatient ? KINDS + 2 : KINDS)) {
+        case 0: lock_and_write(worker, counter, 0); break;
+        case 1: lock_and_write(worker, counter, VLM_SYNCSTS); break;
+        case 2: convert_and_write(worker, counter); break;
+        case 3: start_and_write(worker, counter); break;
+        default: lock_shortly(worker, counter);
         }
     }
-    for (uint32_t at = 0; at < REPLICAS; at++)
-        while (nodes[at].at < list.count)
-            apply_next(&nodes[at]);
-    compare();
+    return NULL;
 }
 
-static void begin(uint64_t first) {
-    seed = first * 0x9E3779B97F4A7C15U + 1;
-    now = 1000;
-    memset(clients, 0, sizeof clients);
-    for (uint32_t at = 0; at < REPLICAS; at++)
-        start(&nodes[at]);
-}
-
-static void end(void) {
-    for (uint32_t at = 0; at < REPLICAS; at++)
-        stop(&nodes[at]);
-    empty(&list);
-    empty(&kept);
-}
-
-static void run(uint64_t first) {
-    begin(first);
-    for (uint32_t step = 0; step < STEPS; step++) {
-        now += 1 + pick(20);
-        for (uint32_t at = 0; at < REPLICAS; at++)
-            move_node(&nodes[at]);
-        for (uint32_t at = 0; at < CLIENTS; at++)
-            move_client(&clients[at]);
-        if (step % 50 == 0)
-            compare();
+/* Two holders in turn: each keeps its lock until it is warned. It comes by a conversion in every second round. */
+static void *hand_over(void *argument) {
+    struct worker *worker = argument;
+    for (bool converts = false; !is_over; converts = !converts) {
+        unsigned long before = worker->warnings;
+        vlm_threads_request request = wanted(worker->pid, converts ? VLM_NL : VLM_EX, VLM_SYNCSTS, NULL);
+        if (!converts) {
+            request.blocking = on_event;
+            request.blocking_context = worker;
+        }
+        uint32_t status = enq(worker->client, &request, "hot");
+        CHECK(status == VLM_NORMAL || status == VLM_SYNCH);
+        request.blocking = on_event;
+        request.blocking_context = worker;
+        if (converts)
+            status = convert(worker->client, &request, VLM_EX);
+        CHECK(status == VLM_NORMAL || status == VLM_SYNCH);
+        await(worker, &worker->warnings, before + 1);
+        CHECK(deq(worker->client, &request, NULL) == VLM_NORMAL);
     }
-    settle();
-    end();
+    return NULL;
 }
 
-static void pass_time(struct client *client, uint64_t until) {
-    for (; now < until; now += 10) {
-        for (uint32_t at = 0; at < REPLICAS; at++)
-            go(&nodes[at]);
-        if (link_client(client->link) != NULL)
-            hear(client);
+/* The last holder gets its warning from here. */
+static void end_hand_over(vlm_client *client, pthread_t *threads) {
+    for (int at = 0; at < CLIENTS; at++) {
+        vlm_threads_request last = wanted(declared(client), VLM_EX, 0, NULL);
+        while (pthread_tryjoin_np(threads[at], NULL) != 0) {
+            CHECK(enq(client, &last, "hot") == VLM_NORMAL && deq(client, &last, NULL) == VLM_NORMAL);
+            usleep(1000);
+        }
     }
 }
 
-/* A client's beats come late, so a replica has its session ended. But that comes later still, after the client was
- * told of a beat: the session goes on. */
-static void run_late_end(void) {
-    struct client *client = &clients[0];
-    begin(1);
-    nodes[0].delay = nodes[1].delay = nodes[2].delay = 10;
-    connect_to(client, &nodes[1]);
-    pass_time(client, 4900);
-    nodes[1].delay = 4500;
-    pass_time(client, 5000);
-    ask(client, "alive");
-    delay_of_ends = 4000;
-    pass_time(client, 8000);
-    nodes[1].delay = 10;
-    pass_time(client, 9900);
-    ask(client, "alive");
-    pass_time(client, 14800);
-    if (client->session[0] == 0 || client->line[0] != 0 || now >= client->lease)
-        fail("a session ends before its lease");
-    delay_of_ends = 0;
-    end();
+static void test_cuts(void) {
+    static struct worker workers[CLIENTS * (WORKERS + 1)];
+    pthread_t threads[CLIENTS * (WORKERS + 1)];
+    vlm_client *clients[CLIENTS];
+    for (int at = 0; at < CLIENTS; at++)
+        clients[at] = opened();
+    uint32_t keeper = declared(clients[0]);
+    for (int at = 0; at < COUNTERS; at++) {
+        snprintf(counters[at].name, sizeof counters[at].name, "count%d", at);
+        vlm_threads_request kept = wanted(keeper, VLM_NL, 0, NULL);
+        CHECK(enq(clients[0], &kept, counters[at].name) == VLM_NORMAL);
+    }
+    tell("ready");
+    for (int at = 0; at < CLIENTS * (WORKERS + 1); at++) {
+        workers[at].client = clients[at % CLIENTS];
+        workers[at].pid = declared(workers[at].client);
+        workers[at].seed = (unsigned)at;
+        pthread_mutex_init(&workers[at].mutex, NULL);
+        pthread_cond_init(&workers[at].changed, NULL);
+        pthread_create(&threads[at], NULL, at < CLIENTS ? hand_over : work, &workers[at]);
+    }
+    hear();
+    is_over = true;
+    end_hand_over(clients[0], threads);
+    for (int at = CLIENTS; at < CLIENTS * (WORKERS + 1); at++)
+        pthread_join(threads[at], NULL);
+    printf("steps %lu cancels %lu\n", (unsigned long)steps, (unsigned long)cancels);
+    fflush(stdout);
+    hear();
+    for (int at = 0; at < CLIENTS; at++)
+        CHECK(vlm_client_close(clients[at]) == VLM_NORMAL);
+    tell("closed");
+    hear();
+}
+
+/* The same, with waits that end too early. */
+static void test_impatience(void) {
+    is_impatient = true;
+    test_cuts();
+}
+
+static atomic_int losses;
+
+static void on_lost(void *none) {
+    CHECK(none == NULL);
+    losses++;
+    tell("on_lost");
+}
+
+static void *wait_for(void *argument) {
+    struct worker *worker = argument;
+    vlm_threads_request request = wanted(worker->pid, VLM_EX, 0, NULL);
+    request.milliseconds = 0;
+    worker->status = enq(worker->client, &request, "A");
+    return NULL;
+}
+
+/* A lock is held, a call waits, a start form waits: at the loss all end, each once, and the next calls too. */
+static void test_loss(void) {
+    options.on_lost = on_lost;
+    vlm_client *client = opened();
+    struct worker waiter = {.client = client, .pid = declared(client), .mutex = PTHREAD_MUTEX_INITIALIZER};
+    vlm_threads_request held = wanted(declared(client), VLM_EX, 0, NULL),
+                        started = wanted(declared(client), VLM_EX, 0, NULL);
+    pthread_t thread;
+    CHECK(enq(client, &held, "A") == VLM_NORMAL);
+    started.completion = on_event;
+    started.completion_context = &waiter;
+    CHECK(vlm_client_start_enq(client, &started, (const uint8_t *)"A", 1) == VLM_NORMAL);
+    pthread_create(&thread, NULL, wait_for, &waiter);
+    tell("ready");
+    pthread_join(thread, NULL);
+    CHECK(waiter.status == VLM_LOST && deq(client, &held, NULL) == VLM_LOST);
+    CHECK(enq(client, &held, "A") == VLM_LOST && vlm_client_settle(client) == VLM_NORMAL);
+    hear();
+    CHECK(losses == 1 && waiter.completions == 1);
+    CHECK(vlm_client_reopen(client) == VLM_NORMAL);
+    held.pid = declared(client);
+    CHECK(enq(client, &held, "B") == VLM_NORMAL && deq(client, &held, NULL) == VLM_NORMAL);
+    CHECK(vlm_client_close(client) == VLM_NORMAL && losses == 1);
+    tell("closed");
+    hear();
+}
+
+/* A call waits for a lock, and a start form for another: their ends are told. */
+static void test_waits(void) {
+    options.delivery = VLM_THREADS_BY_PROGRAM;
+    vlm_client *client = opened();
+    struct worker worker = {.mutex = PTHREAD_MUTEX_INITIALIZER};
+    uint32_t delivered, pid = declared(client);
+    vlm_threads_request request = wanted(pid, VLM_EX, 0, NULL), started = wanted(declared(client), VLM_EX, 0, NULL);
+    started.completion = on_event;
+    started.completion_context = &worker;
+    CHECK(vlm_client_start_enq(client, &started, (const uint8_t *)"B", 1) == VLM_NORMAL);
+    tell("ready");
+    uint32_t status = enq(client, &request, "A");
+    CHECK(vlm_client_dispatch(client, &delivered) == VLM_NORMAL && worker.completions == 1);
+    printf("%s and %s\n", vlm_condition_name(status), vlm_condition_name(worker.status));
+    fflush(stdout);
+    hear();
+    CHECK(vlm_client_close(client) == VLM_NORMAL);
+}
+
+static void *declare_one(void *argument) {
+    struct worker *worker = argument;
+    declared(worker->client);
+    worker->status = VLM_NORMAL;
+    return NULL;
+}
+
+static void *ask_shortly(void *argument) {
+    struct worker *worker = argument;
+    vlm_threads_request request = wanted(worker->pid, VLM_NL, 0, NULL);
+    worker->status = enq(worker->client, &request, "many");
+    return NULL;
+}
+
+/* Many threads ask at once. */
+static void test_many(void) {
+    static struct worker workers[CALLERS];
+    pthread_t threads[CALLERS];
+    vlm_client *client = opened();
+    uint32_t pid = declared(client);
+    tell("ready");
+    hear();
+    for (int at = 0; at < CALLERS; at++) {
+        workers[at] = (struct worker){.client = client, .pid = pid};
+        pthread_create(&threads[at], NULL, ask_shortly, &workers[at]);
+    }
+    tell("asked");
+    for (int at = 0; at < CALLERS; at++) {
+        pthread_join(threads[at], NULL);
+        CHECK(workers[at].status == VLM_NORMAL);
+    }
+    tell("answered");
+    hear();
+    CHECK(vlm_client_close(client) == VLM_NORMAL);
+}
+
+/* At lines of the driver two threads ask for a lock, and one declares a process: the last one's answer is told
+ * first. */
+static void test_limit(void) {
+    struct worker workers[3];
+    pthread_t threads[3];
+    vlm_client *client = opened();
+    uint32_t pid = declared(client);
+    tell("ready");
+    for (int at = 0; at < 3; at++) {
+        hear();
+        workers[at] = (struct worker){.client = client, .pid = pid};
+        pthread_create(&threads[at], NULL, at < 2 ? wait_for : declare_one, &workers[at]);
+    }
+    for (int at = 2; at >= 0; at--) {
+        pthread_join(threads[at], NULL);
+        tell(vlm_condition_name(workers[at].status));
+    }
+    CHECK(vlm_client_close(client) == VLM_NORMAL);
+}
+
+static atomic_bool is_late, has_slept;
+static pthread_t late_thread;
+int __real_clock_gettime(clockid_t clock, struct timespec *now);
+int __wrap_clock_gettime(clockid_t clock, struct timespec *now);
+
+/* The linker puts this in the place of clock_gettime: an hour has passed in a sleep, or only for a thread that was kept
+ * from running. */
+int __wrap_clock_gettime(clockid_t clock, struct timespec *now) {
+    int done = __real_clock_gettime(clock, now);
+    if (clock == CLOCK_BOOTTIME && (has_slept || (is_late && pthread_equal(pthread_self(), late_thread))))
+        now->tv_sec += 3600;
+    return done;
+}
+
+static void *be_late(void *none) {
+    hear();
+    is_late = true;
+    tell("late");
+    return none;
+}
+
+/* A thread comes too late to its grant. Then the machine sleeps. */
+static void test_sleep(void) {
+    options.on_lost = on_lost;
+    vlm_client *client = opened();
+    vlm_threads_request request = wanted(declared(client), VLM_EX, 0, NULL);
+    pthread_t thread;
+    late_thread = pthread_self();
+    pthread_create(&thread, NULL, be_late, NULL);
+    tell("ready");
+    CHECK(enq(client, &request, "A") == VLM_LOST && request.lkid == 0 && request.status == VLM_LOST);
+    pthread_join(thread, NULL);
+    is_late = false;
+    CHECK(enq(client, &request, "B") == VLM_NORMAL);
+    has_slept = true;
+    CHECK(deq(client, &request, NULL) == VLM_LOST && enq(client, &request, "C") == VLM_LOST);
+    CHECK(vlm_client_reopen(client) == VLM_NORMAL);
+    hear();
+    CHECK(vlm_client_close(client) == VLM_NORMAL && losses == 1);
+}
+
+/* Opens a client, if it can. */
+static void test_opening(void) {
+    vlm_client *client;
+    uint32_t status = vlm_client_open(&options, &client);
+    tell(vlm_condition_name(status));
+    hear();
+    CHECK(vlm_client_close(client) == VLM_NORMAL);
+}
+
+/* At each line makes a request, whose answer it tells, and gives the lock up. */
+static void test_requests(void) {
+    char line[64];
+    vlm_client *client = opened();
+    vlm_threads_request request = wanted(declared(client), VLM_EX, 0, NULL);
+    tell("ready");
+    while (fgets(line, sizeof line, stdin) != NULL && strcmp(line, "end\n") != 0) {
+        uint32_t status = enq(client, &request, "A");
+        if (status == VLM_NORMAL)
+            status = deq(client, &request, NULL);
+        tell(vlm_condition_name(status));
+    }
+    CHECK(vlm_client_close(client) == VLM_NORMAL);
 }
 
 int main(int count, char **words) {
-    if (count != 3)
+    static const struct {
+        const char *word;
+        void (*run)(void);
+    } tests[] = {{"cuts", test_cuts},   {"loss", test_loss},       {"waits", test_waits},
+                 {"many", test_many},   {"opening", test_opening}, {"requests", test_requests},
+                 {"limit", test_limit}, {"sleep", test_sleep},     {"impatience", test_impatience}};
+    if (count != 4)
         return 2;
-    unsigned long first = strtoul(words[1], NULL, 10), runs = strtoul(words[2], NULL, 10);
-    list.all = calloc(MOST_BATCHES, sizeof *list.all);
-    kept.all = calloc(MOST_BATCHES, sizeof *kept.all);
-    run_late_end();
-    for (unsigned long it = first; it < first + runs; it++) {
-        printf("seed %lu: ", it);
-        fflush(stdout);
-        run(it);
-        printf("%lu grants, %lu victims, %lu resumes, %lu sessions ended, %lu starts\n", grants, victims, resumes, ends,
-               starts);
-        grants = victims = resumes = ends = starts = 0;
-    }
-    free(list.all);
-    free(kept.all);
+    alarm(MOST_SECONDS);
+    options.socket = words[2];
+    options.lease_seconds = (uint32_t)strtoul(words[3], NULL, 10);
+    for (size_t at = 0; at < sizeof tests / sizeof *tests; at++)
+        if (strcmp(words[1], tests[at].word) == 0)
+            tests[at].run();
     return 0;
 }

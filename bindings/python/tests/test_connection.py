@@ -2,8 +2,10 @@
 
 import os
 import shutil
+import socket
 import subprocess
 import tempfile
+import threading
 import time
 import unittest
 from concurrent.futures import ThreadPoolExecutor
@@ -15,6 +17,43 @@ from vlm import (BadParamError, Condition, DeadlockError, DequeueFlags, Flags, I
 
 VLMD = os.environ.get("VLMD") or os.path.join(os.environ.get("VLM_PREFIX", ""), "bin", "vlmd")
 SECONDS = 30
+
+
+class Replica:
+    """Looks like a replica: carries bytes between a port and the socket of a vlmd."""
+
+    def __init__(self, path):
+        self.path = path
+        self.sockets = []
+        self.listener = socket.create_server(("127.0.0.1", 0))
+        self.address = f"127.0.0.1:{self.listener.getsockname()[1]}"
+        threading.Thread(target=self.accept, daemon=True).start()
+
+    def accept(self):
+        while True:
+            try:
+                ours = self.listener.accept()[0]
+            except OSError:
+                return
+            theirs = socket.socket(socket.AF_UNIX)
+            theirs.connect(self.path)
+            self.sockets += [ours, theirs]
+            for pair in ((ours, theirs), (theirs, ours)):
+                threading.Thread(target=self.carry, args=pair, daemon=True).start()
+
+    def carry(self, one, other):
+        try:
+            while found := one.recv(4096):
+                other.sendall(found)
+        except OSError:
+            pass
+
+    def end(self):
+        self.listener.shutdown(socket.SHUT_RDWR)
+        self.listener.close()
+        for it in self.sockets:
+            it.shutdown(socket.SHUT_RDWR)
+            it.close()
 
 
 @unittest.skipUnless(shutil.which(VLMD), "there is no vlmd")
@@ -160,6 +199,19 @@ class Connections(unittest.TestCase):
             with p.lock("A", Mode.EX):
                 self.kill()
                 raise KeyError
+
+    def test_a_session_goes_on_at_another_replica(self):
+        self.connection().declare()
+        one, two = Replica(self.socket), Replica(self.socket)
+        self.addCleanup(two.end)
+        with connect(f"tcp:{one.address},{two.address}", lease=120) as connection:
+            with connection.declare().lock("A", Mode.EX) as held:
+                one.end()
+                held.convert(Mode.PR)
+        with self.connection().declare().lock("A", Mode.EX, SECONDS):
+            pass
+        for lease in (1, 601):
+            self.assertRaises(BadParamError, connect, f"tcp:{two.address}", lease=lease)
 
     def test_a_closed_connection_and_a_child_are_refused(self):
         p = self.connection().declare()

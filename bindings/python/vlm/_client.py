@@ -13,7 +13,7 @@ LOST = 101
 Declaration, Request, Dequeue = ThreadsDeclaration, ThreadsRequest, ThreadsDequeue
 
 Options = _struct("Options", 64, *_words("delivery"), ("socket", c_char_p), ("on_lost", LOSS),
-                  ("lost_context", c_void_p), _reserved(8))
+                  ("lost_context", c_void_p), *_words("lease_seconds"), _reserved(7))
 
 _HANDLE, _NUMBER, _BYTES = c_void_p, POINTER(c_uint32), c_char_p
 _CALLS: Dict[str, List[Any]] = {

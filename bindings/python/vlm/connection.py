@@ -42,9 +42,11 @@ class Connection:
     Once the service or the session has ended, each call raises LostError: the locks are gone. `reopen` begins a new
     session, in which nothing is held."""
 
-    def __init__(self, socket: Optional[str] = None, on_lost: Optional[Callable[[], object]] = None) -> None:
-        """Connects to the socket, by default that of VLM_SOCKET or /run/vlm/lock.sock. `deliver` calls `on_lost` once
-        the locks are lost."""
+    def __init__(self, socket: Optional[str] = None, on_lost: Optional[Callable[[], object]] = None,
+                 lease: int = 0) -> None:
+        """Connects to the socket, by default that of VLM_SOCKET or /run/vlm/lock.sock, or to the replicas at
+        `tcp:HOST:PORT,HOST:PORT..` with a lease of 2 to 600 seconds: 0 means 10. `deliver` calls `on_lost` once the
+        locks are lost."""
         self._routines: Dict[int, Routine] = {}
         self._next = 0
         self._on_lost = on_lost
@@ -53,7 +55,8 @@ class Connection:
         self._told = raw.LOSS(self._tell_loss)
         handle = c_void_p()
         path = None if socket is None else os.fsencode(socket)
-        options = raw.Options(delivery=raw.BY_PROGRAM, socket=path, on_lost=self._told)
+        options = raw.Options(delivery=raw.BY_PROGRAM, socket=path, on_lost=self._told,
+                              lease_seconds=word(lease, "the lease"))
         checked(raw.call("open")(byref(options), byref(handle)))
         self._handle = handle
         self._closing = weakref.finalize(self, raw.call("close"), handle)
@@ -276,6 +279,8 @@ class ServedLock(HeldLock):
             self.release()
 
 
-def connect(socket: Optional[str] = None, on_lost: Optional[Callable[[], object]] = None) -> Connection:
-    """Connects to the lock service of this machine. LostError: there is none."""
-    return Connection(socket, on_lost)
+def connect(socket: Optional[str] = None, on_lost: Optional[Callable[[], object]] = None, *,
+            lease: int = 0) -> Connection:
+    """Connects to the lock service of this machine, or to replicas of it. LostError: there is none. BadParamError: the
+    lease is none of 2 to 600 seconds, or 0."""
+    return Connection(socket, on_lost, lease)

@@ -2,11 +2,14 @@
 
 use std::env;
 use std::fs;
+use std::io;
+use std::net::{Shutdown, TcpListener, TcpStream};
+use std::os::unix::net::UnixStream;
 use std::path::{Path, PathBuf};
 use std::process::{self, Child, Command, Stdio};
 use std::sync::atomic::{AtomicUsize, Ordering};
 use std::sync::mpsc::channel;
-use std::sync::Arc;
+use std::sync::{Arc, Mutex};
 use std::thread;
 use std::time::{Duration, Instant};
 
@@ -69,6 +72,50 @@ impl Drop for Daemon {
         let _ = self.child.kill();
         let _ = self.child.wait();
         let _ = fs::remove_dir_all(&self.folder);
+    }
+}
+
+/// Looks like a replica: carries bytes between a port and the socket of a daemon.
+struct Replica {
+    address: String,
+    clients: Arc<Mutex<Vec<TcpStream>>>,
+}
+
+fn carry(client: TcpStream, service: UnixStream) {
+    let (mut up, mut down) = (client.try_clone().unwrap(), client.try_clone().unwrap());
+    let (mut to, mut from) = (service.try_clone().unwrap(), service.try_clone().unwrap());
+    thread::spawn(move || {
+        let _ = io::copy(&mut up, &mut to);
+        let _ = to.shutdown(Shutdown::Both);
+    });
+    thread::spawn(move || {
+        let _ = io::copy(&mut from, &mut down);
+        let _ = down.shutdown(Shutdown::Both);
+    });
+}
+
+impl Replica {
+    fn new(daemon: &Daemon) -> Replica {
+        let listener = TcpListener::bind("127.0.0.1:0").expect("a port");
+        let address = listener.local_addr().expect("an address").to_string();
+        let clients = Arc::new(Mutex::new(Vec::new()));
+        let (path, kept) = (daemon.folder.join("socket"), clients.clone());
+        thread::spawn(move || {
+            for client in listener.incoming().map_while(Result::ok) {
+                let Ok(service) = UnixStream::connect(&path) else {
+                    return;
+                };
+                kept.lock().unwrap().push(client.try_clone().unwrap());
+                carry(client, service);
+            }
+        });
+        Replica { address, clients }
+    }
+
+    fn cut(&self) {
+        for client in self.clients.lock().unwrap().drain(..) {
+            let _ = client.shutdown(Shutdown::Both);
+        }
     }
 }
 
@@ -216,6 +263,31 @@ fn begins_anew(connection: &Connection, old: ProcessId) {
     guard.release().unwrap();
     let absent = Connection::open_at("/nowhere", || ());
     assert_eq!(absent.unwrap_err(), Error::Lost);
+}
+
+#[test]
+fn a_session_goes_on_at_another_replica() {
+    let Some(daemon) = Daemon::new("replicas") else {
+        return;
+    };
+    let other = daemon.connection(|| ());
+    let (one, two) = (Replica::new(&daemon), Replica::new(&daemon));
+    let address = format!("tcp:{},{}", one.address, two.address);
+    let lease = Duration::from_secs(120);
+    let connection = Connection::open_leased(&address, lease, || panic!("lost")).unwrap();
+    let p = connection.declare(9, 1).unwrap();
+    let mut guard = connection.lock(p, b"A", Mode::Ex).unwrap();
+    one.cut();
+    guard.convert(Mode::Pr, Terms::new()).unwrap();
+    guard.release().unwrap();
+    assert_eq!(connection.deliver(), 0);
+    drop((guard, connection));
+    let q = other.declare(9, 1).unwrap();
+    drop(other.lock_with(q, b"A", Mode::Ex, within(30_000)).unwrap());
+    for lease in [Duration::from_millis(2500), Duration::from_secs(1)] {
+        let refused = Connection::open_leased(&address, lease, || ()).unwrap_err();
+        assert_eq!(refused, Error::Badparam);
+    }
 }
 
 #[test]

@@ -26,6 +26,7 @@ use std::fmt;
 use std::os::unix::ffi::OsStrExt;
 use std::path::Path;
 use std::sync::{Arc, Mutex};
+use std::time::Duration;
 
 use crate::condition::answered;
 use crate::{DeqFlags, EnqFlags, Error, Event, LockId, Mode, ProcessId, Terms};
@@ -58,28 +59,47 @@ fn checked(answer: u32) -> Result<(), Error> {
     answered(answer).map(|_success| ())
 }
 
+/// The seconds of a time without a fraction.
+fn whole_seconds(time: Duration) -> Option<u32> {
+    (time.subsec_nanos() == 0)
+        .then(|| time.as_secs().try_into().ok())
+        .flatten()
+}
+
 impl Connection {
     /// Connects to the socket that VLM_SOCKET names, or to /run/vlm/lock.sock. Lost: there is no service.
     pub fn open() -> Result<Connection, Error> {
-        Connection::opened(None, 0)
+        Connection::opened(None, 0, 0)
     }
 
-    /// Connects to a socket. `on_lost` is told once by [`Connection::deliver`] that the locks are lost. BADPARAM: the
-    /// path has a byte 0.
+    /// Connects to a socket, or to the replicas at `tcp:HOST:PORT,HOST:PORT..`. `on_lost` is told once by
+    /// [`Connection::deliver`] that the locks are lost. BADPARAM: the path has a byte 0.
     pub fn open_at(
         socket: impl AsRef<Path>,
         on_lost: impl FnMut() + Send + 'static,
     ) -> Result<Connection, Error> {
+        Connection::open_leased(socket, Duration::ZERO, on_lost)
+    }
+
+    /// The same, with a lease of 2 to 600 seconds at addresses of TCP: the locks are lost when no replica was heard for
+    /// so long. Zero means the usual 10 seconds. BADPARAM: the lease is another one.
+    pub fn open_leased(
+        socket: impl AsRef<Path>,
+        lease: Duration,
+        on_lost: impl FnMut() + Send + 'static,
+    ) -> Result<Connection, Error> {
         let path =
             CString::new(socket.as_ref().as_os_str().as_bytes()).map_err(|_| Error::Badparam)?;
+        let seconds = whole_seconds(lease).ok_or(Error::Badparam)?;
         Connection::opened(
             Some(path),
+            seconds,
             raw::number_of(Known::Loss(Arc::new(Mutex::new(on_lost)))),
         )
     }
 
-    fn opened(path: Option<CString>, loss: usize) -> Result<Connection, Error> {
-        match Connected::open(path.as_deref(), loss) {
+    fn opened(path: Option<CString>, lease: u32, loss: usize) -> Result<Connection, Error> {
+        match Connected::open(path.as_deref(), lease, loss) {
             Ok(client) => Ok(Connection {
                 client: Arc::new(Session { client, loss }),
             }),

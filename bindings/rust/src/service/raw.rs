@@ -116,10 +116,11 @@ unsafe impl Send for Connected {}
 unsafe impl Sync for Connected {}
 
 impl Connected {
-    /// Connects to a socket. `loss` is the number of a closure, or 0.
-    pub fn open(socket: Option<&CStr>, loss: usize) -> Result<Connected, u32> {
+    /// Connects to a socket, or to addresses with a lease. `loss` is the number of a closure, or 0.
+    pub fn open(socket: Option<&CStr>, lease_seconds: u32, loss: usize) -> Result<Connected, u32> {
         let mut options = ClientOptions::new();
         options.delivery = BY_PROGRAM;
+        options.lease_seconds = lease_seconds;
         options.socket = socket.map_or(ptr::null(), CStr::as_ptr);
         if loss != 0 {
             options.on_lost = Some(tell_loss);

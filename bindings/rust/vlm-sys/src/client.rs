@@ -21,7 +21,7 @@ pub type Loss = extern "C" fn(*mut c_void);
 structs! {
     ClientOptions 64 {
         delivery: u32 = 0, socket: *const c_char = null(), on_lost: Option<Loss> = None,
-        lost_context: *mut c_void = null_mut(), reserved: [u32; 8] = [0; 8],
+        lost_context: *mut c_void = null_mut(), lease_seconds: u32 = 0, reserved: [u32; 7] = [0; 7],
     }
 }
 

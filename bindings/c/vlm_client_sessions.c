@@ -1,0 +1,175 @@
+/* The first lines of a connection: the service greets, and a session is opened or resumed. */
+#include "vlm_client_parts.h"
+
+#include <errno.h>
+#include <inttypes.h>
+#include <poll.h>
+#include <stdio.h>
+#include <stdlib.h>
+#include <string.h>
+#include <sys/socket.h>
+#include <unistd.h>
+
+enum { NAME_DIGITS = SESSION_NAME - 1 };
+
+/* What the service tells of a session, on a connection. */
+struct told {
+    int descriptor; /* -1 without a session */
+    bool is_asked;  /* the first line was sent */
+    uint64_t epoch;
+    char name[SESSION_NAME];
+    uint64_t seconds, number, asts;
+};
+
+static const char greeting[] = "vlm protocol 1 ";
+
+static bool send_first(const vlm_client *client, int descriptor, const char *line) {
+    ssize_t sent;
+    while ((sent = send(descriptor, line, strlen(line), MSG_NOSIGNAL)) < 0 && errno == EINTR && client->lease == 0)
+        continue;
+    return sent == (ssize_t)strlen(line);
+}
+
+static bool read_byte(const vlm_client *client, int descriptor, char *byte, uint64_t until) {
+    ssize_t len;
+    while ((len = recv(descriptor, byte, 1, 0)) < 0)
+        if (errno != EINTR && (errno != EAGAIN || !vlmc_wait_for(client, descriptor, POLLIN, until)))
+            return false;
+    return len == 1;
+}
+
+/* Reads a line without its line feed, byte by byte, so that nothing is taken from the reader. */
+static bool read_line(const vlm_client *client, int descriptor, char *line, uint64_t until) {
+    for (size_t len = 0; len < LINE_ROOM; len++) {
+        if (!read_byte(client, descriptor, line + len, until))
+            return false;
+        if (line[len] != '\n')
+            continue;
+        line[len] = 0;
+        return true;
+    }
+    return false;
+}
+
+/* A line that says that the session is over, or that more ASTs were missed than the service keeps. */
+bool vlmc_is_end(const char *line) {
+    static const char *const ends[] = {"lost", "session killed", "session moved", "session ended"};
+    for (size_t at = 0; at < sizeof ends / sizeof *ends; at++)
+        if (strcmp(line, ends[at]) == 0)
+            return true;
+    return strncmp(line, "lost ", strlen("lost ")) == 0;
+}
+
+/* A replica that hung may hear a `resume` after the client has gone on elsewhere. That moves the session to a
+ * connection that has ended: the client goes on once more. */
+bool vlmc_is_own_move(vlm_client *client, const char *line) {
+    if (client->abandoned == 0 || strcmp(line, "session moved") != 0)
+        return false;
+    client->abandoned--;
+    return true;
+}
+
+static uint64_t number_after(const char *line, const char *word) {
+    const char *found = strstr(line, word);
+    return found != NULL ? strtoull(found + strlen(word), NULL, 10) : 0;
+}
+
+static bool read_session(const char *line, struct told *told) {
+    static const char before[] = "session ";
+    if (strncmp(line, before, strlen(before)) != 0)
+        return false;
+    const char *name = line + strlen(before);
+    if (strspn(name, "0123456789abcdef") != NAME_DIGITS)
+        return false;
+    memcpy(told->name, name, NAME_DIGITS);
+    told->name[NAME_DIGITS] = 0;
+    told->seconds = number_after(line, " seconds ");
+    told->number = number_after(line, " number ");
+    told->asts = number_after(line, " asts ");
+    return true;
+}
+
+/* Sends the first line and reads the two answers: WENT_ON with a session, OVER with another answer, also one that makes
+ * the lease shorter, and NOT_THERE if another address may do better. */
+static int begin(const vlm_client *client, const char *first, struct told *told, uint64_t until) {
+    char line[LINE_ROOM];
+    told->is_asked = send_first(client, told->descriptor, first);
+    if (!told->is_asked || !read_line(client, told->descriptor, line, until))
+        return NOT_THERE;
+    if (strncmp(line, greeting, strlen(greeting)) != 0)
+        return OVER;
+    told->epoch = strtoull(line + strlen(greeting) + strlen("epoch "), NULL, 10);
+    if (!read_line(client, told->descriptor, line, until) || strcmp(line, "too many connections") == 0)
+        return NOT_THERE;
+    return read_session(line, told) && told->seconds * 1000 >= client->lease ? WENT_ON : OVER;
+}
+
+/* Connects to the address whose turn it is, and begins with a line. */
+static int begin_at(vlm_client *client, const char *first, struct told *told, uint64_t until) {
+    told->descriptor = vlmc_connect_to(client, &client->addresses[client->address], until);
+    int found = told->descriptor >= 0 ? begin(client, first, told, until) : NOT_THERE;
+    if (found == WENT_ON || told->descriptor < 0)
+        return found;
+    close(told->descriptor);
+    told->descriptor = -1;
+    return found;
+}
+
+/* A session without steps and ASTs, and a whole lease. */
+static void begin_session(vlm_client *client, const struct told *told, uint64_t asked) {
+    pthread_mutex_lock(&client->state);
+    memcpy(client->session_name, told->name, SESSION_NAME);
+    client->epoch = told->epoch;
+    client->number = client->answered = client->asts = 0;
+    client->is_asking = client->is_ruined = false;
+    client->abandoned = 0;
+    client->lease_end = asked + client->lease;
+    vlmc_drop_early(client);
+    vlmc_link(client, told->descriptor, asked);
+    pthread_mutex_unlock(&client->state);
+}
+
+/* Each address is tried once. */
+uint32_t vlmc_connect(vlm_client *client) {
+    char first[LINE_ROOM] = "open\n";
+    if (client->lease != 0)
+        snprintf(first, sizeof first, "open seconds=%" PRIu32 "\n", client->lease / 1000);
+    if (!vlmc_find_addresses(client))
+        return VLM_LOST;
+    for (; client->address < client->address_count; client->address++) {
+        struct told told = {.descriptor = -1};
+        uint64_t asked = vlmc_now(), until = client->lease != 0 ? asked + vlmc_patience(client) : NEVER;
+        if (begin_at(client, first, &told, until) != WENT_ON)
+            continue;
+        begin_session(client, &told, asked);
+        return VLM_NORMAL;
+    }
+    return VLM_LOST;
+}
+
+/* Half of the lease that is left, so that other addresses have their turn. */
+static uint64_t turn_of(const vlm_client *client, uint64_t now) {
+    uint64_t left = client->lease_end > now ? (client->lease_end - now) / 2 : 0, patience = vlmc_patience(client);
+    return now + (left < patience ? left : patience);
+}
+
+/* A service that knows fewer steps or ASTs than the client has lost them, and with them locks. */
+int vlmc_go_on(vlm_client *client) {
+    char first[LINE_ROOM];
+    struct told told = {.descriptor = -1};
+    uint64_t asked = vlmc_now();
+    snprintf(first, sizeof first, "resume %s asts=%" PRIu64 "\n", client->session_name, client->asts);
+    int found = begin_at(client, first, &told, turn_of(client, asked));
+    client->abandoned += found == NOT_THERE && told.is_asked;
+    if (found != WENT_ON)
+        return found;
+    pthread_mutex_lock(&client->state);
+    bool is_same = told.number >= client->answered && told.asts >= client->asts && !vlmc_is_out(client);
+    if (is_same)
+        vlmc_link(client, told.descriptor, asked);
+    pthread_mutex_unlock(&client->state);
+    if (is_same)
+        return WENT_ON;
+    close(told.descriptor);
+    return OVER;
+}
