@@ -50,6 +50,7 @@ class Daemon:
         # (another uid of a test reaches it too)
         os.chmod(self.folder, 0o755)
         self.socket = f"{self.folder}/socket"
+        self.address = f"unix:{self.socket}"
         self.config = Path(self.folder) / "conf"
         self.config.write_text("".join(f"{it}\n" for it in ("mode 666", f"admin {os.getgid()}", *settings)))
         self.log = Path(self.folder) / "log"

@@ -84,7 +84,7 @@ def environment(daemon=None, **settings):
     """The environment of a program: where its locks are, and other settings of VLM$."""
     given = {f"VLM${name}": str(value) for name, value in settings.items()}
     if daemon is not None:
-        given["VLM$SERVICE"] = f"unix:{daemon.socket}"
+        given["VLM$SERVICE"] = daemon.address
     return {**os.environ, **given}
 
 
@@ -134,13 +134,13 @@ def chaos(sanitizer, _program):
 # The examples.
 
 class Stage:
-    """A daemon, and the examples as programs, with a folder for their files."""
+    """A daemon, or what stands for one, and the examples as programs, with a folder for their files."""
 
-    def __init__(self, sanitizer):
+    def __init__(self, sanitizer, daemon=None):
         compiler = next(it for it in library.COMPILERS if library.links(it, sanitizer))
         self.made = {it.stem: made_program(it, compiler, sanitizer) for it in EXAMPLES}
         self.folder = Path(tempfile.mkdtemp(dir=ROOM().name))
-        self.daemon = Daemon("search 10", made=PLAIN)
+        self.daemon = daemon or Daemon("search 10", made=PLAIN)
 
     def __enter__(self):
         return self

@@ -38,12 +38,13 @@ def start(words: List[str], log: Path) -> "subprocess.Popen[bytes]":
 class Local:
     """A number of etcd's members and of replicas, in a temporary folder. Each can be killed and started again."""
 
-    def __init__(self, members: int, replicas: int, chunk: int = 1 << 20) -> None:
-        """`chunk` is how many bytes of entries a chunk has."""
+    def __init__(self, members: int, replicas: int, chunk: int = 1 << 20, search: int = 1000) -> None:
+        """`chunk` is how many bytes of entries a chunk has, and `search` how many milliseconds a request waits before a
+        search for deadlocks."""
         self.folder = Path(tempfile.mkdtemp(prefix="vlm-replicated-"))
         ports = free_ports(2 * members + replicas)
         self._clients, self._peers, self.ports = ports[:members], ports[members:2 * members], ports[2 * members:]
-        (self.folder / "conf").write_text(f"chunk {chunk}\n")
+        (self.folder / "conf").write_text(f"chunk {chunk}\nsearch {search}\n")
         self.processes: Dict[str, "subprocess.Popen[bytes]"] = {}
         for number in range(members):
             self.start_member(number)

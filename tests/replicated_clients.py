@@ -1,0 +1,103 @@
+"""Programs over replicas of vlmd, some of which are killed: the client in C, and programs of OpenVMS."""
+
+import importlib.util
+import os
+import re
+import signal
+import sys
+import time
+
+import library
+import vms
+from daemons import Client
+from harness import TOP, Test, difference
+from service_replicas import CHECKED, LONG, Program
+
+FOLDER = TOP / "tests" / "replicated"
+# How many times a replica or a member of etcd fails, and for how many seconds.
+FAULTS, DOWN = 8, 1.5
+
+
+def local(members, replicas, **settings):
+    """Members of etcd and replicas, as the tests of the folder start them."""
+    os.environ["VLM_PREFIX"] = str(library.prefix())
+    spec = importlib.util.spec_from_file_location("local", FOLDER / "local.py")
+    module = sys.modules["local"] = importlib.util.module_from_spec(spec)
+    spec.loader.exec_module(module)
+    return module.Local(members, replicas, **settings)
+
+
+def addresses(there):
+    return "tcp:" + ",".join(f"127.0.0.1:{port}" for port in there.ports)
+
+
+class Replicas:
+    """Replicas in the place of a daemon."""
+
+    def __init__(self):
+        self.local = local(1, 2, search=10)
+        self.local.wait()
+        self.address = addresses(self.local)
+
+    def client(self):
+        return Client(self.local.socket(0))
+
+    def metric(self, name):
+        with self.client() as client:
+            return int(re.search(f"^vlmd_{name} ([0-9]+)$", "\n".join(client.ask_all("metrics")), re.M)[1])
+
+    def fail(self):
+        """Kills a replica, and starts it again."""
+        self.local.kill("replica 1")
+        self.local.start_replica(1)
+
+    def __exit__(self, *_):
+        self.local.close()
+
+
+def fail(there, number):
+    """Has a replica end, or hang, or the member of etcd that leads most likely."""
+    replica, member = f"replica {number % 3}", f"etcd {number % 3}"
+    if number % 2:
+        there.kill(replica)
+        there.start_replica(number % 3)
+    else:
+        for name in (replica, member)[:1 + number // 2 % 2]:
+            there.signal(name, signal.SIGSTOP)
+    time.sleep(DOWN)
+    for name in (replica, member):
+        there.signal(name, signal.SIGCONT)
+
+
+def client_in_c(_program):
+    """What is wrong with counts under locks by the client in C, while replicas and members of etcd end and hang."""
+    with local(3, 3) as there:
+        there.wait()
+        with Program(CHECKED(), "cuts", addresses(there), LONG) as program:
+            yield from difference(program.line(), "ready")
+            for number in range(FAULTS):
+                fail(there, number)
+                there.wait()
+            program.go()
+            found = re.fullmatch(r"steps (\d+) cancels \d+", program.line() or "")
+            if found is None or int(found[1]) < FAULTS:
+                yield f"steps: {found}"
+            program.go()
+            yield from difference(program.line(), "closed")
+            program.go()
+            yield from program.ended()
+
+
+def openvms(_program):
+    """What is wrong with examples of OpenVMS over replicas, of which one ends."""
+    with vms.Stage(vms.first_links()[1], Replicas()) as stage:
+        yield from vms.accounts(stage)
+        stage.daemon.fail()
+        yield from vms.cache(stage)
+        stage.daemon.fail()
+        yield from vms.accounts(stage)
+
+
+def tests():
+    return [Test("the client in C while replicas and members fail", client_in_c),
+            Test("programs of OpenVMS over replicas", openvms)]
