@@ -1,5 +1,5 @@
 """Replicas of vlmd over etcd, as they are installed: members of etcd that fail, chunks, two replicas by their lines, a
-leader that hangs, and two minutes of faults. They need etcd, Debian's Python with its package etcd3, and the header of
+leader that hangs, programs over replicas, and two minutes of faults. They need etcd, Debian's Python with its package etcd3, and the header of
 libuv, and are skipped without them."""
 
 import os
@@ -7,6 +7,7 @@ import shutil
 import subprocess
 
 import library
+import replicated_clients
 from harness import Test, TOP
 
 PROGRAMS = TOP / "tests" / "replicated"
@@ -55,6 +56,7 @@ def over_etcd():
             Test("a leader of etcd that hangs", runs("hang.py", "--clients", 12, "--seconds", 5, "--lease", 5)),
             Test("leases while etcd's leader or their clients hang",
                  runs("leases.py", "--pairs", 10, "--fault", "leader for long", "--fault", "clients")),
+            *replicated_clients.tests(),
             Test("two minutes of faults", runs("faults.py", "--seconds", FAULT_SECONDS))]
 
 
