@@ -388,10 +388,11 @@ def is_replicated(machine):
 
 def is_kept(machine):
     """An upgrade lets the daemon and its locks be. A removal ends it and tells holders, a purge takes the group and the
-    last epoch."""
+    last epoch. What Python compiled for a replica of root goes too."""
     yield from difference(machine.run(KEPT).stdout, KEPT_PRINTS)
     machine.need("gpasswd --delete user vlm && apt-get purge vlm")
-    left = machine.run("getent group vlm; ls -d /var/lib/vlmd /var/lib/private/vlmd 2>/dev/null").stdout
+    folders = "/var/lib/vlmd /var/lib/private/vlmd /usr/libexec/vlm"
+    left = machine.run(f"getent group vlm; ls -d {folders} 2>/dev/null").stdout
     yield from difference(left, "")
 
 
