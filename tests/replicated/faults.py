@@ -12,13 +12,16 @@ from pathlib import Path
 
 from local import Local, start
 from lock_client import Client
-from witness import NAMED, Witness, conflicts, left_behind, lost_updates, of_kind, statuses_after_kills, still_valid
+from witness import (NAMED, Witness, conflicts, fallen_tokens, left_behind, lost_updates, of_kind, statuses_after_kills,
+                     still_valid)
 from worker import LEASE, LONG_LEASE, WRITERS
 
 sys.path.insert(0, str(Path(__file__).resolve().parents[2] / "service" / "list"))
 from etcd_list import EtcdList  # noqa: E402
 
 MEMBERS, REPLICAS, KEEPERS, READERS, CHUNK = 3, 3, 3, 8, 60_000
+# What stops at once: processes of a kind, how many of them, and for how many seconds.
+GROUPS = {"majority": ("etcd", 2, 8.0), "replicas": ("replica", REPLICAS, 3.0)}
 # How long the service may take to come to rest at the end.
 REST = 40.0
 
@@ -31,8 +34,9 @@ class Run:
         self.rng = random.Random(seed)
         self.witness = Witness()
         # A holder is a writer that holds its own counter.
-        self.counts = dict.fromkeys(("member killed", "replica killed", "replica stopped", "client killed",
-                                     "holder killed", "client stopped"), 0)
+        self.counts = dict.fromkeys(("member killed", "member emptied", "majority stopped", "replica killed",
+                                     "replica stopped", "replicas stopped", "client killed", "holder killed",
+                                     "client stopped"), 0)
         # What has a fault, and when and how it is mended.
         self._down = {}
         self._mending = []
@@ -66,8 +70,11 @@ class Run:
         self._mend(float("inf"))
 
     def _make(self, kind):
-        """Makes a fault, unless too much is down already: a majority of the members and one replica stay up."""
+        """Makes a fault, unless too much is down already: a majority of the members and one replica stay up. In the
+        faults of several processes none else of their kind is down."""
         what, how = kind.split()
+        if what in GROUPS:
+            return self._stop_group(*GROUPS[what])
         role = {"member": "etcd", "holder": "writer", "client": self.rng.choice(("writer", "reader"))}.get(what, what)
         up = [name for name in self.local.processes if name.split()[0] == role and name not in self._down]
         if what == "holder":
@@ -78,20 +85,34 @@ class Run:
         self._down[name] = how
         if how == "stopped":
             self.local.signal(name, signal.SIGSTOP)
-        else:
+        elif how == "killed":
             self.local.kill(name)
+        else:
+            self.local.empty_member(int(name.split()[1]))
         heapq.heappush(self._mending, (time.monotonic() + seconds, name))
+        return True
+
+    def _stop_group(self, role, count, seconds):
+        """Stops several processes of a kind at once."""
+        names = [name for name in self.local.processes if name.split()[0] == role]
+        if any(name in self._down for name in names):
+            return False
+        for name in self.rng.sample(names, count):
+            self._down[name] = "stopped"
+            self.local.signal(name, signal.SIGSTOP)
+            heapq.heappush(self._mending, (time.monotonic() + seconds, name))
         return True
 
     def _mend(self, now):
         while self._mending and self._mending[0][0] <= now:
             name = heapq.heappop(self._mending)[1]
             role, number = name.split()
-            if self._down.pop(name) == "stopped":
+            how = self._down.pop(name)
+            if how == "stopped":
                 self.local.signal(name, signal.SIGCONT)
-            elif role in ("etcd", "replica"):
+            elif how == "killed" and role in ("etcd", "replica"):
                 {"etcd": self.local.start_member, "replica": self.local.start_replica}[role](int(number))
-            else:
+            elif how == "killed":
                 self.start_worker(role, int(number))
 
     def ended(self):
@@ -135,6 +156,7 @@ def problems(run, show):
     counters = {line.split(" name ")[1].split()[0]: line for line in show if line.startswith("resource ")}
     yield "conflicts", conflicts(told)
     yield "lost updates", lost_updates(told, counters)
+    yield "fencing tokens that do not rise", fallen_tokens(told)
     yield "locks of the dead", left_behind(told, show)
     yield "value blocks that stayed valid", still_valid(told)
     live = sum(len(it.entries) for it in unpacked(run.local.members))

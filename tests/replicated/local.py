@@ -10,11 +10,15 @@ import tempfile
 import time
 from pathlib import Path
 from types import TracebackType
-from typing import Dict, List, Optional, Tuple, Type
+from typing import Any, Callable, Dict, List, Optional, Tuple, Type
+
+import etcd3
+import grpc
+from etcd3.exceptions import Etcd3Exception
 
 HOST = "127.0.0.1"
-# How long a process may take until it serves.
-START = 60.0
+# How long a process may take until it serves, and a call to etcd.
+START, CALL = 60.0, 2.0
 # The processes end with this one, even if it is killed.
 _WITH_US = ["setpriv", "--pdeathsig", "KILL"] if shutil.which("setpriv") else []
 
@@ -61,14 +65,55 @@ class Local:
         """Where the replicas are."""
         return [(HOST, port) for port in self.ports]
 
-    def start_member(self, number: int) -> None:
+    def start_member(self, number: int, state: str = "new") -> None:
         peers = [f"http://{HOST}:{port}" for port in self._peers]
         client = f"http://{self.members[number]}"
         self._start(f"etcd {number}", [
             "etcd", "--name", f"m{number}", "--data-dir", str(self.folder / f"m{number}"), "--log-level", "error",
             "--listen-client-urls", client, "--advertise-client-urls", client,
             "--listen-peer-urls", peers[number], "--initial-advertise-peer-urls", peers[number],
-            "--initial-cluster", ",".join(f"m{at}={url}" for at, url in enumerate(peers))])
+            "--initial-cluster", ",".join(f"m{at}={url}" for at, url in enumerate(peers)),
+            "--initial-cluster-state", state])
+
+    def empty_member(self, number: int) -> None:
+        """Kills a member, which loses its disk, and has it join again as a new one. The others are up."""
+        self.kill(f"etcd {number}")
+        shutil.rmtree(self.folder / f"m{number}")
+        host, port = self.members[(number + 1) % len(self.members)].split(":")
+        client = etcd3.client(host, int(port), timeout=CALL)
+        url = f"http://{HOST}:{self._peers[number]}"
+        self._insist(lambda: self._is_left(client, url))
+        self._insist(lambda: self._is_joined(client, url))
+        self.start_member(number, "existing")
+
+    @staticmethod
+    def _is_left(client: Any, url: str) -> bool:
+        """Has a member leave, and tells whether it had left."""
+        there = [it for it in client.members if url in it.peer_urls]
+        for it in there:
+            it.remove()
+        return not there
+
+    @staticmethod
+    def _is_joined(client: Any, url: str) -> bool:
+        """Has a member join, and tells whether it had joined."""
+        there = [it for it in client.members if url in it.peer_urls]
+        if not there:
+            client.add_member([url])
+        return bool(there)
+
+    @staticmethod
+    def _insist(is_so: Callable[[], bool]) -> None:
+        """Etcd refuses a change while another one is not done everywhere."""
+        end = time.monotonic() + START
+        while True:
+            try:
+                if is_so():
+                    return
+            except (grpc.RpcError, Etcd3Exception):
+                if time.monotonic() > end:
+                    raise
+            time.sleep(0.2)
 
     def start_replica(self, number: int, first: int = 0) -> None:
         """Starts a replica, which asks this member first."""

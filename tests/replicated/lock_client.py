@@ -13,6 +13,8 @@ from collections import deque
 from typing import Callable, Deque, List, Optional, Sequence, Tuple
 
 Place = Tuple[str, int]
+# Lines whose answers are lines up to a blank one.
+_LISTS = ("show", "tails", "locks", "token")
 # How long a connection may take to be made, and the pause after one that failed.
 _CONNECT, _PAUSE = 1.0, 0.1
 
@@ -48,7 +50,7 @@ class Client:
         return self._answer(line)[0]
 
     def texts(self, line: str) -> List[str]:
-        """What `show` or `tails` prints, as lines."""
+        """The answer to a line whose answer ends with a blank line."""
         return self._answer(line)
 
     def next_ast(self, seconds: float) -> Optional[str]:
@@ -85,9 +87,9 @@ class Client:
         while not (text := self._line(self._patience)).startswith(start):
             self._hear_line(text)
         texts = [text[len(start):]]
-        while line in ("show", "tails") and (text := self._line(self._patience)):
-            texts.append(text)
-        return texts
+        while line.split()[0] in _LISTS and texts[-1]:
+            texts.append(self._line(self._patience))
+        return [text for text in texts if text]
 
     def _hear(self, seconds: float) -> None:
         """Waits for a line that was not asked for."""

@@ -94,6 +94,21 @@ def conflicts(told):
             yield from (f"{name}: {it} and {hold}" for it in active[:-1] if "EX" in (it.mode, hold.mode))
 
 
+def fallen_tokens(told):
+    """The fencing token of a grant is greater than those of all earlier grants that it excludes."""
+    grants = defaultdict(list)
+    for _, name, mode, heard, until, token in of_kind(told, "token"):
+        if heard < until:
+            grants[name].append((heard, mode, token))
+    for name, known in grants.items():
+        greatest = writers = 0
+        for _, mode, token in sorted(known):
+            if token <= (greatest if mode == "EX" else writers):
+                yield f"{name}: token {token} after {greatest}"
+            greatest = max(greatest, token)
+            writers = max(writers, token if mode == "EX" else 0)
+
+
 def lost_updates(told, shown):
     """Each acknowledged value of a counter was written once, and the counter has counted them all. It may have counted
     writes that were not acknowledged."""

@@ -56,6 +56,9 @@ class Worker:
         if ast != f"P: completion 1 param 0 lock {lock}":
             raise AssertionError(f"{ast} is told of lock {lock}")
         self.tell("hold", name, mode, time.monotonic(), self.client.lease_until)
+        token = self.client.texts(f"token {lock}")[0].split()
+        if token[0] == "token":
+            self.tell("token", name, mode, time.monotonic(), self.client.lease_until, int(token[1]))
         words = self.client.ask("block P 1").split()
         self.tell("read", name, mode, int(words[4]), int(words[8], 16))
         return lock, int(words[8], 16)
