@@ -1,6 +1,6 @@
 """Replicas of vlmd over etcd, as they are installed: members of etcd that fail, chunks, two replicas by their lines, a
-leader that hangs, programs over replicas, and two minutes of faults. They need etcd, Debian's Python with its package etcd3, and the header of
-libuv, and are skipped without them."""
+leader that hangs, programs over replicas, and two minutes of faults. They need etcd, Debian's Python with its package
+etcd3, and the header of libuv, and are skipped without them."""
 
 import os
 import shutil
