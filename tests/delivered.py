@@ -355,12 +355,44 @@ def is_served(machine):
     yield from difference(machine.run("vlm lock backup echo mine", "stranger").returncode, 69)
 
 
+# Etcd of Debian, on ports that no other etcd of this machine has: the network is that of the tests.
+ETCD = """systemctl mask etcd.service
+apt-get install etcd-server python3-etcd3 && systemd-run --unit=list etcd --data-dir /tmp/list --name m1 \\
+    --listen-client-urls http://127.0.0.1:23790 --advertise-client-urls http://127.0.0.1:23790 \\
+    --listen-peer-urls http://127.0.0.1:23791 --initial-advertise-peer-urls http://127.0.0.1:23791 \\
+    --initial-cluster m1=http://127.0.0.1:23791
+"""
+# The daemon of the unit is a replica, and so is one that root starts.
+REPLICAS = """echo etcd 127.0.0.1:23790 >/etc/vlmd.conf
+systemctl daemon-reload && systemctl restart vlmd
+vlmd -s /tmp/other.sock 2>/dev/null &
+until VLM_SOCKET=/tmp/other.sock vlm who; do sleep 0.1; done >/dev/null 2>&1
+vlm lock backup sh -c 'VLM_SOCKET=/tmp/other.sock vlm lock -n backup echo mine || echo busy'
+VLM_SOCKET=/tmp/other.sock vlm lock -w 5 backup echo mine
+kill %1
+rm -r /etc/systemd/system/vlmd.service.d
+: >/etc/vlmd.conf
+systemctl daemon-reload && systemctl restart vlmd
+"""
+
+
+def is_replicated(machine):
+    """With what docs/CLUSTER.md adds to the unit, the daemon is a replica. Another one has the same locks."""
+    added = re.search(r"^```text\n(\[Unit\]\n.*?)^```", (TOP / "docs" / "CLUSTER.md").read_text(), re.M | re.S)[1]
+    machine.need(ETCD)
+    folder = machine.folder / "etc/systemd/system/vlmd.service.d"
+    folder.mkdir()
+    (folder / "override.conf").write_text(added)
+    yield from difference(machine.run(REPLICAS).stdout, "busy\nmine\n")
+
+
 def is_kept(machine):
     """An upgrade lets the daemon and its locks be. A removal ends it and tells holders, a purge takes the group and the
-    last epoch."""
+    last epoch. What Python compiled for a replica of root goes too."""
     yield from difference(machine.run(KEPT).stdout, KEPT_PRINTS)
     machine.need("gpasswd --delete user vlm && apt-get purge vlm")
-    left = machine.run("getent group vlm; ls -d /var/lib/vlmd /var/lib/private/vlmd 2>/dev/null").stdout
+    folders = "/var/lib/vlmd /var/lib/private/vlmd /usr/libexec/vlm"
+    left = machine.run(f"getent group vlm; ls -d {folders} 2>/dev/null").stdout
     yield from difference(left, "")
 
 
@@ -369,7 +401,7 @@ def with_systemd(program):
     with root_with_packages("a-machine", program) as root:
         root.need("apt-get install systemd-sysv dbus libuv1")
         with Machine(root.folder) as machine:
-            for step in (is_served, is_kept):
+            for step in (is_served, is_replicated, is_kept):
                 yield from (f"{step.__name__}: {it}" for it in step(machine))
 
 

@@ -45,6 +45,7 @@ FILES = ("bin/vlm", *(f"{folder}{it.relative_to(TOP)}" for folder, files in COPI
          "share/vlm/files", "share/vlm/proved")
 # Of the lock service, where the header of libuv is.
 SERVICE_FILES = ("bin/vlmd", "lib/systemd/system/vlmd.service", "lib/systemd/system/vlmd.socket",
+                 *(f"libexec/vlm/list/{name}" for name in ("chunks.py", "etcd_list.py", "members.py", "vlm-list")),
                  "share/man/man8/vlmd.8", "share/vlm/vlmd.conf")
 VALGRIND = ["valgrind", "-q", "--leak-check=full", "--show-leak-kinds=all", "--error-exitcode=9"]
 HELGRIND = ["valgrind", "-q", "--tool=helgrind", f"--suppressions={TOP}/tests/c/helgrind.supp", "--error-exitcode=9"]

@@ -11,6 +11,7 @@ from concurrent.futures import ThreadPoolExecutor
 from pathlib import Path
 
 from bench import has_db
+from daemons import DAEMON
 from harness import ROOM, TOP, Test, kit_folder
 from library import has_uv
 
@@ -64,7 +65,7 @@ def pythons():
 
 def c_files(*suffixes):
     """The files in C that can be compiled here."""
-    absent = ["berkeley_db.c"] * (not has_db()) + ["service/vlmd.c"] * (not has_uv())
+    absent = ["berkeley_db.c"] * (not has_db()) + [f"service/{name}" for name in DAEMON] * (not has_uv())
     return [name for name in files(*suffixes) if not name.endswith(tuple(absent))]
 
 
@@ -127,6 +128,12 @@ def rust_pages(_program):
 def python_types(_program):
     yield from said("mypy", "--strict", "--cache-dir", str(Path(ROOM().name) / "mypy"), "vlm",
                     folder=TOP / "bindings" / "python")
+    # (the client library of etcd has no types)
+    without_etcd3 = ("--ignore-missing-imports", "--no-warn-return-any", "--cache-dir", str(Path(ROOM().name) / "mypy"))
+    yield from said("mypy", "--strict", *without_etcd3, "--scripts-are-modules", "vlm-list",
+                    folder=TOP / "service" / "list")
+    tests = TOP / "tests" / "replicated"
+    yield from said("mypy", *without_etcd3, *(it.name for it in sorted(tests.glob("*.py"))), folder=tests)
 
 
 def python_mistakes(_program):

@@ -22,19 +22,19 @@ import service_commands
 import service_replicas
 import service_scripts
 import service_tokens
-from daemons import CHECKED, NOBODY, PLAIN, SOURCES, Client, Daemon
+from daemons import CHECKED, DISPATCHER, NOBODY, PLAIN, Client, Daemon
 from harness import PLAY, ROOM, TOP, Test, difference
 from service_scripts import MODES
 
 HERE = Path(__file__).resolve().parent / "service"
-# The files of the dispatcher, without the daemon around it.
-DAEMON = ("vlmd.c", "config.c", "start.c")
 CLIENT = sorted((TOP / "bindings" / "c").glob("vlm_client*.c"))
-DISPATCHER = [it for it in SOURCES if it.name not in DAEMON]
 # How long the mutated lines run.
 MUTATED_SECONDS = 8
+# How many lists replicas run: a processor runs some 15 in a second.
+LISTS = 200
 # How long clients come and go.
 STORM_SECONDS = 6
+SANITIZED = ("-fsanitize=address,undefined", "-fno-sanitize-recover=all")
 ZEROS = 32 * "0"
 # Gives a program another time of day.
 FAKED_TIME = Path("/usr/lib/x86_64-linux-gnu/faketime/libfaketime.so.1")
@@ -470,7 +470,10 @@ def one_daemon(_program):
 def configured(_program):
     """Wrong words and configurations are refused, SIGHUP reads the configuration again, and a full disk for the log
     holds up nobody."""
-    for words, status in ((["-x"], 2), (["-c", "/nowhere"], 2), (["here"], 2), (["-s", "/nowhere/to/socket"], 4)):
+    replica = ["-s", f"{ROOM().name}/replica", "--etcd", "127.0.0.1:1"]
+    for words, status in ((["-x"], 2), (["-c", "/nowhere"], 2), (["here"], 2), (["-s", "/nowhere/to/socket"], 4),
+                          (["--listen", "127.0.0.1:0"], 2), (["--etcd", 300 * "x"], 2),
+                          ([*replica, "--listen", "127.0.0.1"], 4), ([*replica, "--listen", "0.0.0.0:0"], 4)):
         ended = subprocess.run([PLAIN(), *words], capture_output=True, text=True, timeout=20)
         yield from difference((words, ended.returncode), (words, status))
     made = Path(ROOM().name) / "made by the daemon"
@@ -482,7 +485,8 @@ def configured(_program):
     daemon.terminate()
     yield from difference((daemon.wait(20), [it.name for it in made.iterdir()]), (0, ["socket.state"]))
     with Daemon("lines 5", log="/dev/full") as daemon, daemon.client().begin("P") as client:
-        for setting in ("locks 1", "locks 0x", "lines 0", "identifications 99", "frob 1"):
+        for setting in ("locks 1", "locks 0x", "lines 0", "identifications 99", "frob 1", "chunk 1048577", "chunk 0",
+                        "network open", "etcd", "etcd " + 300 * "x"):
             daemon.config.write_text(f"mode 666\n{setting}\n")
             daemon.run.send_signal(signal.SIGHUP)
             time.sleep(0.2)
@@ -621,11 +625,11 @@ def idle(_program):
             client.close()
 
 
-def over_dispatcher(name, compiler, *words):
-    """Compiles the program of strange bytes over the dispatcher. Gives its path, and what is wrong with that."""
+def over_dispatcher(name, source, compiler, *words):
+    """Compiles a program over the dispatcher. Gives its path, and what is wrong with that."""
     made = Path(ROOM().name) / name
     return made, list(library.ran(compiler, "-std=gnu11", *library.STRICT, "-O1", "-g", *words,
-                                  f"-I{library.prefix()}/include", f"-I{TOP}/service", HERE / "mutate.c", *DISPATCHER,
+                                  f"-I{library.prefix()}/include", f"-I{TOP}/service", HERE / source, *DISPATCHER,
                                   library.prefix() / "lib" / "libvlm.a", "-pthread", "-o", made))
 
 
@@ -679,19 +683,25 @@ def mutated(_program):
     """What is wrong with the dispatcher when clients send mutated lines, also while allocations are refused: no
     sanitizer finds anything."""
     refused = [f"-Wl,--wrap={name}" for name in ("malloc", "calloc", "realloc")]
-    made, wrong = over_dispatcher("mutated", "cc", "-fsanitize=address,undefined", "-fno-sanitize-recover=all",
-                                  *refused)
+    made, wrong = over_dispatcher("mutated", "mutate.c", "cc", *SANITIZED, *refused)
     scripts = [it.with_suffix("") for it in sorted(PLAY.glob("*.stdout"))]
     yield from wrong or library.ran(made, MUTATED_SECONDS, *scripts, HERE / "lines")
 
 
 def fuzzed(_program):
     """What is wrong with the dispatcher under libFuzzer, for a few seconds."""
-    made, wrong = over_dispatcher("fuzzed", "clang", "-DFUZZER", "-fsanitize=fuzzer,address,undefined")
+    made, wrong = over_dispatcher("fuzzed", "mutate.c", "clang", "-DFUZZER", "-fsanitize=fuzzer,address,undefined")
     corpus = Path(ROOM().name) / "corpus"
     corpus.mkdir()
     shutil.copy(HERE / "lines", corpus)
     yield from wrong or library.ran(made, f"-max_total_time={MUTATED_SECONDS}", "-max_len=4000", "-timeout=10", corpus)
+
+
+def lists(_program):
+    """What is wrong with replicas over lists in one program, with time and chance made up: other states, wrong answers,
+    or two clients that believe to hold one lock."""
+    made, wrong = over_dispatcher("lists", "lists.c", "cc", *SANITIZED)
+    yield from wrong or library.ran(made, 1, LISTS)
 
 
 def clients(compiler, sanitizer, _program):
@@ -713,7 +723,8 @@ BEHAVIOURS = {"the first session of the page": shown_talk, "half lines": half_li
               "a daemon that ends": restarted, "a second daemon": one_daemon, "configurations": configured,
               "a daemon of systemd": under_systemd, "a deadlock": deadlocked, "no searches": not_searched,
               "a change of managers": changed, "no identifications left": drained, "10,000 idle connections": idle,
-              "a storm of clients": stormy, "mutated lines": mutated}
+              "a storm of clients": stormy, "mutated lines": mutated,
+              "replicas in one program": lists}
 
 
 def installed(_program):

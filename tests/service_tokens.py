@@ -11,7 +11,7 @@ from functools import partial
 from pathlib import Path
 
 import library
-from daemons import PLAIN, SOURCES, Daemon
+from daemons import DISPATCHER, PLAIN, Daemon
 from harness import PLAIN_ROOM, ROOM, TOP, Test, difference
 from service_scripts import MODES
 
@@ -296,10 +296,9 @@ def ranges(_program):
     """The dispatcher alone: its last token never gets smaller, and an epoch that has no tokens left takes those of the
     next one."""
     made = Path(ROOM().name) / "ranges of tokens"
-    files = [it for it in SOURCES if it.name not in ("vlmd.c", "config.c", "start.c")]
     wrong = list(library.ran("cc", "-std=gnu11", *library.STRICT, "-O1", "-g", "-fsanitize=address,undefined",
                              "-fno-sanitize-recover=all", f"-I{library.prefix()}/include", f"-I{TOP}/service",
-                             TOP / "tests" / "service" / "tokens.c", *files, library.prefix() / "lib" / "libvlm.a",
+                             TOP / "tests" / "service" / "tokens.c", *DISPATCHER, library.prefix() / "lib" / "libvlm.a",
                              "-pthread", "-o", made))
     yield from wrong or library.ran(made)
 

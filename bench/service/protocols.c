@@ -1,4 +1,4 @@
-/* vlmd by lines, Redis by SET NX and a script, PostgreSQL by prepared advisory locks. */
+/* vlmd and its replicas by lines, Redis by SET NX and a script, PostgreSQL by prepared advisory locks. */
 #define _GNU_SOURCE
 #include "protocols.h"
 
@@ -8,6 +8,7 @@
 #include <stdlib.h>
 #include <string.h>
 #include <sys/socket.h>
+#include <unistd.h>
 
 static bool send_all(int descriptor, const char *bytes, size_t len) {
     return send(descriptor, bytes, len, MSG_NOSIGNAL) == (ssize_t)len;
@@ -33,15 +34,27 @@ static size_t fail(const char *in, size_t len) {
 
 /* vlmd */
 
-static bool begin_vlmd(int descriptor) {
-    static const char lines[] = "open\ndeclare P quota=100 blocks=9\n";
+static bool begin_lines(int descriptor, const char *lines) {
     char in[IN_ROOM];
-    return send_all(descriptor, lines, sizeof lines - 1) && read_until(descriptor, in, "P: process");
+    return send_all(descriptor, lines, strlen(lines)) && read_until(descriptor, in, "P: process");
+}
+
+static bool begin_vlmd(int descriptor) { return begin_lines(descriptor, "open\ndeclare P quota=100 blocks=9\n"); }
+
+/* The lease lasts longer than a run, and longer than the connection. */
+static bool begin_replica(int descriptor) {
+    return begin_lines(descriptor, "open seconds=60\ndeclare P quota=100 blocks=9\n");
 }
 
 static size_t lock_vlmd(char *out, unsigned client, unsigned resource, bool may_wait) {
     (void)client;
     return (size_t)sprintf(out, "enq P EX name=r%u block=1%s\n", resource, may_wait ? " ast=1" : "");
+}
+
+/* Other drivers, and sessions that one has left, have other resources. */
+static size_t lock_replica(char *out, unsigned client, unsigned resource, bool may_wait) {
+    (void)client;
+    return (size_t)sprintf(out, "enq P EX name=r%d-%u block=1%s\n", (int)getpid(), resource, may_wait ? " ast=1" : "");
 }
 
 static size_t unlock_vlmd(char *out, unsigned client, unsigned resource) {
@@ -132,7 +145,7 @@ static void prepare(struct message *message, const char *name, const char *text)
     put_number(message, 20); /* bigint */
 }
 
-static void sync(struct message *message) {
+static void add_sync(struct message *message) {
     put(message, "S", 1);
     put_number(message, 4);
 }
@@ -162,7 +175,7 @@ static bool begin_postgresql(int descriptor) {
     message.at = out;
     prepare(&message, "l", "SELECT pg_advisory_lock($1)");
     prepare(&message, "u", "SELECT pg_advisory_unlock($1)");
-    sync(&message);
+    add_sync(&message);
     return send_all(descriptor, out, (size_t)(message.at - out)) && read_ready(descriptor);
 }
 
@@ -183,7 +196,7 @@ static size_t execute(char *out, const char *statement, unsigned resource) {
     put_number(&message, 4 + 1 + 4);
     put(&message, "", 1);
     put_number(&message, 0);
-    sync(&message);
+    add_sync(&message);
     return (size_t)(message.at - out);
 }
 
@@ -218,6 +231,7 @@ static size_t next_postgresql(const char *in, size_t len, enum answer *answer) {
 const struct protocol *find_protocol(const char *name) {
     static const struct protocol protocols[] = {
         {"vlmd", true, begin_vlmd, lock_vlmd, unlock_vlmd, next_vlmd},
+        {"replica", true, begin_replica, lock_replica, unlock_vlmd, next_vlmd},
         {"redis", false, begin_redis, lock_redis, unlock_redis, next_redis},
         {"postgresql", false, begin_postgresql, lock_postgresql, unlock_postgresql, next_postgresql}};
     for (size_t at = 0; at < sizeof protocols / sizeof *protocols; at++)

@@ -7,7 +7,6 @@ import heapq
 import random
 import signal
 import sys
-import threading
 import time
 from pathlib import Path
 

@@ -1,5 +1,7 @@
-"""Which member of etcd is asked after one has failed, with members that are made up."""
+"""Which member of etcd is asked after one has failed, with members that are made up; and what chunks keep."""
 
+import random
+import struct
 import sys
 import threading
 import time
@@ -12,7 +14,7 @@ from unittest import mock
 sys.path.insert(0, str(Path(__file__).resolve().parents[2] / "service" / "list"))
 import grpc  # noqa: E402
 from etcd3.client import Transactions  # noqa: E402
-from chunks import Batch  # noqa: E402
+from chunks import Batch, Log, pack, unpack  # noqa: E402
 from etcd_list import EtcdList  # noqa: E402
 from members import Place  # noqa: E402
 
@@ -121,6 +123,72 @@ def a_batch(name):
     pair = SimpleNamespace(create_revision=9, mod_revision=9, key=b"vlm/entries/" + name.encode(),
                            value=b"batch")
     return SimpleNamespace(compact_revision=0, canceled=False, events=[SimpleNamespace(kv=pair, type=0, PUT=0)])
+
+
+BEAT, LINE = 4, 2
+A, B = b"session1", b"session2"
+
+
+def an_entry(number, kind, payload):
+    return struct.pack("<IHH", number, kind, len(payload)) + payload
+
+
+def a_beat(number, *sessions, beat=7):
+    """A beat of a replica. Chunks give it the number 0."""
+    return an_entry(number, BEAT, struct.pack("<Q", beat) + b"".join(sessions))
+
+
+def placed(revision, replica, number, *entries):
+    """A batch of a replica, the one of this number, at a revision."""
+    return Batch(revision, "", struct.pack("<8sQQ", b"vlmlist1", replica, number) + b"".join(entries))
+
+
+class Chunks(unittest.TestCase):
+    def packed(self, *batches):
+        """What a chunk of batches keeps."""
+        covered, kept = unpack(pack(list(batches)))
+        self.assertEqual(covered, batches[-1].revision)
+        return kept
+
+    def test_a_chunk_keeps_lines_as_they_are(self):
+        rng = random.Random(1)
+        batches = [placed(2 * at + 5, rng.randrange(3), at, *(
+            an_entry(number, LINE, rng.randbytes(rng.randrange(300))) for number in range(rng.randrange(1, 4))))
+            for at in range(200)]
+        self.assertEqual(self.packed(*batches), batches)
+
+    def test_the_last_beat_of_each_session_stays(self):
+        line = an_entry(1, LINE, b"line")
+        kept = self.packed(placed(1, 1, 1, a_beat(0, A, B), line), placed(2, 2, 1, a_beat(3, A), a_beat(4, A), line))
+        self.assertEqual(kept, [placed(1, 1, 1, a_beat(0, B, beat=0), line),
+                                placed(2, 2, 1, a_beat(4, A, beat=0), line)])
+
+    def test_a_batch_of_old_beats_goes(self):
+        batches = (placed(1, 1, 1, a_beat(0, A)), placed(2, 2, 1, a_beat(0, B)), placed(3, 1, 2, a_beat(0, A, B)))
+        kept = self.packed(*batches)
+        self.assertEqual(kept, [placed(2, 2, 1), placed(3, 1, 2, a_beat(0, A, B, beat=0))])
+
+    def test_the_head_of_the_last_batch_of_each_replica_stays(self):
+        line = an_entry(0, LINE, b"line")
+        kept = self.packed(placed(1, 1, 1), placed(2, 1, 2), placed(3, 2, 1, line), placed(4, 2, 2))
+        self.assertEqual(kept, [placed(2, 1, 2), placed(3, 2, 1, line), placed(4, 2, 2)])
+
+    def test_a_chunk_ends_once_it_is_full(self):
+        line = an_entry(0, LINE, bytes(100))
+        batches = [placed(revision, 1, revision, line) for revision in range(1, 6)]
+        log, later = Log(200), Log(200)
+        later.cover(1, 2)
+        for batch in batches:
+            log.add(batch)
+            later.add(batch)
+        self.assertTrue(log.is_full)
+        self.assertEqual(log.next_batches(), batches[:2])
+        log.cover(1, 2)
+        self.assertEqual((log.next_batches(), later.next_batches()), (batches[2:4], batches[2:4]))
+        log.cover(2, 4)
+        self.assertEqual((log.is_full, log.next_batches()), (False, []))
+        log.cover(1, 2)
+        self.assertEqual((log.chunks, log.covered), (2, 4))
 
 
 if __name__ == "__main__":

@@ -45,7 +45,7 @@ int main(void) {
     const uint64_t first = (uint64_t)EPOCH << TOKEN_BITS, next = (uint64_t)(EPOCH + 1) << TOKEN_BITS;
     dispatcher = dispatcher_open(&limits, EPOCH, keys, be_silent);
     dispatcher_set_token(dispatcher, first);
-    client = client_open(dispatcher, &rights, NULL);
+    client = client_open(dispatcher, &rights, 0, dispatcher);
     ask("# hello", "vlm protocol 1 epoch 3\n");
     ask("open", "session 0000000100000000 seconds 0 number 0 asts 0\n");
     ask("declare P", "P: process 65537\n");
