@@ -197,7 +197,8 @@ static bool has_end(struct bytes batch) {
     return false;
 }
 
-/* A batch goes on its way. One that has arrived is in the list, and its replica hears so later. */
+/* A batch goes on its way. One that has arrived is in the list, and its replica hears so later. Now and then it is there
+ * twice: its append was repeated since no answer came, and a chunk had taken the first one away. */
 static void carry(struct node *node) {
     struct bytes batch = replica_batch(node->replica);
     if (batch.len != 0) {
@@ -208,7 +209,8 @@ static void carry(struct node *node) {
         bytes_add(&node->sent, batch.all, batch.len);
     }
     if (node->sent.len != 0 && node->arrival <= now) {
-        add(&list, list.count + 1, node->sent.all, node->sent.len);
+        for (uint32_t times = pick(100) == 0 ? 2 : 1; times != 0; times--)
+            add(&list, list.count + 1, node->sent.all, node->sent.len);
         node->sent.len = 0;
         node->is_unheard = true;
     }
@@ -499,6 +501,25 @@ static void run_late_end(void) {
     end();
 }
 
+/* After a time without clients a replica is a little late. It was not silent: it had nothing to say. */
+static void run_idle(void) {
+    begin(1);
+    nodes[0].delay = nodes[1].delay = nodes[2].delay = 10;
+    connect_to(&clients[0], &nodes[0]);
+    connect_to(&clients[1], &nodes[1]);
+    pass_time(&clients[0], 2000);
+    link_close(clients[0].link);
+    link_close(clients[1].link);
+    for (; now < 60000; now += 10)
+        for (uint32_t at = 0; at < REPLICAS; at++)
+            go(&nodes[at]);
+    nodes[1].stopped = now + 500;
+    connect_to(&clients[2], &nodes[0]);
+    pass_time(&clients[2], now + 3000);
+    clients[0].link = clients[1].link = NULL;
+    end();
+}
+
 int main(int count, char **words) {
     if (count != 3)
         return 2;
@@ -506,6 +527,7 @@ int main(int count, char **words) {
     list.all = calloc(MOST_BATCHES, sizeof *list.all);
     kept.all = calloc(MOST_BATCHES, sizeof *kept.all);
     run_late_end();
+    run_idle();
     for (unsigned long it = first; it < first + runs; it++) {
         printf("seed %lu: ", it);
         fflush(stdout);
