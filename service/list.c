@@ -70,7 +70,7 @@ static void run_batch(struct reader *read, bool is_kept) {
     uint64_t revision = reader_number(read, 8);
     struct bytes batch = {(uint8_t *)read->at, read->left, 0}, kept = {NULL, 0, 0}, frame;
     replica_apply(vlmd.replica, revision, &batch, is_kept ? NULL : &kept);
-    if (is_kept)
+    if (kept.len == 0)
         return;
     begin_frame(&frame, 'k', 8 + kept.len);
     bytes_add_number(&frame, revision, 8);

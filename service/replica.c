@@ -6,8 +6,9 @@
 #include <string.h>
 
 /* In milliseconds: how often a beat is sent at the soonest, and at the latest while there are clients; how long a
- * replica may be silent before the others end its connections; by how much replicas that want a search differ. */
-enum { SOONEST = 200, LATEST = 1000, SILENCE = 30000, JITTER = 256 };
+ * replica may be silent before the others end its connections; by how much replicas that want a search differ, and when
+ * one asks again that has not heard of it. */
+enum { SOONEST = 200, LATEST = 1000, SILENCE = 30000, JITTER = 256, AGAIN = 5000 };
 
 enum { LIMITS = 11 };
 
@@ -56,6 +57,8 @@ static void beat(struct replica *replica) {
     size_t left = replica->asked.len;
     const uint8_t *sessions = replica->asked.all;
     replica->beats++;
+    if (replica->now > replica->beat_at + 2 * LATEST)
+        replica->speaking = replica->now;
     replica->beat_at = replica->now;
     do {
         size_t len = left < beat_room ? left : beat_room;
@@ -77,16 +80,19 @@ static uint64_t beat_due(const struct replica *replica) {
 
 /* When this replica makes an entry for what all replicas see is due. They do so at different times, so that mostly one
  * of them does. */
-static uint64_t later(const struct replica *replica, uint64_t due, bool is_sent) {
-    return is_sent || due == UINT64_MAX ? UINT64_MAX : due + replica->name % JITTER;
+static uint64_t later(const struct replica *replica, uint64_t due, uint64_t sent) {
+    if (due == UINT64_MAX)
+        return due;
+    due += replica->name % JITTER;
+    return sent != 0 && due < sent + AGAIN ? sent + AGAIN : due;
 }
 
 static uint64_t search_due(const struct replica *replica) {
-    return later(replica, dispatcher_search_due(replica->dispatcher), replica->is_searching);
+    return later(replica, dispatcher_search_due(replica->dispatcher), replica->searched);
 }
 
 static uint64_t drain_due(const struct replica *replica) {
-    return later(replica, dispatcher_drain_due(replica->dispatcher), replica->is_draining);
+    return later(replica, dispatcher_drain_due(replica->dispatcher), replica->drained);
 }
 
 static uint64_t earlier(uint64_t one, uint64_t other) { return one < other ? one : other; }
@@ -101,11 +107,11 @@ void replica_tick(struct replica *replica, uint64_t now) {
     if (beat_due(replica) <= now)
         beat(replica);
     if (search_due(replica) <= now) {
-        replica->is_searching = true;
+        replica->searched = now;
         entry_begin(&replica->next, ENTRY_SEARCH, 0);
     }
     if (drain_due(replica) <= now) {
-        replica->is_draining = true;
+        replica->drained = now;
         entry_begin(&replica->next, ENTRY_DRAINED, 0);
     }
 }
@@ -212,7 +218,8 @@ static void end_what_is_over(struct replica *replica) {
     }
     for (uint32_t at = 0; at < replica->peer_count; at++) {
         const struct peer *peer = &replica->peers[at];
-        if (peer->is_gone || peer->name == replica->name || replica->now <= peer->heard + SILENCE)
+        if (peer->is_gone || peer->name == replica->name || replica->now <= peer->heard + SILENCE
+            || replica->now <= replica->speaking + SILENCE)
             continue;
         entry_begin(&replica->next, ENTRY_GONE, 16);
         bytes_add_number(&replica->next, peer->name, 8);
@@ -267,13 +274,13 @@ static bool run_end(struct replica *replica, struct reader *payload) {
     return dispatcher_end(replica->dispatcher, session, beat);
 }
 
-static bool run_search(struct replica *replica, const struct peer *peer) {
-    replica->is_searching &= peer->name != replica->name;
+static bool run_search(struct replica *replica) {
+    replica->searched = 0;
     return dispatcher_search(replica->dispatcher);
 }
 
-static bool run_drained(struct replica *replica, const struct peer *peer) {
-    replica->is_draining &= peer->name != replica->name;
+static bool run_drained(struct replica *replica) {
+    replica->drained = 0;
     dispatcher_end_epoch(replica->dispatcher);
     return true;
 }
@@ -287,10 +294,10 @@ static bool run_entry(struct replica *replica, struct peer *peer, struct entry *
     case ENTRY_LEFT: return run_left(replica, peer, payload);
     case ENTRY_BEAT: return run_beat(replica, peer, payload);
     case ENTRY_END: return run_end(replica, payload);
-    case ENTRY_SEARCH: return run_search(replica, peer);
+    case ENTRY_SEARCH: return run_search(replica);
     case ENTRY_GONE: return run_gone(replica, payload);
     case ENTRY_LIMITS: return run_limits(replica, payload);
-    case ENTRY_DRAINED: return run_drained(replica, peer);
+    case ENTRY_DRAINED: return run_drained(replica);
     }
     replica_fail("the list has an entry of a later version");
     return false;
@@ -306,12 +313,15 @@ void replica_apply(struct replica *replica, uint64_t revision, const struct byte
     struct batch_head head = batch_open(&reader);
     struct peer *peer = peer_of(replica, head);
     struct entry entry;
-    peer->last = head.number;
+    /* (an append is repeated if its answer is lost, also after a chunk has taken it away) */
+    bool is_new = head.number > peer->last && !peer->is_gone;
+    if (is_new)
+        peer->last = head.number;
     peer->heard = replica->now;
     dispatcher_set_token(replica->dispatcher, revision << PLACE_BITS);
-    if (kept != NULL)
-        bytes_add(kept, batch->all, batch->len < BATCH_HEAD ? batch->len : BATCH_HEAD);
-    while (!peer->is_gone && batch_next(&reader, &entry)) {
+    if (is_new && kept != NULL)
+        bytes_add(kept, batch->all, BATCH_HEAD);
+    while (is_new && !peer->is_gone && batch_next(&reader, &entry)) {
         dispatcher_pass(replica->dispatcher, revision << PLACE_BITS | entry.number);
         if (run_entry(replica, peer, &entry) && kept != NULL)
             bytes_add(kept, entry.head, entry.len);

@@ -41,9 +41,11 @@ struct replica {
     uint32_t slot_count, free_slot;
     struct bytes next, batch; /* entries to be appended, and those that are under way */
     uint64_t batches;         /* that were made */
-    bool is_under_way, has_limits, is_searching, is_draining, is_ending;
-    struct bytes asked; /* sessions that the next beat keeps */
+    bool is_under_way, has_limits, is_ending;
+    uint64_t searched, drained; /* when it asked for a search, or for the end of the epoch; 0: it was heard */
+    struct bytes asked;         /* sessions that the next beat keeps */
     uint64_t beats, beat_at, beat_heard;
+    uint64_t speaking; /* since when there are beats: a replica without clients has nothing to say */
 };
 
 /* replica.c */

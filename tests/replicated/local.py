@@ -12,9 +12,6 @@ from pathlib import Path
 from types import TracebackType
 from typing import Any, Callable, Dict, List, Optional, Tuple, Type
 
-import etcd3
-import grpc
-from etcd3.exceptions import Etcd3Exception
 
 HOST = "127.0.0.1"
 # How long a process may take until it serves, and a call to etcd.
@@ -79,6 +76,8 @@ class Local:
         """Kills a member, which loses its disk, and has it join again as a new one. The others are up."""
         self.kill(f"etcd {number}")
         shutil.rmtree(self.folder / f"m{number}")
+        # (only Debian's Python may have it)
+        import etcd3
         host, port = self.members[(number + 1) % len(self.members)].split(":")
         client = etcd3.client(host, int(port), timeout=CALL)
         url = f"http://{HOST}:{self._peers[number]}"
@@ -105,6 +104,8 @@ class Local:
     @staticmethod
     def _insist(is_so: Callable[[], bool]) -> None:
         """Etcd refuses a change while another one is not done everywhere."""
+        import grpc
+        from etcd3.exceptions import Etcd3Exception
         end = time.monotonic() + START
         while True:
             try:

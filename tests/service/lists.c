@@ -1,7 +1,7 @@
 /* lists FIRST COUNT: replicas of the lock service over a list in this program, one run for each seed from FIRST on.
  *
  * Time, the list, the replicas and their clients are all made up here and driven by random numbers. Batches reach the
- * list late, replicas run it at their own pace, stop for a while, end and start anew, from what was
+ * list late, now and then twice; replicas run it at their own pace, stop for a while, end and start anew, from what was
  * kept or from the whole list. Clients ask for locks with sessions that have leases, stop for a while, and go on at
  * another replica. A run fails
  * - if two clients believe to hold one resource at a time, each counting its lease from before it sent what was
@@ -21,7 +21,6 @@ enum {
     SECONDS = 5, /* of leases */
     STEPS = 6000,
     MOST_BATCHES = 1 << 16,
-    MOST_SENT = 256,
     ROOM = 1 << 16,
     LINE = 128
 };
@@ -127,7 +126,8 @@ static void start(struct node *node) {
     replica_tick(node->replica, now);
     size_t end = kept.count == 0 || pick(3) == 0 ? 0 : pick((uint32_t)kept.count);
     for (size_t at = 0; at < end; at++)
-        replica_apply(node->replica, kept.all[at].revision, &kept.all[at].batch, NULL);
+        if (kept.all[at].batch.len != 0)
+            replica_apply(node->replica, kept.all[at].revision, &kept.all[at].batch, NULL);
     node->at = end;
     while (node->at < list.count)
         apply_next(node);
