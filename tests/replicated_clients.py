@@ -10,7 +10,7 @@ import time
 import library
 import vms
 from daemons import Client
-from harness import TOP, Test, difference
+from harness import TOP, Ended, Test, difference, run
 from service_replicas import CHECKED, LONG, Program
 
 FOLDER = TOP / "tests" / "replicated"
@@ -98,6 +98,21 @@ def openvms(_program):
         yield from vms.accounts(stage)
 
 
+def at_a_socket(_program):
+    """What is wrong with the Unix socket of a replica: clients that keep no lease are refused."""
+    with local(1, 1) as there:
+        there.wait()
+        env = {**os.environ, "VLM_SOCKET": there.socket(0)}
+        lock = [library.prefix() / "bin" / "vlm", "lock", "A", "true"]
+        yield from difference(run(lock, env=env), Ended(69, b"", b"vlm lock: this is a replica: connect to it by "
+                                                               b"tcp:HOST:PORT\n"))
+        env["VLM_SOCKET"] = addresses(there)
+        yield from difference(run(lock, env=env), Ended(0, b"", b""))
+        with Program(CHECKED(), "opening", there.socket(0), 0) as program:
+            yield from difference(program.line(), "LOST")
+
+
 def tests():
     return [Test("the client in C while replicas and members fail", client_in_c),
-            Test("programs of OpenVMS over replicas", openvms)]
+            Test("programs of OpenVMS over replicas", openvms),
+            Test("clients at the Unix socket of a replica", at_a_socket)]

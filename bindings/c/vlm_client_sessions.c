@@ -89,8 +89,13 @@ static bool read_session(const char *line, struct told *told) {
     return true;
 }
 
-/* Sends the first line and reads the two answers: WENT_ON with a session, OVER with another answer, also one that makes
- * the lease shorter, and NOT_THERE if another address may do better. */
+/* Whether the session has the lease that the client keeps. At a Unix socket it keeps none, and a replica's has one. */
+static bool has_lease(const vlm_client *client, const struct told *told) {
+    return client->lease != 0 ? told->seconds * 1000 >= client->lease : told->seconds == 0;
+}
+
+/* Sends the first line and reads the two answers: WENT_ON with a session, OVER with another answer, also one with
+ * another lease, and NOT_THERE if another address may do better. */
 static int begin(const vlm_client *client, const char *first, struct told *told, uint64_t until) {
     char line[LINE_ROOM];
     told->is_asked = send_first(client, told->descriptor, first);
@@ -101,7 +106,7 @@ static int begin(const vlm_client *client, const char *first, struct told *told,
     told->epoch = strtoull(line + strlen(greeting) + strlen("epoch "), NULL, 10);
     if (!read_line(client, told->descriptor, line, until) || strcmp(line, "too many connections") == 0)
         return NOT_THERE;
-    return read_session(line, told) && told->seconds * 1000 >= client->lease ? WENT_ON : OVER;
+    return read_session(line, told) && has_lease(client, told) ? WENT_ON : OVER;
 }
 
 /* Connects to the address whose turn it is, and begins with a line. */

@@ -60,8 +60,10 @@ static int outcome(struct holding *holding, const char *line) {
     }
     if (strcmp(line, "P: NOTQUEUED") == 0)
         return CONFLICT;
-    if (is_warning(line) || strncmp(line, "session ", 8) == 0 || strncmp(line, "P: process ", 11) == 0
-        || strncmp(line, "P: NORMAL ", 10) == 0 || strncmp(line, "P: completion ", 14) == 0)
+    if (strncmp(line, "session ", 8) == 0 && strstr(line, " seconds 0 ") == NULL)
+        line = "this is a replica: connect to it by tcp:HOST:PORT";
+    else if (is_warning(line) || strncmp(line, "session ", 8) == 0 || strncmp(line, "P: process ", 11) == 0
+             || strncmp(line, "P: NORMAL ", 10) == 0 || strncmp(line, "P: completion ", 14) == 0)
         return -1;
     fprintf(stderr, "vlm lock: %s\n", line);
     return REFUSED;
