@@ -56,8 +56,8 @@ typedef struct vlm_client_options {
 /* Connects and begins a session. Starts a thread that reads, and one that runs routines (VLM_THREADS_BY_LAYER).
  * *client is null unless the answer is NORMAL. Addresses of TCP are tried in turn, each once, and names of hosts are
  * resolved here and in vlm_client_reopen.
- * VLM_LOST: there is no service, it speaks another protocol, it refuses the connection, or a Unix socket is a replica's:
- * sessions there have leases, which a client keeps at addresses of TCP alone.
+ * VLM_LOST: there is no service, it speaks another protocol, it refuses the connection, or a Unix socket is a
+ * replica's: sessions there have leases, which a client keeps at addresses of TCP alone.
  * INSFMEM: memory, a thread or an eventfd was refused. BADPARAM: the options are malformed. */
 uint32_t vlm_client_open(const vlm_client_options *options, vlm_client **client);
 

@@ -8,7 +8,7 @@
 /* In milliseconds: how often a beat is sent at the soonest, and at the latest while there are clients; how long a
  * replica may be silent before the others end its connections; by how much replicas that want a search differ, and when
  * one asks again that has not heard of it. */
-enum { SOONEST = 200, LATEST = 1000, SILENCE = 30000, JITTER = 256, AGAIN = 5000 };
+enum { SOONEST = 200, LATEST = 1000, SILENCE = 30000, JITTER = 256, AGAIN = 5000, MISSED = 2 * LATEST };
 
 enum { LIMITS = 11 };
 
@@ -57,7 +57,7 @@ static void beat(struct replica *replica) {
     size_t left = replica->asked.len;
     const uint8_t *sessions = replica->asked.all;
     replica->beats++;
-    if (replica->now > replica->beat_at + 2 * LATEST)
+    if (replica->now > replica->beat_at + MISSED)
         replica->speaking = replica->now;
     replica->beat_at = replica->now;
     do {

@@ -197,8 +197,8 @@ static bool has_end(struct bytes batch) {
     return false;
 }
 
-/* A batch goes on its way. One that has arrived is in the list, and its replica hears so later. Now and then it is there
- * twice: its append was repeated since no answer came, and a chunk had taken the first one away. */
+/* A batch goes on its way. One that has arrived is in the list, and its replica hears so later. Now and then it is
+ * there twice: its append was repeated since no answer came, and a chunk had taken the first one away. */
 static void carry(struct node *node) {
     struct bytes batch = replica_batch(node->replica);
     if (batch.len != 0) {
