@@ -6,9 +6,9 @@
 #include <string.h>
 
 /* In milliseconds: how often a beat is sent at the soonest, and at the latest while there are clients; how long a
- * replica may be silent before the others end its connections; by how much replicas that want a search differ, and when
- * one asks again that has not heard of it. */
-enum { SOONEST = 200, LATEST = 1000, SILENCE = 30000, JITTER = 256, AGAIN = 5000, MISSED = 2 * LATEST };
+ * replica may be silent before the others end its connections; how far its own beats come by apart while the silence of
+ * others counts; by how much replicas that want a search differ, and when one asks again that has not heard of it. */
+enum { SOONEST = 200, LATEST = 1000, SILENCE = 30000, GROWING = 5000, JITTER = 256, AGAIN = 5000 };
 
 enum { LIMITS = 11 };
 
@@ -57,8 +57,6 @@ static void beat(struct replica *replica) {
     size_t left = replica->asked.len;
     const uint8_t *sessions = replica->asked.all;
     replica->beats++;
-    if (replica->now > replica->beat_at + MISSED)
-        replica->speaking = replica->now;
     replica->beat_at = replica->now;
     do {
         size_t len = left < beat_room ? left : beat_room;
@@ -210,6 +208,9 @@ static bool run_left(struct replica *replica, struct peer *peer, struct reader *
 /* Makes entries for what has ended: leases, and replicas. It is known that the list grows. */
 static void end_what_is_over(struct replica *replica) {
     uint64_t session, beat;
+    if (replica->now > replica->looked + GROWING)
+        replica->speaking = replica->now;
+    replica->looked = replica->now;
     replica->is_ending = dispatcher_look(replica->dispatcher);
     while (dispatcher_next_end(replica->dispatcher, &session, &beat)) {
         entry_begin(&replica->next, ENTRY_END, 16);

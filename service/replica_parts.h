@@ -45,7 +45,9 @@ struct replica {
     uint64_t searched, drained; /* when it asked for a search, or for the end of the epoch; 0: it was heard */
     struct bytes asked;         /* sessions that the next beat keeps */
     uint64_t beats, beat_at, beat_heard;
-    uint64_t speaking; /* since when there are beats: a replica without clients has nothing to say */
+    uint64_t looked; /* when its last beat came by */
+    uint64_t
+        speaking; /* since when they do: without clients there are none, and while the list stands still none come */
 };
 
 /* replica.c */

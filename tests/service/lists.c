@@ -520,6 +520,21 @@ static void run_idle(void) {
     end();
 }
 
+/* The list stands still for long, and then takes the batch of one replica first: the others go on. */
+static void run_list_that_stands_still(void) {
+    struct client *client = &clients[0];
+    begin(1);
+    nodes[0].delay = nodes[1].delay = nodes[2].delay = 10;
+    connect_to(client, &nodes[0]);
+    pass_time(client, now + 2000);
+    nodes[0].delay = 40000;
+    nodes[1].delay = nodes[2].delay = 41000;
+    pass_time(client, now + 1500);
+    nodes[0].delay = nodes[1].delay = nodes[2].delay = 10;
+    pass_time(client, now + 45000);
+    end();
+}
+
 int main(int count, char **words) {
     if (count != 3)
         return 2;
@@ -528,6 +543,7 @@ int main(int count, char **words) {
     kept.all = calloc(MOST_BATCHES, sizeof *kept.all);
     run_late_end();
     run_idle();
+    run_list_that_stands_still();
     for (unsigned long it = first; it < first + runs; it++) {
         printf("seed %lu: ", it);
         fflush(stdout);
