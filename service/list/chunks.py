@@ -1,16 +1,18 @@
 """Batches that are in no chunk yet, and chunks as bytes.
 
 A batch begins with 24 bytes: 8 that all have, the name of its replica, and its number. Its entries follow, each with a
-head of 8 bytes: its number, its type and the length of its payload. Here only beats are looked into: of each session a
-chunk keeps the last one. A chunk keeps the head of the last batch of each replica too, so that a new replica knows
-which number is next. All numbers are little-endian."""
+head of 8 bytes: its number, its type and the length of its payload. Of the beats of each session a chunk keeps the last
+one, which the end of the session names: later ones do nothing. A chunk keeps the head of the last batch of each replica
+too, so that a new replica knows which number is next, and that of the batch after which the others had a replica gone.
+All numbers are little-endian."""
 
 import lzma
 import struct
 from dataclasses import dataclass
-from typing import Dict, Iterator, List, Tuple
+from typing import Dict, Iterator, List, Set, Tuple
 
-_HEAD, _REPLICA, _ENTRY, _BEAT = 24, slice(8, 16), struct.Struct("<IHH"), 4
+_HEAD, _REPLICA, _NUMBERED, _ENTRY = 24, slice(8, 16), slice(8, 24), struct.Struct("<IHH")
+_BEAT, _END, _GONE = 4, 5, 7
 # A batch in a chunk: its revision and its length. A chunk begins with the revision up to which it goes.
 _PLACED, _COVERED = struct.Struct("<QI"), struct.Struct("<Q")
 # How hard a chunk is compressed: more takes ten times as long, for a fifth less.
@@ -43,24 +45,37 @@ def _sessions(entry: bytes) -> List[bytes]:
     return [names[at:at + 8] for at in range(0, len(names), 8)]
 
 
+def _needed(batches: List[Batch]) -> Tuple[Dict[bytes, Tuple[int, int]], Set[bytes]]:
+    """Where the last beat of each session is, and the batches that others had as the last one of a replica."""
+    last: Dict[bytes, Tuple[int, int]] = {}
+    ended, named = set(), set()
+    for batch in batches:
+        for begin, end, kind in _entries(batch.entries):
+            payload = batch.entries[begin + _ENTRY.size:end]
+            if kind == _BEAT:
+                sessions = (it for it in _sessions(batch.entries[begin:end]) if it not in ended)
+                last.update(dict.fromkeys(sessions, (batch.revision, begin)))
+            elif kind == _END:
+                ended.add(payload[:8])
+            elif kind == _GONE:
+                named.add(payload)
+    return last, named
+
+
 def _without_beats(batches: List[Batch]) -> Iterator[Batch]:
     """The batches with the last beat of each session alone, and without those of which nothing else is left."""
     newest = {batch.entries[_REPLICA]: batch for batch in batches}
-    last: Dict[bytes, Tuple[int, int]] = {}
-    for batch in batches:
-        for begin, end, kind in _entries(batch.entries):
-            if kind == _BEAT:
-                last.update(dict.fromkeys(_sessions(batch.entries[begin:end]), (batch.revision, begin)))
+    last, named = _needed(batches)
     for batch in batches:
         kept = bytearray(batch.entries[:_HEAD])
         for begin, end, kind in _entries(batch.entries):
             entry = batch.entries[begin:end]
             if kind == _BEAT:
-                names = b"".join(it for it in _sessions(entry) if last[it] == (batch.revision, begin))
+                names = b"".join(it for it in _sessions(entry) if last.get(it) == (batch.revision, begin))
                 number, _, _ = _ENTRY.unpack_from(entry)
                 entry = _ENTRY.pack(number, _BEAT, 8 + len(names)) + bytes(8) + names if names else b""
             kept += entry
-        if len(kept) > _HEAD or newest[batch.entries[_REPLICA]] is batch:
+        if len(kept) > _HEAD or newest[batch.entries[_REPLICA]] is batch or batch.entries[_NUMBERED] in named:
             yield Batch(batch.revision, "", bytes(kept))
 
 

@@ -191,5 +191,27 @@ class Chunks(unittest.TestCase):
         self.assertEqual((log.chunks, log.covered), (2, 4))
 
 
+class Ends(unittest.TestCase):
+    def test_the_beat_that_an_end_names_stays(self):
+        # (a beat that came late does nothing to the session, which has ended)
+        early, end = self.batch(1, 1, 1, self.entry(4, 0, 77)), self.batch(2, 2, 1, self.entry(5, 77, 1 << 20))
+        late = self.batch(3, 1, 2, self.entry(4, 0, 77))
+        self.assertEqual(unpack(pack([early, end, late])), (3, [early, end, self.batch(3, 1, 2)]))
+
+    def test_the_batch_that_was_the_last_of_a_replica_to_others_stays(self):
+        batches = [self.batch(1, 1, 1, self.entry(3, 5)), self.batch(2, 1, 2),
+                   self.batch(3, 2, 1, self.entry(7, 1, 2)), self.batch(4, 1, 3)]
+        self.assertEqual(unpack(pack(batches)), (4, batches))
+
+    @staticmethod
+    def entry(kind, *numbers):
+        payload = struct.pack(f"<{len(numbers)}Q", *numbers)
+        return struct.pack("<IHH", 0, kind, len(payload)) + payload
+
+    @staticmethod
+    def batch(revision, replica, number, *entries):
+        return Batch(revision, "", b"vlmlist1" + struct.pack("<QQ", replica, number) + b"".join(entries))
+
+
 if __name__ == "__main__":
     unittest.main()
