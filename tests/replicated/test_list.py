@@ -1,5 +1,6 @@
 """Which member of etcd is asked after one has failed, with members that are made up; and what chunks keep."""
 
+import io
 import random
 import struct
 import sys
@@ -7,17 +8,22 @@ import threading
 import time
 import unittest
 from concurrent.futures import ThreadPoolExecutor
+from importlib.machinery import SourceFileLoader
 from pathlib import Path
 from types import SimpleNamespace
 from unittest import mock
 
-sys.path.insert(0, str(Path(__file__).resolve().parents[2] / "service" / "list"))
+LIST = Path(__file__).resolve().parents[2] / "service" / "list"
+sys.path.insert(0, str(LIST))
+# (the program has no ending, and what Python compiles of it is not to stay)
+sys.dont_write_bytecode = True
 import grpc  # noqa: E402
 from etcd3.client import Transactions  # noqa: E402
 from chunks import Batch, Log, pack, unpack  # noqa: E402
-from etcd_list import EtcdList  # noqa: E402
+from etcd_list import Chunk, Compacted, EtcdList  # noqa: E402
 from members import Place  # noqa: E402
 
+vlm_list = SourceFileLoader("vlm_list", str(LIST / "vlm-list")).load_module("vlm_list")
 # How long threads may take to meet.
 PATIENCE = 10.0
 MEMBERS = 3
@@ -211,6 +217,34 @@ class Ends(unittest.TestCase):
     @staticmethod
     def batch(revision, replica, number, *entries):
         return Batch(revision, "", b"vlmlist1" + struct.pack("<QQ", replica, number) + b"".join(entries))
+
+
+class Keeping(unittest.TestCase):
+    """A keeper that was told batch 1 while others have gone on."""
+
+    def setUp(self):
+        self.to, batch = io.BytesIO(), Ends.batch
+        chunks = [Chunk(1, 3, [batch(2, 1, 2), batch(3, 1, 3)])]
+        self.store = SimpleNamespace(revision=lambda: 3, batches=lambda after, _: [],
+                                     chunks=lambda known, _: iter(chunks[known:]))
+        self.keeper = vlm_list.Keeper(self.store, 1, self.to)
+        self.keeper._tell_batch(batch(1, 1, 1))
+
+    def told(self):
+        """The revisions that vlmd was told."""
+        frames, revisions = io.BytesIO(self.to.getvalue()), []
+        while head := frames.read(4):
+            revisions += struct.unpack_from("<Q", frames.read(*struct.unpack("<I", head)), 1)
+        return revisions
+
+    def test_what_was_not_told_is_read_from_a_chunk_that_is_known(self):
+        self.keeper._learn()
+        self.keeper._read()
+        self.assertEqual(self.told(), [1, 2, 3])
+
+    def test_a_reading_that_etcd_overtakes_ends_no_list(self):
+        self.store.chunks = mock.Mock(side_effect=Compacted)
+        self.assertFalse(self.keeper._learn())
 
 
 if __name__ == "__main__":
