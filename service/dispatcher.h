@@ -127,6 +127,9 @@ enum line_kind dispatcher_kind(const char *line, size_t len);
 /* Runs a line without its line feed. */
 void client_run(struct client *client, const char *line, size_t len);
 
+/* Has dispatcher_changed tell a client after the next dispatcher_run: it has lines left. */
+void client_call(struct client *client);
+
 /* The connection of a client is another replica's, or has ended: nothing is sent to it. It has no context. */
 void client_detach(struct client *client);
 

@@ -25,6 +25,8 @@ void client_run(struct client *client, const char *line, size_t len) {
     note_change(client);
 }
 
+void client_call(struct client *client) { make_ready(client); }
+
 void client_detach(struct client *client) {
     client->context = NULL;
     client->is_detached = true;

@@ -5,8 +5,15 @@
 #include <string.h>
 
 /* The longest line with its number that is not too long in any case; the bytes of a client that waits which are kept,
- * and its unsent ones; its lines that are under way. */
-enum { LONGEST = 275, MOST_HEARD = 64 << 10, MOST_UNSENT = 64 << 10, MOST_LINES = 64, FIRST_SLOTS = 64 };
+ * and its unsent ones; its lines that are under way; its lines that run here in a turn. */
+enum {
+    LONGEST = 275,
+    MOST_HEARD = 64 << 10,
+    MOST_UNSENT = 64 << 10,
+    MOST_LINES = 64,
+    MOST_READINGS = 64,
+    FIRST_SLOTS = 64
+};
 
 struct link {
     struct replica *replica;
@@ -15,6 +22,8 @@ struct link {
     uint32_t slot;
     uint32_t lines; /* under way: in the list, and not run yet */
     uint64_t beat;  /* the one that its `alive` waits for, or 0 */
+    uint64_t turn;  /* in which it has run lines last, and how many */
+    uint32_t readings;
     struct bytes in;
     size_t from;   /* the bytes before it have become lines */
     bool is_ended; /* no more bytes come */
@@ -103,6 +112,20 @@ static bool is_kept(struct link *link) {
     return true;
 }
 
+/* Whether a line more may run here in this turn. If not, the client has another turn. */
+static bool has_turn(struct link *link) {
+    if (link->turn != link->replica->turns) {
+        link->turn = link->replica->turns;
+        link->readings = 0;
+    }
+    if (link->readings == MOST_READINGS) {
+        client_call(link->client);
+        return false;
+    }
+    link->readings++;
+    return true;
+}
+
 /* Runs a line, or makes an entry of it. Returns false, and has done nothing, if the line has to wait. */
 static bool run(struct link *link, const char *line, size_t len) {
     struct bytes *next = &link->replica->next;
@@ -116,7 +139,7 @@ static bool run(struct link *link, const char *line, size_t len) {
         bytes_add(next, line, len);
         return true;
     }
-    if (link->lines != 0 || (kind == LINE_KEEPS && !is_kept(link)))
+    if (link->lines != 0 || (kind == LINE_KEEPS ? !is_kept(link) : !has_turn(link)))
         return false;
     client_run(link->client, line, len);
     return true;

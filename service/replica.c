@@ -101,6 +101,7 @@ uint64_t replica_due(const struct replica *replica) {
 
 void replica_tick(struct replica *replica, uint64_t now) {
     replica->now = now;
+    replica->turns++;
     dispatcher_tick(replica->dispatcher, now);
     if (beat_due(replica) <= now)
         beat(replica);

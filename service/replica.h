@@ -6,8 +6,8 @@
  * in, each at its revision, and bytes of clients go in. So several replicas and a list can be tested in one program.
  *
  * One thread calls it. A turn of the daemon is: replica_tick with the time, replica_apply for each batch of the list,
- * link_hear for each client that has sent something, replica_batch for what is to be appended, and then
- * dispatcher_changed until it returns null. */
+ * link_hear for each client that has sent something, dispatcher_run, dispatcher_changed until it returns null, with
+ * link_go for each client, and replica_batch for what is to be appended. */
 #ifndef REPLICA_H
 #define REPLICA_H
 

@@ -34,7 +34,7 @@ struct slot {
 
 struct replica {
     struct dispatcher *dispatcher;
-    uint64_t name, now;
+    uint64_t name, now, turns;
     struct peer *peers;
     uint32_t peer_count;
     struct slot *slots;

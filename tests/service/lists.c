@@ -535,6 +535,34 @@ static void run_list_that_stands_still(void) {
     end();
 }
 
+/* A client has many lines that its replica runs by itself: it runs a part of them in each turn. */
+static void run_many_readings(void) {
+    enum { READINGS = 1000, MOST = 200 };
+    struct client *client = &clients[0];
+    struct node *node = &nodes[0];
+    size_t len, all = 0;
+    begin(1);
+    nodes[0].delay = nodes[1].delay = nodes[2].delay = 10;
+    connect_to(client, node);
+    pass_time(client, now + 2000);
+    for (unsigned it = 0; it < READINGS; it++)
+        link_hear(client->link, (const uint8_t *)"who none\n", 9);
+    for (unsigned turn = 0; turn < READINGS && all < READINGS; turn++) {
+        replica_tick(node->replica, now);
+        dispatcher_run(node->dispatcher);
+        while (dispatcher_changed(node->dispatcher) != NULL)
+            link_go(client->link);
+        client_output(link_client(client->link), &len);
+        client_sent(link_client(client->link), len);
+        if (len > MOST)
+            fail("a client has all of a turn");
+        all += len;
+    }
+    if (all != READINGS)
+        fail("lines of a client are not run");
+    end();
+}
+
 int main(int count, char **words) {
     if (count != 3)
         return 2;
@@ -544,6 +572,7 @@ int main(int count, char **words) {
     run_late_end();
     run_idle();
     run_list_that_stands_still();
+    run_many_readings();
     for (unsigned long it = first; it < first + runs; it++) {
         printf("seed %lu: ", it);
         fflush(stdout);
