@@ -41,6 +41,7 @@ enum {
     USER_BUCKETS = 256,
     POOL_BUCKETS = 256,
     NODE_PROCESSES = 65535,
+    MOST_PROCESSES = VLM_MAX_NODES * NODE_PROCESSES,
     STEP_ANSWER = 256, /* bytes of the longest answer to a step */
     KEPT_ROOM = 256,   /* of a client's output between two answers */
     PAIR = 512         /* bytes of an AST and its block line */

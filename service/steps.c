@@ -51,7 +51,12 @@ static void declare(struct client *client, const vlm_line *line) {
         answer_text(client, "too many names\n");
         return;
     }
-    struct process *process = grow(session) ? take_process(session, line) : NULL;
+    bool has_room = grow(session);
+    struct process *process = has_room ? take_process(session, line) : NULL;
+    if (process == NULL && has_room && client->dispatcher->process_count == MOST_PROCESSES) {
+        answer_text(client, "too many processes\n");
+        return;
+    }
     if (process == NULL) {
         answer_step(client, line, VLM_INSFMEM, 0);
         return;

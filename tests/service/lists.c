@@ -563,6 +563,34 @@ static void run_many_readings(void) {
     end();
 }
 
+/* All processes of the lock manager are made. A declaration more is refused, and no replica takes that for a want of
+ * memory. */
+static void run_all_processes(void) {
+    enum { MOST = 8 * 65535, NAMES = 500 };
+    static const struct rights rights = {.group = 1};
+    static const uint8_t keys[16];
+    struct limits limits = USUAL_LIMITS;
+    limits.processes = limits.connections = UINT32_MAX;
+    struct dispatcher *dispatcher = dispatcher_open(&limits, 0, keys, say_nothing);
+    struct bytes told = {NULL, 0, 0};
+    struct client *client = NULL;
+    dispatcher_follow(dispatcher);
+    for (unsigned count = 0; count <= MOST; count++) {
+        char line[LINE];
+        if (count % NAMES == 0) {
+            client = client_open(dispatcher, &rights, count, &told);
+            tell_line(client, "open", &told);
+        }
+        snprintf(line, sizeof line, "declare P%u", count % NAMES);
+        told.len = 0;
+        tell_line(client, line, &told);
+    }
+    if (strcmp((const char *)told.all, "too many processes\n") != 0)
+        fail((const char *)told.all);
+    free(told.all);
+    dispatcher_close(dispatcher);
+}
+
 int main(int count, char **words) {
     if (count != 3)
         return 2;
@@ -573,6 +601,7 @@ int main(int count, char **words) {
     run_idle();
     run_list_that_stands_still();
     run_many_readings();
+    run_all_processes();
     for (unsigned long it = first; it < first + runs; it++) {
         printf("seed %lu: ", it);
         fflush(stdout);
