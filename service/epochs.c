@@ -143,6 +143,9 @@ void end_epoch(struct dispatcher *dispatcher) {
 
 /* Looks whether identifications are short, at a moment between two turns. */
 void check_identifications(struct dispatcher *dispatcher) {
+    if (dispatcher->last_lkid < dispatcher->out_of)
+        /* (the limit may have been raised since) */
+        dispatcher->drained = 0;
     if (dispatcher->last_lkid < dispatcher->short_of)
         return;
     if (vlm_lock_count(&dispatcher->manager) == 0) {

@@ -591,6 +591,34 @@ static void run_all_processes(void) {
     dispatcher_close(dispatcher);
 }
 
+/* Identifications run out, and then the limit is raised: the epoch goes on. */
+static void run_raised_limit(void) {
+    enum { FEW = 100 };
+    static const struct rights rights = {.group = 1};
+    static const uint8_t keys[16];
+    struct limits limits = USUAL_LIMITS;
+    limits.identifications = FEW;
+    struct dispatcher *dispatcher = dispatcher_open(&limits, 0, keys, say_nothing);
+    struct bytes told = {NULL, 0, 0};
+    dispatcher_follow(dispatcher);
+    dispatcher_tick(dispatcher, now);
+    struct client *client = client_open(dispatcher, &rights, 0, &told);
+    tell_line(client, "open", &told);
+    tell_line(client, "declare P", &told);
+    for (unsigned count = 0; count < FEW; count++)
+        tell_line(client, "enq P NL name=A block=1", &told);
+    dispatcher_pass(dispatcher, 1);
+    if (dispatcher_drain_due(dispatcher) == UINT64_MAX)
+        fail("identifications do not run out");
+    limits.identifications = UINT32_MAX;
+    dispatcher_limit(dispatcher, &limits);
+    dispatcher_pass(dispatcher, 2);
+    if (dispatcher_drain_due(dispatcher) != UINT64_MAX)
+        fail("an epoch ends that has identifications");
+    free(told.all);
+    dispatcher_close(dispatcher);
+}
+
 int main(int count, char **words) {
     if (count != 3)
         return 2;
@@ -602,6 +630,7 @@ int main(int count, char **words) {
     run_list_that_stands_still();
     run_many_readings();
     run_all_processes();
+    run_raised_limit();
     for (unsigned long it = first; it < first + runs; it++) {
         printf("seed %lu: ", it);
         fflush(stdout);
