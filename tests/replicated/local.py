@@ -139,8 +139,10 @@ class Local:
         end = time.monotonic() + START
         while True:
             try:
-                socket.create_connection((HOST, port), 1.0).close()
-                return
+                with socket.create_connection((HOST, port), 1.0) as made:
+                    if not made.recv(1):
+                        raise ConnectionError
+                    return
             except OSError:
                 if time.monotonic() > end:
                     raise TimeoutError(f"port {port} is not served:\n{self.logs()}") from None
