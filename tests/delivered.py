@@ -363,12 +363,13 @@ apt-get install etcd-server python3-etcd3 && systemd-run --unit=list etcd --data
     --initial-cluster m1=http://127.0.0.1:23791
 """
 # The daemon of the unit is a replica, and so is one that root starts.
-REPLICAS = """echo etcd 127.0.0.1:23790 >/etc/vlmd.conf
+REPLICAS = """printf 'etcd 127.0.0.1:23790\\nlisten 127.0.0.1:7001\\n' >/etc/vlmd.conf
 systemctl daemon-reload && systemctl restart vlmd
-vlmd -s /tmp/other.sock 2>/dev/null &
+vlmd -s /tmp/other.sock --listen 127.0.0.1:7002 2>/dev/null &
 until VLM_SOCKET=/tmp/other.sock vlm who; do sleep 0.1; done >/dev/null 2>&1
-vlm lock backup sh -c 'VLM_SOCKET=/tmp/other.sock vlm lock -n backup echo mine || echo busy'
-VLM_SOCKET=/tmp/other.sock vlm lock -w 5 backup echo mine
+vlm lock --connect tcp:127.0.0.1:7001 backup \\
+    sh -c 'vlm lock --connect tcp:127.0.0.1:7002 -n backup echo mine || echo busy'
+vlm lock --connect tcp:127.0.0.1:7002 -w 5 backup echo mine
 kill %1
 rm -r /etc/systemd/system/vlmd.service.d
 : >/etc/vlmd.conf
