@@ -6,6 +6,7 @@ import re
 import shutil
 import subprocess
 import tempfile
+import time
 import unittest
 from pathlib import Path
 from urllib.request import ProxyHandler, Request, build_opener
@@ -22,6 +23,8 @@ SHOWN = ("a-circle-of-three", "conversion-deadlock", "blocked-by-oneself", "subl
 ARROW_LEFT, ARROW_RIGHT, HOME, END = "\ue012", "\ue014", "\ue011", "\ue010"
 TWO = b"declare P node=1 group=1 quota=9 blocks=4\ndeclare Q node=2 group=1 quota=9 blocks=4\n"
 # What the page shows, as a script would print it.
+# How long a link may take.
+SECONDS = 20
 READ_QUEUES = """
 return [...document.querySelectorAll("[data-resource]")].flatMap((card) => [
   `resource ${card.dataset.resource} name ${card.querySelector(".name").textContent}`,
@@ -115,6 +118,12 @@ class InBrowser(unittest.TestCase):
     def at(self):
         return self.browser.run("return Number(document.getElementById('number').value)")
 
+    def await_line(self, line):
+        """A link changes the page a moment after its click."""
+        end = time.monotonic() + SECONDS
+        while self.at() != line and time.monotonic() < end:
+            time.sleep(0.02)
+
     def text(self, selector):
         return self.browser.run("return document.querySelector(arguments[0]).textContent", selector)
 
@@ -147,6 +156,7 @@ class InBrowser(unittest.TestCase):
             self.browser.press(key)
             self.assertEqual((self.at(), self.texts()), (line, expected[line]))
         self.browser.click("#script li:nth-child(6) a")
+        self.await_line(6)
         self.assertEqual((self.at(), self.texts()), (6, expected[6]))
         self.browser.click("#last")
         self.assertEqual(self.browser.run("return location.hash"), f"#line={last}")
