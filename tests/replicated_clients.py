@@ -16,6 +16,8 @@ from service_replicas import CHECKED, LONG, Program
 FOLDER = TOP / "tests" / "replicated"
 # How many times a replica or a member of etcd fails, and for how many seconds.
 FAULTS, DOWN = 8, 1.5
+# How often a replica ends under programs of OpenVMS, and how many transfers each makes between: a step waits for a disk.
+FAILURES, TRANSFERS = 2, 2
 
 
 def local(members, replicas, **settings):
@@ -91,11 +93,10 @@ def client_in_c(_program):
 def openvms(_program):
     """What is wrong with examples of OpenVMS over replicas, of which one ends."""
     with vms.Stage(vms.first_links()[1], Replicas()) as stage:
-        yield from vms.accounts(stage)
-        stage.daemon.fail()
-        yield from vms.cache(stage)
-        stage.daemon.fail()
-        yield from vms.accounts(stage)
+        for _ in range(FAILURES):
+            yield from vms.accounts(stage, TRANSFERS)
+            stage.daemon.fail()
+        yield from vms.accounts(stage, TRANSFERS)
 
 
 def at_a_socket(_program):

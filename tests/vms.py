@@ -211,13 +211,13 @@ def doorbell(stage):
     yield from difference([it.removesuffix("\n") for it in printed] + ended(owner).splitlines(), shown("doorbell"))
 
 
-def accounts(stage):
+def accounts(stage, transfers=25):
     """Transfers of four processes leave the sum as it was, also for an audit meanwhile."""
     file = stage.file()
     yield from difference(stage.run("accounts", file).splitlines(), shown("accounts"))
-    runs = [stage.start("accounts", file, 25) for _ in range(4)]
+    runs = [stage.start("accounts", file, transfers) for _ in range(4)]
     yield from difference(stage.run("accounts", file).splitlines(), shown("accounts"))
-    yield from (it for run in runs for it in difference(ended(run), "25 transfers\n"))
+    yield from (it for run in runs for it in difference(ended(run), f"{transfers} transfers\n"))
     yield from difference(stage.run("accounts", file).splitlines(), shown("accounts"))
 
 
