@@ -16,7 +16,8 @@ from service_replicas import CHECKED, LONG, Program
 FOLDER = TOP / "tests" / "replicated"
 # How many times a replica or a member of etcd fails, and for how many seconds.
 FAULTS, DOWN = 8, 1.5
-# How often a replica ends under programs of OpenVMS, and how many transfers each makes between: a step waits for a disk.
+# How often a replica ends under programs of OpenVMS, and how many transfers each makes between. A step waits for a
+# disk.
 FAILURES, TRANSFERS = 2, 2
 
 
