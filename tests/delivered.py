@@ -355,7 +355,7 @@ def is_served(machine):
     yield from difference(machine.run("vlm lock backup echo mine", "stranger").returncode, 69)
 
 
-# Etcd of Debian, on ports that no other etcd of this machine has: the network is that of the tests.
+# Starts Debian's etcd. The root shares the network of this machine, so etcd gets ports of its own.
 ETCD = """systemctl mask etcd.service
 apt-get install etcd-server python3-etcd3 && systemd-run --unit=list etcd --data-dir /tmp/list --name m1 \\
     --listen-client-urls http://127.0.0.1:23790 --advertise-client-urls http://127.0.0.1:23790 \\

@@ -2,9 +2,9 @@
 
 A batch begins with 24 bytes: 8 that all have, the name of its replica, and its number. Its entries follow, each with a
 head of 8 bytes: its number, its type and the length of its payload. Of the beats of each session a chunk keeps the last
-one, which the end of the session names: later ones do nothing. A chunk keeps the head of the last batch of each replica
-too, so that a new replica knows which number is next, and that of the batch after which the others had a replica gone.
-All numbers are little-endian."""
+one, which the end of the session names: later ones do nothing. A chunk also keeps the head of the last batch of each
+replica, so that a new replica knows which number is next. If an entry ends the connections of a silent replica, the
+chunk keeps the head of the batch that the entry names. All numbers are little-endian."""
 
 import lzma
 import struct

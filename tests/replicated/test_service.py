@@ -55,7 +55,9 @@ class Lines:
         self._socket.close()
 
 
-class Service(unittest.TestCase):
+class OverReplicas(unittest.TestCase):
+    """Tests over two replicas."""
+
     @classmethod
     def setUpClass(cls):
         cls.local = Local(1, 2, CHUNK)
@@ -67,6 +69,14 @@ class Service(unittest.TestCase):
         self.addCleanup(connection.close)
         return connection
 
+    def eventually(self, is_so):
+        end = time.monotonic() + PATIENCE
+        while not is_so():
+            self.assertLess(time.monotonic(), end, "it takes too long")
+            time.sleep(0.1)
+
+
+class Service(OverReplicas):
     def begun(self, replica, name="P", seconds=60):
         """A connection with a session and a process."""
         made = self.lines(replica, f"open seconds={seconds}", f"declare {name}")
@@ -78,12 +88,6 @@ class Service(unittest.TestCase):
     def lock_of(self, answer, name="P"):
         self.assertRegex(answer, f"^{name}: NORMAL lock [0-9]+$")
         return answer.split()[-1]
-
-    def eventually(self, is_so):
-        end = time.monotonic() + PATIENCE
-        while not is_so():
-            self.assertLess(time.monotonic(), end, "it takes too long")
-            time.sleep(0.1)
 
     def test_clients_of_two_replicas_hand_a_value_over(self):
         p, q = self.begun(0), self.begun(1, "Q")

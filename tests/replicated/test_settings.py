@@ -3,34 +3,16 @@
 import os
 import signal
 import subprocess
-import time
 import unittest
 
-from local import HOST, Local, free_ports
-from test_service import PATIENCE, Lines
+from local import HOST, free_ports
+from test_service import PATIENCE, Lines, OverReplicas
 
 # The exit status of a replica whose list is lost.
 LOST = 1
 
 
-class Settings(unittest.TestCase):
-    @classmethod
-    def setUpClass(cls):
-        cls.local = Local(1, 2)
-        cls.addClassCleanup(cls.local.close)
-        cls.local.wait()
-
-    def lines(self, replica, *lines):
-        connection = Lines(self.local.places[replica], *lines)
-        self.addCleanup(connection.close)
-        return connection
-
-    def eventually(self, is_so):
-        end = time.monotonic() + PATIENCE
-        while not is_so():
-            self.assertLess(time.monotonic(), end, "it takes too long")
-            time.sleep(0.1)
-
+class Settings(OverReplicas):
     def daemon(self, *words, **env):
         """A replica beside the others."""
         made = subprocess.Popen([f"{os.environ['VLM_PREFIX']}/bin/vlmd", "-c", "/dev/null", "-s",
