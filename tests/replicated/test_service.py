@@ -123,6 +123,18 @@ class Service(OverReplicas):
                          ["P: NORMAL", f"P: block 1 status 0 lock 0 value {VALUE}", "alive", "P: IVLOCKID",
                           "unknown command", "P: IVLOCKID"])
 
+    def test_replicas_tell_how_far_they_are(self):
+        p, watchers = self.begun(0), [self.lines(0), self.lines(1)]
+        before = max(map(self.revision, watchers))
+        self.assertEqual(p.ask("set P block=1 value=" + VALUE), "P: NORMAL")
+        self.assertGreater(self.revision(watchers[0]), before)
+        self.eventually(lambda: self.revision(watchers[1]) > before)
+
+    def revision(self, connection):
+        """The revision of the list that the replica of a connection has run."""
+        told = connection.texts("metrics")
+        return int(next(it for it in told if it.startswith("vlmd_list_revision ")).split()[1])
+
     def test_a_number_names_one_step(self):
         p = self.begun(0)
         first = p.ask("5 enq P CR name=numbered block=1")
