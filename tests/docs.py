@@ -74,12 +74,19 @@ def public_source(crate, path):
     if modules:
         public = "pub mod" if library.exists() else "mod"
         return source_of(crate, "/".join(modules)) if f"{public} {modules[0]};\n" in shown else None
+    return handed_on(crate, shown, item)
+
+
+def handed_on(crate, shown, item, above=""):
+    """The file from which a module's text hands an item on by `pub use`, or None if it does not."""
     for used, names in re.findall(r"^pub use ([\w:]+)::(\w+|\{[^}]*\});", shown, re.M):
         source, *inner = used.split("::")
         if item in re.findall(r"\w+", names):
             if (TOP / "crates" / source).is_dir():
                 return public_source(source, "::".join((*inner, item)))
-            return source_of(crate, used.replace("::", "/"))
+            module = above + used.replace("::", "/")
+            file = source_of(crate, module)
+            return handed_on(crate, file.read_text(), item, f"{module}/") or file
     return None
 
 

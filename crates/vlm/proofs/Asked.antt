@@ -1,5 +1,6 @@
 -- What the words ask for, by the matches that a parse of them gives.
-use Rattle.std.proofs.Common.{◌≡◌, ◌∙◌, ◌<◌, ◌≤◌, ◌^◌, ℕ, List, Option, None, Some, Result, Ok, Err, true, ap, arith, codes, decimal, option_map, refl, subst, sym}
+use Rattle.std.proofs.Common.{◌≡◌, ◌∙◌, ◌<◌, ◌≤◌, ◌^◌, ℕ, List, Option, None, Some, Result, Ok, Err, true, ap, arith}
+use Rattle.std.proofs.Common.{codes, decimal, option_map, refl, subst, sym}
 use Rattle.std.specs.Prelude.{Box, option_and_then}
 use Rattle.std.specs.Box.{box_value}
 use Rattle.std.specs.Str.Parse.{ParsesUnsigned}
@@ -17,7 +18,8 @@ unfolding clap_on_literals
 is_known = refl
 
 -- a subcommand's name is that of its rows
-name_of_rows : {Z : Type 0} (o : Option (Box SubCommand Z)) → option_map (λ b. (out-SubCommand (box_value b)).name.now) o ≡ option_map (λ s. s.0) (subcommand_rows o)
+name_of_rows : {Z : Type 0} (o : Option (Box SubCommand Z))
+    → option_map (λ b. (out-SubCommand (box_value b)).name.now) o ≡ option_map (λ s. s.0) (subcommand_rows o)
 name_of_rows None = refl
 name_of_rows (Some b) = refl
 

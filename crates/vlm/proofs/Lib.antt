@@ -1,3 +1,5 @@
+mod Going
+mod WatchedSteps
 mod Asked
 mod Clustered
 mod Errors

@@ -38,7 +38,8 @@ all_known name nodes words least most (inr two) =
     subst (λ w. IsKnown w nodes) (sym two.1) (subst (IsKnown (name ∷ codes "cluster" ∷ [])) (sym two.0) (two_known name))
 
 -- the cluster that was started is of so many nodes
-pub cluster_started : (words : List Text) (nodes served n : ℕ) (script left : Option (List ℕ)) (old new : Output) (status : ℕ) → 1 ≤ nodes → nodes ≤ 8 → IsKnown words nodes
+pub cluster_started : (words : List Text) (nodes served n : ℕ) (script left : Option (List ℕ)) (old new : Output)
+    (status : ℕ) → 1 ≤ nodes → nodes ≤ 8 → IsKnown words nodes
     → served ≡ n → AskForCluster words n → StartsCluster served script left old new status → ClustersOrWantsMemory nodes script left old new status
 cluster_started words nodes served n script left old new status least most is same ask starts =
     inl (subst (λ m. StartsCluster m script left old new status) (same ∙ ask.number nodes least most is.number) starts)

@@ -28,7 +28,12 @@ part_counted part rest left a b one counted =
 pub length-entries : (parts : List Part) (rest : Part) → length (entries_in (parts ++ rest ∷ [])) ≡ length rest.entries.items + length (entries_in parts)
 length-entries [] rest = omega (arith, length-append rest.entries.items [])
 length-entries (part ∷ parts) rest =
-    omega (arith, length-append part.entries.items (entries_in (parts ++ rest ∷ [])), length-append part.entries.items (entries_in parts), length-entries parts rest)
+    omega (
+      arith,
+      length-append part.entries.items (entries_in (parts ++ rest ∷ [])),
+      length-append part.entries.items (entries_in parts),
+      length-entries parts rest,
+    )
 
 -- behind the last part all entries are counted
 pub parts_counted : (parts : List Part) (rest : Part) (i count first : ℕ) → length parts ≤ i → first ≡ length rest.entries.items

@@ -40,8 +40,10 @@ cluster_is_no_watch words cluster watch =
     cc
 
 -- the watch that was started is of the resource whose name the text gives, in the system's domain
-pub watch_started : (words : List Text) (name res : Text) (domain : Domain) (given : Option (List ℕ)) (script left : Option (List ℕ)) (old new : Output) (status : ℕ)
-    → AreWatchWords name res words → given ≡ watched_name words → (named_group words ≡ None → domain ≡ System) → StartsWatch domain given script left old new status
+pub watch_started : (words : List Text) (name res : Text) (domain : Domain) (given : Option (List ℕ))
+    (script left : Option (List ℕ)) (old new : Output) (status : ℕ)
+    → AreWatchWords name res words → given ≡ watched_name words → (named_group words ≡ None → domain ≡ System)
+    → StartsWatch domain given script left old new status
     → WatchesOrWantsMemory (name_given res) script left old new status
 watch_started words name res domain given script left old new status are is system starts =
     let named : named_resource words ≡ Some res = subst (λ w. named_resource w ≡ Some res) (sym are) (resource_named name res) in

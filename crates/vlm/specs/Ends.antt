@@ -4,14 +4,14 @@ use Rattle.std.specs.Io.KnownBytes.{Appends}
 use Rattle.clap.specs.Words.{Text}
 use Rattle.clap.specs.declared.error.kind.ErrorKind.{ErrorKind}
 use Rattle.clap.specs.declared.error.kind.ErrorKind.TheVariants.{OutOfMemory}
-use Rattle.vlm_monitor.specs.declared.ends.WatchFault.{WatchFault}
-use Rattle.vlm_monitor.specs.declared.ends.WatchFault.TheVariants.{NoAnswer, NoSeat, Play}
+use Rattle.vlm.specs.declared.monitor.ends.WatchFault.{WatchFault}
+use Rattle.vlm.specs.declared.monitor.ends.WatchFault.TheVariants.{NoAnswer, NoSeat, Play}
 use Rattle.vlm_words.specs.declared.resources.Domain.{Domain}
 use Rattle.vlm_words.specs.declared.resources.Domain.TheVariants.{System}
-use Rattle.vlm_watch.specs.declared.rows.RootKey.{RootKey}
+use Rattle.vlm_ports.specs.declared.watch.rows.RootKey.{RootKey}
 use Rattle.vlm.specs.declared.arguments.Subject.{Subject}
 use Rattle.vlm.specs.Clusters.{PrintsCluster}
-use Rattle.vlm_monitor.specs.Watches.{PrintsWatch}
+use Rattle.vlm.specs.Watches.{PrintsWatch}
 use Rattle.vlm.specs.Words.{AreClusterWords, AreWatchWords, AskForCluster, AskForPlay, AskForWatch, IsErrorOf, IsHelp, name_given, word_errors}
 use Rattle.vlm_script.specs.declared.faults.PlayFault.{PlayFault}
 use Rattle.vlm_script.specs.declared.faults.PlayFault.TheVariants.{Line, Memory, Read, Write, Long}

@@ -1,3 +1,6 @@
+pub mod Watches
+pub mod WatchedPorts
+pub mod MonitoredHubs
 pub mod Words
 pub mod Clusters
 pub mod Ends

@@ -3,6 +3,7 @@
 
 mod arguments;
 mod cluster;
+mod monitor;
 mod run;
 mod told;
 mod watch;

@@ -4,11 +4,11 @@ ghost use Rattle.std.specs.Prelude.{◌≡◌};
 ghost use Rattle.vlm.specs.Ends.{PrintsWatchEnd, StartsNamedWatch, StartsWatch, output_of, watch_status_of};
 
 use crate::arguments::Subject;
+use crate::monitor::{WatchFault, watch_script};
 use crate::run::{DONE, FAILED, REFUSED, failed, random_keys, refused_by, without_random_bytes};
 use std::io::{Read, Write};
 use std::random::RandomSource;
 use std::sync::Wait;
-use vlm_monitor::{WatchFault, watch_script};
 use vlm_ports::RootKey;
 use vlm_script::HashKeys;
 

@@ -1,5 +1,6 @@
 -- The step that an entry of the journal tells.
-use Rattle.std.proofs.Common.{◌≡◌, ℕ, ◌-◌, ◌≤◌, nat_le, true, List, length, replicate, take, Option, Some, None, refl, ap, ◌∙◌, rules, take_at, take_all, le-leb}
+use Rattle.std.proofs.Common.{◌≡◌, ℕ, ◌-◌, ◌≤◌, nat_le, true, List, length, replicate, take, Option, Some, None, refl}
+use Rattle.std.proofs.Common.{ap, ◌∙◌, rules, take_at, take_all, le-leb}
 use Rattle.vlm_words.specs.declared.modes.Mode.{Mode}
 use Rattle.vlm_words.specs.declared.modes.Mode.TheVariants.{Nl, Cr, Cw, Pr, Pw, Ex}
 use Rattle.vlm_words.specs.declared.steps.Step.{Step}
@@ -16,8 +17,8 @@ use Rattle.vlm_capi.specs.declared.entries.VlmEntry.{VlmEntry}
 use Rattle.vlm_capi.specs.Entries.{entry_of}
 use Rattle.vlm_capi.specs.Replay.{FitsStructs, HasNumber, step_of}
 use Rattle.vlm_capi.specs.ScriptLines.{name_or_none}
-use Rattle.vlm_capi.specs.StepWords.{conversion_words, dequeue_words, given_or, mark, named_lock, request_words}
-use Rattle.vlm_capi.specs.Words.{conversion_of, declaration_of, dequeue_of, given, mode_of, mode_number, request_of, setting_of, which_of}
+use Rattle.vlm_capi.specs.StepStructs.{conversion_struct, dequeue_struct, given_or, mark, named_lock, request_struct}
+use Rattle.vlm_capi.specs.Structs.{conversion_of, declaration_of, dequeue_of, given, mode_of, mode_number, request_of, setting_of, which_of}
 
 pub mode_back : (mode : Mode) → mode_of (mode_number (Some mode)) ≡ Some mode
 unfolding mode_of
@@ -47,17 +48,27 @@ name_fits name is = search rules
 name_there : (name : List ℕ) → is_name name ≡ true → name_or_none name ≡ name
 name_there name is = rw is refl
 
-pub request_back : (r : NewRequest) → FitsStructs (Enq r) → request_of (request_words r) r.name ≡ Some r
+pub request_back : (r : NewRequest) → FitsStructs (Enq r) → request_of (request_struct r) r.name ≡ Some r
 unfolding request_of
 request_back r fits =
-    rw (fits.0, fits.1, mark_fits r.ast, mark_fits r.bast, mode_back r.mode, which_back r.parent fits.2, take_all 32 r.name (name_fits r.name fits.3), given_back r.ast 0, given_back r.bast 0) refl
+    rw (
+      fits.0,
+      fits.1,
+      mark_fits r.ast,
+      mark_fits r.bast,
+      mode_back r.mode,
+      which_back r.parent fits.2,
+      take_all 32 r.name (name_fits r.name fits.3),
+      given_back r.ast 0,
+      given_back r.bast 0,
+    ) refl
 
-pub conversion_back : (c : Conversion) → FitsStructs (Convert c) → conversion_of (conversion_words c) ≡ Some c
+pub conversion_back : (c : Conversion) → FitsStructs (Convert c) → conversion_of (conversion_struct c) ≡ Some c
 unfolding conversion_of
 conversion_back c fits =
     rw (fits.0, fits.1, mark_fits c.ast, mark_fits c.bast, mode_back c.mode, which_back c.lock fits.2, given_back c.ast 0, given_back c.bast 0) refl
 
-pub dequeue_back : (d : Dequeue) → FitsStructs (Deq d) → dequeue_of (dequeue_words d) ≡ Some d
+pub dequeue_back : (d : Dequeue) → FitsStructs (Deq d) → dequeue_of (dequeue_struct d) ≡ Some d
 unfolding dequeue_of
 dequeue_back d fits =
     rw (fits.0, mark_fits d.value, mark_fits d.tail, which_back d.lock fits.1, given_back d.value (replicate 16 0), given_back d.tail (replicate 48 0)) refl

@@ -13,7 +13,8 @@ use Rattle.vlm_capi.specs.declared.arguments.VlmRequest.{VlmRequest}
 use Rattle.vlm_capi.specs.declared.arguments.VlmSetting.{VlmSetting}
 use Rattle.vlm_capi.specs.declared.replies.VlmAst.{VlmAst}
 use Rattle.vlm_capi.specs.Replies.{answer_number, answer_status, ast_of, no_ast}
-use Rattle.vlm_capi.specs.StepWords.{conversion_words, declaration_words, dequeue_words, no_declaration, no_dequeue, no_request, no_setting, request_words, setting_words}
+use Rattle.vlm_capi.specs.StepStructs.{conversion_struct, declaration_struct, dequeue_struct, no_declaration}
+use Rattle.vlm_capi.specs.StepStructs.{no_dequeue, no_request, no_setting, request_struct, setting_struct}
 use Rattle.vlm_capi.specs.declared.entries.VlmEntry.{VlmEntry}
 
 abbrev pub step_number : Step → ℕ
@@ -50,20 +51,20 @@ name_in (Enq r) = name_or_none r.name
 name_in step = []
 
 abbrev pub declaration_in : Step → VlmDeclaration
-declaration_in (Declare d) = declaration_words d
+declaration_in (Declare d) = declaration_struct d
 declaration_in step = no_declaration
 
 abbrev pub setting_in : Step → VlmSetting
-setting_in (SetValue s) = setting_words s
+setting_in (SetValue s) = setting_struct s
 setting_in step = no_setting
 
 abbrev pub request_in : Step → VlmRequest
-request_in (Enq r) = request_words r
-request_in (Convert c) = conversion_words c
+request_in (Enq r) = request_struct r
+request_in (Convert c) = conversion_struct c
 request_in step = no_request
 
 abbrev pub dequeue_in : Step → VlmDequeue
-dequeue_in (Deq d) = dequeue_words d
+dequeue_in (Deq d) = dequeue_struct d
 dequeue_in step = no_dequeue
 
 -- the step and the answer of an entry, each in the members that belong to it

@@ -1,5 +1,7 @@
 -- What the calls of a hub do.
-use Rattle.std.specs.Prelude.{◌≡◌, ◌⊎◌, ◌<◌, ◌≤◌, ◌*◌, ◌∷◌, ◌++◌, ◌-◌, ℕ, Bool, true, false, List, [], length, map, slice_index_or, slice_set, Option, Some, None, Result, Ok, Err, All, IfOk, OnOk, OnErr, Box, replicate}
+use Rattle.std.specs.Prelude.{◌≡◌, ◌⊎◌, ◌<◌, ◌≤◌, ◌*◌, ◌∷◌, ◌++◌, ◌-◌, ℕ, Bool, true, false, List, [], length, map}
+use Rattle.std.specs.Prelude.{slice_index_or, slice_set, Option, Some, None, Result, Ok, Err, All, IfOk, OnOk, OnErr}
+use Rattle.std.specs.Prelude.{Box, replicate}
 use Rattle.std.specs.declared.alloc.AllocError.{AllocError}
 use Rattle.std.specs.declared.alloc.Global.{Global}
 use Rattle.vlm_words.specs.declared.conditions.Cond.{Cond}
@@ -15,7 +17,9 @@ use Rattle.vlm_journal.specs.Accounts.{GoesOn, made}
 use Rattle.vlm_ports.specs.declared.hub.Turn.{Turn}
 use Rattle.vlm_ports.specs.declared.hub.Turn.TheVariants.{Idle, NoMemory, Served}
 use Rattle.vlm_ports.specs.declared.port.Port.{Port}
-use Rattle.vlm_ports.specs.Hubs.{EachAsksOnce, EachIsDeliveredOnce, HubGrew, IsAsWritten, IsNewHub, IsPortOf, KeepsKnown, KnowsAllTheSame, MayIdle, OthersLast, PutsBeforeCut, base, bases, journal, nodes, rings, state, waiting}
+use Rattle.vlm_ports.specs.Hubs.{EachAsksOnce, EachIsDeliveredOnce, HubGrew, IsAsWritten, IsNewHub, IsPortOf}
+use Rattle.vlm_ports.specs.Hubs.{KeepsKnown, KnowsAllTheSame, MayIdle, OthersLast, PutsBeforeCut, base, bases, journal}
+use Rattle.vlm_ports.specs.Hubs.{nodes, rings, state, waiting}
 use Rattle.vlm_ports.specs.Ports.{AreNew}
 use Rattle.vlm_ports.specs.Turns.{IsIdleTurn, IsServedTurn, turn_entries}
 use Rattle.vlm_capi.specs.declared.entries.VlmCut.{VlmCut}

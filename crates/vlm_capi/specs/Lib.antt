@@ -1,6 +1,6 @@
-pub mod Words
+pub mod Structs
 pub mod Replies
-pub mod StepWords
+pub mod StepStructs
 pub mod Copies
 pub mod Slots
 pub mod Lending

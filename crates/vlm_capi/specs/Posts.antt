@@ -42,7 +42,7 @@ pub record PostsAs (step_of : Port → Step) (before after : Option Held) (statu
   pub lends : LendsPort (λ old r new. HasPosted old (step_of old) r new) before end after
   pub status_told : status ≡ post_status end
 
--- a call posts the step that its words name; words that name none change nothing
+-- a call posts the step that its fields name; fields that name none change nothing
 abbrev pub Posts : Option Step → Option Held → Option Held → ℕ → Type 0
 Posts None before after status = (after ≡ before) × (status ≡ condition_number Badparam)
 Posts (Some step) before after status = PostsAs (λ p. step) before after status

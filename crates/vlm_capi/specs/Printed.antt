@@ -8,7 +8,11 @@ use Rattle.vlm_words.specs.declared.asts.AstKind.TheVariants.{Completion, Blocki
 use Rattle.vlm_words.specs.declared.blocks.Block.{Block}
 use Rattle.vlm_words.specs.Conditions.{condition_number}
 use Rattle.vlm_words.specs.declared.conditions.Cond.{Cond}
-use Rattle.vlm_words.specs.declared.conditions.Cond.TheVariants.{Normal, Synch, Notqueued, Abort, Cancel, Deadlock, Valnotvalid, Cancelgrant, Sublocks, Ivlockid, Cvtungrant, Parnotgrant, Exdepth, Exenqlm, Nolockid, Insfmem, Ivbuflen, Badparam, Unsupported, Nosyslck, Accvio, Nonexpr, Departed, Widenotvalid}
+use Rattle.vlm_words.specs.declared.conditions.Cond.TheVariants.{Normal, Synch, Notqueued, Abort, Cancel, Deadlock}
+use Rattle.vlm_words.specs.declared.conditions.Cond.TheVariants.{Valnotvalid, Cancelgrant, Sublocks, Ivlockid}
+use Rattle.vlm_words.specs.declared.conditions.Cond.TheVariants.{Cvtungrant, Parnotgrant, Exdepth, Exenqlm, Nolockid}
+use Rattle.vlm_words.specs.declared.conditions.Cond.TheVariants.{Insfmem, Ivbuflen, Badparam, Unsupported, Nosyslck}
+use Rattle.vlm_words.specs.declared.conditions.Cond.TheVariants.{Accvio, Nonexpr, Departed, Widenotvalid}
 use Rattle.vlm_words.specs.declared.steps.Answer.{Answer}
 use Rattle.vlm_words.specs.declared.steps.Answer.TheVariants.{Process, Lock, Victim, Taken, Plain}
 use Rattle.vlm_lines.specs.Texts.{answer_line, node_line, status_block_line, status_tail_line}
@@ -18,7 +22,7 @@ use Rattle.vlm_capi.specs.declared.replies.VlmAst.{VlmAst}
 use Rattle.vlm_capi.specs.declared.script_lines.VlmLine.{VlmLine}
 use Rattle.vlm_capi.specs.declared.shown.VlmLock.{VlmLock}
 use Rattle.vlm_capi.specs.Replies.{answer_number, answer_status}
-use Rattle.vlm_capi.specs.Words.{mode_of, node_of}
+use Rattle.vlm_capi.specs.Structs.{mode_of, node_of}
 
 -- the condition with this number
 unfoldable pub condition_of : ℕ → Option Cond

@@ -17,8 +17,8 @@ use Rattle.vlm_capi.specs.declared.replies.VlmAst.{VlmAst}
 use Rattle.vlm_capi.specs.Entries.{ast_in}
 use Rattle.vlm_capi.specs.Lending.{LendsCore}
 use Rattle.vlm_capi.specs.Replies.{answer_number, answer_status}
-use Rattle.vlm_capi.specs.StepWords.{declaration_words}
-use Rattle.vlm_capi.specs.Words.{conversion_of, declaration_of, dequeue_of, is_declaration, node_of, request_of, setting_of}
+use Rattle.vlm_capi.specs.StepStructs.{declaration_struct}
+use Rattle.vlm_capi.specs.Structs.{conversion_of, declaration_of, dequeue_of, is_declaration, node_of, request_of, setting_of}
 
 -- the step with this number, from the members that belong to it
 abbrev pub numbered_step : VlmEntry → ℕ → Option Step
@@ -89,7 +89,7 @@ HasNumber (Block block) = nat_lt block 256 ≡ true
 
 -- the numbers of a step fit the structs of C, and its name is one
 abbrev pub FitsStructs : Step → Type 0
-FitsStructs (Declare d) = is_declaration (declaration_words d) ≡ true
+FitsStructs (Declare d) = is_declaration (declaration_struct d) ≡ true
 FitsStructs (SetValue s) = nat_le s.block 255 ≡ true
 FitsStructs (Enq r) =
     (nat_le r.flags 65535 ≡ true) × (nat_le r.block 255 ≡ true) × HasNumber r.parent × (is_name r.name ≡ true)

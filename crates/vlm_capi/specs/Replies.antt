@@ -20,7 +20,7 @@ answer_status (Victim lkid) = condition_number Normal
 answer_status (Taken ast) = condition_number Normal
 answer_status (Plain cond) = condition_number cond
 
--- the identification in an answer, or 0
+-- the ID in an answer, or 0
 abbrev pub answer_number : Answer → ℕ
 answer_number (process_answer pid) = pid
 answer_number (Lock cond lkid) = lkid

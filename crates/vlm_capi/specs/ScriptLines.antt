@@ -8,7 +8,8 @@ use Rattle.vlm_lines.specs.declared.faults.LineFault.TheVariants.{TooLong, Unkno
 use Rattle.vlm_lines.specs.declared.lines.Line.{Line}
 use Rattle.vlm_lines.specs.declared.lines.Line.TheVariants.{Empty, Declare, Enq, Cvt, Deq, Set, End, Leave, Search, Ast, Block, Tail, Show, Tails}
 use Rattle.vlm_capi.specs.declared.script_lines.VlmLine.{VlmLine}
-use Rattle.vlm_capi.specs.StepWords.{conversion_words, declaration_words, dequeue_words, no_declaration, no_dequeue, no_request, no_setting, request_words, setting_words}
+use Rattle.vlm_capi.specs.StepStructs.{conversion_struct, declaration_struct, dequeue_struct, no_declaration}
+use Rattle.vlm_capi.specs.StepStructs.{no_dequeue, no_request, no_setting, request_struct, setting_struct}
 
 -- the number of a fault
 abbrev pub fault_number : LineFault → ℕ
@@ -50,27 +51,27 @@ abbrev pub with_request : VlmLine → NewRequest → VlmLine
 with_request line request = record line {
   resource_len = length (name_or_none request.name);
   resource = padded 32 (name_or_none request.name);
-  request = request_words request;
+  request = request_struct request;
 }
 
 -- the struct of a line; its step has no process yet
-abbrev pub line_words : Line → VlmLine
-line_words Empty = line_of_kind 0
-line_words (Declare name declaration) = record (named_line 1 name) { declaration = declaration_words declaration }
-line_words (Set name setting) = record (named_line 2 name) { setting = setting_words setting }
-line_words (Enq name request) = with_request (named_line 3 name) request
-line_words (Cvt name conversion) = record (named_line 4 name) { request = conversion_words conversion }
-line_words (Deq name dequeue) = record (named_line 5 name) { dequeue = dequeue_words dequeue }
-line_words (End name) = named_line 6 name
-line_words (Leave node) = record (line_of_kind 7) { number = node }
-line_words (Search node) = record (line_of_kind 8) { number = node }
-line_words (Ast name) = named_line 9 name
-line_words (Block name number) = record (named_line 10 name) { number = number }
-line_words (Tail name number) = record (named_line 11 name) { number = number }
-line_words Show = line_of_kind 12
-line_words Tails = line_of_kind 13
+abbrev pub line_struct : Line → VlmLine
+line_struct Empty = line_of_kind 0
+line_struct (Declare name declaration) = record (named_line 1 name) { declaration = declaration_struct declaration }
+line_struct (Set name setting) = record (named_line 2 name) { setting = setting_struct setting }
+line_struct (Enq name request) = with_request (named_line 3 name) request
+line_struct (Cvt name conversion) = record (named_line 4 name) { request = conversion_struct conversion }
+line_struct (Deq name dequeue) = record (named_line 5 name) { dequeue = dequeue_struct dequeue }
+line_struct (End name) = named_line 6 name
+line_struct (Leave node) = record (line_of_kind 7) { number = node }
+line_struct (Search node) = record (line_of_kind 8) { number = node }
+line_struct (Ast name) = named_line 9 name
+line_struct (Block name number) = record (named_line 10 name) { number = number }
+line_struct (Tail name number) = record (named_line 11 name) { number = number }
+line_struct Show = line_of_kind 12
+line_struct Tails = line_of_kind 13
 
 -- what C gets of a line that was read
-abbrev pub read_words : Result Line LineFault → VlmLine
-read_words (Ok line) = line_words line
-read_words (Err fault) = record (line_of_kind 0) { fault = fault_number fault }
+abbrev pub read_struct : Result Line LineFault → VlmLine
+read_struct (Ok line) = line_struct line
+read_struct (Err fault) = record (line_of_kind 0) { fault = fault_number fault }

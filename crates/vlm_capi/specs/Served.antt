@@ -25,7 +25,7 @@ Served (Some (hub_held b)) step after answer = (after ≡ Some (hub_held b)) × 
 Served (Some (port_held p)) step after answer = (after ≡ Some (port_held p)) × (answer ≡ Plain Badparam)
 Served None step after answer = (after ≡ None) × (answer ≡ Plain Badparam)
 
--- a call makes a step, returns the status of its answer and writes the identification in it
+-- a call makes a step, returns the status of its answer and writes the ID in it
 pub record Replied (before : Option Held) (step : Option Step) (after : Option Held)
     (status : ℕ) (number : ℕ) : Type 0 where
   pub answer : Answer

@@ -27,8 +27,8 @@ use Rattle.vlm_core.specs.Locks.{lock_view}
 use Rattle.vlm_core.specs.Readers.{all_locks, all_queued, after_first, has_pid, key_of as core_key}
 use Rattle.vlm_capi.specs.declared.resource_keys.ResourceKey.{ResourceKey}
 use Rattle.vlm_capi.specs.Copies.{Told, sized}
-use Rattle.vlm_capi.specs.StepWords.{bit}
-use Rattle.vlm_capi.specs.Words.{mode_number}
+use Rattle.vlm_capi.specs.StepStructs.{bit}
+use Rattle.vlm_capi.specs.Structs.{mode_number}
 
 -- a reader answers what is shown, and the handle holds the same
 pub record Tells {A : Type 0} (shown answer : A) (old new : Option Held) : Type 0 where
@@ -122,7 +122,7 @@ lock_or_none None = record {
 }
 
 -- the first lock in the queue of the resource with the key, if it has one; nothing if there is no such resource, or if
--- the words name no key or no queue
+-- the fields name no key or no queue
 abbrev pub ShowsFirstRow : State → Option ResourceKey → Option Queue → Option (Option LockView) → Type 0
 ShowsFirstRow s None queue answer = answer ≡ None
 ShowsFirstRow s (Some key) None answer = answer ≡ None
@@ -131,11 +131,11 @@ ShowsFirstRow s (Some key) (Some queue) answer =
     (find (is_at (core_key key.parent key.domain key.name)) s.resources)
 
 -- a reader answers what the core shows, and a call writes it into a struct of the right size
-pub record ReadTold {A Words : Type 0} (Shows : State → Option A → Type 0) (words_of : A → Words)
-    (before after : Option Held) (fits : Bool) (old new : Words) (status : ℕ) : Type 0 where
+pub record ReadTold {A Structs : Type 0} (Shows : State → Option A → Type 0) (struct_of : A → Structs)
+    (before after : Option Held) (fits : Bool) (old new : Structs) (status : ℕ) : Type 0 where
   pub answer : Option A
   pub reads : Reads Shows before answer after
-  pub told : Told (sized fits (option_map words_of answer)) old new status
+  pub told : Told (sized fits (option_map struct_of answer)) old new status
 
 -- the lock at a place of a queue
 abbrev pub row_in : State → ℕ → Option Queue → ℕ → Option RowView
@@ -209,7 +209,7 @@ next_resource_shown (Some s) false (Some key) =
     (after_first (is_at (core_key key.parent key.domain key.name)) s.resources)
 
 -- the living process after another, or the first one at the start of a walk; nothing if no living process has the
--- identification
+-- ID
 abbrev pub next_process_shown : Option State → Bool → ℕ → Option (Option (ProcessView × ℕ))
 next_process_shown None starts pid = None
 next_process_shown (Some s) true pid = Some (option_map (with_locks s) (slice_get s.processes 0))

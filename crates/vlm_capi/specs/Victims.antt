@@ -11,7 +11,7 @@ ReadsVictim (Some s) (Some victim) = ShowsVictim s victim
 ReadsVictim (Some s) None = ⊥
 ReadsVictim None found = found ≡ None
 
--- a lock's identification, or 0 for none
+-- a lock's ID, or 0 for none
 abbrev pub lkid_or_0 : Option ℕ → ℕ
 lkid_or_0 (Some lkid) = lkid
 lkid_or_0 None = 0

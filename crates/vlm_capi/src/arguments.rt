@@ -3,7 +3,7 @@
 //! A struct names no step if it has another size, a reserved word that is not 0, or a number that does not fit.
 
 ghost use Rattle.std.specs.Prelude.{◌≡◌, IfSome, is_some};
-ghost use Rattle.vlm_capi.specs.Words.{AreKeysOf, conversion_of, declaration_of, dequeue_of, given, is_blank, is_options, is_request, request_of, setting_of, which_of};
+ghost use Rattle.vlm_capi.specs.Structs.{AreKeysOf, conversion_of, declaration_of, dequeue_of, given, is_blank, is_options, is_request, request_of, setting_of, which_of};
 
 use crate::numbers::mode_of;
 use std::mem::size_of;
@@ -88,7 +88,7 @@ pub struct VlmRequest {
     pub block: u32,
     /// The parent lock of a new request, or 0 for a root. The lock of a conversion.
     pub lock: u32,
-    /// 0 if `lock` is an identification, 1 if it is the status block that holds the identification.
+    /// 0 if `lock` is an ID, 1 if it is the status block that holds the ID.
     pub lock_kind: u32,
     /// 1 if `ast` names a completion routine, or 0.
     pub has_ast: u32,
@@ -118,7 +118,7 @@ pub struct VlmDequeue {
     pub reserved: [u32; 9],
 }
 
-#[tactic(auto, unfolding(crate::specs::Words::which_of))]
+#[tactic(auto, unfolding(crate::specs::Structs::which_of))]
 fn which_of(lock: u32, kind: u32) -> Option<Which>
     ensures { result ≡ which_of lock kind }
 {
@@ -129,12 +129,12 @@ fn which_of(lock: u32, kind: u32) -> Option<Which>
     }
 }
 
-// It reads every word and never stops early, so the compiler can compare several words at once.
-fn is_blank(words: &[u32]) -> bool
-    ensures { result ≡ is_blank words.now }
+// It reads every word and never stops early, so the compiler can compare several fields at once.
+fn is_blank(fields: &[u32]) -> bool
+    ensures { result ≡ is_blank fields.now }
 {
     let mut blank = true;
-    for word in words {
+    for word in fields {
         blank &= *word == 0;
     }
     blank
@@ -148,137 +148,137 @@ fn given<T: Copy>(mark: u32, value: T) -> Option<T>
 
 /// The keys for the index of names; `None` if the struct is malformed, or of another version. Versions that
 /// differ in their last number alone are one.
-#[tactic(auto, unfolding(crate::specs::Words::is_options))]
-pub(crate) fn keys_of(words: &VlmOptions) -> Option<HashKeys>
-    ensures options { is_some result ≡ is_options words.now }
-    ensures keys { IfSome result (λ keys. AreKeysOf words.now keys) }
+#[tactic(auto, unfolding(crate::specs::Structs::is_options))]
+pub(crate) fn keys_of(fields: &VlmOptions) -> Option<HashKeys>
+    ensures options { is_some result ≡ is_options fields.now }
+    ensures keys { IfSome result (λ keys. AreKeysOf fields.now keys) }
 {
-    if words.size != OPTIONS_SIZE
-        || words.version / 256 != VERSION / 256
-        || !is_blank(&words.reserved)
+    if fields.size != OPTIONS_SIZE
+        || fields.version / 256 != VERSION / 256
+        || !is_blank(&fields.reserved)
     {
         return None;
     }
-    match words.has_keys {
+    match fields.has_keys {
         0 => Some(HashKeys::fixed()),
-        1 => Some(HashKeys::of(words.keys)),
+        1 => Some(HashKeys::of(fields.keys)),
         _ => None,
     }
 }
 
-#[tactic(auto, unfolding(crate::specs::Words::declaration_of))]
-pub(crate) fn declaration_of(words: &VlmDeclaration) -> Option<Declaration>
-    ensures { result ≡ declaration_of words.now }
+#[tactic(auto, unfolding(crate::specs::Structs::declaration_of))]
+pub(crate) fn declaration_of(fields: &VlmDeclaration) -> Option<Declaration>
+    ensures { result ≡ declaration_of fields.now }
 {
-    if words.size != DECLARATION_SIZE || !is_blank(&words.reserved) {
+    if fields.size != DECLARATION_SIZE || !is_blank(&fields.reserved) {
         return None;
     }
-    if words.node > 255 || words.group > 65_535 || words.syslck > 1 {
+    if fields.node > 255 || fields.group > 65_535 || fields.syslck > 1 {
         return None;
     }
-    if words.quota > 65_535 || words.blocks > 255 {
+    if fields.quota > 65_535 || fields.blocks > 255 {
         return None;
     }
     Some(Declaration {
-        node: words.node as u8,
-        group: words.group as u16,
-        syslck: words.syslck == 1,
-        quota: words.quota as u16,
-        blocks: words.blocks as u8,
+        node: fields.node as u8,
+        group: fields.group as u16,
+        syslck: fields.syslck == 1,
+        quota: fields.quota as u16,
+        blocks: fields.blocks as u8,
     })
 }
 
-#[tactic(auto, unfolding(crate::specs::Words::setting_of))]
-pub(crate) fn setting_of(words: &VlmSetting) -> Option<ValueSetting>
-    ensures { result ≡ setting_of words.now }
+#[tactic(auto, unfolding(crate::specs::Structs::setting_of))]
+pub(crate) fn setting_of(fields: &VlmSetting) -> Option<ValueSetting>
+    ensures { result ≡ setting_of fields.now }
 {
-    if words.size != SETTING_SIZE || !is_blank(&words.reserved) {
+    if fields.size != SETTING_SIZE || !is_blank(&fields.reserved) {
         return None;
     }
-    if words.block > 255 || words.has_tail > 1 {
+    if fields.block > 255 || fields.has_tail > 1 {
         return None;
     }
     Some(ValueSetting {
-        pid: words.pid,
-        block: words.block as u8,
-        value: words.value,
-        tail: given(words.has_tail, words.tail),
+        pid: fields.pid,
+        block: fields.block as u8,
+        value: fields.value,
+        tail: given(fields.has_tail, fields.tail),
     })
 }
 
-fn is_request(words: &VlmRequest) -> bool
-    ensures { result ≡ is_request words.now }
+fn is_request(fields: &VlmRequest) -> bool
+    ensures { result ≡ is_request fields.now }
 {
-    words.size == REQUEST_SIZE
-        && is_blank(&words.reserved)
-        && words.flags <= 65_535
-        && words.block <= 255
-        && words.has_ast <= 1
-        && words.has_bast <= 1
+    fields.size == REQUEST_SIZE
+        && is_blank(&fields.reserved)
+        && fields.flags <= 65_535
+        && fields.block <= 255
+        && fields.has_ast <= 1
+        && fields.has_bast <= 1
 }
 
 #[inline(always)]
-#[tactic(auto, unfolding(crate::specs::Words::request_of))]
-pub(crate) fn request_of(words: &VlmRequest, name: &[u8]) -> Option<NewRequest>
-    ensures { result ≡ request_of words.now name.now }
+#[tactic(auto, unfolding(crate::specs::Structs::request_of))]
+pub(crate) fn request_of(fields: &VlmRequest, name: &[u8]) -> Option<NewRequest>
+    ensures { result ≡ request_of fields.now name.now }
 {
-    if !is_request(words) {
+    if !is_request(fields) {
         return None;
     }
-    let mode = mode_of(words.mode)?;
-    let parent = which_of(words.lock, words.lock_kind)?;
+    let mode = mode_of(fields.mode)?;
+    let parent = which_of(fields.lock, fields.lock_kind)?;
     Some(NewRequest {
-        pid: words.pid,
+        pid: fields.pid,
         mode,
         name: NameArg::of(name),
-        block: words.block as u8,
+        block: fields.block as u8,
         parent,
-        flags: words.flags as u16,
-        ast: given(words.has_ast, words.ast),
-        bast: given(words.has_bast, words.bast),
-        param: words.param,
+        flags: fields.flags as u16,
+        ast: given(fields.has_ast, fields.ast),
+        bast: given(fields.has_bast, fields.bast),
+        param: fields.param,
     })
 }
 
 #[inline(always)]
-#[tactic(auto, unfolding(crate::specs::Words::conversion_of))]
-pub(crate) fn conversion_of(words: &VlmRequest) -> Option<Conversion>
-    ensures { result ≡ conversion_of words.now }
+#[tactic(auto, unfolding(crate::specs::Structs::conversion_of))]
+pub(crate) fn conversion_of(fields: &VlmRequest) -> Option<Conversion>
+    ensures { result ≡ conversion_of fields.now }
 {
-    if !is_request(words) {
+    if !is_request(fields) {
         return None;
     }
-    let mode = mode_of(words.mode)?;
-    let lock = which_of(words.lock, words.lock_kind)?;
+    let mode = mode_of(fields.mode)?;
+    let lock = which_of(fields.lock, fields.lock_kind)?;
     Some(Conversion {
-        pid: words.pid,
+        pid: fields.pid,
         lock,
         mode,
-        block: words.block as u8,
-        flags: words.flags as u16,
-        ast: given(words.has_ast, words.ast),
-        bast: given(words.has_bast, words.bast),
-        param: words.param,
+        block: fields.block as u8,
+        flags: fields.flags as u16,
+        ast: given(fields.has_ast, fields.ast),
+        bast: given(fields.has_bast, fields.bast),
+        param: fields.param,
     })
 }
 
 #[inline(always)]
-#[tactic(auto, unfolding(crate::specs::Words::dequeue_of))]
-pub(crate) fn dequeue_of(words: &VlmDequeue) -> Option<Dequeue>
-    ensures { result ≡ dequeue_of words.now }
+#[tactic(auto, unfolding(crate::specs::Structs::dequeue_of))]
+pub(crate) fn dequeue_of(fields: &VlmDequeue) -> Option<Dequeue>
+    ensures { result ≡ dequeue_of fields.now }
 {
-    if words.size != DEQUEUE_SIZE || !is_blank(&words.reserved) {
+    if fields.size != DEQUEUE_SIZE || !is_blank(&fields.reserved) {
         return None;
     }
-    if words.flags > 65_535 || words.has_value > 1 || words.has_tail > 1 {
+    if fields.flags > 65_535 || fields.has_value > 1 || fields.has_tail > 1 {
         return None;
     }
-    let lock = which_of(words.lock, words.lock_kind)?;
+    let lock = which_of(fields.lock, fields.lock_kind)?;
     Some(Dequeue {
-        pid: words.pid,
+        pid: fields.pid,
         lock,
-        value: given(words.has_value, words.value),
-        tail: given(words.has_tail, words.tail),
-        flags: words.flags as u16,
+        value: given(fields.has_value, fields.value),
+        tail: given(fields.has_tail, fields.tail),
+        flags: fields.flags as u16,
     })
 }

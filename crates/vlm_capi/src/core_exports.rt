@@ -14,7 +14,7 @@ ghost use Rattle.vlm_capi.specs.Victims.{VictimTold, lkid_or_0};
 ghost use Rattle.vlm_capi.specs.Shown.{block_shown, count_shown, found_shown, lksb_of, next_process_shown, next_resource_shown, pending_shown, process_count_shown, process_or_none, queued_count_shown, resource_of, resource_or_none, lock_count_shown};
 ghost use Rattle.vlm_capi.specs.Keys.{key_of};
 ghost use Rattle.vlm_capi.specs.Replies.{take_of};
-ghost use Rattle.vlm_capi.specs.Words.{conversion_of, declaration_of, dequeue_of, is_options, node_of, request_of, setting_of};
+ghost use Rattle.vlm_capi.specs.Structs.{conversion_of, declaration_of, dequeue_of, is_options, node_of, request_of, setting_of};
 
 use crate::arguments::{
     VERSION, VlmDeclaration, VlmDequeue, VlmOptions, VlmRequest, VlmSetting, conversion_of,
@@ -76,12 +76,12 @@ pub extern "C" fn vlm_close(alloc: Global, handle: &mut Handle)
 fn lent_step(handle: &mut Handle, step: Step) -> Option<Answer>
     ensures { LendsCore (λ s r s'. Outcome s step s' r) handle.old.slot.held result handle.new.slot.held }
 {
-    handle.with_core(|core| core.make_step(&step))
+    handle.with_core(|core| core.apply(&step))
 }
 
 // Without a core or a step nothing changes, and the answer is BADPARAM.
 #[inline(always)]
-fn make_step(handle: &mut Handle, step: Option<Step>) -> Answer
+fn apply(handle: &mut Handle, step: Option<Step>) -> Answer
     ensures { Served handle.old.slot.held step handle.new.slot.held result }
 {
     let Some(step) = step else {
@@ -93,12 +93,12 @@ fn make_step(handle: &mut Handle, step: Option<Step>) -> Answer
     }
 }
 
-// Makes the step and writes the identification in the answer, or 0.
+// Makes the step and writes the ID in the answer, or 0.
 #[inline(always)]
 fn reply(handle: &mut Handle, step: Option<Step>, number: &mut u32) -> u32
     ensures { Replied handle.old.slot.held step handle.new.slot.held result number.new }
 {
-    let answer = make_step(handle, step);
+    let answer = apply(handle, step);
     *number = answer_number(&answer);
     answer_status(&answer)
 }
@@ -107,11 +107,11 @@ fn reply(handle: &mut Handle, step: Option<Step>, number: &mut u32) -> u32
 fn status_reply(handle: &mut Handle, step: Option<Step>) -> u32
     ensures { StatusReplied handle.old.slot.held step handle.new.slot.held result }
 {
-    let answer = make_step(handle, step);
+    let answer = apply(handle, step);
     answer_status(&answer)
 }
 
-/// Declares a process and writes its identification, or 0.
+/// Declares a process and writes its ID, or 0.
 #[unsafe(no_mangle)]
 pub extern "C" fn vlm_declare(
     handle: &mut Handle,
@@ -135,7 +135,7 @@ pub extern "C" fn vlm_set_value(handle: &mut Handle, setting: &VlmSetting) -> u3
     status_reply(handle, step)
 }
 
-/// Asks for a new lock ($ENQ) and writes its identification, or 0.
+/// Asks for a new lock ($ENQ) and writes its ID, or 0.
 #[unsafe(no_mangle)]
 pub extern "C" fn vlm_enq(
     handle: &mut Handle,
@@ -150,7 +150,7 @@ pub extern "C" fn vlm_enq(
     reply(handle, step, lkid)
 }
 
-/// Asks for another mode of a granted lock ($ENQ with LCK$M_CONVERT) and writes its identification, or 0.
+/// Asks for another mode of a granted lock ($ENQ with LCK$M_CONVERT) and writes its ID, or 0.
 #[unsafe(no_mangle)]
 pub extern "C" fn vlm_convert(handle: &mut Handle, request: &VlmRequest, lkid: &mut u32) -> u32
     ensures { Replied handle.old.slot.held (option_map Convert (conversion_of request.now))
@@ -176,12 +176,12 @@ pub extern "C" fn vlm_take(handle: &mut Handle, pid: u32, out: &mut VlmAst) -> u
         handle.new.slot.held result out.old out.new }
 {
     let step = take_of(pid, out.size).map(|pid| Step::Take(pid));
-    let answer = make_step(handle, step);
+    let answer = apply(handle, step);
     write_ast(&answer, out);
     answer_status(&answer)
 }
 
-// A lock's identification, or 0 for none.
+// A lock's ID, or 0 for none.
 fn lkid_or_0(lkid: Option<u32>) -> u32
     ensures { result ≡ lkid_or_0 lkid }
 {
@@ -286,8 +286,8 @@ pub extern "C" fn vlm_process_count(handle: &mut Handle) -> usize
     handle.process_count()
 }
 
-/// Copies the living process after the process with this identification, or with 0 the first one. After the last one it
-/// copies a process with identification 0.
+/// Copies the living process after the process with this ID, or with 0 the first one. After the last one it
+/// copies a process with ID 0.
 #[unsafe(no_mangle)]
 pub extern "C" fn vlm_next_process(handle: &mut Handle, pid: u32, out: &mut VlmProcess) -> u32
     ensures told { Told (sized (out.old.size == 64)

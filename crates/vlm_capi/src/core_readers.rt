@@ -41,8 +41,8 @@ impl Handle {
         self.with_core(|core| core.process_count()).unwrap_or(0)
     }
 
-    /// The living process after the process with this identification, or with 0 the first one. `Some(None)` after the
-    /// last one, `None` if no living process has the identification.
+    /// The living process after the process with this ID, or with 0 the first one. `Some(None)` after the
+    /// last one, `None` if no living process has the ID.
     pub(crate) fn next_process(&mut self, pid: u32) -> Option<Option<(ProcessView, usize)>>
         ensures { Tells (next_process_shown (core_of self.old.slot.held) (pid == 0) pid) result
             self.old.slot.held self.new.slot.held }
@@ -92,25 +92,25 @@ impl Handle {
         self.with_core(|core| core.find_victim())
     }
 
-    pub(crate) fn find(&mut self, words: &VlmResource) -> Option<ResourceView>
-        ensures { Tells (found_shown (core_of self.old.slot.held) (key_of words.now)) result
+    pub(crate) fn find(&mut self, fields: &VlmResource) -> Option<ResourceView>
+        ensures { Tells (found_shown (core_of self.old.slot.held) (key_of fields.now)) result
             self.old.slot.held self.new.slot.held }
     {
-        let key = key_of(words)?;
+        let key = key_of(fields)?;
         self.with_core(|core| core.resource(key.parent, key.domain, key.name))?
     }
 
     /// The resource after the named resource, or with serial 0 the first one. `Some(None)` after the last one, `None`
     /// if there is no such resource.
-    pub(crate) fn next_resource(&mut self, words: &VlmResource) -> Option<Option<ResourceView>>
+    pub(crate) fn next_resource(&mut self, fields: &VlmResource) -> Option<Option<ResourceView>>
         ensures { Tells
-            (next_resource_shown (core_of self.old.slot.held) (words.now.serial == 0) (key_of words.now))
+            (next_resource_shown (core_of self.old.slot.held) (fields.now.serial == 0) (key_of fields.now))
             result self.old.slot.held self.new.slot.held }
     {
-        if words.serial == 0 {
+        if fields.serial == 0 {
             return self.with_core(|core| core.resource_at(0));
         }
-        let key = key_of(words)?;
+        let key = key_of(fields)?;
         self.with_core(|core| core.resource_after(key.parent, key.domain, key.name))?
     }
 }

@@ -7,9 +7,9 @@ ghost use Rattle.vlm_words.specs.Padding.{padded};
 use crate::arguments::{VlmDeclaration, VlmDequeue, VlmRequest, VlmSetting};
 use crate::padding::given_name_cells;
 use crate::replies::{VlmAst, answer_number, answer_status, ast_of, no_ast};
-use crate::step_words::{
-    conversion_words, declaration_words, dequeue_words, no_declaration, no_dequeue, no_request,
-    no_setting, request_words, setting_words,
+use crate::step_structs::{
+    conversion_struct, declaration_struct, dequeue_struct, no_declaration, no_dequeue, no_request,
+    no_setting, request_struct, setting_struct,
 };
 use std::mem::size_of;
 use vlm_ports::Entry;
@@ -39,7 +39,7 @@ pub struct VlmEntry {
     pub node: u32,
     /// The condition of the answer.
     pub status: u32,
-    /// The identification in the answer, or 0.
+    /// The ID in the answer, or 0.
     pub number: u32,
     /// The length of the name of a new request, or 0 if its bytes were no name.
     pub name_len: u32,
@@ -123,7 +123,7 @@ fn declaration_in(step: &Step) -> VlmDeclaration
     ensures { result ≡ declaration_in step.now }
 {
     match step {
-        Step::Declare(declaration) => declaration_words(*declaration),
+        Step::Declare(declaration) => declaration_struct(*declaration),
         _ => no_declaration(),
     }
 }
@@ -132,7 +132,7 @@ fn setting_in(step: &Step) -> VlmSetting
     ensures { result ≡ setting_in step.now }
 {
     match step {
-        Step::SetValue(setting) => setting_words(*setting),
+        Step::SetValue(setting) => setting_struct(*setting),
         _ => no_setting(),
     }
 }
@@ -141,8 +141,8 @@ fn request_in(step: &Step) -> VlmRequest
     ensures { result ≡ request_in step.now }
 {
     match step {
-        Step::Enq(request) => request_words(*request),
-        Step::Convert(conversion) => conversion_words(*conversion),
+        Step::Enq(request) => request_struct(*request),
+        Step::Convert(conversion) => conversion_struct(*conversion),
         _ => no_request(),
     }
 }
@@ -151,7 +151,7 @@ fn dequeue_in(step: &Step) -> VlmDequeue
     ensures { result ≡ dequeue_in step.now }
 {
     match step {
-        Step::Deq(dequeue) => dequeue_words(*dequeue),
+        Step::Deq(dequeue) => dequeue_struct(*dequeue),
         _ => no_dequeue(),
     }
 }

@@ -6,7 +6,7 @@
 ghost use Rattle.std.specs.Prelude.{◌≡◌, ◌==◌, ◌&&◌, length, nat_le, nat_lt, slice_get, None};
 ghost use Rattle.std.specs.Option.{option_map};
 ghost use Rattle.vlm_capi.specs.Copies.{Told, sized};
-ghost use Rattle.vlm_capi.specs.Words.{is_options};
+ghost use Rattle.vlm_capi.specs.Structs.{is_options};
 ghost use Rattle.vlm_capi.specs.Entries.{entry_of};
 ghost use Rattle.vlm_capi.specs.Lending.{IsSameHeld};
 ghost use Rattle.vlm_capi.specs.Replay.{FitsStructs, Replayed, step_of};
@@ -117,7 +117,7 @@ fn lost_status(lost: &Option<Option<Result<Cond, AllocError>>>) -> u32
 pub extern "C" fn vlm_hub_lost(handle: &mut Handle, node: u32) -> u32
     ensures { LosesNode node handle.old.slot.held handle.new.slot.held result }
 {
-    let lost = handle.with_hub(|owned| owned.lose(node));
+    let lost = handle.with_hub(|owned| owned.depart(node));
     lost_status(&lost)
 }
 

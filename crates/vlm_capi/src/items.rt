@@ -22,7 +22,7 @@ pub struct VlmItem {
     pub kind: u32,
     /// The condition of an answer.
     pub status: u32,
-    /// The identification in an answer, or 0.
+    /// The ID in an answer, or 0.
     pub number: u32,
     /// The process that an AST is for.
     pub pid: u32,

@@ -11,7 +11,7 @@
 //! | `held` | what a handle holds: a core, a hub or a port |
 //! | `slot` | the pointer to what is held, in memory that C holds |
 //! | `loose` | a box taken apart into its pointer |
-//! | `arguments`, `step_words` | reads the structs that C passes as steps; turns steps into these structs |
+//! | `arguments`, `step_structs` | reads the structs that C passes as steps; turns steps into these structs |
 //! | `resource_keys` | reads how C names a resource and a queue |
 //! | `numbers` | the numbers that C has for modes and nodes |
 //! | `replies` | turns answers into the values that C gets |
@@ -27,7 +27,7 @@
 //! a core, a hub or a port on a handle that holds another of them answers as on a closed handle, except a close, which
 //! frees what the handle holds. No export waits: nobody watches a hub of this library.
 //!
-//! `#[inline(always)]` marks what each exported call runs through: so its words are read where C put them, and are not
+//! `#[inline(always)]` marks what each exported call runs through: so its fields are read where C put them, and are not
 //! copied from call to call.
 #![tactic(auto)]
 
@@ -55,5 +55,5 @@ mod resource_keys;
 mod script_lines;
 mod shown;
 mod slot;
-mod step_words;
+mod step_structs;
 mod text_exports;

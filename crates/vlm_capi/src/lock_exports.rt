@@ -25,7 +25,7 @@ fn write_next(next: Option<Option<LockView>>, out: &mut VlmLock) -> u32
     copy_out(sized(out.size == LOCK_SIZE, shown), out)
 }
 
-/// Copies the lock with this identification.
+/// Copies the lock with this ID.
 #[unsafe(no_mangle)]
 pub extern "C" fn vlm_find_lock(handle: &mut Handle, lkid: u32, out: &mut VlmLock) -> u32
     ensures { ReadTold (λ s. ShowsNamed s lkid) lock_of handle.old.slot.held handle.new.slot.held

@@ -73,12 +73,12 @@ impl Handle {
 
     /// The first lock in a queue of the named resource. `Some(None)` if the queue is empty, `None` if there is no such
     /// resource or queue.
-    pub(crate) fn first_row(&mut self, words: &VlmResource, queue: u32) -> Option<Option<LockView>>
-        ensures { Reads (λ s. ShowsFirstRow s (key_of words.now) (queue_of queue)) self.old.slot.held result
+    pub(crate) fn first_row(&mut self, fields: &VlmResource, queue: u32) -> Option<Option<LockView>>
+        ensures { Reads (λ s. ShowsFirstRow s (key_of fields.now) (queue_of queue)) self.old.slot.held result
             self.new.slot.held }
     {
         let queue = queue_of(queue)?;
-        let key = key_of(words)?;
+        let key = key_of(fields)?;
         self.with_core(|core| core.first_in_queue(key.parent, key.domain, key.name, queue))?
     }
 

@@ -1,12 +1,12 @@
 //! The numbers that C has for modes and nodes.
 
 ghost use Rattle.std.specs.Prelude.{◌≡◌};
-ghost use Rattle.vlm_capi.specs.Words.{mode_number, mode_of, node_of};
+ghost use Rattle.vlm_capi.specs.Structs.{mode_number, mode_of, node_of};
 
 use vlm_words::modes::Mode;
 
 /// The mode with this number, 0 (NL) to 5 (EX).
-#[tactic(auto, unfolding(crate::specs::Words::mode_of))]
+#[tactic(auto, unfolding(crate::specs::Structs::mode_of))]
 pub(crate) fn mode_of(number: u32) -> Option<Mode>
     ensures { result ≡ mode_of number }
 {

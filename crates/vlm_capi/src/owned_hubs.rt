@@ -71,7 +71,7 @@ impl OwnedHub {
     }
 
     /// Makes the departure of a lost node. `None` if it is not 1 to 8.
-    pub(crate) fn lose(&mut self, node: u32) -> Option<Result<Cond, AllocError>>
+    pub(crate) fn depart(&mut self, node: u32) -> Option<Result<Cond, AllocError>>
         ensures { HasLost node self.old result self.new }
     {
         if node == 0 || node > 8 {

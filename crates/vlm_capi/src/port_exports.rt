@@ -6,7 +6,7 @@
 ghost use Rattle.std.specs.Prelude.{◌≡◌, ◌==◌, None, Some};
 ghost use Rattle.std.specs.Option.{option_map};
 ghost use Rattle.vlm_words.specs.declared.steps.Step.TheVariants.{Convert, Declare, Deq, Enq, Leave, Rundown, Search, SetValue};
-ghost use Rattle.vlm_capi.specs.Words.{conversion_of, declaration_of, dequeue_of, request_of, setting_of};
+ghost use Rattle.vlm_capi.specs.Structs.{conversion_of, declaration_of, dequeue_of, request_of, setting_of};
 ghost use Rattle.vlm_capi.specs.Hubs.{port_node};
 ghost use Rattle.vlm_capi.specs.Posts.{CountsItems, Posts, PostsAs, TakesItemIf};
 
@@ -24,7 +24,7 @@ use vlm_ports::Item;
 use vlm_words::conditions::Cond;
 use vlm_words::steps::Step;
 
-// Posts the step that the words of a call name.
+// Posts the step that the fields of a call name.
 #[inline(always)]
 fn post(handle: &mut Handle, step: Option<Step>) -> u32
     ensures { Posts step handle.old.slot.held handle.new.slot.held result }

@@ -74,7 +74,7 @@ fn replay_on(core: &mut Core, step: &Step, entry: &VlmEntry) -> u32
     if entry.status == status(Cond::Insfmem) {
         return status(Cond::Normal);
     }
-    let answer = core.make_step(step);
+    let answer = core.apply(step);
     replay_status(entry, &answer)
 }
 

@@ -43,7 +43,7 @@ pub(crate) fn answer_status(answer: &Answer) -> u32
     }
 }
 
-/// The identification in an answer, or 0: a process, a lock, or the lock of a victim.
+/// The ID in an answer, or 0: a process, a lock, or the lock of a victim.
 pub(crate) fn answer_number(answer: &Answer) -> u32
     ensures { result ≡ answer_number answer.now }
 {

@@ -28,26 +28,26 @@ pub(crate) struct ResourceKey {
 }
 
 #[tactic(auto, unfolding(crate::specs::Keys::key_of))]
-pub(crate) fn key_of(words: &VlmResource) -> Option<ResourceKey>
-    ensures { result ≡ key_of words.now }
+pub(crate) fn key_of(fields: &VlmResource) -> Option<ResourceKey>
+    ensures { result ≡ key_of fields.now }
 {
-    if words.size != RESOURCE_SIZE
-        || words.is_system > 1
-        || words.group > 65_535
-        || words.name_len > 32
+    if fields.size != RESOURCE_SIZE
+        || fields.is_system > 1
+        || fields.group > 65_535
+        || fields.name_len > 32
     {
         return None;
     }
-    let name = NameArg::of(&words.name[..words.name_len as usize])
+    let name = NameArg::of(&fields.name[..fields.name_len as usize])
         .name()
         .ok()?;
-    let domain = if words.is_system == 1 {
+    let domain = if fields.is_system == 1 {
         Domain::System
     } else {
-        Domain::Group(words.group as u16)
+        Domain::Group(fields.group as u16)
     };
     Some(ResourceKey {
-        parent: words.parent,
+        parent: fields.parent,
         domain,
         name,
     })

@@ -1,13 +1,13 @@
 //! The lines of a script, as C gets them. include/vlm.h describes the members.
 
 ghost use Rattle.std.specs.Prelude.{◌≡◌};
-ghost use Rattle.vlm_capi.specs.ScriptLines.{fault_number, line_of_kind, line_words, named_line, read_words, with_request};
+ghost use Rattle.vlm_capi.specs.ScriptLines.{fault_number, line_of_kind, line_struct, named_line, read_struct, with_request};
 
 use crate::arguments::{VlmDeclaration, VlmDequeue, VlmRequest, VlmSetting};
 use crate::padding::{given_name_cells, process_name_cells};
-use crate::step_words::{
-    conversion_words, declaration_words, dequeue_words, no_declaration, no_dequeue, no_request,
-    no_setting, request_words, setting_words,
+use crate::step_structs::{
+    conversion_struct, declaration_struct, dequeue_struct, no_declaration, no_dequeue, no_request,
+    no_setting, request_struct, setting_struct,
 };
 use std::mem::size_of;
 use vlm_lines::{Line, LineFault, ProcessName};
@@ -123,31 +123,31 @@ fn with_request(line: VlmLine, request: NewRequest) -> VlmLine
     VlmLine {
         resource_len,
         resource,
-        request: request_words(request),
+        request: request_struct(request),
         ..line
     }
 }
 
-fn line_words(line: Line) -> VlmLine
-    ensures { result ≡ line_words line }
+fn line_struct(line: Line) -> VlmLine
+    ensures { result ≡ line_struct line }
 {
     match line {
         Line::Empty => line_of_kind(EMPTY),
         Line::Declare(name, declaration) => VlmLine {
-            declaration: declaration_words(declaration),
+            declaration: declaration_struct(declaration),
             ..named_line(DECLARE, name)
         },
         Line::Set(name, setting) => VlmLine {
-            setting: setting_words(setting),
+            setting: setting_struct(setting),
             ..named_line(SET, name)
         },
         Line::Enq(name, request) => with_request(named_line(ENQ, name), request),
         Line::Cvt(name, conversion) => VlmLine {
-            request: conversion_words(conversion),
+            request: conversion_struct(conversion),
             ..named_line(CVT, name)
         },
         Line::Deq(name, dequeue) => VlmLine {
-            dequeue: dequeue_words(dequeue),
+            dequeue: dequeue_struct(dequeue),
             ..named_line(DEQ, name)
         },
         Line::End(name) => named_line(END, name),
@@ -174,11 +174,11 @@ fn line_words(line: Line) -> VlmLine
 }
 
 /// The struct of a line that was read, or of its fault.
-pub(crate) fn read_words(read: Result<Line, LineFault>) -> VlmLine
-    ensures { result ≡ read_words read }
+pub(crate) fn read_struct(read: Result<Line, LineFault>) -> VlmLine
+    ensures { result ≡ read_struct read }
 {
     match read {
-        Ok(line) => line_words(line),
+        Ok(line) => line_struct(line),
         Err(fault) => VlmLine {
             fault: fault_number(fault),
             ..line_of_kind(EMPTY)

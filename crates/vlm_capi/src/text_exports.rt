@@ -11,9 +11,9 @@ ghost use Rattle.vlm_capi.specs.Copies.{Told, sized};
 ghost use Rattle.vlm_capi.specs.Keys.{key_of, queue_of};
 ghost use Rattle.vlm_capi.specs.Lending.{core_of};
 ghost use Rattle.vlm_capi.specs.Printed.{block_printed, condition_of, row_told, tail_printed, taken_printed, text_of, told_printed};
-ghost use Rattle.vlm_capi.specs.ScriptLines.{read_words};
+ghost use Rattle.vlm_capi.specs.ScriptLines.{read_struct};
 ghost use Rattle.vlm_capi.specs.Shown.{block_there, found_shown};
-ghost use Rattle.vlm_capi.specs.Words.{node_of};
+ghost use Rattle.vlm_capi.specs.Structs.{node_of};
 
 use crate::copies::{copy_out, sized};
 use crate::handle::Handle;
@@ -23,16 +23,16 @@ use crate::printed::{
 };
 use crate::replies::{AST_SIZE, VlmAst};
 use crate::resource_keys::queue_of;
-use crate::script_lines::{LINE_SIZE, VlmLine, read_words};
+use crate::script_lines::{LINE_SIZE, VlmLine, read_struct};
 use crate::shown::{LOCK_SIZE, RESOURCE_SIZE, VlmLock, VlmResource};
 use vlm_lines::{read_line, resource_line, row_line, tail_line};
 
 /// Reads a line of a script, without its line feed.
 #[unsafe(no_mangle)]
 pub extern "C" fn vlm_read_line(bytes: &[u8], line: &mut VlmLine) -> u32
-    ensures { Told (sized (line.old.size == 464) (Some (read_words (line_read bytes.now)))) line.old line.new result }
+    ensures { Told (sized (line.old.size == 464) (Some (read_struct (line_read bytes.now)))) line.old line.new result }
 {
-    let read = Some(read_words(read_line(bytes)));
+    let read = Some(read_struct(read_line(bytes)));
     copy_out(sized(line.size == LINE_SIZE, read), line)
 }
 

@@ -1,5 +1,6 @@
 -- The parts and the hub, as it turns and as it is cut.
-use Rattle.std.proofs.Common.{◌≡◌, ◌+◌, ◌-◌, ◌<◌, ◌≤◌, ◌^◌, ℕ, List, [], ◌∷◌, ◌++◌, length, min, get_or, take, refl, sym, ap, ◌∙◌, subst, append_assoc, append-nil, arith, inl, inr}
+use Rattle.std.proofs.Common.{◌≡◌, ◌+◌, ◌-◌, ◌<◌, ◌≤◌, ◌^◌, ℕ, List, [], ◌∷◌, ◌++◌, length, min, get_or, take, refl}
+use Rattle.std.proofs.Common.{sym, ap, ◌∙◌, subst, append_assoc, append-nil, arith, inl, inr}
 use Rattle.std.proofs.Math.Seq.{take-append_seam}
 use Rattle.std.proofs.lemmas.List.{length-append, length-map, take-append-le}
 use Rattle.std.proofs.lemmas.List.Elements.{All-append, All-nil}
@@ -91,7 +92,12 @@ accounts_stand ps h i same was =
       count = refl;
       legal = ends;
       takes = All-nil _;
-      departed = λ node gone. record { departed = subst (λ (s : State). HasDeparted s node) (sym (ap (λ s. s.3) same)) gone; told = λ k entry lt. absurd (omega arith) };
+      departed = λ node gone. record {
+        departed =
+            subst (λ (s : State). HasDeparted s node) (sym (ap (λ s. s.3) same)) gone;
+        told =
+            λ k entry lt. absurd (omega arith);
+      };
     })
 
 -- what each node had asked for and was told is put before
@@ -110,7 +116,8 @@ accounts_cut ps p h i was same_rings entries number left next same_state before 
     let rest : entries_in ps ++ journal h ≡ entries_in (ps ++ p ∷ []) ++ journal i =
     sym all ∙ sym (append-nil (entries_in (ps ++ p ∷ []))) ∙ ap (λ (es : List Entry). entries_in (ps ++ p ∷ []) ++ es) (sym left) in
     record {
-      legal = subst (λ (s : State). Journal (entries_in (ps ++ p ∷ []) ++ journal i) s) (sym same_state) (subst (λ (es : List Entry). Journal es (state h)) rest was.legal);
+      legal = subst (λ (s : State). Journal (entries_in (ps ++ p ∷ []) ++ journal i) s) (sym same_state)
+          (subst (λ (es : List Entry). Journal es (state h)) rest was.legal);
       base =
           next ∙ ap (λ (b : ℕ). min (b + length (journal h)) (2 ^ 64 - 1)) was.base
           ∙ counts_on (length (entries_in ps)) (length (journal h)) (2 ^ 64 - 1)

@@ -1,5 +1,6 @@
 -- The report of a run, from what each worker hands back.
-use Rattle.std.proofs.Common.{◌≡◌, ◌+◌, ◌-◌, ◌<◌, ◌≤◌, ◌++◌, ℕ, Bool, true, List, [], ◌∷◌, Some, length, map, get_or, take, refl, sym, ap, ◌∙◌, subst, arith, inl, inr}
+use Rattle.std.proofs.Common.{◌≡◌, ◌+◌, ◌-◌, ◌<◌, ◌≤◌, ◌++◌, ℕ, Bool, true, List, [], ◌∷◌, Some, length, map, get_or}
+use Rattle.std.proofs.Common.{take, refl, sym, ap, ◌∙◌, subst, arith, inl, inr}
 use Rattle.std.specs.List.{slice_get}
 use Rattle.std.proofs.lemmas.Bool.{cases_lt}
 use Rattle.std.proofs.lemmas.List.{get_or-map, length-map}
@@ -49,10 +50,12 @@ module _ {G : Type 0} (never : Bool) (ports : List Port) (lists : List StepList)
     (new : AreNew ports) (as_many : length ports ≡ length lists) (few : length results ≤ length lists) (works : AreWorks never ports lists results)
     (noted : AreNoted results r.posted.items) where
   -- the work on a list, and how much of it is noted
-  on_list : (k n : ℕ) (list : StepList) → slice_get lists k ≡ Some list → slice_get r.posted.items k ≡ Some n → k < length results → (p : Port) (d : WorkerResult G)
+  on_list : (k n : ℕ) (list : StepList) → slice_get lists k ≡ Some list → slice_get r.posted.items k ≡ Some n
+      → k < length results → (p : Port) (d : WorkerResult G)
       → IsWorkOn never (get_or ports k p) list.items (work_of (get_or results k d)) × (n ≡ (get_or results k d).posted)
   on_list k n list at_list at_n lt p d = (
-    subst (λ (l : StepList). IsWorkOn never (get_or ports k p) l.items (work_of (get_or results k d))) (get_or_from_slice_get lists k list list at_list) (works k d p list lt),
+    subst (λ (l : StepList). IsWorkOn never (get_or ports k p) l.items (work_of (get_or results k d)))
+        (get_or_from_slice_get lists k list list at_list) (works k d p list lt),
     sym (get_or_from_slice_get r.posted.items k n 0 at_n) ∙ noted k d lt,
   )
 
@@ -74,58 +77,72 @@ module _ {G : Type 0} (never : Bool) (ports : List Port) (lists : List StepList)
       departed = law (entries_of r) r.core legal;
     }
 
-    pub served : ((k : ℕ) (d : WorkerResult G) (v : Items) → k < length results → IsWhole (entries_of r) (work_of (get_or results k d)) (get_or r.items.items k v).items)
+    pub served : ((k : ℕ) (d : WorkerResult G) (v : Items) → k < length results
+        → IsWhole (entries_of r) (work_of (get_or results k d)) (get_or r.items.items k v).items)
         → AreServed lists r
     served whole = record {
       report = report_of;
       asked = λ k n list at_list at_n.
           let within = slice_get_within lists k list at_list in
           let lt : k < length results = omega (arith, within, all) in
-          let p = element ports k (omega (arith, within, as_many)) in let d = element results k lt in let v = element r.items.items k (omega (arith, lt, items)) in
+          let p = element ports k (omega (arith, within, as_many)) in let d = element results k lt in let v =
+          element r.items.items k (omega (arith, lt, items)) in
           let on = on_list k n list at_list at_n lt p d in
-          whole_asked never ports new k p (omega (arith, within, as_many)) list.items (work_of (get_or results k d)) on.0 (entries_of r) (get_or r.items.items k v).items n on.1 (whole k d v lt);
+          whole_asked never ports new k p (omega (arith, within, as_many)) list.items
+          (work_of (get_or results k d)) on.0 (entries_of r) (get_or r.items.items k v).items n on.1
+          (whole k d v lt);
       told = λ k v at_v.
           let within = slice_get_within r.items.items k v at_v in
           let lt : k < length results = omega (arith, within, items) in
           let some : k < length ports = omega (arith, lt, few, as_many) in
           let p = element ports k some in let d = element results k lt in let list = element lists k (omega (arith, lt, few)) in
-          let told = whole_told never ports new k p some (get_or lists k list).items (work_of (get_or results k d)) (works k d p list lt) (entries_of r) (get_or r.items.items k v).items
+          let told = whole_told never ports new k p some (get_or lists k list).items (work_of (get_or results k d))
+          (works k d p list lt) (entries_of r) (get_or r.items.items k v).items
           (get_or results k d).posted refl (whole k d v lt) in
           subst (λ (x : Items). x.items ≡ told_items r k) (get_or_from_slice_get r.items.items k v v at_v) told;
     }
 
-    pub begun : ((k : ℕ) (d : WorkerResult G) (v : Items) → k < length results → IsBegun (entries_of r) (work_of (get_or results k d)) (get_or r.items.items k v).items)
+    pub begun : ((k : ℕ) (d : WorkerResult G) (v : Items) → k < length results
+        → IsBegun (entries_of r) (work_of (get_or results k d)) (get_or r.items.items k v).items)
         → AreServedInPart lists r
     begun each = record {
       report = report_of;
       asked = λ k n list at_list at_n.
           let within = slice_get_within lists k list at_list in
           let lt : k < length results = omega (arith, within, all) in
-          let p = element ports k (omega (arith, within, as_many)) in let d = element results k lt in let v = element r.items.items k (omega (arith, lt, items)) in
+          let p = element ports k (omega (arith, within, as_many)) in let d = element results k lt in let v =
+          element r.items.items k (omega (arith, lt, items)) in
           let on = on_list k n list at_list at_n lt p d in
-          begun_asked never ports new k p (omega (arith, within, as_many)) list.items (work_of (get_or results k d)) on.0 (entries_of r) (get_or r.items.items k v).items n on.1 (each k d v lt);
+          begun_asked never ports new k p (omega (arith, within, as_many)) list.items
+          (work_of (get_or results k d)) on.0 (entries_of r) (get_or r.items.items k v).items n on.1
+          (each k d v lt);
       told = λ k v at_v.
           let within = slice_get_within r.items.items k v at_v in
           let lt : k < length results = omega (arith, within, items) in
           let some : k < length ports = omega (arith, lt, few, as_many) in
           let p = element ports k some in let d = element results k lt in let list = element lists k (omega (arith, lt, few)) in
-          let told = begun_told never ports new k p some (get_or lists k list).items (work_of (get_or results k d)) (works k d p list lt) (entries_of r) (get_or r.items.items k v).items
+          let told = begun_told never ports new k p some (get_or lists k list).items (work_of (get_or results k d))
+          (works k d p list lt) (entries_of r) (get_or r.items.items k v).items
           (get_or results k d).posted refl (each k d v lt) in
           subst (λ (x : Items). IsPrefix x.items (told_items r k)) (get_or_from_slice_get r.items.items k v v at_v) told;
     }
 
     -- where no gate stops its worker, all of each list is posted
-    pub all_posted : never ≡ true → ((k : ℕ) (d : WorkerResult G) (v : Items) → k < length results → IsWhole (entries_of r) (work_of (get_or results k d)) (get_or r.items.items k v).items)
+    pub all_posted : never ≡ true
+        → ((k : ℕ) (d : WorkerResult G) (v : Items) → k < length results
+        → IsWhole (entries_of r) (work_of (get_or results k d)) (get_or r.items.items k v).items)
         → AreAllPosted lists r
     all_posted set whole k n list at_list at_n =
         let within = slice_get_within lists k list at_list in
         let lt : k < length results = omega (arith, within, all) in
-        let p = element ports k (omega (arith, within, as_many)) in let d = element results k lt in let v = element r.items.items k (omega (arith, lt, items)) in
+        let p = element ports k (omega (arith, within, as_many)) in let d = element results k lt in let v =
+        element r.items.items k (omega (arith, lt, items)) in
         let on = on_list k n list at_list at_n lt p d in
         on.1 ∙ on.0.whole set (whole k d v lt).left
 
   -- where the hub has made no turn
-  pub given_up : entries_of r ≡ [] → length r.items.items ≡ length lists → length r.posted.items ≡ length lists → Journal (entries_of r) r.core → AreNumbered (parts_of r) → HubTakesAlone (entries_of r) → DepartedLaw
+  pub given_up : entries_of r ≡ [] → length r.items.items ≡ length lists → length r.posted.items ≡ length lists
+      → Journal (entries_of r) r.core → AreNumbered (parts_of r) → HubTakesAlone (entries_of r) → DepartedLaw
       → ((k : ℕ) (v : Items) → k < length lists → (get_or r.items.items k v).items ≡ []) → ((k : ℕ) → length results ≤ k → get_or r.posted.items k 0 ≡ 0)
       → AreServedInPart lists r
   given_up none items posted legal numbered takes law empty others = record {
@@ -141,7 +158,8 @@ module _ {G : Type 0} (never : Bool) (ports : List Port) (lists : List StepList)
       departed = law (entries_of r) r.core legal;
     };
     asked = λ k n list at_list at_n.
-        subst (λ (es : List Entry). IsPrefix (asked (k + 1) es) (take n list.items ++ Leave (k + 1) ∷ [])) (sym none) (take n list.items ++ Leave (k + 1) ∷ [], refl);
+        subst (λ (es : List Entry). IsPrefix (asked (k + 1) es) (take n list.items ++ Leave (k + 1) ∷ [])) (sym none)
+        (take n list.items ++ Leave (k + 1) ∷ [], refl);
     told = λ k v at_v.
         let lt = slice_get_within r.items.items k v at_v in
         let is : v.items ≡ [] = ap (λ (x : Items). x.items) (sym (get_or_from_slice_get r.items.items k v v at_v)) ∙ empty k v (omega (arith, lt, items)) in
@@ -149,7 +167,8 @@ module _ {G : Type 0} (never : Bool) (ports : List Port) (lists : List StepList)
   }
 
 -- each worker has a port of the hub
-pub ports_of_works : {G : Type 0} (never : Bool) (ports : List Port) (lists : List StepList) (results : List (WorkerResult G)) (h : Hub) → AreNew ports → AreWorks never ports lists results
+pub ports_of_works : {G : Type 0} (never : Bool) (ports : List Port) (lists : List StepList)
+    (results : List (WorkerResult G)) (h : Hub) → AreNew ports → AreWorks never ports lists results
     → length results ≤ length ports → length results ≤ length lists → rings h ≡ map identity ports → ArePortsOf h results
 ports_of_works never ports lists results h new works few_ports few_lists same k d lt =
     let some : k < length ports = omega (arith, lt, few_ports) in
@@ -166,7 +185,8 @@ ports_of_works never ports lists results h new works few_ports few_lists same k 
     )
 
 -- what each worker was given, and what it made of that
-pub works_of : {G : Type 0} (never : Bool) (ports : List Port) (lists : List StepList) (children : List (PromisedHandle (WorkerResult G) (WorkerPromise G))) (results : List (WorkerResult G)) (n : ℕ)
+pub works_of : {G : Type 0} (never : Bool) (ports : List Port) (lists : List StepList)
+    (children : List (PromisedHandle (WorkerResult G) (WorkerPromise G))) (results : List (WorkerResult G)) (n : ℕ)
     → ((k : ℕ) (h : PromisedHandle (WorkerResult G) (WorkerPromise G)) (p : Port) (l : StepList) → k < n
     → ((get_or children k h).promise.port.value ≡ get_or ports k p) × ((get_or children k h).promise.list.value ≡ get_or lists k l))
     → ((k : ℕ) (d : WorkerResult G) (h : PromisedHandle (WorkerResult G) (WorkerPromise G)) → k < n

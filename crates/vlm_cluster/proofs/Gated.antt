@@ -31,12 +31,15 @@ module _ {G : Type 0} (moves : Moves G) (gates : List G) (lists : List StepList)
       let count : n ≡ e.posted = sym (get_or_from_slice_get r.posted.items k n 0 at_n) ∙ noted k d lt in
       subst (λ (m : ℕ). IsFollowed moves (gate, []) (point_of e) (length list.items) m e.left) (sym count)
       (subst (λ (l : StepList). IsFollowed moves (gate, []) (point_of e) (length l.items) e.posted e.left) (get_or_from_slice_get lists k list list at_list)
-      (subst (λ (x : G). IsFollowed moves (x, []) (point_of e) (length (get_or lists k list).items) e.posted e.left) (get_or_from_slice_get gates k gate gate at_gate) (works k d gate list lt)))
+      (subst (λ (x : G). IsFollowed moves (x, []) (point_of e) (length (get_or lists k list).items) e.posted e.left)
+      (get_or_from_slice_get gates k gate gate at_gate) (works k d gate list lt)))
 
   module _ (items : length r.items.items ≡ length results)
-      (told : (k : ℕ) (d : WorkerResult G) (v : Items) → k < length results → IsToldOn moves (point_of (get_or results k d)) (get_or r.items.items k v).items) where
+      (told : (k : ℕ) (d : WorkerResult G) (v : Items) → k < length results
+      → IsToldOn moves (point_of (get_or results k d)) (get_or r.items.items k v).items) where
     -- and what was told later
-    told_on : (k n : ℕ) (gate : G) (list : StepList) (v : Items) → slice_get gates k ≡ Some gate → slice_get lists k ≡ Some list → slice_get r.posted.items k ≡ Some n
+    told_on : (k n : ℕ) (gate : G) (list : StepList) (v : Items) → slice_get gates k ≡ Some gate
+        → slice_get lists k ≡ Some list → slice_get r.posted.items k ≡ Some n
         → slice_get r.items.items k ≡ Some v → k < length results → (d : WorkerResult G)
         → (last : G) × IsFollowed moves (gate, []) (last, v.items) (length list.items) n (get_or results k d).left
     told_on k n gate list v at_gate at_list at_n at_v lt d =
@@ -65,10 +68,12 @@ module _ {G : Type 0} (moves : Moves G) (gates : List G) (lists : List StepList)
         (on.0, v.items, ([], append-nil v.items), followed_cancelled moves (gate, []) (on.0, v.items) (length list.items) n (get_or results k d).left on.1)
 
   -- where the hub has made no turn
-  pub gated_by_none : ((k : ℕ) (v : Items) → k < length r.items.items → (get_or r.items.items k v).items ≡ []) → ((k : ℕ) → length results ≤ k → get_or r.posted.items k 0 ≡ 0)
+  pub gated_by_none : ((k : ℕ) (v : Items) → k < length r.items.items → (get_or r.items.items k v).items ≡ [])
+      → ((k : ℕ) → length results ≤ k → get_or r.posted.items k 0 ≡ 0)
       → AreGatedInPart moves gates lists r
   gated_by_none empty others k n gate list v at_gate at_list at_n at_v =
-      let none : v.items ≡ [] = ap (λ (x : Items). x.items) (sym (get_or_from_slice_get r.items.items k v v at_v)) ∙ empty k v (slice_get_within r.items.items k v at_v) in
+      let none : v.items ≡ [] = ap (λ (x : Items). x.items) (sym (get_or_from_slice_get r.items.items k v v at_v))
+      ∙ empty k v (slice_get_within r.items.items k v at_v) in
       elim (cases_lt k (length results)) [
         | inl lt ↦
             let d = element results k lt in let e = get_or results k d in (
@@ -82,12 +87,14 @@ module _ {G : Type 0} (moves : Moves G) (gates : List G) (lists : List StepList)
               gate,
               [],
               subst (λ (xs : List Item). IsPrefix xs []) (sym none) ([], refl),
-              subst (λ (m : ℕ). IsFollowed moves (gate, []) (gate, []) (length list.items) m false) (sym zero) (followed_none moves (gate, []) (length list.items)),
+              subst (λ (m : ℕ). IsFollowed moves (gate, []) (gate, []) (length list.items) m false) (sym zero)
+                  (followed_none moves (gate, []) (length list.items)),
             )
       ]
 
 -- what each worker was given, and what it made of that
-pub gated_works_of : {G : Type 0} (moves : Moves G) (gates : List G) (lists : List StepList) (children : List (PromisedHandle (WorkerResult G) (WorkerPromise G))) (results : List (WorkerResult G)) (n : ℕ)
+pub gated_works_of : {G : Type 0} (moves : Moves G) (gates : List G) (lists : List StepList)
+    (children : List (PromisedHandle (WorkerResult G) (WorkerPromise G))) (results : List (WorkerResult G)) (n : ℕ)
     → ((k : ℕ) (h : PromisedHandle (WorkerResult G) (WorkerPromise G)) (x : G) → k < n → (get_or children k h).promise.gate.value ≡ get_or gates k x)
     → ((k : ℕ) (h : PromisedHandle (WorkerResult G) (WorkerPromise G)) (l : StepList) → k < n → (get_or children k h).promise.list.value ≡ get_or lists k l)
     → ((k : ℕ) (d : WorkerResult G) (h : PromisedHandle (WorkerResult G) (WorkerPromise G)) → k < n

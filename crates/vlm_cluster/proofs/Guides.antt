@@ -4,7 +4,8 @@ use Rattle.std.proofs.lemmas.List.{append_assoc}
 use Rattle.vlm_journal.specs.declared.entries.Item.{Item}
 use Rattle.vlm_cluster.specs.declared.gate.Go.{Go}
 use Rattle.vlm_cluster.specs.declared.gate.Go.TheVariants.{Later, Post, Stop}
-use Rattle.vlm_cluster.specs.Gates.{AreInTurn, Chain, Event, IsCounted, IsFollowed, IsGuided, IsTold, Point, Standing, Moves, items_told, tellings, asks, tells, open_at, shut_at}
+use Rattle.vlm_cluster.specs.Gates.{AreInTurn, Chain, Event, IsCounted, IsFollowed, IsGuided, IsTold, Point, Standing}
+use Rattle.vlm_cluster.specs.Gates.{Moves, items_told, tellings, asks, tells, open_at, shut_at}
 
 told_more : (es fs : List Event) → items_told (es ++ fs) ≡ items_told es ++ items_told fs
 told_more [] fs = refl
@@ -61,7 +62,8 @@ module _ {G : Type 0} (moves : Moves G) where
   guided_then a b c s t u first second = record {
     events = first.events ++ second.events;
     chain = chain_more first.events second.events a.0 b.0 c.0 first.chain second.chain;
-    told = second.told ∙ ap (λ (xs : List Item). xs ++ items_told second.events) first.told ∙ append_assoc a.1 (items_told first.events) (items_told second.events)
+    told = second.told ∙ ap (λ (xs : List Item). xs ++ items_told second.events) first.told
+        ∙ append_assoc a.1 (items_told first.events) (items_told second.events)
         ∙ ap (λ (xs : List Item). a.1 ++ xs) (sym (told_more first.events second.events));
     asked = in_turn_more first.events second.events s t u first.asked second.asked;
   }
@@ -86,7 +88,8 @@ module _ {G : Type 0} (moves : Moves G) where
   }
 
   -- a round of a worker: it asks, and then takes items
-  pub guided_round : (o a b : Point G) (n : ℕ) (go : Go) (next : G) (s t u : Standing) → IsGuided moves o a s t → moves a.0 (asks n go) next → AreInTurn (asks n go ∷ []) t u
+  pub guided_round : (o a b : Point G) (n : ℕ) (go : Go) (next : G) (s t u : Standing) → IsGuided moves o a s t
+      → moves a.0 (asks n go) next → AreInTurn (asks n go ∷ []) t u
       → IsTold moves (next, a.1) b → IsGuided moves o b s u
   guided_round o a b n go next s t u before word turn told =
       guided_then o a b s t u before (guided_then a (next, a.1) b t u u (guided_ask a.0 next a.1 n go t u word turn) (guided_told (next, a.1) b u told))
@@ -102,7 +105,8 @@ module _ {G : Type 0} (moves : Moves G) where
   told_kept a b gate items = ([], items ∙ sym (append-nil a.1), gate)
 
   -- items that are told later
-  pub followed_told : (o a b : Point G) (size count : ℕ) (whole : Bool) → IsFollowed moves o a size count whole → IsTold moves a b → IsFollowed moves o b size count whole
+  pub followed_told : (o a b : Point G) (size count : ℕ) (whole : Bool) → IsFollowed moves o a size count whole
+      → IsTold moves a b → IsFollowed moves o b size count whole
   followed_told o a b size count whole followed told = record {
     standing = followed.standing;
     guided = guided_then o a b (open_at 0) followed.standing followed.standing followed.guided (guided_told a b followed.standing told);

@@ -1,5 +1,7 @@
 -- What workers hand back, while it is settled.
-use Rattle.std.proofs.Common.{◌≡◌, ◌≢◌, ◌+◌, ◌-◌, ◌<◌, ℕ, zero, suc, List, [], ◌∷◌, ◌++◌, Some, length, map, get_or, replicate, set, take, refl, sym, ap, ◌∙◌, subst, arith, inl, inr, get_or-set_same, get_or-set_other, below_more}
+use Rattle.std.proofs.Common.{◌≡◌, ◌≢◌, ◌+◌, ◌-◌, ◌<◌, ℕ, zero, suc, List, [], ◌∷◌, ◌++◌, Some, length, map, get_or}
+use Rattle.std.proofs.Common.{replicate, set, take, refl, sym, ap, ◌∙◌, subst, arith, inl, inr, get_or-set_same}
+use Rattle.std.proofs.Common.{get_or-set_other, below_more}
 use Rattle.std.specs.List.{slice_get}
 use Rattle.std.proofs.Math.Seq.{map-set_same}
 use Rattle.std.proofs.lemmas.Bool.{cases_eq}
@@ -36,17 +38,20 @@ zeros (suc n) zero = refl
 zeros (suc n) (suc k) = zeros n k
 
 module _ {G : Type 0} where
-  pub works_set : (ds : List (WorkerResult G)) (at : ℕ) (d was : WorkerResult G) → was ≡ get_or ds at was → work_of d ≡ work_of was → map work_of (set ds at d) ≡ map work_of ds
+  pub works_set : (ds : List (WorkerResult G)) (at : ℕ) (d was : WorkerResult G) → was ≡ get_or ds at was
+      → work_of d ≡ work_of was → map work_of (set ds at d) ≡ map work_of ds
   works_set ds at d was is same = map-set_same work_of ds at d was (same ∙ ap work_of is)
 
   pub as_many : (xs bs : List (WorkerResult G)) → map work_of xs ≡ map work_of bs → length xs ≡ length bs
   as_many xs bs same = sym (length-map xs work_of) ∙ ap (λ (ws : List Work). length ws) same ∙ length-map bs work_of
 
   -- the same work at each place
-  pub work_at : (xs bs : List (WorkerResult G)) → map work_of xs ≡ map work_of bs → (k : ℕ) (d : WorkerResult G) → k < length xs → work_of (get_or xs k d) ≡ work_of (get_or bs k d)
+  pub work_at : (xs bs : List (WorkerResult G)) → map work_of xs ≡ map work_of bs → (k : ℕ) (d : WorkerResult G)
+      → k < length xs → work_of (get_or xs k d) ≡ work_of (get_or bs k d)
   work_at xs bs same k d lt =
       let n = as_many xs bs same in
-      sym (get_or-map work_of xs k d (work_of d) lt) ∙ ap (λ (ws : List Work). get_or ws k (work_of d)) same ∙ get_or-map work_of bs k d (work_of d) (omega (arith, n, lt))
+      sym (get_or-map work_of xs k d (work_of d) lt) ∙ ap (λ (ws : List Work). get_or ws k (work_of d)) same
+      ∙ get_or-map work_of bs k d (work_of d) (omega (arith, n, lt))
 
   pub ports_kept : (h i : Hub) (xs bs : List (WorkerResult G)) → rings i ≡ rings h → map work_of bs ≡ map work_of xs → ArePortsOf h xs → ArePortsOf i bs
   ports_kept h i xs bs same_rings same are k d lt =
@@ -55,7 +60,8 @@ module _ {G : Type 0} where
       let port : identity (get_or bs k d).client.port ≡ identity (get_or xs k d).client.port = ap (λ (w : Work). w.port) (work_at bs xs same k d lt) in
       subst (λ rs. P rs (identity (get_or bs k d).client.port)) (sym same_rings) (subst (λ port. P (rings h) port) (sym port) (are k d (omega (arith, n, lt))))
 
-  pub begun_more : (es : List Entry) (ds : List (WorkerResult G)) (at : ℕ) (d : WorkerResult G) → at < length ds → AreBegun es ds at → IsBegun es (work_of d) d.client.items.items
+  pub begun_more : (es : List Entry) (ds : List (WorkerResult G)) (at : ℕ) (d : WorkerResult G) → at < length ds
+      → AreBegun es ds at → IsBegun es (work_of d) d.client.items.items
       → AreBegun es (set ds at d) (at + 1)
   begun_more es ds at d lt before here k e below =
       let P : WorkerResult G → Type 0 = λ x. IsBegun es (work_of x) x.client.items.items in
@@ -64,7 +70,8 @@ module _ {G : Type 0} where
       (subst P (sym (get_or-set_same ds at d e lt)) here)
       k below
 
-  pub whole_more : (es : List Entry) (ds : List (WorkerResult G)) (at : ℕ) (d : WorkerResult G) → at < length ds → AreWhole es ds at → IsWhole es (work_of d) d.client.items.items
+  pub whole_more : (es : List Entry) (ds : List (WorkerResult G)) (at : ℕ) (d : WorkerResult G) → at < length ds
+      → AreWhole es ds at → IsWhole es (work_of d) d.client.items.items
       → AreWhole es (set ds at d) (at + 1)
   whole_more es ds at d lt before here k e below =
       let P : WorkerResult G → Type 0 = λ x. IsWhole es (work_of x) x.client.items.items in
@@ -78,7 +85,8 @@ module _ {G : Type 0} where
 
   pub told_on : (moves : Moves G) (ds xs ys : List (WorkerResult G)) → length ds ≡ length xs → AreTold moves ds xs → AreTold moves xs ys → AreTold moves ds ys
   told_on moves ds xs ys long first second k d below =
-      told_then moves (point_of (get_or ds k d)) (point_of (get_or xs k d)) (point_of (get_or ys k d)) (first k d below) (second k d (omega (arith, long, below)))
+      told_then moves (point_of (get_or ds k d)) (point_of (get_or xs k d)) (point_of (get_or ys k d)) (first k d below)
+      (second k d (omega (arith, long, below)))
 
   pub told_set : (moves : Moves G) (ds xs : List (WorkerResult G)) (at : ℕ) (d was : WorkerResult G) → at < length xs → AreTold moves ds xs
       → IsTold moves (point_of (get_or xs at was)) (point_of d) → AreTold moves ds (set xs at d)
@@ -88,7 +96,8 @@ module _ {G : Type 0} where
             let is : get_or xs k e ≡ get_or xs at was = ap (λ (m : ℕ). get_or xs m e) same ∙ get_or_default xs at e was lt in
             let new : get_or (set xs at d) k e ≡ d = ap (λ (m : ℕ). get_or (set xs at d) m e) same ∙ get_or-set_same xs at d e lt in
             subst (λ (x : WorkerResult G). IsTold moves first (point_of x)) (sym new)
-            (told_then moves first (point_of (get_or xs at was)) (point_of d) (subst (λ (x : WorkerResult G). IsTold moves first (point_of x)) is (before k e below)) here)
+            (told_then moves first (point_of (get_or xs at was)) (point_of d)
+            (subst (λ (x : WorkerResult G). IsTold moves first (point_of x)) is (before k e below)) here)
         | inr other ↦ subst (λ (x : WorkerResult G). IsTold moves first (point_of x)) (sym (get_or-set_other xs at k d e other)) (before k e below)
       ]
 
@@ -98,21 +107,24 @@ module _ {G : Type 0} where
     item_at : (k : ℕ) (d : WorkerResult G) (v : Items) → k < length xs → get_or vs k v ≡ (get_or xs k d).client.items
     item_at k d v lt = ap (λ (ys : List Items). get_or ys k v) are ∙ get_or-map (λ (x : WorkerResult G). x.client.items) xs k d v lt
 
-    pub begun_at : AreBegun es xs (length xs) → (k : ℕ) (d : WorkerResult G) (v : Items) → k < length ds → IsBegun es (work_of (get_or ds k d)) (get_or vs k v).items
+    pub begun_at : AreBegun es xs (length xs) → (k : ℕ) (d : WorkerResult G) (v : Items) → k < length ds
+        → IsBegun es (work_of (get_or ds k d)) (get_or vs k v).items
     begun_at begun k d v below =
         let n = as_many xs ds same in
         let lt : k < length xs = omega (arith, n, below) in
         subst (λ (w : Work). IsBegun es w (get_or vs k v).items) (work_at xs ds same k d lt)
         (subst (λ (x : Items). IsBegun es (work_of (get_or xs k d)) x.items) (sym (item_at k d v lt)) (begun k d lt))
 
-    pub whole_at : AreWhole es xs (length xs) → (k : ℕ) (d : WorkerResult G) (v : Items) → k < length ds → IsWhole es (work_of (get_or ds k d)) (get_or vs k v).items
+    pub whole_at : AreWhole es xs (length xs) → (k : ℕ) (d : WorkerResult G) (v : Items) → k < length ds
+        → IsWhole es (work_of (get_or ds k d)) (get_or vs k v).items
     whole_at whole k d v below =
         let n = as_many xs ds same in
         let lt : k < length xs = omega (arith, n, below) in
         subst (λ (w : Work). IsWhole es w (get_or vs k v).items) (work_at xs ds same k d lt)
         (subst (λ (x : Items). IsWhole es (work_of (get_or xs k d)) x.items) (sym (item_at k d v lt)) (whole k d lt))
 
-    pub told_at : (moves : Moves G) → AreTold moves ds xs → (k : ℕ) (d : WorkerResult G) (v : Items) → k < length ds → IsToldOn moves (point_of (get_or ds k d)) (get_or vs k v).items
+    pub told_at : (moves : Moves G) → AreTold moves ds xs → (k : ℕ) (d : WorkerResult G) (v : Items) → k < length ds
+        → IsToldOn moves (point_of (get_or ds k d)) (get_or vs k v).items
     told_at moves told k d v below =
         let n = as_many xs ds same in
         let lt : k < length xs = omega (arith, n, below) in (

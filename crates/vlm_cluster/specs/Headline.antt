@@ -1,9 +1,10 @@
 -- What the report of a run says.
-use Rattle.std.specs.Prelude.{◌≡◌, ◌<◌, ◌≤◌, ◌+◌, ◌++◌, ℕ, Bool, true, false, IfErr, IfOk, Result, List, [], ◌∷◌, None, Option, Some, length, slice_get, take, ⊤}
+use Rattle.std.specs.Prelude.{◌≡◌, ◌<◌, ◌≤◌, ◌+◌, ◌++◌, ℕ, Bool, true, false, IfErr, IfOk, Result, List, [], ◌∷◌, None}
+use Rattle.std.specs.Prelude.{Option, Some, length, slice_get, take, ⊤}
 use Rattle.std.specs.declared.alloc.Global.{Global}
 use Rattle.std.specs.declared.vec.Vec.{Vec}
 use mathlib.Core.List.{IsPrefix}
-use Rattle.vlm_words.specs.declared.locks.LockRow.{LockRow}
+use Rattle.vlm_words.specs.declared.locks.LockState.{LockState}
 use Rattle.vlm_words.specs.declared.steps.Step.{Step}
 use Rattle.vlm_words.specs.declared.steps.Step.TheVariants.{Leave}
 use Rattle.vlm_model.specs.Laws.{EachRequestEndsOnce, GrantsFollowQueueOrder, HeldModesAreCompatible}
@@ -95,7 +96,7 @@ RequestsEndOnce entries last = HoldsThroughout (λ history state. EachRequestEnd
 -- each step that is not refused grants in queue order, conversions before new requests, at each place of the journal
 abbrev pub GrantsKeepOrder : List Entry → State → Type 0
 GrantsKeepOrder entries last = HoldsThroughout
-    (λ history state. (step : Step) (choice : Option LockRow) → IsChoice state step choice
+    (λ history state. (step : Step) (choice : Option LockState) → IsChoice state step choice
     → step_refusal state step ≡ None
     → GrantsFollowQueueOrder state step choice)
     entries last

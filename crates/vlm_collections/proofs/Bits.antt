@@ -66,7 +66,8 @@ tells-one lower lower' upper upper' n tells low up = record {
 }
 
 -- where a word becomes 0, its bit does too
-pub tells-none : (lower lower' upper upper' : List ℕ) (n : ℕ) → Tells lower upper → Sets 0 n lower lower' → slice_index lower' (n / 64) ≡ 0 → Sets 0 (n / 64) upper upper' → Tells lower' upper'
+pub tells-none : (lower lower' upper upper' : List ℕ) (n : ℕ) → Tells lower upper → Sets 0 n lower lower'
+    → slice_index lower' (n / 64) ≡ 0 → Sets 0 (n / 64) upper upper' → Tells lower' upper'
 tells-none lower lower' upper upper' n tells low empty up = record {
   each = λ word. elim (cases_eq word (n / 64)) [
     | inl same ↦
@@ -76,7 +77,8 @@ tells-none lower lower' upper upper' n tells low empty up = record {
 }
 
 -- where a word stays what it was, 0 or not, the level above stays
-pub tells-kept : (lower lower' upper : List ℕ) (b n : ℕ) → Tells lower upper → Sets b n lower lower' → min 1 (slice_index lower (n / 64)) ≡ min 1 (slice_index lower' (n / 64)) → Tells lower' upper
+pub tells-kept : (lower lower' upper : List ℕ) (b n : ℕ) → Tells lower upper → Sets b n lower lower'
+    → min 1 (slice_index lower (n / 64)) ≡ min 1 (slice_index lower' (n / 64)) → Tells lower' upper
 tells-kept lower lower' upper b n tells low stays = record {
   each = λ word. elim (cases_eq word (n / 64)) [
     | inl same ↦ rw same (tells.each (n / 64) ∙ stays)
@@ -112,7 +114,8 @@ pub no_bits : (words : List ℕ) → ((k : ℕ) → slice_index words k ≡ 0) �
 no_bits words empty n = bit_of-zero words n (empty (n / 64))
 
 -- the first bit of the first word that is not 0
-pub first_in : (words : List ℕ) (word : ℕ) → IsFirstWord words word → slice_index words word < 2 ^ 64 → IsFirstBit words (64 * word + trailing_zeros w64 (slice_index words word))
+pub first_in : (words : List ℕ) (word : ℕ) → IsFirstWord words word → slice_index words word < 2 ^ 64
+    → IsFirstBit words (64 * word + trailing_zeros w64 (slice_index words word))
 unfolding bit_of
 first_in words word first fits =
     let lowest = bit_at-trailing_zeros w64 (slice_index words word) first.some fits in

@@ -68,7 +68,8 @@ module _ (next prev : Spot → Spot) where
   next_is_first from (first ∷ rest) chain = chain.0
 
   -- and from each handle to the one that follows it
-  pub next_is_after : (from : Spot) (handles : List ℕ) (handle : ℕ) → IsChain next prev from handles → IsApart handles → IsIn handle handles → next (Some handle) ≡ handle_after handle handles
+  pub next_is_after : (from : Spot) (handles : List ℕ) (handle : ℕ) → IsChain next prev from handles → IsApart handles
+      → IsIn handle handles → next (Some handle) ≡ handle_after handle handles
   next_is_after from [] handle chain apart found = absurd found
   next_is_after from (first ∷ rest) handle chain apart found =
       elim (cases_eq first handle) [
@@ -84,7 +85,8 @@ module _ (next prev : Spot → Spot) where
   prev_is_last from (first ∷ rest) chain = prev_is_last (Some first) rest chain.2
 
   -- and from each handle to the one that it follows
-  pub prev_is_before : (from : Spot) (handles : List ℕ) (handle : ℕ) → IsChain next prev from handles → IsIn handle handles → prev (Some handle) ≡ before_from from handle handles
+  pub prev_is_before : (from : Spot) (handles : List ℕ) (handle : ℕ) → IsChain next prev from handles
+      → IsIn handle handles → prev (Some handle) ≡ before_from from handle handles
   prev_is_before from [] handle chain found = absurd found
   prev_is_before from (first ∷ rest) handle chain found =
       elim (cases_eq first handle) [
@@ -124,7 +126,9 @@ module _ (next prev next' prev' : Spot → Spot) where
 
   -- a handle leaves, and its neighbours are joined
   pub IsChain-skip : (from : Spot) (handles : List ℕ) (handle : ℕ) → IsChain next prev from handles → IsApart handles → IsOff handles from → IsIn handle handles
-      → Joins next next' (prev (Some handle)) (next (Some handle)) → Joins prev prev' (next (Some handle)) (prev (Some handle)) → IsChain next' prev' from (without handle handles)
+      → Joins next next' (prev (Some handle)) (next (Some handle))
+      → Joins prev prev' (next (Some handle)) (prev (Some handle))
+      → IsChain next' prev' from (without handle handles)
   IsChain-skip from [] handle chain apart from_off found nexts prevs = absurd found
   IsChain-skip from (first ∷ rest) handle chain apart from_off found nexts prevs =
       elim (cases_eq first handle) [
@@ -137,8 +141,12 @@ module _ (next prev next' prev' : Spot → Spot) where
             let there : IsIn handle rest = elim found [ inl here ↦ absurd (differs here) | inr later ↦ later ] in
             let first_off = IsOff-head first rest apart.0 in
             subst (λ ks. IsChain next' prev' from ks) (sym (without_past handle first rest differs)) (
-              nexts.others from (off_not_on (Some first) rest from _ (from_off first (inl refl)) (λ k later. from_off k (inr later)) (prev_on next prev (Some first) rest handle chain.2 there)) ∙ chain.0,
-              prevs.others (Some first) (off_not_on None rest (Some first) _ (some_not_none first) first_off (next_on next prev (Some first) rest handle chain.2 there)) ∙ chain.1,
+              nexts.others from (off_not_on (Some first) rest from _ (from_off first (inl refl))
+                  (λ k later. from_off k (inr later)) (prev_on next prev (Some first) rest handle chain.2 there))
+                  ∙ chain.0,
+              prevs.others (Some first)
+                  (off_not_on None rest (Some first) _ (some_not_none first) first_off
+                  (next_on next prev (Some first) rest handle chain.2 there)) ∙ chain.1,
               IsChain-skip (Some first) rest handle chain.2 apart.1 first_off there nexts prevs,
             )
       ]
@@ -152,13 +160,15 @@ module _ (next prev next' prev' : Spot → Spot) where
     pub nexts : (other : Spot) → other ≢ prev None → other ≢ Some handle → next' other ≡ next other
     pub prevs : (other : Spot) → other ≢ None → other ≢ Some handle → prev' other ≡ prev other
 
-  pub IsChain-push : (from : Spot) (handles : List ℕ) (handle : ℕ) → IsChain next prev from handles → IsApart handles → IsOff handles from → ¬ IsIn handle handles → from ≢ Some handle
+  pub IsChain-push : (from : Spot) (handles : List ℕ) (handle : ℕ) → IsChain next prev from handles → IsApart handles
+      → IsOff handles from → ¬ IsIn handle handles → from ≢ Some handle
       → Inserts handle → IsChain next' prev' from (handles ++ handle ∷ [])
   IsChain-push from [] handle chain apart from_off absent other inserts =
       (ap next' (sym chain.1) ∙ inserts.into, inserts.back_out ∙ chain.1, (inserts.out, inserts.back_into))
   IsChain-push from (first ∷ rest) handle chain apart from_off absent other inserts =
       let new : Some first ≢ Some handle = λ same. absent (inl (same_Some first handle same)) in (
-        inserts.nexts from (off_not_on (Some first) rest from _ (from_off first (inl refl)) (λ k later. from_off k (inr later)) (prev_end_on next prev (Some first) rest chain.2)) other ∙ chain.0,
+        inserts.nexts from (off_not_on (Some first) rest from _ (from_off first (inl refl))
+            (λ k later. from_off k (inr later)) (prev_end_on next prev (Some first) rest chain.2)) other ∙ chain.0,
         inserts.prevs (Some first) (some_not_none first) new ∙ chain.1,
         IsChain-push (Some first) rest handle chain.2 apart.1 (IsOff-head first rest apart.0) (λ later. absent (inr later)) new inserts,
       )

@@ -1,5 +1,6 @@
 -- Lists of handles that are apart.
-use Rattle.std.proofs.Common.{◌≡◌, ◌≢◌, ◌⊎◌, ℕ, zero, suc, ◌+◌, ◌<◌, ◌≤◌, List, [], ◌∷◌, ◌++◌, length, map, slice_get, Some, refl, sym, ap, ◌∙◌, subst, inl, inr, arith, eq-eqb, ne_eqb}
+use Rattle.std.proofs.Common.{◌≡◌, ◌≢◌, ◌⊎◌, ℕ, zero, suc, ◌+◌, ◌<◌, ◌≤◌, List, [], ◌∷◌, ◌++◌, length, map, slice_get}
+use Rattle.std.proofs.Common.{Some, refl, sym, ap, ◌∙◌, subst, inl, inr, arith, eq-eqb, ne_eqb}
 use Rattle.std.proofs.lemmas.Bool.{cases_eq, cond-true, cond-false, not_from_true, not_from_false}
 use Rattle.std.proofs.lemmas.Option.{none-some, same_Some}
 use Rattle.vlm_collections.specs.Lists.{without, IsIn, IsApart}
@@ -17,7 +18,8 @@ without_absent handle (first ∷ rest) absent =
     ∙ ap (λ xs. first ∷ xs) (without_absent handle rest (λ found. absent (inr found)))
 
 -- the first of handles that are apart leaves the rest behind
-pub without_first : (handle : ℕ) (handles : List ℕ) → IsApart handles → Some handle ≡ slice_get handles 0 → (handles ≡ handle ∷ without handle handles) × (¬ IsIn handle (without handle handles))
+pub without_first : (handle : ℕ) (handles : List ℕ) → IsApart handles → Some handle ≡ slice_get handles 0
+    → (handles ≡ handle ∷ without handle handles) × (¬ IsIn handle (without handle handles))
 without_first handle [] apart first = absurd (none-some handle (sym first))
 without_first handle (head ∷ rest) apart first =
     let same = sym (same_Some handle head first) in

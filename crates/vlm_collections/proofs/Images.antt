@@ -17,7 +17,8 @@ IsIn-of_image f (x ∷ xs) y found =
     ]
 
 -- an image that tells of what it is
-pub IsIn-told : {A B : Type 0} (f : A → B) (told : B → A) → ((x : A) → told (f x) ≡ x) → (xs : List A) (y : B) → IsIn y (map f xs) → IsIn (told y) xs × (f (told y) ≡ y)
+pub IsIn-told : {A B : Type 0} (f : A → B) (told : B → A) → ((x : A) → told (f x) ≡ x) → (xs : List A) (y : B)
+    → IsIn y (map f xs) → IsIn (told y) xs × (f (told y) ≡ y)
 IsIn-told f told tells xs y found =
     let of = IsIn-of_image f xs y found in
     let is = ap told (sym of.1.1) ∙ tells of.0 in

@@ -1,5 +1,7 @@
 -- What an index in parts finds, and how much room it has, as one of its parts is written.
-use Rattle.std.proofs.Common.{◌≡◌, ◌≢◌, ◌+◌, ◌≤◌, ◌<◌, ℕ, zero, suc, Bool, true, false, nat_eq, List, [], ◌∷◌, Option, None, Some, Result, Ok, Err, OnOk, length, slice_get, slice_index_or, set, refl, sym, ap, ◌∙◌, inl, inr, arith}
+use Rattle.std.proofs.Common.{◌≡◌, ◌≢◌, ◌+◌, ◌≤◌, ◌<◌, ℕ, zero, suc, Bool, true, false, nat_eq, List, [], ◌∷◌, Option}
+use Rattle.std.proofs.Common.{None, Some, Result, Ok, Err, OnOk, length, slice_get, slice_index_or, set, refl, sym, ap}
+use Rattle.std.proofs.Common.{◌∙◌, inl, inr, arith}
 use Rattle.std.specs.Cmp.{unsigned_Decides}
 use Rattle.std.specs.Map.{lookup}
 use Rattle.std.specs.Option.{option_map_or}
@@ -33,14 +35,19 @@ spare_of_part (part ∷ parts) zero = refl
 spare_of_part (part ∷ parts) (suc k) = spare_of_part parts k
 
 -- empty parts find nothing
-pub none_found : (parts : Parts) → ((k : ℕ) (part : IndexMap ℕ ℕ HashSpread) → k < 64 → IsEmpty (slice_index_or parts k part)) → (number : ℕ) → handle_in parts number ≡ None
+pub none_found : (parts : Parts)
+    → ((k : ℕ) (part : IndexMap ℕ ℕ HashSpread) → k < 64 → IsEmpty (slice_index_or parts k part)) → (number : ℕ)
+    → handle_in parts number ≡ None
 unfolding handle_in
 none_found parts empty number = by_slot (slice_get parts (part_of number)) refl
   where
-    by_slot : (slot : Option (IndexMap ℕ ℕ HashSpread)) → slice_get parts (part_of number) ≡ slot → option_map_or (λ part. get nat_eq part number) slot None ≡ None
+    by_slot : (slot : Option (IndexMap ℕ ℕ HashSpread)) → slice_get parts (part_of number) ≡ slot
+        → option_map_or (λ part. get nat_eq part number) slot None ≡ None
     by_slot None is = refl
     by_slot (Some part) is =
-        let none = ap (λ (m : IndexMap ℕ ℕ HashSpread). m.entries) (sym (get_or_from_slice_get parts (part_of number) part part is)) ∙ empty (part_of number) part (omega arith) in
+        let none = ap (λ (m : IndexMap ℕ ℕ HashSpread). m.entries)
+        (sym (get_or_from_slice_get parts (part_of number) part part is))
+        ∙ empty (part_of number) part (omega arith) in
         ap (lookup (nat_eq number)) none
 
 module _ (parts : Parts) (number : ℕ) (other_part : IndexMap ℕ ℕ HashSpread) (sized : length parts ≡ 64) where

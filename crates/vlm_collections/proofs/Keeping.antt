@@ -7,7 +7,8 @@ use Rattle.vlm_collections.specs.Lists.{IsIn, IsLinked, IsRelinked, Relinks, han
 use Rattle.vlm_collections.proofs.Rings.{same-handles, same-linked}
 
 -- what is read off a record, and is none of its neighbours of this kind, stays
-pub relinked_same : {T X : Type 0} (with_links : T → Links → T) (read : Option T → X) → ((r : T) (pair : Links) → read (Some (with_links r pair)) ≡ read (Some r))
+pub relinked_same : {T X : Type 0} (with_links : T → Links → T) (read : Option T → X)
+    → ((r : T) (pair : Links) → read (Some (with_links r pair)) ≡ read (Some r))
     → (old new : Slab T) → Relinks with_links old new → (handle : ℕ) → read (get new handle) ≡ read (get old handle)
 relinked_same {T} {X} with_links read apart old new relinks handle = slot_same (get old handle) (get new handle) (relinks.records handle)
   where
@@ -17,7 +18,8 @@ relinked_same {T} {X} with_links read apart old new relinks handle = slot_same (
 
 module _ {T : Type 0} (links : T → Links) {Kind : Type 0} where
   -- a handle without a record is in no list
-  pub vacant_unlisted : (nodes : Slab T) (list : LinkedList Kind) → IsLinked links nodes list → (handle : ℕ) → get nodes handle ≡ None → ¬ IsIn handle (handles_of links nodes list)
+  pub vacant_unlisted : (nodes : Slab T) (list : LinkedList Kind) → IsLinked links nodes list → (handle : ℕ)
+      → get nodes handle ≡ None → ¬ IsIn handle (handles_of links nodes list)
   vacant_unlisted nodes list linked handle vacant found =
       let there : ContainsKey nodes handle = linked.present handle found in
       let nothing : IsSome {T = T} None = rw vacant at there in

@@ -1,5 +1,6 @@
 -- The levels as a number is marked or unmarked, and as there is more room.
-use Rattle.std.proofs.Common.{◌≡◌, ℕ, ◌+◌, ◌-◌, ◌*◌, ◌/◌, ◌<◌, ◌≤◌, Bool, false, List, ◌++◌, length, replicate, set, take, take_all, refl, subst, sym, ap, ◌∙◌, arith}
+use Rattle.std.proofs.Common.{◌≡◌, ℕ, ◌+◌, ◌-◌, ◌*◌, ◌/◌, ◌<◌, ◌≤◌, Bool, false, List, ◌++◌, length, replicate, set}
+use Rattle.std.proofs.Common.{take, take_all, refl, subst, sym, ap, ◌∙◌, arith}
 use Rattle.std.specs.Prelude.{◌==◌, slice_index}
 use Rattle.std.specs.Vec.{with_items}
 use Rattle.std.proofs.lemmas.List.{with_items_is}
@@ -14,7 +15,9 @@ pub has_word : (m : Inside) (marks : List Bool) (n : ℕ) → marks_of m.numbers
 has_word m marks n shown within = omega (arith, length-marks_of m.numbers.items, ap length shown)
 
 -- a bit of the lowest level is a mark
-pub marks-set : (m : Inside) (old new : List ℕ) (marks : List Bool) (bit place n : ℕ) → old ≡ m.numbers.items → length new ≡ length m.numbers.items → marks_of m.numbers.items ≡ marks → place ≡ n → n < length marks → Sets bit place old new → marks_of (with_items m.numbers new).items ≡ set marks n (bit == 1)
+pub marks-set : (m : Inside) (old new : List ℕ) (marks : List Bool) (bit place n : ℕ) → old ≡ m.numbers.items
+    → length new ≡ length m.numbers.items → marks_of m.numbers.items ≡ marks → place ≡ n → n < length marks
+    → Sets bit place old new → marks_of (with_items m.numbers new).items ≡ set marks n (bit == 1)
 marks-set m old new marks bit place n is len shown same within low =
     let sets : Sets bit n m.numbers.items new = rw (sym is, sym same) low in
     ap marks_of (with_items_is m.numbers new (len ∙ sym m.numbers.ok.0))
@@ -34,7 +37,8 @@ levels_of m new words top levels len len_top lower upper =
     }
 
 -- a bit becomes 1 in each level
-pub levels-marked : (m : Inside) (old new words top : List ℕ) (n : ℕ) → IsLevelled m → old ≡ m.numbers.items → length new ≡ length m.numbers.items → length top ≡ length m.top
+pub levels-marked : (m : Inside) (old new words top : List ℕ) (n : ℕ) → IsLevelled m → old ≡ m.numbers.items
+    → length new ≡ length m.numbers.items → length top ≡ length m.top
     → Sets 1 n old new → Sets 1 (n / 64) m.words words → Sets 1 (n / 64 / 64) m.top top
     → IsLevelled (record { numbers = with_items m.numbers new; words = words; top = top })
 levels-marked m old new words top n levels is len len_top low up highest =
@@ -65,7 +69,8 @@ levels-word m old new words n levels is len low empty up none some =
     (tells-kept m.words words m.top 0 (n / 64) levels.top up (stays (slice_index m.words (n / 64 / 64)) (slice_index words (n / 64 / 64)) none some))
 
 -- a word becomes 0 in each level but the top one
-pub levels-top : (m : Inside) (old new words top : List ℕ) (n : ℕ) → IsLevelled m → old ≡ m.numbers.items → length new ≡ length m.numbers.items → length top ≡ length m.top
+pub levels-top : (m : Inside) (old new words top : List ℕ) (n : ℕ) → IsLevelled m → old ≡ m.numbers.items
+    → length new ≡ length m.numbers.items → length top ≡ length m.top
     → Sets 0 n old new → slice_index new (n / 64) ≡ 0 → Sets 0 (n / 64) m.words words → slice_index words (n / 64 / 64) ≡ 0 → Sets 0 (n / 64 / 64) m.top top
     → IsLevelled (record { numbers = with_items m.numbers new; words = words; top = top })
 levels-top m old new words top n levels is len len_top low empty up empty_above highest =
@@ -75,11 +80,13 @@ levels-top m old new words top n levels is len len_top low empty up empty_above 
     (tells-none m.words words m.top top (n / 64) levels.top up empty_above highest)
 
 -- words are put behind those that there are
-resized : (old new : List ℕ) (count : ℕ) → length old < count → new ≡ take count old ++ replicate (count - length old) 0 → new ≡ old ++ replicate (count - length old) 0
+resized : (old new : List ℕ) (count : ℕ) → length old < count → new ≡ take count old ++ replicate (count - length old) 0
+    → new ≡ old ++ replicate (count - length old) 0
 resized old new count less is = is ∙ ap (λ l. l ++ replicate (count - length old) 0) (take_all count old (omega arith))
 
 -- the numbers that are new have no marks
-pub marks-grown : (m : Inside) (new : List ℕ) (marks : List Bool) (count : ℕ) → marks_of m.numbers.items ≡ marks → length m.numbers.items < count → new ≡ take count m.numbers.items ++ replicate (count - length m.numbers.items) 0
+pub marks-grown : (m : Inside) (new : List ℕ) (marks : List Bool) (count : ℕ) → marks_of m.numbers.items ≡ marks
+    → length m.numbers.items < count → new ≡ take count m.numbers.items ++ replicate (count - length m.numbers.items) 0
     → marks_of new ≡ marks ++ replicate (length (marks_of new) - length marks) false
 marks-grown m new marks count shown less is =
     marks_of-more m.numbers.items new (count - length m.numbers.items) (resized m.numbers.items new count less is)
@@ -90,9 +97,11 @@ pub room_for : (new : List ℕ) (place n : ℕ) → place ≡ n → length new �
 room_for new place n same len = omega (arith, length-marks_of new)
 
 -- where there are fewer words there is no room for the first number of the last one
-pub no_room : (m : Inside) (marks : List Bool) (place n : ℕ) → marks_of m.numbers.items ≡ marks → place ≡ n → length m.numbers.items < place / 64 + 1 → 64 * (n / 64) < length marks → ⊥
+pub no_room : (m : Inside) (marks : List Bool) (place n : ℕ) → marks_of m.numbers.items ≡ marks → place ≡ n
+    → length m.numbers.items < place / 64 + 1 → 64 * (n / 64) < length marks → ⊥
 no_room m marks place n shown same less within = omega (arith, has_word m marks (64 * (n / 64)) shown within)
 
 -- where there are as many words there is room
-pub has_room : (m : Inside) (marks : List Bool) (place n : ℕ) → marks_of m.numbers.items ≡ marks → place ≡ n → place / 64 + 1 ≤ length m.numbers.items → n < length marks
+pub has_room : (m : Inside) (marks : List Bool) (place n : ℕ) → marks_of m.numbers.items ≡ marks → place ≡ n
+    → place / 64 + 1 ≤ length m.numbers.items → n < length marks
 has_room m marks place n shown same enough = omega (arith, length-marks_of m.numbers.items, ap length shown)

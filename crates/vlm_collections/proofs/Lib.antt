@@ -8,5 +8,4 @@ pub mod IndexParts
 pub mod Bits
 pub mod Levels
 pub mod Numbers
-pub mod Placed
 pub mod Cleared

@@ -1,5 +1,6 @@
 -- The marks of numbers, by their bits.
-use Rattle.std.proofs.Common.{◌≡◌, ℕ, ◌+◌, ◌-◌, ◌*◌, ◌/◌, ◌<◌, ◌≤◌, Bool, false, List, ◌++◌, length, get_or, set, replicate, None, Some, refl, sym, ap, ◌∙◌, inl, inr, arith}
+use Rattle.std.proofs.Common.{◌≡◌, ℕ, ◌+◌, ◌-◌, ◌*◌, ◌/◌, ◌<◌, ◌≤◌, Bool, false, List, ◌++◌, length, get_or, set}
+use Rattle.std.proofs.Common.{replicate, None, Some, refl, sym, ap, ◌∙◌, inl, inr, arith}
 use Rattle.std.specs.Prelude.{◌==◌, position}
 use Rattle.std.proofs.lemmas.Bool.{cases_eq, le-ltb, lt-ltb}
 use Rattle.std.proofs.lemmas.List.{get_or-set_same, get_or-set_other, get_or_past, get_or-replicate, length-append, length-replicate, length-set}
@@ -31,7 +32,8 @@ marked words n =
     ]
 
 -- a bit that changes is a mark that changes
-pub marks_of-set : (words words' : List ℕ) (n b : ℕ) → length words' ≡ length words → n < 64 * length words → Sets b n words words' → marks_of words' ≡ set (marks_of words) n (b == 1)
+pub marks_of-set : (words words' : List ℕ) (n b : ℕ) → length words' ≡ length words → n < 64 * length words
+    → Sets b n words words' → marks_of words' ≡ set (marks_of words) n (b == 1)
 unfolding marks_of
 marks_of-set words words' n b same within sets =
     sym (fill_by_all (λ k. bit_of words' k == 1) (set (marks_of words) n (b == 1)) (64 * length words') false
@@ -84,7 +86,8 @@ marks_of-grown words more =
         let more_marks : length (replicate {A = Bool} (64 * more) false) ≡ 64 * more = length-replicate (64 * more) false in
         simp (length-append, length-marks_of) (omega arith)
 
-    each : (k : ℕ) → k < 64 * length (words ++ replicate more 0) → get_or (marks_of words ++ replicate (64 * more) false) k false ≡ (bit_of (words ++ replicate more 0) k == 1)
+    each : (k : ℕ) → k < 64 * length (words ++ replicate more 0)
+        → get_or (marks_of words ++ replicate (64 * more) false) k false ≡ (bit_of (words ++ replicate more 0) k == 1)
     each k h =
         get_or-behind (marks_of words) (64 * more) k false ∙ marked words k
         ∙ ap (λ b. b == 1) (sym (bit_of-grown words more k))
@@ -110,7 +113,8 @@ position-none words none =
     rw (place, le-ltb count count (omega arith)) refl
 
 -- the numbers that are new have no marks
-pub marks_of-more : (old new : List ℕ) (more : ℕ) → new ≡ old ++ replicate more 0 → marks_of new ≡ marks_of old ++ replicate (length (marks_of new) - length (marks_of old)) false
+pub marks_of-more : (old new : List ℕ) (more : ℕ) → new ≡ old ++ replicate more 0
+    → marks_of new ≡ marks_of old ++ replicate (length (marks_of new) - length (marks_of old)) false
 marks_of-more old new more is =
     let more_words : length (replicate {A = ℕ} more 0) ≡ more = length-replicate more 0 in
     let words : length new ≡ length old + length (replicate {A = ℕ} more 0) = ap length is ∙ length-append old (replicate more 0) in

@@ -1,5 +1,6 @@
 -- What joining and leaving make of a list that runs through a slab.
-use Rattle.std.proofs.Common.{◌≡◌, ◌≢◌, ℕ, ◌+◌, ◌-◌, ◌<◌, ◌≤◌, List, [], ◌∷◌, ◌++◌, length, Option, Some, None, IsSome, refl, sym, ap, ◌∙◌, subst, inl, inr, arith, length-append}
+use Rattle.std.proofs.Common.{◌≡◌, ◌≢◌, ℕ, ◌+◌, ◌-◌, ◌<◌, ◌≤◌, List, [], ◌∷◌, ◌++◌, length, Option, Some, None, IsSome}
+use Rattle.std.proofs.Common.{refl, sym, ap, ◌∙◌, subst, inl, inr, arith, length-append}
 use Rattle.std.proofs.lemmas.Bool.{cases_eq}
 use Rattle.std.proofs.lemmas.Option.{none-some, same_Some}
 use Rattle.slab.specs.Slab.{Slab, get, ContainsKey, with_value}
@@ -7,25 +8,32 @@ use Rattle.slab.proofs.SlabLemmas.{Updates-with_value}
 use Rattle.vlm_collections.specs.declared.link.TheConstants.{LAST_HANDLE}
 use Rattle.vlm_collections.specs.declared.link.Links.{Links}
 use Rattle.vlm_collections.specs.declared.lists.LinkedList.{LinkedList}
-use Rattle.vlm_collections.specs.Lists.{without, IsIn, IsApart, IsNoList, Joins, Spot, first_handle, handle_after, handle_before, handles_from, last_handle, IsChain, IsLinked, IsRelinked, Relinks, next_in, next_of, prev_in, prev_of, handles_of, written_links}
+use Rattle.vlm_collections.specs.Lists.{without, IsIn, IsApart, IsNoList, Joins, Spot, first_handle, handle_after}
+use Rattle.vlm_collections.specs.Lists.{handle_before, handles_from, last_handle, IsChain, IsLinked, IsRelinked}
+use Rattle.vlm_collections.specs.Lists.{Relinks, next_in, next_of, prev_in, prev_of, handles_of, written_links}
 use Rattle.vlm_collections.proofs.HandleLists.{IsIn-without, IsApart-without, length-without, IsIn-push, IsApart-push, length-below}
-use Rattle.vlm_collections.proofs.Chains.{IsOn, Inserts, IsChain-skip, IsChain-push, IsChain-kept, handles_from-chain, next_is_first, next_is_after, prev_is_last, prev_is_before, prev_on, next_on, prev_end_on}
+use Rattle.vlm_collections.proofs.Chains.{IsOn, Inserts, IsChain-skip, IsChain-push, IsChain-kept, handles_from-chain}
+use Rattle.vlm_collections.proofs.Chains.{next_is_first, next_is_after, prev_is_last, prev_is_before, prev_on, next_on}
+use Rattle.vlm_collections.proofs.Chains.{prev_end_on}
 
 module _ {T : Type 0} (links : T → Links) {Kind : Type 0} (nodes : Slab T) (list : LinkedList Kind) where
   -- a chain of as many handles as are counted is the list
-  handles_of_chain : (handles : List ℕ) → IsChain (next_of links nodes list) (prev_of links nodes list) None handles → length handles ≡ list.len → handles_of links nodes list ≡ handles
+  handles_of_chain : (handles : List ℕ) → IsChain (next_of links nodes list) (prev_of links nodes list) None handles
+      → length handles ≡ list.len → handles_of links nodes list ≡ handles
   handles_of_chain handles chain count =
       ap (λ n. handles_from (next_of links nodes list) n None) (sym count)
       ∙ handles_from-chain (next_of links nodes list) (prev_of links nodes list) None handles chain
 
   IsLinked-chain : (handles : List ℕ) → IsChain (next_of links nodes list) (prev_of links nodes list) None handles → length handles ≡ list.len → IsApart handles
-      → ((handle : ℕ) → IsIn handle handles → ContainsKey nodes handle) → ((handle : ℕ) → IsIn handle handles → handle ≤ LAST_HANDLE) → IsLinked links nodes list
+      → ((handle : ℕ) → IsIn handle handles → ContainsKey nodes handle)
+      → ((handle : ℕ) → IsIn handle handles → handle ≤ LAST_HANDLE) → IsLinked links nodes list
   IsLinked-chain handles chain count apart present within =
       let same = handles_of_chain handles chain count in
       record { chained = rw same chain; apart = rw same apart; present = rw same present; within = rw same within; counted = rw same count }
 
   -- a spot on the list is the end or the handle of a record
-  pub on_present : IsLinked links nodes list → (at : Spot) → IsOn None (handles_of links nodes list) at → (handle : ℕ) → at ≡ Some handle → ContainsKey nodes handle
+  pub on_present : IsLinked links nodes list → (at : Spot) → IsOn None (handles_of links nodes list) at → (handle : ℕ)
+      → at ≡ Some handle → ContainsKey nodes handle
   on_present linked at on handle is =
       elim on [
         | inl here ↦ absurd (none-some handle (sym here ∙ is))
@@ -33,11 +41,17 @@ module _ {T : Type 0} (links : T → Links) {Kind : Type 0} (nodes : Slab T) (li
       ]
 
   -- the neighbours of a handle are on its list, and so is the last spot
-  pub prev_is_on : (handle : ℕ) (prev : Spot) → IsLinked links nodes list → IsIn handle (handles_of links nodes list) → prev_of links nodes list (Some handle) ≡ prev → IsOn None (handles_of links nodes list) prev
-  prev_is_on handle prev linked listed was = rw was at (prev_on (next_of links nodes list) (prev_of links nodes list) None (handles_of links nodes list) handle linked.chained listed)
+  pub prev_is_on : (handle : ℕ) (prev : Spot) → IsLinked links nodes list → IsIn handle (handles_of links nodes list)
+      → prev_of links nodes list (Some handle) ≡ prev → IsOn None (handles_of links nodes list) prev
+  prev_is_on handle prev linked listed was =
+      rw was at (prev_on (next_of links nodes list) (prev_of links nodes list) None
+      (handles_of links nodes list) handle linked.chained listed)
 
-  pub next_is_on : (handle : ℕ) (next : Spot) → IsLinked links nodes list → IsIn handle (handles_of links nodes list) → next_of links nodes list (Some handle) ≡ next → IsOn None (handles_of links nodes list) next
-  next_is_on handle next linked listed was = rw was at (next_on (next_of links nodes list) (prev_of links nodes list) None (handles_of links nodes list) handle linked.chained listed)
+  pub next_is_on : (handle : ℕ) (next : Spot) → IsLinked links nodes list → IsIn handle (handles_of links nodes list)
+      → next_of links nodes list (Some handle) ≡ next → IsOn None (handles_of links nodes list) next
+  next_is_on handle next linked listed was =
+      rw was at (next_on (next_of links nodes list) (prev_of links nodes list) None
+      (handles_of links nodes list) handle linked.chained listed)
 
   pub last_is_on : IsLinked links nodes list → IsOn None (handles_of links nodes list) list.last
   last_is_on linked = prev_end_on (next_of links nodes list) (prev_of links nodes list) None (handles_of links nodes list) linked.chained
@@ -46,22 +60,36 @@ module _ {T : Type 0} (links : T → Links) {Kind : Type 0} (nodes : Slab T) (li
   pub first_is : IsLinked links nodes list → list.first ≡ first_handle (handles_of links nodes list)
   first_is linked = next_is_first (next_of links nodes list) (prev_of links nodes list) None (handles_of links nodes list) linked.chained
 
-  pub after_is : IsLinked links nodes list → (handle : ℕ) → IsIn handle (handles_of links nodes list) → next_in links (get nodes handle) ≡ handle_after handle (handles_of links nodes list)
-  after_is linked handle listed = next_is_after (next_of links nodes list) (prev_of links nodes list) None (handles_of links nodes list) handle linked.chained linked.apart listed
+  pub after_is : IsLinked links nodes list → (handle : ℕ) → IsIn handle (handles_of links nodes list)
+      → next_in links (get nodes handle) ≡ handle_after handle (handles_of links nodes list)
+  after_is linked handle listed = next_is_after (next_of links nodes list) (prev_of links nodes list) None
+      (handles_of links nodes list) handle linked.chained linked.apart listed
 
   pub last_is : IsLinked links nodes list → list.last ≡ last_handle (handles_of links nodes list)
   last_is linked = prev_is_last (next_of links nodes list) (prev_of links nodes list) None (handles_of links nodes list) linked.chained
 
-  pub before_is : IsLinked links nodes list → (handle : ℕ) → IsIn handle (handles_of links nodes list) → prev_in links (get nodes handle) ≡ handle_before handle (handles_of links nodes list)
-  before_is linked handle listed = prev_is_before (next_of links nodes list) (prev_of links nodes list) None (handles_of links nodes list) handle linked.chained listed
+  pub before_is : IsLinked links nodes list → (handle : ℕ) → IsIn handle (handles_of links nodes list)
+      → prev_in links (get nodes handle) ≡ handle_before handle (handles_of links nodes list)
+  before_is linked handle listed = prev_is_before (next_of links nodes list) (prev_of links nodes list) None
+      (handles_of links nodes list) handle linked.chained listed
 
   -- a list and one more handle count less than a number of four bytes holds
   pub room_for : IsLinked links nodes list → (handle : ℕ) → handle ≤ LAST_HANDLE → ¬ IsIn handle (handles_of links nodes list) → list.len + 1 ≤ LAST_HANDLE + 1
   room_for linked handle low apart =
       let all = handles_of links nodes list ++ handle ∷ [] in
       let low_all : (k : ℕ) → IsIn k all → k < LAST_HANDLE + 1 = λ k found.
-      let le : k ≤ LAST_HANDLE = elim (IsIn-push handle k _ found) [ inl old ↦ linked.within k old | inr new ↦ subst (λ x. x ≤ LAST_HANDLE) new low ] in omega arith in
-      omega (arith, length-below (LAST_HANDLE + 1) all (IsApart-push handle _ linked.apart apart) low_all, length-append (handles_of links nodes list) (handle ∷ []), linked.counted)
+      let le : k ≤ LAST_HANDLE =
+      elim (IsIn-push handle k _ found) [
+        | inl old ↦ linked.within k old
+        | inr new ↦ subst
+            (λ x. x ≤ LAST_HANDLE) new low
+      ] in omega arith in
+      omega (
+        arith,
+        length-below (LAST_HANDLE + 1) all (IsApart-push handle _ linked.apart apart) low_all,
+        length-append (handles_of links nodes list) (handle ∷ []),
+        linked.counted,
+      )
 
 -- what a record tells
 pub told_next : {T : Type 0} (links : T → Links) (slot : Option T) (r : T) (pair : Links) → slot ≡ Some r → pair ≡ links r → next_in links slot ≡ pair.next
@@ -119,7 +147,8 @@ module _ {T : Type 0} (with_links : T → Links → T) where
     written_relinked pair (Some r) new is = (pair, is)
 
     -- the neighbours of one record are written
-    pub one_relinked : (old : Slab T) (handle : ℕ) (r value : T) (pair : Links) → ContainsKey old handle → get old handle ≡ Some r → value ≡ with_links r pair → Relinks with_links old (with_value old handle value)
+    pub one_relinked : (old : Slab T) (handle : ℕ) (r value : T) (pair : Links) → ContainsKey old handle
+        → get old handle ≡ Some r → value ≡ with_links r pair → Relinks with_links old (with_value old handle value)
     one_relinked old handle r value pair there here is =
         let updates = Updates-with_value old handle value there in
         record {
@@ -154,7 +183,8 @@ module _ {T : Type 0} (with_links : T → Links → T) where
 
 module _ {T : Type 0} (links : T → Links) {Kind : Type 0} where
   -- a handle leaves
-  module _ (nodes nodes' : Slab T) (list list' : LinkedList Kind) (handle : ℕ) (linked : IsLinked links nodes list) (listed : IsIn handle (handles_of links nodes list))
+  module _ (nodes nodes' : Slab T) (list list' : LinkedList Kind) (handle : ℕ) (linked : IsLinked links nodes list)
+      (listed : IsIn handle (handles_of links nodes list))
       (nexts : Joins (next_of links nodes list) (next_of links nodes' list') (prev_of links nodes list (Some handle)) (next_of links nodes list (Some handle)))
       (prevs : Joins (prev_of links nodes list) (prev_of links nodes' list') (next_of links nodes list (Some handle)) (prev_of links nodes list (Some handle)))
       (there : (k : ℕ) → ContainsKey nodes k → ContainsKey nodes' k) (count : list'.len ≡ list.len - 1) where
@@ -173,7 +203,8 @@ module _ {T : Type 0} (links : T → Links) {Kind : Type 0} where
         (λ k found. there k (linked.present k (IsIn-without handle k _ found).0)) (λ k found. linked.within k (IsIn-without handle k _ found).0)
 
   -- a handle joins
-  module _ (nodes nodes' : Slab T) (list list' : LinkedList Kind) (handle : ℕ) (linked : IsLinked links nodes list) (present : ContainsKey nodes handle) (low : handle ≤ LAST_HANDLE)
+  module _ (nodes nodes' : Slab T) (list list' : LinkedList Kind) (handle : ℕ) (linked : IsLinked links nodes list)
+      (present : ContainsKey nodes handle) (low : handle ≤ LAST_HANDLE)
       (apart : ¬ IsIn handle (handles_of links nodes list))
       (inserts : Inserts (next_of links nodes list) (prev_of links nodes list) (next_of links nodes' list') (prev_of links nodes' list') handle)
       (there : (k : ℕ) → ContainsKey nodes k → ContainsKey nodes' k) (count : list'.len ≡ list.len + 1) where
@@ -201,20 +232,26 @@ module _ {T : Type 0} (links : T → Links) {Kind : Type 0} where
   prev_of-len nodes list n None = refl
   prev_of-len nodes list n (Some handle) = refl
 
-  next_of-last : (nodes : Slab T) (list : LinkedList Kind) (last : Spot) (n : ℕ) (at : Spot) → next_of links nodes (record list { last = last; len = n }) at ≡ next_of links nodes list at
+  next_of-last : (nodes : Slab T) (list : LinkedList Kind) (last : Spot) (n : ℕ) (at : Spot)
+      → next_of links nodes (record list { last = last; len = n }) at ≡ next_of links nodes list at
   next_of-last nodes list last n None = refl
   next_of-last nodes list last n (Some handle) = refl
 
   -- the two writes by which a handle leaves
-  module _ (n0 n1 n2 : Slab T) (e0 e1 e2 : LinkedList Kind) (handle : ℕ) (prev next : Spot) (linked : IsLinked links n0 e0) (listed : IsIn handle (handles_of links n0 e0))
+  module _ (n0 n1 n2 : Slab T) (e0 e1 e2 : LinkedList Kind) (handle : ℕ) (prev next : Spot)
+      (linked : IsLinked links n0 e0) (listed : IsIn handle (handles_of links n0 e0))
       (was_prev : prev_of links n0 e0 (Some handle) ≡ prev) (was_next : next_of links n0 e0 (Some handle) ≡ next)
-      (next1 : Joins (next_of links n0 e0) (next_of links n1 e1) prev next) (prev1 : (at : Spot) → prev_of links n1 e1 at ≡ prev_of links n0 e0 at) (len1 : e1.len ≡ e0.len)
-      (prev2 : Joins (prev_of links n1 e1) (prev_of links n2 e2) next prev) (next2 : (at : Spot) → next_of links n2 e2 at ≡ next_of links n1 e1 at) (len2 : e2.len ≡ e1.len)
+      (next1 : Joins (next_of links n0 e0) (next_of links n1 e1) prev next) (prev1 : (at : Spot)
+      → prev_of links n1 e1 at ≡ prev_of links n0 e0 at) (len1 : e1.len ≡ e0.len)
+      (prev2 : Joins (prev_of links n1 e1) (prev_of links n2 e2) next prev) (next2 : (at : Spot)
+      → next_of links n2 e2 at ≡ next_of links n1 e1 at) (len2 : e2.len ≡ e1.len)
       (there : (k : ℕ) → ContainsKey n0 k → ContainsKey n2 k) where
-    nexts : Joins (next_of links n0 e0) (next_of links n2 (record e2 { len = e2.len - 1 })) (prev_of links n0 e0 (Some handle)) (next_of links n0 e0 (Some handle))
+    nexts : Joins (next_of links n0 e0) (next_of links n2 (record e2 { len = e2.len - 1 }))
+        (prev_of links n0 e0 (Some handle)) (next_of links n0 e0 (Some handle))
     nexts = rw (was_prev, was_next) (Joins-after _ _ _ prev next next1 (λ at. next_of-len n2 e2 (e2.len - 1) at ∙ next2 at))
 
-    prevs : Joins (prev_of links n0 e0) (prev_of links n2 (record e2 { len = e2.len - 1 })) (next_of links n0 e0 (Some handle)) (prev_of links n0 e0 (Some handle))
+    prevs : Joins (prev_of links n0 e0) (prev_of links n2 (record e2 { len = e2.len - 1 }))
+        (next_of links n0 e0 (Some handle)) (prev_of links n0 e0 (Some handle))
     prevs = rw (was_prev, was_next) (Joins-after _ _ _ next prev (Joins-before _ _ _ next prev prev1 prev2) (λ at. prev_of-len n2 e2 (e2.len - 1) at))
 
     pub left-handles : handles_of links n2 (record e2 { len = e2.len - 1 }) ≡ without handle (handles_of links n0 e0)
@@ -224,20 +261,26 @@ module _ {T : Type 0} (links : T → Links) {Kind : Type 0} where
     left-linked = IsLinked-left n0 n2 e0 (record e2 { len = e2.len - 1 }) handle linked listed nexts prevs there (omega arith)
 
   -- the two writes by which a handle joins
-  module _ (n0 n1 n2 : Slab T) (e0 e2 : LinkedList Kind) (handle : ℕ) (linked : IsLinked links n0 e0) (present : ContainsKey n0 handle) (low : handle ≤ LAST_HANDLE)
+  module _ (n0 n1 n2 : Slab T) (e0 e2 : LinkedList Kind) (handle : ℕ) (linked : IsLinked links n0 e0)
+      (present : ContainsKey n0 handle) (low : handle ≤ LAST_HANDLE)
       (apart : ¬ IsIn handle (handles_of links n0 e0))
-      (prev1 : prev_in links (get n1 handle) ≡ e0.last) (next1 : next_in links (get n1 handle) ≡ None) (others1 : (other : ℕ) → other ≢ handle → get n1 other ≡ get n0 other)
-      (next2 : Joins (next_of links n1 e0) (next_of links n2 e2) e0.last (Some handle)) (prev2 : (at : Spot) → prev_of links n2 e2 at ≡ prev_of links n1 e0 at) (len2 : e2.len ≡ e0.len)
+      (prev1 : prev_in links (get n1 handle) ≡ e0.last) (next1 : next_in links (get n1 handle) ≡ None)
+      (others1 : (other : ℕ) → other ≢ handle → get n1 other ≡ get n0 other)
+      (next2 : Joins (next_of links n1 e0) (next_of links n2 e2) e0.last (Some handle)) (prev2 : (at : Spot)
+      → prev_of links n2 e2 at ≡ prev_of links n1 e0 at) (len2 : e2.len ≡ e0.len)
       (there : (k : ℕ) → ContainsKey n0 k → ContainsKey n2 k) where
     next_as : (other : Spot) → other ≢ Some handle → next_of links n1 e0 other ≡ next_of links n0 e0 other
     next_as None differs = refl
     next_as (Some k) differs = ap (next_in links) (others1 k (λ same. differs (ap Some same)))
 
-    prev_as : (other : Spot) → other ≢ None → other ≢ Some handle → prev_of links n2 (record e2 { last = Some handle; len = e2.len + 1 }) other ≡ prev_of links n0 e0 other
+    prev_as : (other : Spot) → other ≢ None → other ≢ Some handle
+        → prev_of links n2 (record e2 { last = Some handle; len = e2.len + 1 }) other ≡ prev_of links n0 e0 other
     prev_as None here differs = absurd (here refl)
     prev_as (Some k) here differs = prev2 (Some k) ∙ ap (prev_in links) (others1 k (λ same. differs (ap Some same)))
 
-    inserts : Inserts (next_of links n0 e0) (prev_of links n0 e0) (next_of links n2 (record e2 { last = Some handle; len = e2.len + 1 })) (prev_of links n2 (record e2 { last = Some handle; len = e2.len + 1 })) handle
+    inserts : Inserts (next_of links n0 e0) (prev_of links n0 e0)
+        (next_of links n2 (record e2 { last = Some handle; len = e2.len + 1 }))
+        (prev_of links n2 (record e2 { last = Some handle; len = e2.len + 1 })) handle
     inserts = record {
       into = next_of-last n2 e2 (Some handle) (e2.len + 1) e0.last ∙ next2.here;
       out = next2.others (Some handle) (off_list (handles_of links n0 e0) e0.last handle (last_is_on links n0 e0 linked) apart) ∙ next1;
@@ -291,10 +334,12 @@ module _ {T : Type 0} (links : T → Links) {Kind : Type 0} where
   module _ (nodes nodes' : Slab T) (list : LinkedList Kind) (linked : IsLinked links nodes list)
       (same : (handle : ℕ) → IsIn handle (handles_of links nodes list) → get nodes' handle ≡ get nodes handle) where
     pub same-handles : HandlesStay nodes nodes' list
-    same-handles = kept-handles nodes nodes' list linked (λ k found. ap (next_in links) (same k found)) (λ k found. ap (prev_in links) (same k found)) (λ k found here. rw (same k found) here)
+    same-handles = kept-handles nodes nodes' list linked (λ k found. ap (next_in links) (same k found))
+        (λ k found. ap (prev_in links) (same k found)) (λ k found here. rw (same k found) here)
 
     pub same-linked : IsLinked links nodes' list
-    same-linked = kept-linked nodes nodes' list linked (λ k found. ap (next_in links) (same k found)) (λ k found. ap (prev_in links) (same k found)) (λ k found here. rw (same k found) here)
+    same-linked = kept-linked nodes nodes' list linked (λ k found. ap (next_in links) (same k found))
+        (λ k found. ap (prev_in links) (same k found)) (λ k found here. rw (same k found) here)
 
   -- no handle is in an empty list
   pub no_list-linked : (nodes : Slab T) (list : LinkedList Kind) → IsNoList list → IsLinked links nodes list × (handles_of links nodes list ≡ [])

@@ -31,7 +31,8 @@ handle_index-in zero (first ∷ rest) handle is = inl (same_Some first handle is
 handle_index-in (suc i) (first ∷ rest) handle is = inr (handle_index-in i rest handle is)
 
 -- the handle after the one at an index is that at the next index
-pub handle_after-index : (i : ℕ) (handles : List ℕ) (handle : ℕ) → IsApart handles → slice_get handles i ≡ Some handle → handle_after handle handles ≡ slice_get handles (suc i)
+pub handle_after-index : (i : ℕ) (handles : List ℕ) (handle : ℕ) → IsApart handles → slice_get handles i ≡ Some handle
+    → handle_after handle handles ≡ slice_get handles (suc i)
 handle_after-index i [] handle apart is = refl
 handle_after-index zero (first ∷ rest) handle apart is = rw (eq-eqb first handle (same_Some first handle is)) (first_handle-index rest)
 handle_after-index (suc i) (first ∷ rest) handle apart is =
@@ -75,13 +76,15 @@ last_from-push : (from : Spot) (before : List ℕ) (handle : ℕ) → last_from 
 last_from-push from [] handle = refl
 last_from-push from (first ∷ rest) handle = last_from-push (Some first) rest handle
 
-pub before_from-among : (from : Spot) (before : List ℕ) (handle : ℕ) (rest : List ℕ) → ¬ IsIn handle before → before_from from handle (before ++ handle ∷ rest) ≡ last_from from before
+pub before_from-among : (from : Spot) (before : List ℕ) (handle : ℕ) (rest : List ℕ) → ¬ IsIn handle before
+    → before_from from handle (before ++ handle ∷ rest) ≡ last_from from before
 before_from-among from [] handle rest absent = rw (eq-eqb handle handle refl) refl
 before_from-among from (first ∷ before) handle rest absent =
     rw (ne_eqb first handle (λ same. absent (inl same))) (before_from-among (Some first) before handle rest (λ there. absent (inr there)))
 
 -- a walk on goes on with the first of those behind a handle
-pub handle_after-among : (before : List ℕ) (handle : ℕ) (rest : List ℕ) → ¬ IsIn handle before → handle_after handle (before ++ handle ∷ rest) ≡ first_handle rest
+pub handle_after-among : (before : List ℕ) (handle : ℕ) (rest : List ℕ) → ¬ IsIn handle before
+    → handle_after handle (before ++ handle ∷ rest) ≡ first_handle rest
 handle_after-among [] handle rest absent = rw (eq-eqb handle handle refl) refl
 handle_after-among (first ∷ before) handle rest absent =
     rw (ne_eqb first handle (λ same. absent (inl same))) (handle_after-among before handle rest (λ there. absent (inr there)))
@@ -97,4 +100,5 @@ last_handle-split (first ∷ (next ∷ rest)) handle is =
 pub without_last : (before : List ℕ) (handle : ℕ) → ¬ IsIn handle before → without handle (before ++ handle ∷ []) ≡ before
 without_last [] handle absent = without_head handle handle [] refl
 without_last (first ∷ before) handle absent =
-    without_past handle first (before ++ handle ∷ []) (λ same. absent (inl same)) ∙ ap (λ ks. first ∷ ks) (without_last before handle (λ there. absent (inr there)))
+    without_past handle first (before ++ handle ∷ []) (λ same. absent (inl same))
+    ∙ ap (λ ks. first ∷ ks) (without_last before handle (λ there. absent (inr there)))

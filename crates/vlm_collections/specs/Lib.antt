@@ -4,7 +4,4 @@ pub mod Lists
 pub mod Parts
 pub mod Sip
 pub mod Marks
-pub mod Nodes
 pub mod Words
-pub mod AstRings
-pub mod Asts

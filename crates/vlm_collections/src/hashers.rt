@@ -70,7 +70,7 @@ impl BuildHasher for HashKeys {
 }
 
 /// The hash of numbers of 32 bits: the upper half of a product, which depends on every bit of the number. Callers
-/// cannot choose these numbers: the machine gives identifications in order, and resource keys are hashed with keys.
+/// cannot choose these numbers: the machine gives IDs in order, and resource keys are hashed with keys.
 #[derive(Clone, Copy)]
 pub struct HashSpread {
     // the hash of the number that was written; 0 before, and after input that is not four bytes long

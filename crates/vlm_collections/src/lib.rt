@@ -2,8 +2,7 @@
 //!
 //! - `LinkedList`: doubly linked lists that run through the records of a slab.
 //! - `PartedIndex`: a record found by its number.
-//! - `Marks` and `NodeMarks`: sets of small numbers, and of processes, whose least member is found at once.
-//! - `AstQueue`: a queue with reserved room.
+//! - `Marks`: a set of small numbers, whose least member is found at once.
 //!
 //! # Linked lists
 //!
@@ -17,14 +16,8 @@
 //!
 //! A number has a bit in a word of 64. Two more levels of words say which words of the level below are not 0. So three
 //! words lead from the top to the least number.
-//!
-//! # Queues with reserved room
-//!
-//! Room is reserved when a request is accepted (`owe`). Only that call may need memory: an AST is queued into room that
-//! is there, and cannot fail. Room that no AST will need is given back (`forgive`).
 #![tactic(auto)]
 
-mod ast_rings;
 mod bit_words;
 mod growth;
 mod handles;
@@ -32,9 +25,7 @@ mod hashers;
 mod link;
 mod lists;
 mod marks;
-mod nodes;
 mod parted;
-mod queues;
 mod sip;
 
 pub use growth::reserve_slot;
@@ -43,6 +34,4 @@ pub use hashers::{HashKeys, HashSpread};
 pub use link::{LAST_HANDLE, Links};
 pub use lists::{Linked, LinkedList};
 pub use marks::Marks;
-pub use nodes::NodeMarks;
 pub use parted::PartedIndex;
-pub use queues::AstQueue;

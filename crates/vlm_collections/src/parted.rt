@@ -22,10 +22,10 @@ const LARGE: usize = 2_048;
 
 const EARLY: usize = 1_200;
 
-/// Finds handles by number. It has 64 parts. A full part grows alone, so a growth moves about a 64th of the index, in a
-/// 64th of the time. 1,024 numbers that follow each other share a part, so that parts grow far from each other if
-/// numbers come in order. If they come at random, all parts are full at nearly the same time: then call
-/// [`PartedIndex::grow_early`] now and then.
+/// Finds handles by number. It has 64 parts, since a large index in one piece would stop the machine each time that it
+/// grows and moves. A full part grows alone, so a growth moves about a 64th of the index, in a 64th of the time. 1,024
+/// numbers that follow each other share a part, so that parts grow far from each other if numbers come in order. If
+/// they come at random, all parts are full at nearly the same time: then call [`PartedIndex::grow_early`] now and then.
 #[derive(Drop)]
 pub struct PartedIndex<Kind> {
     // part k has the numbers whose run has remainder k modulo 64

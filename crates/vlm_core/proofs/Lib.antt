@@ -1,8 +1,8 @@
-pub mod After
-pub mod Figures
+pub mod NextRecords
+pub mod LockCounts
 pub mod FirstPending
-pub mod Making
-pub mod Reaching
-pub mod Keyed
+pub mod LongerRuns
+pub mod ReachableStates
+pub mod FoundByKey
 pub mod SingleLocks
-pub mod Blocked
+pub mod BlockedLocks

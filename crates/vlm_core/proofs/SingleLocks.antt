@@ -4,7 +4,7 @@ use Rattle.std.specs.Prelude.{flat_map, slice_get}
 use Rattle.std.specs.Option.{option_map, option_map_or}
 use Rattle.std.proofs.lemmas.Bool.{cases_eq}
 use Rattle.std.proofs.lemmas.Option.{none-some, same_Some}
-use Rattle.vlm_words.specs.declared.locks.LockRow.{LockRow}
+use Rattle.vlm_words.specs.declared.locks.LockState.{LockState}
 use Rattle.vlm_words.specs.declared.resources.Queue.{Queue}
 use Rattle.vlm_words.specs.declared.resources.Queue.TheVariants.{Granted, Conversion, Waiting}
 use Rattle.vlm_words.specs.State.{Resource, State, start}
@@ -15,7 +15,9 @@ use Rattle.vlm_collections.proofs.Walks.{first_handle-in, handle_after-in}
 use Rattle.vlm_store.specs.declared.Place.{Place}
 use Rattle.vlm_store.specs.declared.Place.TheVariants.{Queued}
 use Rattle.vlm_store.specs.Plain.{plain_resource, plain_resources}
-use Rattle.vlm_store.specs.Records.{AreApart, FindsResource, IsProcess, IsSound, IsStored, OwnLock, Records, StoredLock, StoredProcess, StoredResource, Stores, at_after, first_at, locks_at, own_handles_at, queued, resource_at, rows_of_locks, sublocks_at, FindsLock}
+use Rattle.vlm_store.specs.Records.{AreApart, FindsResource, IsProcess, IsSound, IsStored, OwnLock, Records, StoredLock}
+use Rattle.vlm_store.specs.Records.{StoredProcess, StoredResource, Stores, at_after, first_at, locks_at, own_handles_at}
+use Rattle.vlm_store.specs.Records.{queued, resource_at, rows_of_locks, sublocks_at, FindsLock}
 use Rattle.vlm_store.proofs.Records.{queue_at, resource_is as resource_at-is, in_a_queue}
 use Rattle.vlm_store.proofs.Siblings.{all_of_own, own_found}
 use Rattle.vlm_store.proofs.Walks.{after-among}
@@ -24,26 +26,22 @@ use Rattle.vlm_queue.specs.Views.{resource_view, rows_in}
 use Rattle.vlm_queue.specs.Walks.{plain_resource_at}
 use Rattle.vlm_locks.specs.declared.located_locks.LocatedLock.{LocatedLock}
 use Rattle.vlm_locks.specs.Rest.{IsAtRest}
-use Rattle.vlm_locks.specs.Rising.{StandByIdentification}
+use Rattle.vlm_locks.specs.Rising.{StandById}
 use Rattle.vlm_locks.specs.Standing.{IsLocated}
 use Rattle.vlm_locks.proofs.RunsDown.{its_handles, owned_here, stored_here, they_rise}
-use Rattle.vlm_locks.proofs.Stood.{IsQueued, in_queue, one_lock, queued_stored, resource_among}
+use Rattle.vlm_locks.proofs.QueuedLocks.{IsQueued, in_queue, one_lock, queued_stored, resource_among}
 use Rattle.vlm_locks.proofs.Sublocks.{below_of, is_below_it}
 use Rattle.vlm_core.specs.declared.locks.LockView.{LockView}
 use Rattle.vlm_words.specs.declared.resources.Key.{Key}
-use Rattle.vlm_core.specs.Locks.{HasLockIn, IsFirst, IsLaterOwn, IsLaterSublock, IsNextInQueue, IsNextOf, IsResourceOf, IsSublockOf, IsViewOf, LacksLock, ShowsFirst, ShowsLock, lock_view}
+use Rattle.vlm_core.specs.Locks.{HasLockIn, IsFirst, IsLaterOwn, IsLaterSublock, IsNextInQueue, IsNextOf, IsResourceOf}
+use Rattle.vlm_core.specs.Locks.{IsSublockOf, IsViewOf, LacksLock, ShowsFirst, ShowsLock, lock_view}
+use Rattle.vlm_queue.proofs.Indexed.{rows_in-plain}
 use Rattle.vlm_locks.proofs.Rising.{none_loose}
 
 -- ---- rows and stored locks
 
--- the rows of a queue in the plain machine
-pub rows_are : (queue : Queue) (x : StoredResource) → rows_in queue (plain_resource x) ≡ rows_of_locks (queued queue x)
-rows_are Granted x = refl
-rows_are Conversion x = refl
-rows_are Waiting x = refl
-
 row_among : (queue : Queue) (x : StoredResource) (k : StoredLock) → IsIn k (queued queue x) → IsIn k.row (rows_in queue (plain_resource x))
-row_among queue x k there = subst (IsIn k.row) (sym (rows_are queue x)) (IsIn-image (λ (l : StoredLock). l.row) (queued queue x) k there)
+row_among queue x k there = subst (IsIn k.row) (sym (rows_in-plain queue x)) (IsIn-image (λ (l : StoredLock). l.row) (queued queue x) k there)
 
 -- a list around one of its items
 split_around : {A : Type 0} (x : A) (xs : List A) → IsIn x xs → (before : List A) × ((rest : List A) × (xs ≡ before ++ x ∷ rest))
@@ -69,26 +67,27 @@ abbrev of_place_queue : Place → Queue
 of_place_queue (Queued res queue) = queue
 
 module _ (s : Records) (sound : IsSound s) (st : State) (is : st.resources ≡ plain_resources s) where
-  has_lock : (x : StoredResource) → IsIn x s.resources → (queue : Queue) (k : StoredLock) → IsIn k (queued queue x) → HasLockIn st (plain_resource x) queue k.row
+  has_lock : (x : StoredResource) → IsIn x s.resources → (queue : Queue) (k : StoredLock) → IsIn k (queued queue x)
+      → HasLockIn st (plain_resource x) queue k.row
   has_lock x among queue k there = record {
     exists = subst (IsIn (plain_resource x)) (sym is) (IsIn-image plain_resource s.resources x among);
     queued = row_among queue x k there;
   }
 
   -- each lock of the plain machine is stored
-  pub stored_of : (r : Resource) (queue : Queue) (row : LockRow) → HasLockIn st r queue row → (at : ℕ) × Stores s at row
+  pub stored_of : (r : Resource) (queue : Queue) (row : LockState) → HasLockIn st r queue row → (at : ℕ) × Stores s at row
   stored_of r queue row has =
       let x = IsIn-of_image plain_resource s.resources r (subst (IsIn r) is has.exists) in
-      let among = subst (IsIn row) (rows_are queue x.0) (subst (λ (y : Resource). IsIn row (rows_in queue y)) (sym x.1.1) has.queued) in
+      let among = subst (IsIn row) (rows_in-plain queue x.0) (subst (λ (y : Resource). IsIn row (rows_in queue y)) (sym x.1.1) has.queued) in
       let k = IsIn-of_image (λ (l : StoredLock). l.row) (queued queue x.0) row among in
       (k.0.at, subst (Stores s k.0.at) k.1.1 (queued_stored s sound x.0 x.1.0 queue k.0 k.1.0))
 
   -- where no stored lock passes, none does
-  pub lacks : (P : LockRow → Type 0) → ((at : ℕ) (row : LockRow) → Stores s at row → ¬ P row) → LacksLock st P
+  pub lacks : (P : LockState → Type 0) → ((at : ℕ) (row : LockState) → Stores s at row → ¬ P row) → LacksLock st P
   lacks P none r queue row has passes = let k = stored_of r queue row has in none k.0 row k.1 passes
 
   -- the view of a stored lock that passes
-  pub shows : (P : LockRow → Type 0) (at : ℕ) (row : LockRow) → Stores s at row → P row → (view : LockView) → IsViewOf s at view → ShowsLock st P view
+  pub shows : (P : LockState → Type 0) (at : ℕ) (row : LockState) → Stores s at row → P row → (view : LockView) → IsViewOf s at view → ShowsLock st P view
   shows P at row stored passes view of =
       let k : StoredLock = record { at = at; row = of.row } in
       record {
@@ -111,7 +110,9 @@ module _ (s : Records) (sound : IsSound s) (st : State) (is : st.resources ≡ p
       let row : of.row ≡ k.row = one_lock s sound k.at of.row k.row (Queued of.resource.at of.queue, mine) (Queued x.at queue, its) in
       let res : of.resource ≡ x =
       same_Some of.resource x
-      (sym (resource_at-is of.resource s.resources sound.resources_apart of.exists) ∙ ap (λ n. resource_at n s.resources) (ap of_place_res place) ∙ resource_at-is x s.resources sound.resources_apart among) in
+      (sym (resource_at-is of.resource s.resources sound.resources_apart of.exists)
+      ∙ ap (λ n. resource_at n s.resources) (ap of_place_res place)
+      ∙ resource_at-is x s.resources sound.resources_apart among) in
       of.shown
       ∙ ap (λ (y : StoredResource). lock_view (plain_resource y) of.queue of.row) res
       ∙ ap (λ q. lock_view (plain_resource x) q of.row) (ap of_place_queue place)
@@ -124,7 +125,8 @@ module _ (s : Records) (sound : IsSound s) (st : State) (is : st.resources ≡ p
     resource = plain_resource located.resource;
     queue = f.queue;
     row = f.row;
-    there = has_lock located.resource (resource_among f.res s.resources located.resource located.found) f.queue (record { at = f.lock; row = f.row }) located.among;
+    there = has_lock located.resource (resource_among f.res s.resources located.resource located.found) f.queue
+        (record { at = f.lock; row = f.row }) located.among;
     named = named;
     shown = subst (λ o. IfSome (option_map plain_resource o) (λ r. view ≡ resource_view r)) located.found shown;
   }
@@ -132,7 +134,7 @@ module _ (s : Records) (sound : IsSound s) (st : State) (is : st.resources ≡ p
   -- ---- the next lock of a queue
 
   -- what follows a list of locks in a queue
-  abbrev pub shown_first : Resource → Queue → List LockRow → Option LockView
+  abbrev pub shown_first : Resource → Queue → List LockState → Option LockView
   shown_first r queue rows = option_map (lock_view r queue) (slice_get rows 0)
 
   module _ (x : StoredResource) (among : IsIn x s.resources) (queue : Queue) where
@@ -140,7 +142,8 @@ module _ (s : Records) (sound : IsSound s) (st : State) (is : st.resources ≡ p
     none_shown [] none = refl
     none_shown (k ∷ rest) none = absurd (none-some k.at (sym none))
 
-    one_shown : (rest : List StoredLock) → ((k : StoredLock) → IsIn k rest → IsIn k (queued queue x)) → (n : ℕ) → first_at rest ≡ Some n → (view : LockView) → IsViewOf s n view
+    one_shown : (rest : List StoredLock) → ((k : StoredLock) → IsIn k rest → IsIn k (queued queue x)) → (n : ℕ)
+        → first_at rest ≡ Some n → (view : LockView) → IsViewOf s n view
         → Some view ≡ shown_first (plain_resource x) queue (rows_of_locks rest)
     one_shown [] within n is_first view of = absurd (none-some n is_first)
     one_shown (k ∷ rest) within n is_first view of =
@@ -153,12 +156,12 @@ module _ (s : Records) (sound : IsSound s) (st : State) (is : st.resources ≡ p
 
     -- the first lock of the queue
     pub first_none : first_at (queued queue x) ≡ None → None ≡ shown_first (plain_resource x) queue (rows_in queue (plain_resource x))
-    first_none none = none_shown (queued queue x) none ∙ ap (shown_first (plain_resource x) queue) (sym (rows_are queue x))
+    first_none none = none_shown (queued queue x) none ∙ ap (shown_first (plain_resource x) queue) (sym (rows_in-plain queue x))
 
     pub first_some : (n : ℕ) → first_at (queued queue x) ≡ Some n → (view : LockView) → IsViewOf s n view
         → Some view ≡ shown_first (plain_resource x) queue (rows_in queue (plain_resource x))
     first_some n is_first view of =
-        one_shown (queued queue x) (λ k there. there) n is_first view of ∙ ap (shown_first (plain_resource x) queue) (sym (rows_are queue x))
+        one_shown (queued queue x) (λ k there. there) n is_first view of ∙ ap (shown_first (plain_resource x) queue) (sym (rows_in-plain queue x))
 
   -- the first lock of a queue of the resource that is found by its key
   module _ (key : Key) (res : ℕ) (found : FindsResource s key (Some res)) (queue : Queue) where
@@ -180,7 +183,7 @@ module _ (s : Records) (sound : IsSound s) (st : State) (is : st.resources ≡ p
         (first_some found.0 found.1.0 queue n (sym first_is ∙ is_first) view of)
 
   -- what a lock is followed by
-  module _ (lock : ℕ) (row : LockRow) (stored : Stores s lock row) (Follows : LockRow → LockRow → Type 0) where
+  module _ (lock : ℕ) (row : LockState) (stored : Stores s lock row) (Follows : LockState → LockState → Type 0) where
     pub follows_of : (lkid : ℕ) → row.lkid ≡ lkid → (next : Option LockView) → ShowsFirst st (Follows row) next → IsNextOf st Follows lkid next
     follows_of lkid named next first =
         let stands = in_queue s lock row stored in
@@ -193,8 +196,8 @@ module _ (s : Records) (sound : IsSound s) (st : State) (is : st.resources ≡ p
           first = first;
         }
 
-  module _ (lock : ℕ) (row : LockRow) (stored : Stores s lock row) (next : Option ℕ)
-      (follows : (place : Place) (own : LockRow) → IsIn (record { at = lock; row = own }) (locks_at place s) → next ≡ at_after lock (locks_at place s)) where
+  module _ (lock : ℕ) (row : LockState) (stored : Stores s lock row) (next : Option ℕ)
+      (follows : (place : Place) (own : LockState) → IsIn (record { at = lock; row = own }) (locks_at place s) → next ≡ at_after lock (locks_at place s)) where
     abbrev k : StoredLock
     k = record { at = lock; row = row }
 
@@ -221,7 +224,8 @@ module _ (s : Records) (sound : IsSound s) (st : State) (is : st.resources ≡ p
     within : (other : StoredLock) → IsIn other rest → IsIn other (queued stands.queue x)
     within other there = subst (IsIn other) (sym (around).1.1) (in_behind other (around).0 (k ∷ rest) (inr there))
 
-    next_of : (shown : Option LockView) → shown ≡ shown_first (plain_resource x) stands.queue (rows_of_locks rest) → (lkid : ℕ) → row.lkid ≡ lkid → IsNextInQueue st lkid shown
+    next_of : (shown : Option LockView) → shown ≡ shown_first (plain_resource x) stands.queue (rows_of_locks rest)
+        → (lkid : ℕ) → row.lkid ≡ lkid → IsNextInQueue st lkid shown
     next_of shown told lkid named = record {
       resource = plain_resource x;
       queue = stands.queue;
@@ -230,7 +234,7 @@ module _ (s : Records) (sound : IsSound s) (st : State) (is : st.resources ≡ p
       named = named;
       before = rows_of_locks (around).0;
       rest = rows_of_locks rest;
-      parts = rows_are stands.queue x ∙ ap rows_of_locks (around).1.1 ∙ rows_split (around).0 rest k;
+      parts = rows_in-plain stands.queue x ∙ ap rows_of_locks (around).1.1 ∙ rows_split (around).0 rest k;
       shown = told;
     }
 
@@ -244,19 +248,19 @@ module _ (s : Records) (sound : IsSound s) (st : State) (is : st.resources ≡ p
     next_some n is_next view of lkid named =
         next_of (Some view) (one_shown x stands.there stands.queue rest within n (sym next_first ∙ is_next) view of) lkid named
 
-  -- ---- locks in the order of identifications
+  -- ---- locks in the order of IDs
 
   none_first : (hs : List ℕ) → first_handle hs ≡ None → (k : ℕ) → IsIn k hs → ⊥
   none_first [] none k there = there
   none_first (h ∷ hs) none k there = none-some h (sym none)
 
-  -- the rows of one handle have one identification
-  same_lkid : (a b : ℕ) (ra rb : LockRow) → Stores s a ra → Stores s b rb → a ≡ b → ra.lkid ≡ rb.lkid
-  same_lkid a b ra rb sa sb same = ap (λ (r : LockRow). r.lkid) (one_lock s sound b ra rb (subst (λ n. Stores s n ra) same sa) sb)
+  -- the rows of one handle have one ID
+  same_lkid : (a b : ℕ) (ra rb : LockState) → Stores s a ra → Stores s b rb → a ≡ b → ra.lkid ≡ rb.lkid
+  same_lkid a b ra rb sa sb same = ap (λ (r : LockState). r.lkid) (one_lock s sound b ra rb (subst (λ n. Stores s n ra) same sa) sb)
 
-  -- the first one has the lowest identification
-  first_least : (hs : List ℕ) → StandByIdentification s hs → (n : ℕ) → first_handle hs ≡ Some n → (rn : LockRow) → Stores s n rn
-      → (k : ℕ) → IsIn k hs → (rk : LockRow) → Stores s k rk → ¬ (rk.lkid < rn.lkid)
+  -- the first one has the lowest ID
+  first_least : (hs : List ℕ) → StandById s hs → (n : ℕ) → first_handle hs ≡ Some n → (rn : LockState) → Stores s n rn
+      → (k : ℕ) → IsIn k hs → (rk : LockState) → Stores s k rk → ¬ (rk.lkid < rn.lkid)
   first_least [] rise n is_first rn sn k there rk sk less = there
   first_least (h ∷ hs) rise n is_first rn sn k there rk sk less =
       let here = same_Some h n is_first in
@@ -265,10 +269,10 @@ module _ (s : Records) (sound : IsSound s) (st : State) (is : st.resources ≡ p
         | inr later ↦ omega (arith, less, rise.0 k later rn rk (subst (λ m. Stores s m rn) (sym here) sn) sk)
       ]
 
-  module _ (a : ℕ) (ra : LockRow) (sa : Stores s a ra) where
-    -- after the last one none has a higher identification
-    last_greatest : (hs : List ℕ) → StandByIdentification s hs → IsIn a hs → handle_after a hs ≡ None
-        → (k : ℕ) → IsIn k hs → (rk : LockRow) → Stores s k rk → ¬ (ra.lkid < rk.lkid)
+  module _ (a : ℕ) (ra : LockState) (sa : Stores s a ra) where
+    -- after the last one none has a higher ID
+    last_greatest : (hs : List ℕ) → StandById s hs → IsIn a hs → handle_after a hs ≡ None
+        → (k : ℕ) → IsIn k hs → (rk : LockState) → Stores s k rk → ¬ (ra.lkid < rk.lkid)
     last_greatest [] rise found none k there rk sk less = there
     last_greatest (h ∷ hs) rise found none k there rk sk less =
         elim (cases_eq h a) [
@@ -284,9 +288,9 @@ module _ (s : Records) (sound : IsSound s) (st : State) (is : st.resources ≡ p
               ]
         ]
 
-    module _ (n : ℕ) (rn : LockRow) (sn : Stores s n rn) where
+    module _ (n : ℕ) (rn : LockState) (sn : Stores s n rn) where
       -- the next one is later
-      next_later : (hs : List ℕ) → StandByIdentification s hs → IsIn a hs → handle_after a hs ≡ Some n → ra.lkid < rn.lkid
+      next_later : (hs : List ℕ) → StandById s hs → IsIn a hs → handle_after a hs ≡ Some n → ra.lkid < rn.lkid
       next_later [] rise found next = absurd found
       next_later (h ∷ hs) rise found next =
           elim (cases_eq h a) [
@@ -296,8 +300,8 @@ module _ (s : Records) (sound : IsSound s) (st : State) (is : st.resources ≡ p
           ]
 
       -- and none is between
-      none_between : (hs : List ℕ) → StandByIdentification s hs → IsIn a hs → handle_after a hs ≡ Some n
-          → (k : ℕ) → IsIn k hs → (rk : LockRow) → Stores s k rk → ra.lkid < rk.lkid → ¬ (rk.lkid < rn.lkid)
+      none_between : (hs : List ℕ) → StandById s hs → IsIn a hs → handle_after a hs ≡ Some n
+          → (k : ℕ) → IsIn k hs → (rk : LockState) → Stores s k rk → ra.lkid < rk.lkid → ¬ (rk.lkid < rn.lkid)
       none_between [] rise found next k there rk sk more less = there
       none_between (h ∷ hs) rise found next k there rk sk more less =
           elim (cases_eq h a) [
@@ -313,9 +317,9 @@ module _ (s : Records) (sound : IsSound s) (st : State) (is : st.resources ≡ p
                 ]
           ]
 
-  -- handles by rising identification that are exactly those of the locks that pass
-  module _ (P : LockRow → Type 0) (hs : List ℕ) (rise : StandByIdentification s hs) (all : (at : ℕ) (row : LockRow) → Stores s at row → P row → IsIn at hs)
-      (each : (at : ℕ) → IsIn at hs → (row : LockRow) × (Stores s at row × P row)) where
+  -- handles by rising ID that are exactly those of the locks that pass
+  module _ (P : LockState → Type 0) (hs : List ℕ) (rise : StandById s hs) (all : (at : ℕ) (row : LockState) → Stores s at row → P row → IsIn at hs)
+      (each : (at : ℕ) → IsIn at hs → (row : LockState) × (Stores s at row × P row)) where
     pub no_first : first_handle hs ≡ None → ShowsFirst st P None
     no_first none = lacks P (λ at row stored passes. none_first hs none at (all at row stored passes))
 
@@ -329,13 +333,14 @@ module _ (s : Records) (sound : IsSound s) (st : State) (is : st.resources ≡ p
         )
         view of
 
-    module _ (a : ℕ) (ra : LockRow) (sa : Stores s a ra) (found : IsIn a hs) where
+    module _ (a : ℕ) (ra : LockState) (sa : Stores s a ra) (found : IsIn a hs) where
       pub no_next : handle_after a hs ≡ None → ShowsFirst st (λ other. P other × (ra.lkid < other.lkid)) None
       no_next none =
           lacks (λ other. P other × (ra.lkid < other.lkid))
           (λ at row stored both. last_greatest a ra sa hs rise found none at (all at row stored both.0) row stored both.1)
 
-      pub the_next : (n : ℕ) → handle_after a hs ≡ Some n → (view : LockView) → IsViewOf s n view → ShowsFirst st (λ other. P other × (ra.lkid < other.lkid)) (Some view)
+      pub the_next : (n : ℕ) → handle_after a hs ≡ Some n → (view : LockView) → IsViewOf s n view
+          → ShowsFirst st (λ other. P other × (ra.lkid < other.lkid)) (Some view)
       the_next n next view of =
           let here = each n (handle_after-in a hs n (sym next)) in
           shows (IsFirst st (λ other. P other × (ra.lkid < other.lkid))) n here.0 here.1.0 (
@@ -352,10 +357,10 @@ module _ (s : Records) (sound : IsSound s) (st : State) (is : st.resources ≡ p
     abbrev own : List ℕ
     own = own_handles_at owner s
 
-    own_all : (at : ℕ) (row : LockRow) → Stores s at row → row.pid ≡ pid → IsIn at own
+    own_all : (at : ℕ) (row : LockState) → Stores s at row → row.pid ≡ pid → IsIn at own
     own_all at row stored mine = subst (IsIn at) (sym (its_handles owner pid s sound lives)) (owned_here owner pid s sound lives at row stored mine)
 
-    own_each : (at : ℕ) → IsIn at own → (row : LockRow) × (Stores s at row × (row.pid ≡ pid))
+    own_each : (at : ℕ) → IsIn at own → (row : LockState) × (Stores s at row × (row.pid ≡ pid))
     own_each at there = stored_here owner pid s sound lives rest at there
 
     pub first_own_stored : (n : ℕ) → first_handle own ≡ Some n → IsStored n s
@@ -367,7 +372,7 @@ module _ (s : Records) (sound : IsSound s) (st : State) (is : st.resources ≡ p
     pub the_first_own : (n : ℕ) → first_handle own ≡ Some n → (view : LockView) → IsViewOf s n view → ShowsFirst st (λ row. row.pid ≡ pid) (Some view)
     the_first_own n is_first view of = the_first (λ row. row.pid ≡ pid) own (they_rise owner pid s sound lives rest) own_all own_each n is_first view of
 
-  module _ (rest : IsAtRest s) (lock : ℕ) (row : LockRow) (stored : Stores s lock row) (next : Option ℕ)
+  module _ (rest : IsAtRest s) (lock : ℕ) (row : LockState) (stored : Stores s lock row) (next : Option ℕ)
       (follows : (process : ℕ) → IsIn lock (own_handles_at process s) → next ≡ handle_after lock (own_handles_at process s)) where
     owned : (p : StoredProcess) × (one : OwnLock) × (IsIn p s.processes × (p.process.pid ≡ row.pid) × IsIn one p.own × (one.at ≡ lock))
     owned = sound.owned.owned lock row (inl stored)
@@ -392,35 +397,37 @@ module _ (s : Records) (sound : IsSound s) (st : State) (is : st.resources ≡ p
     pub no_next_own : next ≡ None → (lkid : ℕ) → row.lkid ≡ lkid → IsNextOf st IsLaterOwn lkid None
     no_next_own none lkid named =
         follows_of lock row stored IsLaterOwn lkid named None
-        (no_next (λ other. other.pid ≡ row.pid) (own_handles_at owner s) (they_rise owner row.pid s sound owner_lives rest) (own_all rest owner row.pid owner_lives)
+        (no_next (λ other. other.pid ≡ row.pid) (own_handles_at owner s)
+        (they_rise owner row.pid s sound owner_lives rest) (own_all rest owner row.pid owner_lives)
         (own_each rest owner row.pid owner_lives) lock row stored among_own (sym after_own ∙ none))
 
     pub the_next_own : (n : ℕ) → next ≡ Some n → (view : LockView) → IsViewOf s n view → (lkid : ℕ) → row.lkid ≡ lkid → IsNextOf st IsLaterOwn lkid (Some view)
     the_next_own n is_next view of lkid named =
         follows_of lock row stored IsLaterOwn lkid named (Some view)
-        (the_next (λ other. other.pid ≡ row.pid) (own_handles_at owner s) (they_rise owner row.pid s sound owner_lives rest) (own_all rest owner row.pid owner_lives)
+        (the_next (λ other. other.pid ≡ row.pid) (own_handles_at owner s)
+        (they_rise owner row.pid s sound owner_lives rest) (own_all rest owner row.pid owner_lives)
         (own_each rest owner row.pid owner_lives) lock row stored among_own n (sym after_own ∙ is_next) view of)
 
   -- ---- the sublocks of a lock
 
-  module _ (rest : IsAtRest s) (parent : ℕ) (up : LockRow) (above : Stores s parent up) (not_0 : up.lkid ≢ 0) where
+  module _ (rest : IsAtRest s) (parent : ℕ) (up : LockState) (above : Stores s parent up) (not_0 : up.lkid ≢ 0) where
     abbrev below : List ℕ
     below = sublocks_at parent s
 
-    below_all : (at : ℕ) (row : LockRow) → Stores s at row → IsSublockOf up.lkid row → IsIn at below
+    below_all : (at : ℕ) (row : LockState) → Stores s at row → IsSublockOf up.lkid row → IsIn at below
     below_all at row stored names = is_below_it s sound parent rest at up row above stored (λ none. not_0 (sym names.1 ∙ none)) names.1
 
-    below_each : (at : ℕ) → IsIn at below → (row : LockRow) × (Stores s at row × IsSublockOf up.lkid row)
+    below_each : (at : ℕ) → IsIn at below → (row : LockState) × (Stores s at row × IsSublockOf up.lkid row)
     below_each at there =
         let found = below_of s sound parent rest at there in
-        (found.1, (found.2.1, (not_0, found.2.2 ∙ ap (λ (r : LockRow). r.lkid) (one_lock s sound parent found.0 up found.2.0 above))))
+        (found.1, (found.2.1, (not_0, found.2.2 ∙ ap (λ (r : LockState). r.lkid) (one_lock s sound parent found.0 up found.2.0 above))))
 
-    below_rises : StandByIdentification s below
+    below_rises : StandById s below
     below_rises =
         elim (own_found parent (flat_map (λ (p : StoredProcess). p.own) s.processes)) [
-          | inr none ↦ subst (StandByIdentification s) (sym (ap (λ o. option_map_or (λ (x : OwnLock). x.sublocks) o []) none.0)) tt
+          | inr none ↦ subst (StandById s) (sym (ap (λ o. option_map_or (λ (x : OwnLock). x.sublocks) o []) none.0)) tt
           | inl found ↦ (let of = all_of_own found.0 s.processes found.1.1 in
-              subst (StandByIdentification s) (sym (ap (λ o. option_map_or (λ (x : OwnLock). x.sublocks) o []) found.1.0))
+              subst (StandById s) (sym (ap (λ o. option_map_or (λ (x : OwnLock). x.sublocks) o []) found.1.0))
               ((rest.rising of.0 of.1.0).sublocks found.0 of.1.1).1)
         ]
 
@@ -433,9 +440,9 @@ module _ (s : Records) (sound : IsSound s) (st : State) (is : st.resources ≡ p
     pub the_first_below : (n : ℕ) → first_handle below ≡ Some n → (view : LockView) → IsViewOf s n view → ShowsFirst st (IsSublockOf up.lkid) (Some view)
     the_first_below n is_first view of = the_first (IsSublockOf up.lkid) below below_rises below_all below_each n is_first view of
 
-  module _ (rest : IsAtRest s) (lock : ℕ) (row : LockRow) (stored : Stores s lock row) (has : row.parent ≢ 0) (next : Option ℕ)
+  module _ (rest : IsAtRest s) (lock : ℕ) (row : LockState) (stored : Stores s lock row) (has : row.parent ≢ 0) (next : Option ℕ)
       (follows : (parent : ℕ) → IsIn lock (sublocks_at parent s) → next ≡ handle_after lock (sublocks_at parent s)) where
-    parent_named : (p : StoredProcess) × (one : OwnLock) × (up : LockRow)
+    parent_named : (p : StoredProcess) × (one : OwnLock) × (up : LockState)
         × (IsIn p s.processes × IsIn one p.own × IsIn lock one.sublocks × Stores s one.at up × (up.lkid ≡ row.parent))
     parent_named =
         let named = sound.owned.named lock row (inl stored) has in
@@ -444,7 +451,7 @@ module _ (s : Records) (sound : IsSound s) (st : State) (is : st.resources ≡ p
     abbrev its_parent : ℕ
     its_parent = (parent_named).1.at
 
-    abbrev its_up : LockRow
+    abbrev its_up : LockState
     its_up = (parent_named).2
 
     its_parent_stored : Stores s its_parent its_up
@@ -460,14 +467,14 @@ module _ (s : Records) (sound : IsSound s) (st : State) (is : st.resources ≡ p
     after_below = follows its_parent among_below
 
     -- who is a sublock of the parent lock is one of the same parent lock
-    its_siblings : (other : LockRow) → IsSublockOf its_up.lkid other → IsSublockOf row.parent other
+    its_siblings : (other : LockState) → IsSublockOf its_up.lkid other → IsSublockOf row.parent other
     its_siblings other names = (has, names.1 ∙ (parent_named).3.4)
 
-    sibling_all : (at : ℕ) (other : LockRow) → Stores s at other → IsSublockOf row.parent other → IsIn at (sublocks_at its_parent s)
+    sibling_all : (at : ℕ) (other : LockState) → Stores s at other → IsSublockOf row.parent other → IsIn at (sublocks_at its_parent s)
     sibling_all at other there names =
         below_all rest its_parent its_up its_parent_stored up_not_0 at other there (up_not_0, names.1 ∙ sym (parent_named).3.4)
 
-    sibling_each : (at : ℕ) → IsIn at (sublocks_at its_parent s) → (other : LockRow) × (Stores s at other × IsSublockOf row.parent other)
+    sibling_each : (at : ℕ) → IsIn at (sublocks_at its_parent s) → (other : LockState) × (Stores s at other × IsSublockOf row.parent other)
     sibling_each at there =
         let found = below_each rest its_parent its_up its_parent_stored up_not_0 at there in
         (found.0, (found.1.0, its_siblings found.0 found.1.1))
@@ -480,17 +487,20 @@ module _ (s : Records) (sound : IsSound s) (st : State) (is : st.resources ≡ p
     pub no_next_below : next ≡ None → (lkid : ℕ) → row.lkid ≡ lkid → IsNextOf st IsLaterSublock lkid None
     no_next_below none lkid named =
         follows_of lock row stored IsLaterSublock lkid named None
-        (no_next (IsSublockOf row.parent) (sublocks_at its_parent s) (below_rises rest its_parent its_up its_parent_stored up_not_0) sibling_all sibling_each lock row stored
+        (no_next (IsSublockOf row.parent) (sublocks_at its_parent s)
+        (below_rises rest its_parent its_up its_parent_stored up_not_0) sibling_all sibling_each lock row stored
         among_below (sym after_below ∙ none))
 
-    pub the_next_below : (n : ℕ) → next ≡ Some n → (view : LockView) → IsViewOf s n view → (lkid : ℕ) → row.lkid ≡ lkid → IsNextOf st IsLaterSublock lkid (Some view)
+    pub the_next_below : (n : ℕ) → next ≡ Some n → (view : LockView) → IsViewOf s n view → (lkid : ℕ) → row.lkid ≡ lkid
+        → IsNextOf st IsLaterSublock lkid (Some view)
     the_next_below n is_next view of lkid named =
         follows_of lock row stored IsLaterSublock lkid named (Some view)
-        (the_next (IsSublockOf row.parent) (sublocks_at its_parent s) (below_rises rest its_parent its_up its_parent_stored up_not_0) sibling_all sibling_each lock row stored
+        (the_next (IsSublockOf row.parent) (sublocks_at its_parent s)
+        (below_rises rest its_parent its_up its_parent_stored up_not_0) sibling_all sibling_each lock row stored
         among_below n (sym after_below ∙ is_next) view of)
 
   -- a lock on a root has no parent lock, and so no later sublock of it
-  pub no_next_root : (lock : ℕ) (row : LockRow) → Stores s lock row → row.parent ≡ 0 → (lkid : ℕ) → row.lkid ≡ lkid → IsNextOf st IsLaterSublock lkid None
+  pub no_next_root : (lock : ℕ) (row : LockState) → Stores s lock row → row.parent ≡ 0 → (lkid : ℕ) → row.lkid ≡ lkid → IsNextOf st IsLaterSublock lkid None
   no_next_root lock row stored root lkid named =
       follows_of lock row stored IsLaterSublock lkid named None (λ r queue other there later. later.0.0 root)
 
@@ -501,7 +511,8 @@ module _ (s : Records) (sound : IsSound s) where
   abbrev seen : State
   seen = record start { resources = plain_resources s }
 
-  pub at_head : (key : Key) (res : ℕ) (found : FindsResource s key (Some res)) (queue : Queue) (n : ℕ) → first_at (locks_at (Queued res queue) s) ≡ Some n → (view : LockView) → IsViewOf s n view
+  pub at_head : (key : Key) (res : ℕ) (found : FindsResource s key (Some res)) (queue : Queue) (n : ℕ)
+      → first_at (locks_at (Queued res queue) s) ≡ Some n → (view : LockView) → IsViewOf s n view
       → IfSome (plain_resource_at res s) (λ r. Some view ≡ shown_first s sound seen refl r queue (rows_in queue r))
   at_head = head_some s sound seen refl
 
@@ -509,21 +520,22 @@ module _ (s : Records) (sound : IsSound s) where
       → IfSome (plain_resource_at res s) (λ r. None ≡ shown_first s sound seen refl r queue (rows_in queue r))
   at_no_head = head_none s sound seen refl
 
-  pub stored_next : (lock : ℕ) (row : LockRow) → Stores s lock row → (next : Option ℕ)
-      → ((place : Place) (own : LockRow) → IsIn (record { at = lock; row = own }) (locks_at place s) → next ≡ at_after lock (locks_at place s))
+  pub stored_next : (lock : ℕ) (row : LockState) → Stores s lock row → (next : Option ℕ)
+      → ((place : Place) (own : LockState) → IsIn (record { at = lock; row = own }) (locks_at place s) → next ≡ at_after lock (locks_at place s))
       → (n : ℕ) → next ≡ Some n → IsStored n s
   stored_next = next_stored s sound seen refl
 
   pub stored_first_own : IsAtRest s → (owner pid : ℕ) → IsProcess owner pid s → (n : ℕ) → first_handle (own_handles_at owner s) ≡ Some n → IsStored n s
   stored_first_own = first_own_stored s sound seen refl
 
-  pub stored_next_own : IsAtRest s → (lock : ℕ) (row : LockRow) → Stores s lock row → (next : Option ℕ)
+  pub stored_next_own : IsAtRest s → (lock : ℕ) (row : LockState) → Stores s lock row → (next : Option ℕ)
       → ((process : ℕ) → IsIn lock (own_handles_at process s) → next ≡ handle_after lock (own_handles_at process s)) → (n : ℕ) → next ≡ Some n → IsStored n s
   stored_next_own = next_own_stored s sound seen refl
 
-  pub stored_first_below : IsAtRest s → (parent : ℕ) (up : LockRow) → Stores s parent up → up.lkid ≢ 0 → (n : ℕ) → first_handle (sublocks_at parent s) ≡ Some n → IsStored n s
+  pub stored_first_below : IsAtRest s → (parent : ℕ) (up : LockState) → Stores s parent up → up.lkid ≢ 0 → (n : ℕ)
+      → first_handle (sublocks_at parent s) ≡ Some n → IsStored n s
   stored_first_below = first_below_stored s sound seen refl
 
-  pub stored_next_below : IsAtRest s → (lock : ℕ) (row : LockRow) → Stores s lock row → row.parent ≢ 0 → (next : Option ℕ)
+  pub stored_next_below : IsAtRest s → (lock : ℕ) (row : LockState) → Stores s lock row → row.parent ≢ 0 → (next : Option ℕ)
       → ((parent : ℕ) → IsIn lock (sublocks_at parent s) → next ≡ handle_after lock (sublocks_at parent s)) → (n : ℕ) → next ≡ Some n → IsStored n s
   stored_next_below = next_below_stored s sound seen refl

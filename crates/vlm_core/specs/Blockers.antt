@@ -1,6 +1,6 @@
 -- The locks for which a queued request waits, and those whose requests wait for a lock, as the readers show them.
 use Rattle.std.specs.Prelude.{◌≡◌, ℕ, List, All, ◌++◌, ◌∷◌, Option, None, Some}
-use Rattle.vlm_words.specs.declared.locks.LockRow.{LockRow}
+use Rattle.vlm_words.specs.declared.locks.LockState.{LockState}
 use Rattle.vlm_words.specs.declared.resources.Queue.{Queue}
 use Rattle.vlm_words.specs.State.{Resource, State}
 use Rattle.vlm_model.specs.Deadlocks.{WaitsOn, queue_of}
@@ -16,12 +16,12 @@ use Rattle.vlm_core.specs.declared.blockers.Side.TheVariants.{Blocked, Blockers}
 use Rattle.vlm_core.specs.Locks.{HasLockIn, IsNamed, LacksLock, lock_view}
 
 -- all locks of a resource in the order of its queues: granted, converting, waiting
-abbrev pub locks_in_order : Resource → List LockRow
+abbrev pub locks_in_order : Resource → List LockState
 locks_in_order r = r.granted ++ queue_of r
 
 -- how another lock of a resource stands to a lock: the request of the one waits for the other
 abbrev pub Standing : Type 1
-Standing = Resource → LockRow → LockRow → Type 0
+Standing = Resource → LockState → LockState → Type 0
 
 -- the lock keeps the request of the other one waiting
 abbrev pub IsAwaitedBy : Standing
@@ -33,14 +33,14 @@ standing_of Blockers = WaitsOn
 standing_of Blocked = IsAwaitedBy
 
 -- none of these locks passes
-abbrev pub NonePasses : (LockRow → Type 0) → List LockRow → Type 0
+abbrev pub NonePasses : (LockState → Type 0) → List LockState → Type 0
 NonePasses P locks = All (λ lock. ¬ P lock) locks
 
 -- the view shows the first of these locks that passes
-pub record ShowsFirst (r : Resource) (P : LockRow → Type 0) (locks : List LockRow) (view : LockView) : Type 0 where
-  pub passed : List LockRow
-  pub lock : LockRow
-  pub rest : List LockRow
+pub record ShowsFirst (r : Resource) (P : LockState → Type 0) (locks : List LockState) (view : LockView) : Type 0 where
+  pub passed : List LockState
+  pub lock : LockState
+  pub rest : List LockState
   pub parts : locks ≡ passed ++ lock ∷ rest
   pub passes : P lock
   pub first : NonePasses P passed
@@ -49,15 +49,15 @@ pub record ShowsFirst (r : Resource) (P : LockRow → Type 0) (locks : List Lock
   pub shown : view ≡ lock_view r queue lock
 
 -- the same, or none passes and nothing is shown
-abbrev pub FirstShown : Resource → (LockRow → Type 0) → List LockRow → Option LockView → Type 0
+abbrev pub FirstShown : Resource → (LockState → Type 0) → List LockState → Option LockView → Type 0
 FirstShown r P locks None = NonePasses P locks
 FirstShown r P locks (Some view) = ShowsFirst r P locks view
 
 -- the same for the locks of a stored resource: those after the lock with this handle, or all of them if none is named
-abbrev pub FirstStoredFrom : StoredResource → (LockRow → Type 0) → Option ℕ → Option LockView → Type 0
+abbrev pub FirstStoredFrom : StoredResource → (LockState → Type 0) → Option ℕ → Option LockView → Type 0
 FirstStoredFrom r P None view = FirstShown (plain_resource r) P (locks_in_order (plain_resource r)) view
 FirstStoredFrom r P (Some at) view =
-    (before rest : List StoredLock) (last : LockRow) → all_locks r ≡ before ++ record { at = at; row = last } ∷ rest
+    (before rest : List StoredLock) (last : LockState) → all_locks r ≡ before ++ record { at = at; row = last } ∷ rest
     → FirstShown (plain_resource r) P (rows_of_locks rest) view
 
 -- the same for the locks that stand so to a located lock
@@ -65,16 +65,16 @@ abbrev pub IsShownFrom : Standing → Records → LocatedLock → Option ℕ →
 IsShownFrom R s f from view = (r : StoredResource) → resource_at f.res s.resources ≡ Some r
     → FirstStoredFrom r (R (plain_resource r) f.row) from view
 
--- the lock of this identification exists, and the first lock of its resource that stands so to it is shown
+-- the lock of this ID exists, and the first lock of its resource that stands so to it is shown
 pub record IsFirstShown (R : Standing) (s : State) (lkid : ℕ) (view : Option LockView) : Type 0 where
   pub resource : Resource
   pub queue : Queue
-  pub row : LockRow
+  pub row : LockState
   pub there : HasLockIn s resource queue row
   pub named : IsNamed lkid row
   pub first : FirstShown resource (R resource row) (locks_in_order resource) view
 
--- the same, or no lock has the identification
+-- the same, or no lock has the ID
 abbrev pub ShowsFirstOf : Standing → State → ℕ → Option (Option LockView) → Type 0
 ShowsFirstOf R s lkid None = LacksLock s (IsNamed lkid)
 ShowsFirstOf R s lkid (Some view) = IsFirstShown R s lkid view
@@ -83,20 +83,20 @@ ShowsFirstOf R s lkid (Some view) = IsFirstShown R s lkid view
 pub record IsNextShown (R : Standing) (s : State) (lkid after : ℕ) (view : Option LockView) : Type 0 where
   pub resource : Resource
   pub queue : Queue
-  pub row : LockRow
+  pub row : LockState
   pub there : HasLockIn s resource queue row
   pub named : IsNamed lkid row
-  pub before : List LockRow
-  pub last : LockRow
-  pub rest : List LockRow
+  pub before : List LockState
+  pub last : LockState
+  pub rest : List LockState
   pub parts : locks_in_order resource ≡ before ++ last ∷ rest
   pub last_named : IsNamed after last
   pub next : FirstShown resource (R resource row) rest view
 
--- no resource has locks of both identifications
+-- no resource has locks of both IDs
 abbrev pub AreNotTogether : State → ℕ → ℕ → Type 0
 AreNotTogether s lkid after =
-    (r : Resource) (queue other : Queue) (row last : LockRow)
+    (r : Resource) (queue other : Queue) (row last : LockState)
     → HasLockIn s r queue row → HasLockIn s r other last → IsNamed lkid row → ¬ IsNamed after last
 
 -- the same, or no resource has both locks

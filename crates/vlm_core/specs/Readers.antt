@@ -27,7 +27,7 @@ abbrev pub after_first : {X : Type 0} → (X → Bool) → List X → Option (Li
 after_first passes [] = None
 after_first passes (x ∷ rest) = if passes x then Some rest else after_first passes rest
 
--- the process has this identification
+-- the process has this ID
 abbrev pub has_pid : ℕ → Process → Bool
 has_pid pid p = p.pid == pid
 

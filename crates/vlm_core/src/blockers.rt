@@ -90,7 +90,7 @@ impl Core {
 
     /// The first lock that keeps the queued request of a lock waiting, in the order of the queues: granted locks, then
     /// conversions, then waiting requests. These are the locks for which the request waits in the search for a deadlock
-    /// ([`Core::search`]), NODLCKWT and NODLCKBLK included. `None` if no lock has the identification; `Some(None)` if
+    /// ([`Core::search`]), NODLCKWT and NODLCKBLK included. `None` if no lock has the ID; `Some(None)` if
     /// nothing keeps it waiting, as for a granted lock. The cost grows with the locks of the resource that it passes.
     pub fn first_blocker(&self, lkid: u32) -> Option<Option<LockView>>
         ensures { ShowsFirstBlocker self.now lkid result }
@@ -98,7 +98,7 @@ impl Core {
         self.first_of(lkid, Side::Blockers)
     }
 
-    /// The next such lock, in the order of the queues, after the lock `after`. `None` if no lock has the identification
+    /// The next such lock, in the order of the queues, after the lock `after`. `None` if no lock has the ID
     /// `lkid`, or `after` is not a lock of its resource. The cost grows with the locks that it passes, so a walk over
     /// all of them costs one pass over the resource.
     pub fn next_blocker(&self, lkid: u32, after: u32) -> Option<Option<LockView>>
@@ -109,7 +109,7 @@ impl Core {
 
     /// The first lock whose queued request waits for a lock, in the order of the queues: conversions, then waiting
     /// requests. It is the other side of [`Core::first_blocker`]: it shows a lock exactly if that lock has this one
-    /// among its blockers. `None` if no lock has the identification; `Some(None)` if no request waits for it. The cost
+    /// among its blockers. `None` if no lock has the ID; `Some(None)` if no request waits for it. The cost
     /// grows with the locks of the resource that it passes, the granted ones included.
     pub fn first_blocked(&self, lkid: u32) -> Option<Option<LockView>>
         ensures { ShowsFirstBlocked self.now lkid result }
@@ -117,7 +117,7 @@ impl Core {
         self.first_of(lkid, Side::Blocked)
     }
 
-    /// The next such lock, in the order of the queues, after the lock `after`. `None` if no lock has the identification
+    /// The next such lock, in the order of the queues, after the lock `after`. `None` if no lock has the ID
     /// `lkid`, or `after` is not a lock of its resource. The cost grows with the locks that it passes.
     pub fn next_blocked(&self, lkid: u32, after: u32) -> Option<Option<LockView>>
         ensures { ShowsNextBlocked self.now lkid after result }

@@ -1,4 +1,4 @@
-//! The readers of single locks: a lock by its identification, and the next lock of a queue, of a process, and below a
+//! The readers of single locks: a lock by its ID, and the next lock of a queue, of a process, and below a
 //! parent lock. Each takes constant time, and changes nothing.
 
 ghost use Rattle.std.specs.Prelude.{◌≡◌, find, slice_get};
@@ -13,9 +13,9 @@ ghost use Rattle.vlm_core.specs.Readers.{key_of};
 use crate::public::Core;
 use crate::readers::key_of;
 use vlm_locks::{LocatedLock, located_lock};
-use vlm_model::laws::law_identifications_are_apart;
+use vlm_model::laws::law_ids_are_apart;
 use vlm_queue::{ResourceView, head, next, resource_view};
-use vlm_store::{LockAt, Store, StoredRow};
+use vlm_store::{LockAt, Store, StoredState};
 use vlm_words::modes::Mode;
 use vlm_words::names::Name;
 use vlm_words::resources::{Domain, Queue};
@@ -23,7 +23,7 @@ use vlm_words::resources::{Domain, Queue};
 /// A lock with its place, as the system service $GETLKI shows it.
 #[derive(Clone, Copy)]
 pub struct LockView {
-    /// Its identification.
+    /// Its ID.
     pub lkid: u32,
     /// The process that owns it.
     pub pid: u32,
@@ -31,6 +31,7 @@ pub struct LockView {
     pub held: Option<Mode>,
     /// The mode that its queued request wants; no mode while it is granted.
     pub want: Option<Mode>,
+    /// The queue of its resource in which it is.
     pub queue: Queue,
     /// The serial of its resource.
     pub resource: u32,
@@ -41,7 +42,7 @@ pub struct LockView {
 }
 
 // The status block of the last accepted request of a lock.
-fn block_of(row: &StoredRow) -> u8
+fn block_of(row: &StoredState) -> u8
     ensures { result ≡ block_of row.now }
 {
     match row.want() {
@@ -78,7 +79,7 @@ pub(crate) fn lock_view(store: &Store, lock: LockAt) -> LockView
 }
 
 impl Core {
-    /// The lock with this identification; `None` if there is none.
+    /// The lock with this ID; `None` if there is none.
     pub fn lock(&self, lkid: u32) -> Option<LockView>
         ensures { ShowsNamed self.now lkid result }
     {
@@ -87,7 +88,7 @@ impl Core {
         Some(lock_view(store, lock))
     }
 
-    /// The resource of the lock with this identification, with its value block and tail, if there is such a lock.
+    /// The resource of the lock with this ID, with its value block and tail, if there is such a lock.
     pub fn resource_of_lock(&self, lkid: u32) -> Option<ResourceView>
         ensures { ShowsResourceOf self.now lkid result }
     {
@@ -118,7 +119,7 @@ impl Core {
         }
     }
 
-    /// The next lock in the queue of the lock with this identification. `None` if there is no such lock; `Some(None)`
+    /// The next lock in the queue of the lock with this ID. `None` if there is no such lock; `Some(None)`
     /// if it is the last one.
     pub fn next_in_queue(&self, lkid: u32) -> Option<Option<LockView>>
         ensures { ShowsNextInQueue self.now lkid result }
@@ -131,7 +132,7 @@ impl Core {
         }
     }
 
-    /// The first lock of a process, in the order of making. `None` if no living process has the identification;
+    /// The first lock of a process, in the order of making. `None` if no living process has the ID;
     /// `Some(None)` if it has no locks.
     pub fn first_own(&self, pid: u32) -> Option<Option<LockView>>
         ensures { ShowsFirstOwn self.now pid result }
@@ -144,7 +145,7 @@ impl Core {
         }
     }
 
-    /// The next lock of the process that owns the lock with this identification, in the order of making. `None` if
+    /// The next lock of the process that owns the lock with this ID, in the order of making. `None` if
     /// there is no such lock; `Some(None)` if it is the last one.
     pub fn next_own(&self, lkid: u32) -> Option<Option<LockView>>
         ensures { ShowsNextOf self.now IsLaterOwn lkid result }
@@ -157,12 +158,12 @@ impl Core {
         }
     }
 
-    /// The first sublock of the lock with this identification, in the order of making. `None` if there is no such lock;
+    /// The first sublock of the lock with this ID, in the order of making. `None` if there is no such lock;
     /// `Some(None)` if it has no sublocks.
     pub fn first_sublock(&self, lkid: u32) -> Option<Option<LockView>>
         ensures { ShowsFirstSublock self.now lkid result }
     {
-        law_identifications_are_apart();
+        law_ids_are_apart();
         let store = &self.machine.store;
         let lock = store.lock(lkid)?;
         match store.first_sublock(lock) {
@@ -171,7 +172,7 @@ impl Core {
         }
     }
 
-    /// The next sublock of the same parent lock, in the order of making. `None` if no lock has this identification;
+    /// The next sublock of the same parent lock, in the order of making. `None` if no lock has this ID;
     /// `Some(None)` after the last sublock, and for a lock on a root.
     pub fn next_sublock(&self, lkid: u32) -> Option<Option<LockView>>
         ensures { ShowsNextOf self.now IsLaterSublock lkid result }

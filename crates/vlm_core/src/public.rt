@@ -19,10 +19,10 @@ use vlm_cycle::victim;
 use vlm_locks::Touched;
 use vlm_machine::{Machine, Scratch};
 use vlm_model::laws::{
-    law_a_declaration_gives_a_new_identification, law_a_parent_outlives_its_sublocks,
-    law_each_resource_is_settled, law_held_modes_are_compatible, law_identifications_are_apart,
-    law_identifications_of_processes_rise, law_no_lock_is_more_than_15_levels_below,
-    law_nothing_is_left_to_grant, law_rows_fit_their_queues, law_serials_rise,
+    law_a_declaration_gives_a_new_id, law_a_parent_outlives_its_sublocks,
+    law_each_resource_is_stable, law_held_modes_are_compatible, law_ids_are_apart,
+    law_no_lock_is_more_than_15_levels_below, law_nothing_is_left_to_grant, law_process_ids_rise,
+    law_rows_fit_their_queues, law_serials_rise,
 };
 use vlm_store::{HashKeys, Store};
 use vlm_words::steps::{Answer, Conversion, Declaration, Dequeue, NewRequest, Step, ValueSetting};
@@ -88,11 +88,11 @@ impl Core {
     fn between_steps(&self)
         ensures { IsBetweenSteps self.now }
     {
-        law_each_resource_is_settled();
-        law_identifications_are_apart();
+        law_each_resource_is_stable();
+        law_ids_are_apart();
         law_serials_rise();
-        law_a_declaration_gives_a_new_identification();
-        law_identifications_of_processes_rise();
+        law_a_declaration_gives_a_new_id();
+        law_process_ids_rise();
         law_a_parent_outlives_its_sublocks();
         law_no_lock_is_more_than_15_levels_below();
         law_rows_fit_their_queues();
@@ -123,11 +123,11 @@ impl Core {
     pub fn step(&mut self, step: Step) -> Answer
         ensures { Outcome self.old step self.new result }
     {
-        self.make_step(&step)
+        self.apply(&step)
     }
 
     /// As [`Core::step`], for a borrowed step: it is not copied.
-    pub fn make_step(&mut self, step: &Step) -> Answer
+    pub fn apply(&mut self, step: &Step) -> Answer
         ensures { Outcome self.old step.now self.new result }
     {
         self.between_steps();
@@ -214,7 +214,7 @@ impl Core {
     ///
     /// With DEQALL several locks are given up together: all locks of the caller if 0 is named, else all locks below the
     /// named one, which stays. A request that ends with its lock, by abort or cancel, queues an AST for its completion
-    /// routine, if it names one; the ASTs of one step are queued by rising identification. It queues none for its
+    /// routine, if it names one; the ASTs of one step are queued by rising ID. It queues none for its
     /// blocking routine, and a lock that goes is no longer warned.
     ///
     /// It takes no memory. Refusals, in this order: DEPARTED; NONEXPR; BADPARAM for an unknown flag, for DEQALL with
@@ -250,7 +250,7 @@ impl Core {
         self.step(Step::Leave(node))
     }
 
-    /// Searches for a deadlock: processes that wait for each other in a circle ($ENQ, lock conversion deadlocks and
+    /// Searches for a deadlock: processes that wait for each other in a cycle ($ENQ, lock conversion deadlocks and
     /// multiple resource deadlocks). A queued request waits for each other lock of its resource that is held in an
     /// incompatible mode, unless that mode was asked for with NODLCKBLK. It waits for each request before it,
     /// conversions first, unless that request has NODLCKBLK. With NODLCKWT it waits for no lock. A request that leads
@@ -258,7 +258,7 @@ impl Core {
     ///
     /// The most recent deadlocked request is the victim. It ends with DEADLOCK, and its completion AST is queued. A
     /// waiting lock goes, and a converting lock stays as it was granted. Then the requests that it blocked are granted.
-    /// The answer is the identification of the victim's lock; without a victim it says so, and nothing is changed. It
+    /// The answer is the ID of the victim's lock; without a victim it says so, and nothing is changed. It
     /// takes no memory. Refusals, in this order: BADPARAM if the node is not 1 to 8; DEPARTED.
     pub fn search(&mut self, node: u8) -> Answer
         ensures { IsMade self.old (Step.Search node) self.new result }

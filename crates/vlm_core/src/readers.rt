@@ -14,7 +14,7 @@ ghost use Rattle.vlm_words.specs.Resources.{is_at};
 
 use crate::public::Core;
 use vlm_machine::living;
-use vlm_model::laws::law_identifications_of_processes_rise;
+use vlm_model::laws::law_process_ids_rise;
 use vlm_procs::{ProcessView, pending, process_at, status_block};
 use vlm_queue::{ResourceView, RowView, Usage, resource_at, resource_view, row_at, usage_of};
 use vlm_words::blocks::Block;
@@ -33,7 +33,7 @@ pub(crate) fn key_of(parent: u32, domain: Domain, name: Name) -> Key
 }
 
 impl Core {
-    /// A process's status block with this number, from 1. `None` if no living process has the identification, or the
+    /// A process's status block with this number, from 1. `None` if no living process has the ID, or the
     /// process has no such block.
     #[tactic(auto, unfolding(vlm_model::specs::StatusBlocks::status_block_at))]
     pub fn block(&self, pid: u32, number: u8) -> Option<Block>
@@ -43,7 +43,7 @@ impl Core {
         status_block(&self.machine.store, caller.at, number)
     }
 
-    /// How many queued ASTs a process has not taken; `None` if no living process has the identification.
+    /// How many queued ASTs a process has not taken; `None` if no living process has the ID.
     pub fn pending(&self, pid: u32) -> Option<usize>
         ensures { result ≡ option_map (λ p. length p.asts) (process_of self.now.processes pid) }
     {
@@ -56,7 +56,7 @@ impl Core {
     pub fn pending_of(&self, node: u8) -> Option<u32>
         ensures { result ≡ first_pending node self.now.processes }
     {
-        law_identifications_of_processes_rise();
+        law_process_ids_rise();
         self.machine.store.pending_of(node)
     }
 
@@ -78,7 +78,7 @@ impl Core {
     pub fn process_count(&self) -> usize
         ensures { result ≡ length self.now.processes }
     {
-        self.machine.store.total_processes()
+        self.machine.store.process_count()
     }
 
     /// The living process at an index, from 0, in order of making: its declaration, and how many ASTs of it are
@@ -89,7 +89,7 @@ impl Core {
         process_at(&self.machine.store, index)
     }
 
-    /// The next living process, in order of making, after the process with this identification. `None` if no living
+    /// The next living process, in order of making, after the process with this ID. `None` if no living
     /// process has it; `Some(None)` after the last. It takes constant time.
     pub fn process_after(&self, pid: u32) -> Option<Option<ProcessView>>
         ensures { result ≡ option_map (λ rest. option_map process_view (slice_get rest 0))
@@ -114,7 +114,7 @@ impl Core {
     pub fn lock_count(&self) -> usize
         ensures { result ≡ all_locks self.now.resources }
     {
-        self.machine.store.total_locks()
+        self.machine.store.lock_count()
     }
 
     /// How many requests are queued: conversions and waiting locks. It takes constant time.
@@ -124,13 +124,13 @@ impl Core {
         self.machine.store.queued_count()
     }
 
-    /// How many locks a process has, waiting ones included; 0 if no living process has the identification. It takes
+    /// How many locks a process has, waiting ones included; 0 if no living process has the ID. It takes
     /// constant time.
     pub fn own_count(&self, pid: u32) -> usize
         ensures { result ≡ locks_of pid self.now.resources }
     {
         match self.machine.store.process(pid) {
-            Some(process) => self.machine.store.lock_count(process),
+            Some(process) => self.machine.store.own_lock_count(process),
             None => 0,
         }
     }

@@ -1,8 +1,9 @@
 -- Walks over all locks of a resource, up to the first that passes.
-use Rattle.std.proofs.Common.{◌≡◌, ◌≢◌, ◌<◌, ℕ, List, [], ◌∷◌, ◌++◌, length, Option, None, Some, refl, sym, ap, ◌∙◌, subst, inl, inr, eq-eqb, ne_eqb, append_assoc}
+use Rattle.std.proofs.Common.{◌≡◌, ◌≢◌, ◌<◌, ℕ, List, [], ◌∷◌, ◌++◌, length, Option, None, Some, refl, sym, ap, ◌∙◌}
+use Rattle.std.proofs.Common.{subst, inl, inr, eq-eqb, ne_eqb, append_assoc}
 use Rattle.std.specs.Option.{ForSome, option_map_or}
 use Rattle.std.proofs.lemmas.Bool.{cases_eq}
-use Rattle.vlm_words.specs.declared.locks.LockRow.{LockRow}
+use Rattle.vlm_words.specs.declared.locks.LockState.{LockState}
 use Rattle.vlm_words.specs.declared.resources.Queue.{Queue}
 use Rattle.vlm_words.specs.declared.resources.Queue.TheVariants.{Granted, Conversion, Waiting}
 use Rattle.vlm_words.specs.State.{Resource}
@@ -14,7 +15,7 @@ use Rattle.vlm_store.specs.Plain.{plain_resource}
 use Rattle.vlm_store.specs.Records.{AreApart, IsSound, IsStored, Records, StoredLock, StoredResource, Stores, at_after, first_at, locks_at, queued, resource_at}
 use Rattle.vlm_store.proofs.Records.{queue_at}
 use Rattle.vlm_store.proofs.Walks.{HasLock, after-among, at_lock, first-there, locks_from, locks_from-first, locks_left-fewer}
-use Rattle.vlm_locks.proofs.Stood.{queued_stored, resource_among}
+use Rattle.vlm_locks.proofs.QueuedLocks.{queued_stored, resource_among}
 use Rattle.vlm_cycle.specs.Blocking.{IsFirstFrom, IsFirstOf, IsNextOn, IsOn, PassesOn, all_locks, all_locks_at, first_from}
 use Rattle.vlm_cycle.proofs.Blocking.{Where, passes_row, place_is, row_passes, where_on}
 
@@ -22,7 +23,7 @@ use Rattle.vlm_cycle.proofs.Blocking.{Where, passes_row, place_is, row_passes, w
 
 -- no two locks of both lists have one handle
 apart_joined : (xs ys : List StoredLock) → AreApart xs → AreApart ys
-    → ((k : StoredLock) (row : LockRow) → IsIn k xs → IsIn (record { at = k.at; row = row }) ys → ⊥) → AreApart (xs ++ ys)
+    → ((k : StoredLock) (row : LockState) → IsIn k xs → IsIn (record { at = k.at; row = row }) ys → ⊥) → AreApart (xs ++ ys)
 apart_joined [] ys first second cross = second
 apart_joined (x ∷ xs) ys first second cross = (
   λ row there. elim (in_either (record { at = x.at; row = row }) xs ys there) [
@@ -37,7 +38,8 @@ module _ (s : Records) (sound : IsSound s) (own : StoredResource) (there : IsIn 
   in_one queue = subst AreApart (queue_at s sound own there queue) (sound.locks_apart (Queued own.at queue))
 
   -- a handle is in one queue
-  one_place : (p q : Queue) (k : StoredLock) (row : LockRow) → IsIn k (queued p own) → IsIn (record { at = k.at; row = row }) (queued q own) → Queued own.at p ≡ Queued own.at q
+  one_place : (p q : Queue) (k : StoredLock) (row : LockState) → IsIn k (queued p own)
+      → IsIn (record { at = k.at; row = row }) (queued q own) → Queued own.at p ≡ Queued own.at q
   one_place p q k row in_k in_row =
       sound.one_place k.at k.row row (Queued own.at p) (Queued own.at q) (subst (IsIn k) (sym (queue_at s sound own there p)) in_k)
       (subst (IsIn (record { at = k.at; row = row })) (sym (queue_at s sound own there q)) in_row)
@@ -54,7 +56,7 @@ module _ (s : Records) (sound : IsSound s) (own : StoredResource) (there : IsIn 
       ])
 
   -- each of them is stored
-  pub all_stored : (lock : ℕ) (row : LockRow) → IsIn (record { at = lock; row = row }) (all_locks own) → Stores s lock row
+  pub all_stored : (lock : ℕ) (row : LockState) → IsIn (record { at = lock; row = row }) (all_locks own) → Stores s lock row
   all_stored lock row among =
       let k : StoredLock = record { at = lock; row = row } in
       elim (in_either k own.granted (own.converting ++ own.waiting) among) [
@@ -86,20 +88,24 @@ after_within at (x ∷ xs) ys n is = elim (cases_eq x.at at) [
 ]
 
 -- the last lock of the first list
-after_last : (at : ℕ) (row : LockRow) (xs ys : List StoredLock) → IsIn (record { at = at; row = row }) xs → at_after at xs ≡ None → at_after at (xs ++ ys) ≡ first_at ys
+after_last : (at : ℕ) (row : LockState) (xs ys : List StoredLock) → IsIn (record { at = at; row = row }) xs
+    → at_after at xs ≡ None → at_after at (xs ++ ys) ≡ first_at ys
 after_last at row [] ys there is = absurd there
 after_last at row (x ∷ xs) ys there is = elim (cases_eq x.at at) [
   | inl same ↦ rw (eq-eqb x.at at same) (first_of_second xs ys (rw (eq-eqb x.at at same) at is))
   | inr differs ↦
       rw (ne_eqb x.at at differs)
-      (after_last at row xs ys (elim there [ inl here ↦ absurd (differs (ap (λ (k : StoredLock). k.at) here)) | inr later ↦ later ]) (rw (ne_eqb x.at at differs) at is))
+      (after_last at row xs ys
+      (elim there [ inl here ↦ absurd (differs (ap (λ (k : StoredLock). k.at) here)) | inr later ↦ later ])
+      (rw (ne_eqb x.at at differs) at is))
 ]
 
 -- a lock that is not of the first list
-after_second : (at : ℕ) (xs ys : List StoredLock) → ((row : LockRow) → ¬ IsIn (record { at = at; row = row }) xs) → at_after at (xs ++ ys) ≡ at_after at ys
+after_second : (at : ℕ) (xs ys : List StoredLock) → ((row : LockState) → ¬ IsIn (record { at = at; row = row }) xs) → at_after at (xs ++ ys) ≡ at_after at ys
 after_second at [] ys absent = refl
 after_second at (x ∷ xs) ys absent =
-    rw (ne_eqb x.at at (λ same. absent x.row (inl (ap (λ (n : ℕ). record { at = n; row = x.row }) same)))) (after_second at xs ys (λ row there. absent row (inr there)))
+    rw (ne_eqb x.at at (λ same. absent x.row (inl (ap (λ (n : ℕ). record { at = n; row = x.row }) same))))
+    (after_second at xs ys (λ row there. absent row (inr there)))
 
 -- the first lock of the queues behind this one
 abbrev pub first_behind : Queue → StoredResource → Option ℕ
@@ -107,21 +113,24 @@ first_behind Granted own = first_at (own.converting ++ own.waiting)
 first_behind Conversion own = first_at own.waiting
 first_behind Waiting own = None
 
-module _ (s : Records) (sound : IsSound s) (own : StoredResource) (there : IsIn own s.resources) (at : ℕ) (row : LockRow) where
+module _ (s : Records) (sound : IsSound s) (own : StoredResource) (there : IsIn own s.resources) (at : ℕ) (row : LockState) where
   -- the lock is in no queue before its own
-  absent_granted : (q : Queue) → q ≢ Granted → IsIn (record { at = at; row = row }) (queued q own) → (other : LockRow) → ¬ IsIn (record { at = at; row = other }) own.granted
+  absent_granted : (q : Queue) → q ≢ Granted → IsIn (record { at = at; row = row }) (queued q own) → (other : LockState)
+      → ¬ IsIn (record { at = at; row = other }) own.granted
   absent_granted q not among other here =
       let one : Queued own.at Granted ≡ Queued own.at q = one_place s sound own there Granted q (record { at = at; row = other }) row here among in
       let same : Granted ≡ q = cc in
       not (sym same)
 
-  absent_converting : IsIn (record { at = at; row = row }) own.waiting → (other : LockRow) → ¬ IsIn (record { at = at; row = other }) own.converting
+  absent_converting : IsIn (record { at = at; row = row }) own.waiting → (other : LockState) → ¬ IsIn (record { at = at; row = other }) own.converting
   absent_converting among other here =
-      let one : Queued own.at Conversion ≡ Queued own.at Waiting = one_place s sound own there Conversion Waiting (record { at = at; row = other }) row here among in
+      let one : Queued own.at Conversion ≡ Queued own.at Waiting =
+      one_place s sound own there Conversion Waiting (record { at = at; row = other }) row here among in
       cc
 
   -- the next of its queue is the next of all
-  pub after_in_queue : (queue : Queue) (n : ℕ) → IsIn (record { at = at; row = row }) (queued queue own) → at_after at (queued queue own) ≡ Some n → at_after at (all_locks own) ≡ Some n
+  pub after_in_queue : (queue : Queue) (n : ℕ) → IsIn (record { at = at; row = row }) (queued queue own)
+      → at_after at (queued queue own) ≡ Some n → at_after at (all_locks own) ≡ Some n
   after_in_queue Granted n among is = after_within at own.granted (own.converting ++ own.waiting) n is
   after_in_queue Conversion n among is =
       after_second at own.granted (own.converting ++ own.waiting) (absent_granted Conversion (λ e. cc) among) ∙ after_within at own.converting own.waiting n is
@@ -130,10 +139,12 @@ module _ (s : Records) (sound : IsSound s) (own : StoredResource) (there : IsIn 
       ∙ after_second at own.converting own.waiting (absent_converting among) ∙ is
 
   -- behind the last of its queue come the other queues
-  pub after_queue : (queue : Queue) → IsIn (record { at = at; row = row }) (queued queue own) → at_after at (queued queue own) ≡ None → at_after at (all_locks own) ≡ first_behind queue own
+  pub after_queue : (queue : Queue) → IsIn (record { at = at; row = row }) (queued queue own)
+      → at_after at (queued queue own) ≡ None → at_after at (all_locks own) ≡ first_behind queue own
   after_queue Granted among is = after_last at row own.granted (own.converting ++ own.waiting) among is
   after_queue Conversion among is =
-      after_second at own.granted (own.converting ++ own.waiting) (absent_granted Conversion (λ e. cc) among) ∙ after_last at row own.converting own.waiting among is
+      after_second at own.granted (own.converting ++ own.waiting) (absent_granted Conversion (λ e. cc) among)
+      ∙ after_last at row own.converting own.waiting among is
   after_queue Waiting among is =
       after_second at own.granted (own.converting ++ own.waiting) (absent_granted Waiting (λ e. cc) among)
       ∙ after_second at own.converting own.waiting (absent_converting among) ∙ is
@@ -144,12 +155,14 @@ behind_at s res Granted = first_at (locks_at (Queued res Conversion) s ++ locks_
 behind_at s res Conversion = first_at (locks_at (Queued res Waiting) s)
 behind_at s res Waiting = None
 
-behind_is : (s : Records) (res : ℕ) (own : StoredResource) → resource_at res s.resources ≡ Some own → (queue : Queue) → first_behind queue own ≡ behind_at s res queue
+behind_is : (s : Records) (res : ℕ) (own : StoredResource) → resource_at res s.resources ≡ Some own → (queue : Queue)
+    → first_behind queue own ≡ behind_at s res queue
 behind_is s res own found Granted = ap (λ o. first_at (option_map_or (queued Conversion) o [] ++ option_map_or (queued Waiting) o [])) (sym found)
 behind_is s res own found Conversion = ap (λ o. first_at (option_map_or (queued Waiting) o [])) (sym found)
 behind_is s res own found Waiting = refl
 
-module _ (s : Records) (res lock : ℕ) (sound : IsSound s) (on : IsOn lock res s) (place : Place) (row : LockRow) (here : IsIn (record { at = lock; row = row }) (locks_at place s))
+module _ (s : Records) (res lock : ℕ) (sound : IsSound s) (on : IsOn lock res s) (place : Place) (row : LockState)
+    (here : IsIn (record { at = lock; row = row }) (locks_at place s))
     (next : Option ℕ) (is : next ≡ at_after lock (locks_at place s)) where
   -- where the walk is
   abbrev its : Where s res lock
@@ -184,7 +197,7 @@ module _ (s : Records) (res lock : ℕ) (sound : IsSound s) (on : IsOn lock res 
 -- ---- walks
 
 -- the locks that the walk has left give what it is to give
-abbrev pub Leads : (Resource → LockRow → Type 0) → Records → ℕ → Option ℕ → Option ℕ → Type 0
+abbrev pub Leads : (Resource → LockState → Type 0) → Records → ℕ → Option ℕ → Option ℕ → Type 0
 Leads P s res from at =
     (own : StoredResource) → resource_at res s.resources ≡ Some own → (found : Option ℕ)
     → IsFirstOf (P (plain_resource own)) (locks_from at (all_locks own)) found → IsFirstFrom (P (plain_resource own)) from (all_locks own) found
@@ -199,7 +212,7 @@ on_locks s res lock own found on = subst (λ o. HasLock lock (option_map_or all_
 locks_on : (s : Records) (res : ℕ) (own : StoredResource) → resource_at res s.resources ≡ Some own → all_locks_at res s ≡ all_locks own
 locks_on s res own found = ap (λ o. option_map_or all_locks o []) found
 
-module _ (P : Resource → LockRow → Type 0) (s : Records) (res : ℕ) where
+module _ (P : Resource → LockState → Type 0) (s : Records) (res : ℕ) where
   -- a walk from the first lock
   leads_first : (at : Option ℕ) → IsSound s → at ≡ first_at (all_locks_at res s) → Leads P s res None at
   leads_first at sound is own found result first =
@@ -252,11 +265,11 @@ module _ (P : Resource → LockRow → Type 0) (s : Records) (res : ℕ) where
       leads own found None (subst (λ o. IsFirstOf (P (plain_resource own)) (locks_from o (all_locks own)) None) (sym none) refl)
 
 -- where the request waits for no lock there is none
-none_first : (P : LockRow → Type 0) → ((row : LockRow) → P row → ⊥) → (ks : List StoredLock) → IsFirstOf P ks None
+none_first : (P : LockState → Type 0) → ((row : LockState) → P row → ⊥) → (ks : List StoredLock) → IsFirstOf P ks None
 none_first P none [] = refl
 none_first P none (k ∷ ks) = inr (none k.row, none_first P none ks)
 
-pub none_from : (P : LockRow → Type 0) → ((row : LockRow) → P row → ⊥) → (from : Option ℕ) (ks : List StoredLock) → IsFirstFrom P from ks None
+pub none_from : (P : LockState → Type 0) → ((row : LockState) → P row → ⊥) → (from : Option ℕ) (ks : List StoredLock) → IsFirstFrom P from ks None
 none_from P none None ks = none_first P none ks
 none_from P none (Some at) ks = λ before rest row split. none_first P none rest
 
@@ -264,7 +277,8 @@ none_from P none (Some at) ks = λ before rest row split. none_first P none rest
 pub first_on : (s : Records) (res : ℕ) (at : Option ℕ) → at ≡ first_at (all_locks_at res s) → ForSome at (λ lock. IsOn lock res s)
 first_on s res at is = subst (λ o. ForSome o (λ lock. IsOn lock res s)) (sym is) (first-there [] (all_locks_at res s))
 
-pub after_on : (s : Records) (res lock : ℕ) (next : Option ℕ) → IsSound s → IsOn lock res s → next ≡ at_after lock (all_locks_at res s) → ForSome next (λ other. IsOn other res s)
+pub after_on : (s : Records) (res lock : ℕ) (next : Option ℕ) → IsSound s → IsOn lock res s
+    → next ≡ at_after lock (all_locks_at res s) → ForSome next (λ other. IsOn other res s)
 after_on s res lock next sound on is =
     let w = where_on s res lock on in
     let apart : AreApart (all_locks_at res s) = subst AreApart (sym (locks_on s res w.own w.found)) (all_apart s sound w.own w.there) in
@@ -281,7 +295,8 @@ pub fewer_left : (s : Records) (res lock : ℕ) (next : Option ℕ) → IsSound 
 fewer_left s res lock next sound on is =
     let w = where_on s res lock on in
     let apart : AreApart (all_locks_at res s) = subst AreApart (sym (locks_on s res w.own w.found)) (all_apart s sound w.own w.there) in
-    subst (λ o. length (left_at s res o) < length (left_at s res (Some lock))) (sym is) (locks_left-fewer lock (all_locks_at res s) (at_lock lock (all_locks_at res s) apart on))
+    subst (λ o. length (left_at s res o) < length (left_at s res (Some lock))) (sym is)
+    (locks_left-fewer lock (all_locks_at res s) (at_lock lock (all_locks_at res s) apart on))
 
 -- a lock on a resource is stored
 pub on_stored : (s : Records) (res lock : ℕ) → IsSound s → IsOn lock res s → IsStored lock s

@@ -6,7 +6,7 @@ use Rattle.std.proofs.lemmas.Bool.{cases_eq}
 use Rattle.std.proofs.lemmas.Bool.Decides.{nat_tests}
 use Rattle.std.proofs.lemmas.Option.{same_Some}
 use Rattle.vlm_words.specs.declared.locks.Request.{Request}
-use Rattle.vlm_words.specs.declared.locks.LockRow.{LockRow}
+use Rattle.vlm_words.specs.declared.locks.LockState.{LockState}
 use Rattle.vlm_words.specs.declared.resources.Queue.{Queue}
 use Rattle.vlm_words.specs.declared.resources.Queue.TheVariants.{Granted, Conversion, Waiting}
 use Rattle.vlm_words.specs.State.{Resource}
@@ -19,7 +19,7 @@ use Rattle.vlm_store.specs.Plain.{plain_resource}
 use Rattle.vlm_store.specs.Records.{IsSound, Records, StoredLock, StoredResource, Stores, locks_at, queued, resource_at, rows_of_locks}
 use Rattle.vlm_locks.specs.declared.located_locks.LocatedLock.{LocatedLock}
 use Rattle.vlm_locks.specs.Standing.{IsLocated}
-use Rattle.vlm_locks.proofs.Stood.{one_lock, queued_stored, resource_among}
+use Rattle.vlm_locks.proofs.QueuedLocks.{one_lock, queued_stored, resource_among}
 use Rattle.vlm_cycle.specs.Blocking.{AreInOrder, Awaits, IsOn, IsRising, Keeps, PassesOn, WaitsForLocated, WaitsOnLock, all_locks, is_before}
 use Rattle.vlm_cycle.specs.Waiting.{rows_before}
 use Rattle.vlm_cycle.proofs.Keeping.{apart_of, one_queue, queue_apart, queued_on}
@@ -33,13 +33,14 @@ pub record Where (s : Records) (res lock : ℕ) : Type 0 where
   pub found : resource_at res s.resources ≡ Some own
   pub there : IsIn own s.resources
   pub queue : Queue
-  pub row : LockRow
+  pub row : LockState
   pub among : IsIn (record { at = lock; row = row }) (queued queue own)
 
 pub where_on : (s : Records) (res lock : ℕ) → IsOn lock res s → Where s res lock
 where_on s res lock on = of_found (resource_at res s.resources) refl on.1
   where
-    of_found : (o : Option StoredResource) → resource_at res s.resources ≡ o → IsIn (record { at = lock; row = on.0 }) (option_map_or all_locks o []) → Where s res lock
+    of_found : (o : Option StoredResource) → resource_at res s.resources ≡ o
+        → IsIn (record { at = lock; row = on.0 }) (option_map_or all_locks o []) → Where s res lock
     of_found None is here = absurd here
     of_found (Some own) is here =
         let there = resource_among res s.resources own is in
@@ -52,14 +53,15 @@ where_on s res lock on = of_found (resource_at res s.resources) refl on.1
         ]
 
 -- and so it is there under its place
-pub place_is : (s : Records) (res lock : ℕ) → IsSound s → (w : Where s res lock) (place : Place) (row : LockRow) → IsIn (record { at = lock; row = row }) (locks_at place s)
+pub place_is : (s : Records) (res lock : ℕ) → IsSound s → (w : Where s res lock) (place : Place) (row : LockState)
+    → IsIn (record { at = lock; row = row }) (locks_at place s)
     → place ≡ Queued res w.queue
 place_is s res lock sound w place row here =
     sound.one_place lock row w.row place (Queued res w.queue) here
     (subst (IsIn (record { at = lock; row = w.row })) (sym (ap (λ o. option_map_or (queued w.queue) o []) w.found)) w.among)
 
 -- a lock of a queue is one of all
-pub on_all : (s : Records) (res lock : ℕ) (own : StoredResource) (queue : Queue) (row : LockRow) → resource_at res s.resources ≡ Some own
+pub on_all : (s : Records) (res lock : ℕ) (own : StoredResource) (queue : Queue) (row : LockState) → resource_at res s.resources ≡ Some own
     → IsIn (record { at = lock; row = row }) (queued queue own) → IsOn lock res s
 on_all s res lock own queue row found among =
     (row, subst (λ o. IsIn (record { at = lock; row = row }) (option_map_or all_locks o [])) (sym found) (in_all queue among))
@@ -67,9 +69,11 @@ on_all s res lock own queue row found among =
     in_all : (queue : Queue) → IsIn (record { at = lock; row = row }) (queued queue own) → IsIn (record { at = lock; row = row }) (all_locks own)
     in_all Granted among = in_ahead (record { at = lock; row = row }) own.granted (own.converting ++ own.waiting) among
     in_all Conversion among =
-        in_behind (record { at = lock; row = row }) own.granted (own.converting ++ own.waiting) (in_ahead (record { at = lock; row = row }) own.converting own.waiting among)
+        in_behind (record { at = lock; row = row }) own.granted (own.converting ++ own.waiting)
+        (in_ahead (record { at = lock; row = row }) own.converting own.waiting among)
     in_all Waiting among =
-        in_behind (record { at = lock; row = row }) own.granted (own.converting ++ own.waiting) (in_behind (record { at = lock; row = row }) own.converting own.waiting among)
+        in_behind (record { at = lock; row = row }) own.granted (own.converting ++ own.waiting)
+        (in_behind (record { at = lock; row = row }) own.converting own.waiting among)
 
 -- ---- rows before one, by their numbers
 
@@ -81,29 +85,32 @@ less_number : (a b : ℕ) → a < b → nat_lt a b ≡ true
 less_number a b less = grind (arith, nat_tests, less)
 
 -- a row before another one of a rising list has the lower number
-before_older : (rows : List LockRow) (row lock : LockRow) → IsRising rows → IsIn row rows → IsIn lock (rows_before row.lkid rows) → wanted_number lock < wanted_number row
+before_older : (rows : List LockState) (row lock : LockState) → IsRising rows → IsIn row rows
+    → IsIn lock (rows_before row.lkid rows) → wanted_number lock < wanted_number row
 before_older [] row lock rising in_row in_lock = absurd in_row
 before_older (x ∷ rows) row lock rising in_row in_lock = elim (cases_eq x.lkid row.lkid) [
   | inl same ↦ absurd (rw (eq-eqb x.lkid row.lkid same) at in_lock)
-  | inr differs ↦ of_cons (later differs in_row) (λ there behind. before_older rows row lock rising.1 there behind) (rw (ne_eqb x.lkid row.lkid differs) at in_lock)
+  | inr differs ↦ of_cons (later differs in_row) (λ there behind. before_older rows row lock rising.1 there behind)
+      (rw (ne_eqb x.lkid row.lkid differs) at in_lock)
 ]
   where
     later : x.lkid ≢ row.lkid → IsIn row (x ∷ rows) → IsIn row rows
-    later differs there = elim there [ inl here ↦ absurd (differs (ap (λ (y : LockRow). y.lkid) here)) | inr behind ↦ behind ]
+    later differs there = elim there [ inl here ↦ absurd (differs (ap (λ (y : LockState). y.lkid) here)) | inr behind ↦ behind ]
 
     of_cons : IsIn row rows → (IsIn row rows → IsIn lock (rows_before row.lkid rows) → wanted_number lock < wanted_number row)
         → IsIn lock (x ∷ rows_before row.lkid rows) → wanted_number lock < wanted_number row
     of_cons there further some = elim some [
-      | inl here ↦ subst (λ (y : LockRow). wanted_number y < wanted_number row) here (rising.0 row there)
+      | inl here ↦ subst (λ (y : LockState). wanted_number y < wanted_number row) here (rising.0 row there)
       | inr behind ↦ further there behind
     ]
 
 -- and one with the lower number is before it
-older_before : (rows : List LockRow) (row lock : LockRow) → RowsApart rows → IsRising rows → IsIn row rows → IsIn lock rows → wanted_number lock < wanted_number row
+older_before : (rows : List LockState) (row lock : LockState) → RowsApart rows → IsRising rows → IsIn row rows
+    → IsIn lock rows → wanted_number lock < wanted_number row
     → IsIn lock (rows_before row.lkid rows)
 older_before [] row lock apart rising in_row in_lock older = absurd in_row
 older_before (x ∷ rows) row lock apart rising in_row in_lock older = elim in_row [
-  | inl here ↦ absurd (not_first (subst (λ (y : LockRow). wanted_number lock < wanted_number y) (sym here) older))
+  | inl here ↦ absurd (not_first (subst (λ (y : LockState). wanted_number lock < wanted_number y) (sym here) older))
   | inr later ↦
       rw (ne_eqb x.lkid row.lkid (λ same. apart.0 row later (sym same))) (elim in_lock [
         | inl here ↦ inl here
@@ -113,12 +120,14 @@ older_before (x ∷ rows) row lock apart rising in_row in_lock older = elim in_r
   where
     not_first : wanted_number lock < wanted_number x → ⊥
     not_first less = elim in_lock [
-      | inl here ↦ (let own : wanted_number x < wanted_number x = subst (λ (y : LockRow). wanted_number y < wanted_number x) (sym here) less in absurd (omega (arith, own)))
+      | inl here ↦ (let own : wanted_number x < wanted_number x =
+          subst (λ (y : LockState). wanted_number y < wanted_number x) (sym here) less in absurd (omega (arith, own)))
       | inr behind ↦ (let more = rising.0 lock behind in absurd (omega (arith, more, less)))
     ]
 
--- where the identification is not there, all rows are before it
-before_all : (lkid : ℕ) (rows : List LockRow) (lock : LockRow) → ((x : LockRow) → IsIn x rows → x.lkid ≢ lkid) → IsIn lock rows → IsIn lock (rows_before lkid rows)
+-- where the ID is not there, all rows are before it
+before_all : (lkid : ℕ) (rows : List LockState) (lock : LockState) → ((x : LockState) → IsIn x rows → x.lkid ≢ lkid)
+    → IsIn lock rows → IsIn lock (rows_before lkid rows)
 before_all lkid [] lock none there = absurd there
 before_all lkid (x ∷ rows) lock none there =
     rw (ne_eqb x.lkid lkid (none x (inl refl))) (elim there [
@@ -127,7 +136,7 @@ before_all lkid (x ∷ rows) lock none there =
     ])
 
 -- what is before one is of the list
-before_in : (lkid : ℕ) (rows : List LockRow) (lock : LockRow) → IsIn lock (rows_before lkid rows) → IsIn lock rows
+pub before_in : (lkid : ℕ) (rows : List LockState) (lock : LockState) → IsIn lock (rows_before lkid rows) → IsIn lock rows
 before_in lkid [] lock there = absurd there
 before_in lkid (x ∷ rows) lock there = elim (cases_eq x.lkid lkid) [
   | inl same ↦ absurd (rw (eq-eqb x.lkid lkid same) at there)
@@ -142,7 +151,7 @@ before_in lkid (x ∷ rows) lock there = elim (cases_eq x.lkid lkid) [
 module _ (s : Records) (sound : IsSound s) (order : AreInOrder s) (f : LocatedLock) (own : StoredResource) (there : IsIn own s.resources)
     (among : IsIn (record { at = f.lock; row = f.row }) (queued f.queue own)) where
   -- the queued rows
-  abbrev whole : List LockRow
+  abbrev whole : List LockState
   whole = queue_of (plain_resource own)
 
   -- the located lock with its handle
@@ -154,12 +163,12 @@ module _ (s : Records) (sound : IsSound s) (order : AreInOrder s) (f : LocatedLo
   not_queued granted queued_row =
       let stands = queued_on s own f.row queued_row in
       let one : Queued own.at f.queue ≡ Queued own.at stands.queue =
-      one_queue s sound own there f.queue stands.queue its stands.lock own there among stands.among (ap (λ (y : LockRow). y.lkid) stands.its) in
+      one_queue s sound own there f.queue stands.queue its stands.lock own there among stands.among (ap (λ (y : LockState). y.lkid) stands.its) in
       let same : f.queue ≡ stands.queue = cc in
       stands.not_granted (sym same ∙ granted)
 
   -- a lock whose request waits for another is queued for it
-  pub awaits_of : (row : LockRow) (w : WaitsOn (plain_resource own) f.row row) → Awaits f w.request
+  pub awaits_of : (row : LockState) (w : WaitsOn (plain_resource own) f.row row) → Awaits f w.request
   awaits_of row w =
       record { queued = λ granted. not_queued granted (among_is f.row whole w.queued); wanted = w.wanted; counted = w.counted }
 
@@ -177,11 +186,11 @@ module _ (s : Records) (sound : IsSound s) (order : AreInOrder s) (f : LocatedLo
     in_whole = in_queue f.queue awaits.queued among
 
     -- a lock that waits converts not
-    not_converting : IsIn its own.waiting → (x : LockRow) → IsIn x (rows_of_locks own.converting) → x.lkid ≢ f.row.lkid
+    not_converting : IsIn its own.waiting → (x : LockState) → IsIn x (rows_of_locks own.converting) → x.lkid ≢ f.row.lkid
     not_converting here x in_x same =
         let k = lock_of x own.converting in_x in
         let one : Queued own.at Conversion ≡ Queued own.at Waiting =
-        one_queue s sound own there Conversion Waiting k.0 its own there k.1.0 here (sym same ∙ sym (ap (λ (y : LockRow). y.lkid) k.1.1)) in
+        one_queue s sound own there Conversion Waiting k.0 its own there k.1.0 here (sym same ∙ sym (ap (λ (y : LockState). y.lkid) k.1.1)) in
         cc
 
     module _ (queue : Queue) (lock : StoredLock) (stands : IsIn lock (queued queue own)) where
@@ -190,7 +199,7 @@ module _ (s : Records) (sound : IsSound s) (order : AreInOrder s) (f : LocatedLo
       queue_is q in_row =
           let k = lock_of lock.row (queued q own) in_row in
           let one : Queued own.at queue ≡ Queued own.at q =
-          one_queue s sound own there queue q lock k.0 own there stands k.1.0 (ap (λ (y : LockRow). y.lkid) k.1.1) in
+          one_queue s sound own there queue q lock k.0 own there stands k.1.0 (ap (λ (y : LockState). y.lkid) k.1.1) in
           cc
 
       -- what holds a mode is granted or converts
@@ -249,7 +258,9 @@ module _ (s : Records) (sound : IsSound s) (order : AreInOrder s) (f : LocatedLo
           → is_before p (wanted_number lock.row) q request.number ≡ true
       before_by p Granted is not own_here before = absurd (not refl)
       before_by p Conversion is not own_here before =
-          let first = subst (IsIn lock.row) (before_stops (rows_of_locks own.converting) (rows_of_locks own.waiting) f.row (row_in its own.converting own_here)) before in
+          let first = subst (IsIn lock.row)
+          (before_stops (rows_of_locks own.converting) (rows_of_locks own.waiting) f.row
+          (row_in its own.converting own_here)) before in
           let same : Conversion ≡ p = sym (queue_is Conversion (before_in f.row.lkid (rows_of_locks own.converting) lock.row first)) ∙ is in
           subst (λ (o : Queue). is_before o (wanted_number lock.row) Conversion request.number ≡ true) same
           (younger (before_older (rows_of_locks own.converting) f.row lock.row (order.converting own there) (row_in its own.converting own_here) first))
@@ -273,14 +284,17 @@ module _ (s : Records) (sound : IsSound s) (order : AreInOrder s) (f : LocatedLo
             (let parted = before.0 in
             let first : IsIn lock.row (rows_before f.row.lkid whole) =
             subst (IsIn lock.row)
-            (sym (before_is parted.before f.row parted.behind (subst RowsApart parted.queued (queue_apart s sound own there))) ∙ sym (ap (rows_before f.row.lkid) parted.queued))
+            (sym (before_is parted.before f.row parted.behind
+            (subst RowsApart parted.queued (queue_apart s sound own there)))
+            ∙ sym (ap (rows_before f.row.lkid) parted.queued))
             (among_is lock.row parted.before parted.first_among) in
             inr (before_by queue f.queue refl awaits.queued among first, before.1))
       ]
         where
           not_held : queue ≡ Waiting → IsRowAmong (rows_of_locks own.granted ++ rows_of_locks own.converting) lock.row → ⊥
           not_held is in_held =
-              elim (in_either lock.row (rows_of_locks own.granted) (rows_of_locks own.converting) (among_is lock.row (rows_of_locks own.granted ++ rows_of_locks own.converting) in_held)) [
+              elim (in_either lock.row (rows_of_locks own.granted) (rows_of_locks own.converting)
+              (among_is lock.row (rows_of_locks own.granted ++ rows_of_locks own.converting) in_held)) [
                 | inl first ↦ (let never : Granted ≡ Waiting = sym (queue_is Granted first) ∙ is in cc)
                 | inr second ↦ (let never : Conversion ≡ Waiting = sym (queue_is Conversion second) ∙ is in cc)
               ]
@@ -305,14 +319,15 @@ module _ (s : Records) (sound : IsSound s) (order : AreInOrder s) (f : LocatedLo
 -- ---- the lock that is looked at
 
 -- the locks of the walk are those of the resource
-pub record Looks (s : Records) (f : LocatedLock) (lock : ℕ) (row : LockRow) (queue : Queue) : Type 0 where
+pub record Looks (s : Records) (f : LocatedLock) (lock : ℕ) (row : LockState) (queue : Queue) : Type 0 where
   pub own : StoredResource
   pub found : resource_at f.res s.resources ≡ Some own
   pub there : IsIn own s.resources
   pub among : IsIn (record { at = f.lock; row = f.row }) (queued f.queue own)
   pub stands : IsIn (record { at = lock; row = row }) (queued queue own)
 
-pub looks : (s : Records) (f : LocatedLock) (lock : ℕ) (row : LockRow) (queue : Queue) (place : Place) (res : ℕ) → IsSound s → IsLocated f s → IsOn lock f.res s
+pub looks : (s : Records) (f : LocatedLock) (lock : ℕ) (row : LockState) (queue : Queue) (place : Place) (res : ℕ)
+    → IsSound s → IsLocated f s → IsOn lock f.res s
     → place ≡ Queued res queue → IsIn (record { at = lock; row = row }) (locks_at place s) → Looks s f lock row queue
 looks s f lock row queue place res sound located on is here =
     let w = where_on s f.res lock on in
@@ -331,11 +346,13 @@ looks s f lock row queue place res sound located on is here =
     same_res a b p q one = (let same : a ≡ b = cc in ap (λ r. Queued r p) same)
 
 -- a lock passes exactly if its row does
-pub passes_row : (P : Resource → LockRow → Type 0) (s : Records) (res lock : ℕ) (row : LockRow) (own : StoredResource) → resource_at res s.resources ≡ Some own → Stores s lock row
+pub passes_row : (P : Resource → LockState → Type 0) (s : Records) (res lock : ℕ) (row : LockState)
+    (own : StoredResource) → resource_at res s.resources ≡ Some own → Stores s lock row
     → P (plain_resource own) row → PassesOn P s res lock
 passes_row P s res lock row own found stored passes = record { resource = own; found = found; row = row; stored = stored; passes = passes }
 
-pub row_passes : (P : Resource → LockRow → Type 0) (s : Records) (res lock : ℕ) (row : LockRow) (own : StoredResource) → IsSound s → resource_at res s.resources ≡ Some own → Stores s lock row
+pub row_passes : (P : Resource → LockState → Type 0) (s : Records) (res lock : ℕ) (row : LockState)
+    (own : StoredResource) → IsSound s → resource_at res s.resources ≡ Some own → Stores s lock row
     → PassesOn P s res lock → P (plain_resource own) row
 row_passes P s res lock row own sound found stored w =
     let resource : w.resource ≡ own = same_Some w.resource own (sym w.found ∙ found) in
@@ -344,7 +361,8 @@ row_passes P s res lock row own sound found stored w =
 
 -- ---- the lock that is waited for
 
-module _ (s : Records) (sound : IsSound s) (f waiting : LocatedLock) (located : IsLocated f s) (its : IsLocated waiting s) (other : ℕ) (handle : waiting.lock ≡ other) (on : IsOn other f.res s) where
+module _ (s : Records) (sound : IsSound s) (f waiting : LocatedLock) (located : IsLocated f s)
+    (its : IsLocated waiting s) (other : ℕ) (handle : waiting.lock ≡ other) (on : IsOn other f.res s) where
   -- a located lock that is on a resource has its handle
   pub one_res : waiting.res ≡ f.res
   one_res =
@@ -357,7 +375,8 @@ module _ (s : Records) (sound : IsSound s) (f waiting : LocatedLock) (located : 
       cc
 
   stored_of : (g : LocatedLock) → IsLocated g s → Stores s g.lock g.row
-  stored_of g at = queued_stored s sound at.resource (resource_among g.res s.resources at.resource at.found) g.queue (record { at = g.lock; row = g.row }) at.among
+  stored_of g at = queued_stored s sound at.resource (resource_among g.res s.resources at.resource at.found) g.queue
+      (record { at = g.lock; row = g.row }) at.among
 
   -- the located lock is on the resource of the other one
   pub located_on : IsOn f.lock waiting.res s

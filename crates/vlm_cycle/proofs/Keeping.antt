@@ -2,7 +2,7 @@
 use Rattle.std.proofs.Common.{◌≡◌, ◌≢◌, ◌⊎◌, ℕ, true, false, List, [], ◌∷◌, ◌++◌, None, Some, refl, sym, ap, ◌∙◌, subst, inl, inr}
 use Rattle.std.proofs.lemmas.Option.{same_Some}
 use Rattle.vlm_words.specs.declared.locks.Request.{Request}
-use Rattle.vlm_words.specs.declared.locks.LockRow.{LockRow}
+use Rattle.vlm_words.specs.declared.locks.LockState.{LockState}
 use Rattle.vlm_words.specs.declared.resources.Queue.{Queue}
 use Rattle.vlm_words.specs.declared.resources.Queue.TheVariants.{Granted, Conversion, Waiting}
 use Rattle.vlm_model.specs.Deadlocks.{KeepsWaiting, WaitsFor, WaitsOn, queue_of}
@@ -12,20 +12,21 @@ use Rattle.vlm_records.specs.declared.handles.Place.TheVariants.{Queued}
 use Rattle.vlm_store.specs.Plain.{plain_resource}
 use Rattle.vlm_store.specs.Records.{AreApart, IsSound, Records, StoredLock, StoredResource, Stores, locks_at, queued, resource_at, rows_of_locks}
 use Rattle.vlm_store.proofs.Records.{queue_at, resource_is}
-use Rattle.vlm_locks.proofs.Stood.{queued_stored}
+use Rattle.vlm_locks.proofs.QueuedLocks.{queued_stored}
 use Rattle.vlm_cycle.specs.Waiting.{OwnsWaitedFor, OwnsBefore, OwnsBlocker, OwnsKeeper, rows_before, searched}
-use Rattle.vlm_cycle.proofs.Listed.{RowsApart, among_is, any_resource, apart_both, before_differs, before_is, before_passes, before_stops, is_among, lock_of, row_in, some_resource, split_before}
+use Rattle.vlm_cycle.proofs.Listed.{RowsApart, among_is, any_resource, apart_both, before_differs, before_is}
+use Rattle.vlm_cycle.proofs.Listed.{before_passes, before_stops, is_among, lock_of, row_in, some_resource, split_before}
 use Rattle.vlm_collections.proofs.HandleLists.{in_either, in_ahead, in_behind}
 
 -- a lock that is queued and not granted
-pub record IsQueuedOn (s : Records) (r : StoredResource) (row : LockRow) : Type 0 where
+pub record IsQueuedOn (s : Records) (r : StoredResource) (row : LockState) : Type 0 where
   pub queue : Queue
   pub not_granted : queue ≢ Granted
   pub lock : StoredLock
   pub among : IsIn lock (queued queue r)
   pub its : lock.row ≡ row
 
-pub queued_on : (s : Records) (r : StoredResource) (row : LockRow) → IsIn row (queue_of (plain_resource r)) → IsQueuedOn s r row
+pub queued_on : (s : Records) (r : StoredResource) (row : LockState) → IsIn row (queue_of (plain_resource r)) → IsQueuedOn s r row
 queued_on s r row there = elim (in_either row (rows_of_locks r.converting) (rows_of_locks r.waiting) there) [
   | inl first ↦
       (let found = lock_of row r.converting first in
@@ -36,13 +37,13 @@ queued_on s r row there = elim (in_either row (rows_of_locks r.converting) (rows
 ]
 
 -- a request that waits is stored
-pub record IsWaitingOn (s : Records) (row lock : LockRow) : Type 0 where
+pub record IsWaitingOn (s : Records) (row lock : LockState) : Type 0 where
   pub resource : StoredResource
   pub there : IsIn resource s.resources
   pub waits : WaitsOn (plain_resource resource) row lock
   pub stands : IsQueuedOn s resource row
 
-pub waiting_on : (s : Records) (row lock : LockRow) → WaitsFor (searched s) row lock → IsWaitingOn s row lock
+pub waiting_on : (s : Records) (row lock : LockState) → WaitsFor (searched s) row lock → IsWaitingOn s row lock
 waiting_on s row lock waits =
     let found = some_resource (λ r. WaitsOn r row lock) s.resources waits in
     record {
@@ -53,14 +54,14 @@ waiting_on s row lock waits =
     }
 
 module _ (s : Records) (sound : IsSound s) where
-  pub row_stored : (row lock : LockRow) → WaitsFor (searched s) row lock → (at : ℕ) × Stores s at row
+  pub row_stored : (row lock : LockState) → WaitsFor (searched s) row lock → (at : ℕ) × Stores s at row
   row_stored row lock waits =
       let w = waiting_on s row lock waits in
       let k = w.stands.lock in
       (k.at, subst (Stores s k.at) w.stands.its (queued_stored s sound w.resource w.there w.stands.queue k w.stands.among))
 
   -- and so is the lock that it waits for
-  pub lock_stored : (row lock : LockRow) → WaitsFor (searched s) row lock → (at : ℕ) × Stores s at lock
+  pub lock_stored : (row lock : LockState) → WaitsFor (searched s) row lock → (at : ℕ) × Stores s at lock
   lock_stored row lock waits =
       let w = waiting_on s row lock waits in
       elim w.waits.kept [
@@ -71,11 +72,14 @@ module _ (s : Records) (sound : IsSound s) where
             ]
         | inr before ↦
             (let stands = queued_on s w.resource lock
-            (subst (IsIn lock) (sym before.0.queued) (in_ahead lock before.0.before (row ∷ before.0.behind) (among_is lock before.0.before before.0.first_among))) in
+            (subst (IsIn lock) (sym before.0.queued)
+            (in_ahead lock before.0.before (row ∷ before.0.behind)
+            (among_is lock before.0.before before.0.first_among))) in
             in_one w.resource w.there stands.queue (stands.lock, (stands.among, stands.its)))
       ]
     where
-      in_one : (r : StoredResource) → IsIn r s.resources → (queue : Queue) → (k : StoredLock) × (IsIn k (queued queue r) × (k.row ≡ lock)) → (at : ℕ) × Stores s at lock
+      in_one : (r : StoredResource) → IsIn r s.resources → (queue : Queue) → (k : StoredLock)
+          × (IsIn k (queued queue r) × (k.row ≡ lock)) → (at : ℕ) × Stores s at lock
       in_one r there queue found = (found.0.at, subst (Stores s found.0.at) found.1.1 (queued_stored s sound r there queue found.0 found.1.0))
 
   -- ---- the rows of a resource
@@ -87,7 +91,8 @@ module _ (s : Records) (sound : IsSound s) where
       λ other in_other same.
           let found = lock_of other ks in_other in
           let x = found.0 in
-          let handle : x.at ≡ k.at = sound.lkids_apart x.at k.at x.row k.row (inl (stored x (inr found.1.0))) (inl (stored k (inl refl))) (ap (λ (y : LockRow). y.lkid) found.1.1 ∙ same) in
+          let handle : x.at ≡ k.at = sound.lkids_apart x.at k.at x.row k.row (inl (stored x (inr found.1.0)))
+          (inl (stored k (inl refl))) (ap (λ (y : LockState). y.lkid) found.1.1 ∙ same) in
           apart.0 x.row (subst (λ h. IsIn (record { at = h; row = x.row }) ks) handle found.1.0),
       apart_in ks apart.1 (λ x in_x. stored x (inr in_x)),
     )
@@ -98,10 +103,12 @@ module _ (s : Records) (sound : IsSound s) where
         (queued_stored s sound own there queue)
 
     -- a lock stands in one queue
-    pub one_queue : (p q : Queue) (a b : StoredLock) (r : StoredResource) → IsIn r s.resources → IsIn a (queued p own) → IsIn b (queued q r) → b.row.lkid ≡ a.row.lkid
+    pub one_queue : (p q : Queue) (a b : StoredLock) (r : StoredResource) → IsIn r s.resources → IsIn a (queued p own)
+        → IsIn b (queued q r) → b.row.lkid ≡ a.row.lkid
         → Queued own.at p ≡ Queued r.at q
     one_queue p q a b r in_r in_a in_b same =
-        let handle : b.at ≡ a.at = sound.lkids_apart b.at a.at b.row a.row (inl (queued_stored s sound r in_r q b in_b)) (inl (queued_stored s sound own there p a in_a)) same in
+        let handle : b.at ≡ a.at = sound.lkids_apart b.at a.at b.row a.row (inl (queued_stored s sound r in_r q b in_b))
+        (inl (queued_stored s sound own there p a in_a)) same in
         sound.one_place a.at a.row b.row (Queued own.at p) (Queued r.at q)
         (subst (IsIn a) (sym (queue_at s sound own there p)) in_a)
         (subst (λ h. IsIn (record { at = h; row = b.row }) (locks_at (Queued r.at q) s)) handle (subst (IsIn b) (sym (queue_at s sound r in_r q)) in_b))
@@ -114,15 +121,15 @@ module _ (s : Records) (sound : IsSound s) where
         let kb = lock_of b own.waiting in_b in
         let one : Queued own.at Conversion ≡ Queued own.at Waiting =
         one_queue Conversion Waiting ka.0 kb.0 own there ka.1.0 kb.1.0
-        (ap (λ (y : LockRow). y.lkid) kb.1.1 ∙ same ∙ sym (ap (λ (y : LockRow). y.lkid) ka.1.1)) in
+        (ap (λ (y : LockState). y.lkid) kb.1.1 ∙ same ∙ sym (ap (λ (y : LockState). y.lkid) ka.1.1)) in
         cc)
 
     module _ (lock : StoredLock) where
-      pub not_converting : IsIn lock own.waiting → (x : LockRow) → IsIn x (rows_of_locks own.converting) → x.lkid ≢ lock.row.lkid
+      pub not_converting : IsIn lock own.waiting → (x : LockState) → IsIn x (rows_of_locks own.converting) → x.lkid ≢ lock.row.lkid
       not_converting among x in_x same =
           let k = lock_of x own.converting in_x in
           let one : Queued own.at Conversion ≡ Queued own.at Waiting =
-          one_queue Conversion Waiting k.0 lock own there k.1.0 among (sym same ∙ sym (ap (λ (y : LockRow). y.lkid) k.1.1)) in
+          one_queue Conversion Waiting k.0 lock own there k.1.0 among (sym same ∙ sym (ap (λ (y : LockState). y.lkid) k.1.1)) in
           cc
 
       -- the owners of blockers are those of blockers in the whole queue
@@ -131,12 +138,32 @@ module _ (s : Records) (sound : IsSound s) where
           → OwnsBlocker (rows_before lock.row.lkid (queue_of (plain_resource own))) pid
       before_whole Granted not among pid some = absurd (not refl)
       before_whole Conversion not among pid some =
-          subst (λ rows. OwnsBlocker rows pid) (sym (before_stops (rows_of_locks own.converting) (rows_of_locks own.waiting) lock.row (row_in lock own.converting among))) some
+          subst (λ rows. OwnsBlocker rows pid)
+          (sym (before_stops (rows_of_locks own.converting) (rows_of_locks own.waiting) lock.row
+          (row_in lock own.converting among))) some
       before_whole Waiting not among pid some =
-          subst (λ rows. OwnsBlocker rows pid) (sym (before_passes lock.row.lkid (rows_of_locks own.converting) (rows_of_locks own.waiting) (not_converting among)))
+          subst (λ rows. OwnsBlocker rows pid)
+          (sym (before_passes lock.row.lkid (rows_of_locks own.converting) (rows_of_locks own.waiting)
+          (not_converting among)))
           (elim some [
-            | inl first ↦ (first.0, (in_ahead first.0 (rows_before lock.row.lkid (rows_of_locks own.converting)) (rows_before lock.row.lkid (rows_of_locks own.waiting)) first.1.0, first.1.1, first.1.2))
-            | inr second ↦ (second.0, (in_behind second.0 (rows_before lock.row.lkid (rows_of_locks own.converting)) (rows_before lock.row.lkid (rows_of_locks own.waiting)) second.1.0, second.1.1, second.1.2))
+            | inl first ↦ (
+              first.0,
+              (
+                in_ahead first.0 (rows_before lock.row.lkid (rows_of_locks own.converting))
+                    (rows_before lock.row.lkid (rows_of_locks own.waiting)) first.1.0,
+                first.1.1,
+                first.1.2,
+              ),
+            )
+            | inr second ↦ (
+              second.0,
+              (
+                in_behind second.0 (rows_before lock.row.lkid (rows_of_locks own.converting))
+                    (rows_before lock.row.lkid (rows_of_locks own.waiting)) second.1.0,
+                second.1.1,
+                second.1.2,
+              ),
+            )
           ])
 
       pub whole_before : (queue : Queue) → queue ≢ Granted → IsIn lock (queued queue own) → (pid : ℕ)
@@ -144,14 +171,20 @@ module _ (s : Records) (sound : IsSound s) where
           → OwnsBefore lock.row.lkid queue (rows_of_locks own.converting) (rows_of_locks own.waiting) pid
       whole_before Granted not among pid some = absurd (not refl)
       whole_before Conversion not among pid some =
-          subst (λ rows. OwnsBlocker rows pid) (before_stops (rows_of_locks own.converting) (rows_of_locks own.waiting) lock.row (row_in lock own.converting among)) some
+          subst (λ rows. OwnsBlocker rows pid)
+          (before_stops (rows_of_locks own.converting) (rows_of_locks own.waiting) lock.row
+          (row_in lock own.converting among)) some
       whole_before Waiting not among pid some =
-          of_parts (subst (λ rows. OwnsBlocker rows pid) (before_passes lock.row.lkid (rows_of_locks own.converting) (rows_of_locks own.waiting) (not_converting among)) some)
+          of_parts (subst (λ rows. OwnsBlocker rows pid)
+          (before_passes lock.row.lkid (rows_of_locks own.converting) (rows_of_locks own.waiting)
+          (not_converting among)) some)
         where
           of_parts : OwnsBlocker (rows_before lock.row.lkid (rows_of_locks own.converting) ++ rows_before lock.row.lkid (rows_of_locks own.waiting)) pid
-              → OwnsBlocker (rows_before lock.row.lkid (rows_of_locks own.converting)) pid ⊎ OwnsBlocker (rows_before lock.row.lkid (rows_of_locks own.waiting)) pid
+              → OwnsBlocker (rows_before lock.row.lkid (rows_of_locks own.converting)) pid
+              ⊎ OwnsBlocker (rows_before lock.row.lkid (rows_of_locks own.waiting)) pid
           of_parts found =
-              elim (in_either found.0 (rows_before lock.row.lkid (rows_of_locks own.converting)) (rows_before lock.row.lkid (rows_of_locks own.waiting)) found.1.0) [
+              elim (in_either found.0 (rows_before lock.row.lkid (rows_of_locks own.converting))
+              (rows_before lock.row.lkid (rows_of_locks own.waiting)) found.1.0) [
                 | inl first ↦ inl (found.0, (first, found.1.1, found.1.2))
                 | inr second ↦ inr (found.0, (second, found.1.1, found.1.2))
               ]
@@ -164,7 +197,7 @@ module _ (s : Records) (sound : IsSound s) where
       module _ (queue : Queue) (among : IsIn lock (queued queue own)) where
         -- where its request waits: here, and it is not granted
         pub record WaitsHere (pid : ℕ) : Type 0 where
-          pub other : LockRow
+          pub other : LockState
           pub waits : WaitsOn (plain_resource own) lock.row other
           pub owner : other.pid ≡ pid
           pub not_granted : queue ≢ Granted
@@ -173,12 +206,13 @@ module _ (s : Records) (sound : IsSound s) where
         waits_here pid waited =
             let w = waiting_on s lock.row waited.0 waited.1.0 in
             let one : Queued own.at queue ≡ Queued w.resource.at w.stands.queue =
-            one_queue queue w.stands.queue lock w.stands.lock w.resource w.there among w.stands.among (ap (λ (y : LockRow). y.lkid) w.stands.its) in
+            one_queue queue w.stands.queue lock w.stands.lock w.resource w.there among w.stands.among (ap (λ (y : LockState). y.lkid) w.stands.its) in
             let same_at : own.at ≡ w.resource.at = cc in
             let same_queue : queue ≡ w.stands.queue = cc in
             let same : own ≡ w.resource =
             same_Some own w.resource
-            (sym (resource_is own s.resources sound.resources_apart there) ∙ ap (λ h. resource_at h s.resources) same_at ∙ resource_is w.resource s.resources sound.resources_apart w.there) in
+            (sym (resource_is own s.resources sound.resources_apart there) ∙ ap (λ h. resource_at h s.resources) same_at
+            ∙ resource_is w.resource s.resources sound.resources_apart w.there) in
             record {
               other = waited.0;
               waits = subst (λ (r : StoredResource). WaitsOn (plain_resource r) lock.row waited.0) (sym same) w.waits;
@@ -198,16 +232,19 @@ module _ (s : Records) (sound : IsSound s) where
               by_kept : (w : WaitsHere pid) → KeepsWaiting (plain_resource own) request lock.row w.other
                   → OwnsKeeper lock.row.lkid request.mode queue (rows_of_locks own.granted) (rows_of_locks own.converting) (rows_of_locks own.waiting) pid
               by_kept w kept = elim kept [
-                | inl held ↦ elim (in_either w.other (rows_of_locks own.granted) (rows_of_locks own.converting) (among_is w.other (rows_of_locks own.granted ++ rows_of_locks own.converting) held.0)) [
-                  | inl first ↦ inl (w.other, (first, (w.waits.another, held.1), w.owner))
-                  | inr second ↦ inr (inl (w.other, (second, (w.waits.another, held.1), w.owner)))
-                ]
+                | inl held ↦ elim (in_either w.other (rows_of_locks own.granted) (rows_of_locks own.converting)
+                    (among_is w.other (rows_of_locks own.granted ++ rows_of_locks own.converting) held.0)) [
+                      | inl first ↦ inl (w.other, (first, (w.waits.another, held.1), w.owner))
+                      | inr second ↦ inr (inl (w.other, (second, (w.waits.another, held.1), w.owner)))
+                    ]
                 | inr before ↦
                     inr (inr (whole_before queue w.not_granted among pid (
                       w.other,
                       (
                         subst (λ rows. IsIn w.other rows)
-                            (sym (before_is before.0.before lock.row before.0.behind (subst RowsApart before.0.queued queue_apart)) ∙ sym (ap (rows_before lock.row.lkid) before.0.queued))
+                            (sym (before_is before.0.before lock.row before.0.behind
+                            (subst RowsApart before.0.queued queue_apart))
+                            ∙ sym (ap (rows_before lock.row.lkid) before.0.queued))
                             (among_is w.other before.0.before before.0.first_among),
                         before.1,
                         w.owner,
@@ -222,18 +259,29 @@ module _ (s : Records) (sound : IsSound s) where
           keeper_waited not counted pid keeper = elim keeper [
             | inl granted ↦
                 waited granted.0 granted.1.1.0
-                (inl (is_among granted.0 (rows_of_locks own.granted ++ rows_of_locks own.converting) (in_ahead granted.0 (rows_of_locks own.granted) (rows_of_locks own.converting) granted.1.0), granted.1.1.1))
+                (inl (
+                  is_among granted.0 (rows_of_locks own.granted ++ rows_of_locks own.converting)
+                      (in_ahead granted.0 (rows_of_locks own.granted) (rows_of_locks own.converting) granted.1.0),
+                  granted.1.1.1,
+                ))
                 granted.1.2
             | inr more ↦ elim more [
               | inl converting ↦
                   waited converting.0 converting.1.1.0
-                  (inl (is_among converting.0 (rows_of_locks own.granted ++ rows_of_locks own.converting) (in_behind converting.0 (rows_of_locks own.granted) (rows_of_locks own.converting) converting.1.0), converting.1.1.1))
+                  (inl (
+                    is_among converting.0 (rows_of_locks own.granted ++ rows_of_locks own.converting)
+                        (in_behind converting.0 (rows_of_locks own.granted)
+                        (rows_of_locks own.converting) converting.1.0),
+                    converting.1.1.1,
+                  ))
                   converting.1.2
               | inr before ↦ of_blocker (before_whole queue not among pid before)
             ]
           ]
             where
-              waited : (other : LockRow) → other.lkid ≢ lock.row.lkid → KeepsWaiting (plain_resource own) request lock.row other → other.pid ≡ pid → OwnsWaitedFor s lock.row pid
+              waited : (other : LockState) → other.lkid ≢ lock.row.lkid
+                  → KeepsWaiting (plain_resource own) request lock.row other → other.pid ≡ pid
+                  → OwnsWaitedFor s lock.row pid
               waited other differs kept owner = (
                 other,
                 (

@@ -1,11 +1,11 @@
--- What a search has found.
+-- The result of a search.
 use Rattle.std.proofs.Common.{◌≡◌, ◌<◌, ◌≤◌, ℕ, Bool, true, false, List, [], ◌∷◌, ◌++◌, ◌+◌, Some, refl, sym, ap, ◌∙◌, subst, inl, inr, arith}
 use Rattle.std.specs.Bool.{OnFalse}
 use Rattle.std.proofs.lemmas.Bool.{cases_eq}
-use Rattle.vlm_words.specs.declared.locks.LockRow.{LockRow}
+use Rattle.vlm_words.specs.declared.locks.LockState.{LockState}
 use Rattle.vlm_model.specs.Deadlocks.{IsDeadlocked, LeadsTo, WaitsFor}
 use Rattle.vlm_collections.specs.Lists.{IsIn}
-use Rattle.vlm_collections.specs.Nodes.{is_marked}
+use Rattle.vlm_records.specs.NodeMarks.{is_marked}
 use Rattle.vlm_store.specs.Records.{IsSound, Records, StoredProcess}
 use Rattle.vlm_cycle.specs.declared.scratch.Scratch.{Scratch}
 use Rattle.vlm_locks.specs.declared.located_locks.LocatedLock.{LocatedLock}
@@ -15,17 +15,17 @@ use Rattle.vlm_cycle.specs.Marking.{IsClear, TakesNext, Marks}
 use Rattle.vlm_cycle.specs.Waiting.{IsBehind, IsRoomy, OwnsWaitedFor, searched}
 use Rattle.vlm_cycle.proofs.Closing.{behind_seen, near_waited, waited_seen}
 use Rattle.vlm_cycle.proofs.Keeping.{lock_stored}
-use Rattle.vlm_cycle.proofs.Marked.{of_mark, roomy_still}
+use Rattle.vlm_cycle.proofs.MarksOneByOne.{of_mark, roomy_still}
 
 -- the process is led to from a lock that the request waits for
-pub record IsLedTo (s : Records) (row : LockRow) (pid : ℕ) : Type 0 where
+pub record IsLedTo (s : Records) (row : LockState) (pid : ℕ) : Type 0 where
   pub first : ℕ
   pub waits : OwnsWaitedFor s row first
   pub others : List ℕ
   pub leads : LeadsTo (searched s) first others pid
 
 -- led back to its own process the request is deadlocked
-pub led_back : (s : Records) (row : LockRow) → IsLedTo s row row.pid → IsDeadlocked (searched s) row
+pub led_back : (s : Records) (row : LockState) → IsLedTo s row row.pid → IsDeadlocked (searched s) row
 led_back s row led = record {
   lock = led.waits.0;
   waits = led.waits.1.0;
@@ -42,7 +42,8 @@ IsLiving s pid = (p : StoredProcess) × (IsIn p s.processes × (p.process.pid �
 pub record IsSearched (s : Records) (f : LocatedLock) (marks : Scratch) : Type 0 where
   pub led : (pid : ℕ) → is_marked marks.seen pid ≡ true → IsLedTo s f.row pid
   pub begun : (pid : ℕ) → OwnsNear s f pid → is_marked marks.seen pid ≡ true
-  pub closed : (pid other : ℕ) → is_marked marks.seen pid ≡ true → is_marked marks.todo pid ≡ false → IsNearBehind s pid other → is_marked marks.seen other ≡ true
+  pub closed : (pid other : ℕ) → is_marked marks.seen pid ≡ true → is_marked marks.todo pid ≡ false
+      → IsNearBehind s pid other → is_marked marks.seen other ≡ true
   pub within : (pid : ℕ) → is_marked marks.todo pid ≡ true → is_marked marks.seen pid ≡ true
   pub living : (pid : ℕ) → is_marked marks.seen pid ≡ true → IsLiving s pid
   pub roomy : IsRoomy s marks
@@ -64,7 +65,7 @@ both_ways b yes_is no_is = let never : true ≡ false = sym yes_is ∙ no_is in 
 
 module _ (s : Records) (sound : IsSound s) where
   -- the owner of a lock that is waited for lives
-  owner_living : (row lock : LockRow) → WaitsFor (searched s) row lock → (pid : ℕ) → lock.pid ≡ pid → IsLiving s pid
+  owner_living : (row lock : LockState) → WaitsFor (searched s) row lock → (pid : ℕ) → lock.pid ≡ pid → IsLiving s pid
   owner_living row lock waits pid is =
       let stored = lock_stored s sound row lock waits in
       let owned = sound.owned.owned stored.0 lock (inl stored.1) in
@@ -103,11 +104,13 @@ module _ (s : Records) (sound : IsSound s) where
   }
 
   -- a list of processes that goes on by one
-  lead_more : (first : ℕ) (others : List ℕ) (pid other : ℕ) → LeadsTo (searched s) first others pid → IsBehind s pid other → LeadsTo (searched s) first (others ++ other ∷ []) other
+  lead_more : (first : ℕ) (others : List ℕ) (pid other : ℕ) → LeadsTo (searched s) first others pid
+      → IsBehind s pid other → LeadsTo (searched s) first (others ++ other ∷ []) other
   lead_more first [] pid other leads behind = (subst (λ p. IsBehind s p other) (sym leads) behind, refl)
   lead_more first (next ∷ others) pid other leads behind = (leads.0, lead_more next others pid other leads.1 behind)
 
-  module _ (f : LocatedLock) (a b c : Scratch) (pid : ℕ) (so_far : IsSearched s f a) (taken : TakesNext (Some pid) a b) (marks : Marks (IsNearBehind s pid) b c) where
+  module _ (f : LocatedLock) (a b c : Scratch) (pid : ℕ) (so_far : IsSearched s f a) (taken : TakesNext (Some pid) a b)
+      (marks : Marks (IsNearBehind s pid) b c) where
     same_seen : (other : ℕ) → is_marked b.seen other ≡ is_marked a.seen other
     same_seen other = ap (λ m. is_marked m other) taken.2
 
@@ -124,7 +127,13 @@ module _ (s : Records) (sound : IsSound s) where
         | inr was ↦ elim (marks.others other (same_seen other ∙ was)) [
           | inl found ↦
               (let led = so_far.led pid it_is_seen in
-              record { first = led.first; waits = led.waits; others = led.others ++ other ∷ []; leads = lead_more led.first led.others pid other led.leads (near_behind pid other found.1) })
+              record {
+                first = led.first;
+                waits = led.waits;
+                others = led.others ++ other ∷ [];
+                leads =
+                    lead_more led.first led.others pid other led.leads (near_behind pid other found.1);
+              })
           | inr not ↦ absurd (both_ways (is_marked c.seen other) is not.0.0)
         ]
       ];
@@ -202,7 +211,8 @@ module _ (s : Records) (sound : IsSound s) where
     less_at (x ∷ ps) p there is = elim there [
       | inl here ↦
           (let same : x.process.pid ≡ pid = ap (λ (y : StoredProcess). y.process.pid) here ∙ is in
-          let less : cost (is_marked c.seen x.process.pid) (is_marked c.todo x.process.pid) < cost (is_marked a.seen x.process.pid) (is_marked a.todo x.process.pid) =
+          let less : cost (is_marked c.seen x.process.pid) (is_marked c.todo x.process.pid) < cost
+          (is_marked a.seen x.process.pid) (is_marked a.todo x.process.pid) =
           subst (λ m. cost (is_marked c.seen m) (is_marked c.todo m) < cost (is_marked a.seen m) (is_marked a.todo m)) (sym same) gone in
           let rest = none_more ps in
           omega (arith, less, rest))
@@ -217,9 +227,12 @@ module _ (s : Records) (sound : IsSound s) where
     less_to_go = let lives = so_far.living pid it_is_seen in less_at s.processes lives.0 lives.1.0 lives.1.1
 
   -- where the search has to go to no process, each that is led to is found
-  pub none_left : (f : LocatedLock) → IsLocated f s → (a : Scratch) → IsSearched s f a → ((pid : ℕ) → is_marked a.todo pid ≡ false) → IsDeadlocked (searched s) f.row
+  pub none_left : (f : LocatedLock) → IsLocated f s → (a : Scratch) → IsSearched s f a
+      → ((pid : ℕ) → is_marked a.todo pid ≡ false) → IsDeadlocked (searched s) f.row
       → is_marked a.seen f.row.pid ≡ true
-  none_left f located a so_far none dead = along dead.others dead.lock.pid (waited_seen s sound Seen follows f located so_far.begun dead.lock.pid (dead.lock, (dead.waits, refl))) dead.leads
+  none_left f located a so_far none dead =
+      along dead.others dead.lock.pid
+      (waited_seen s sound Seen follows f located so_far.begun dead.lock.pid (dead.lock, (dead.waits, refl))) dead.leads
     where
       Seen : ℕ → Type 0
       Seen pid = is_marked a.seen pid ≡ true

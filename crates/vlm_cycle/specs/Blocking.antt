@@ -2,7 +2,7 @@
 use Rattle.std.specs.Prelude.{◌≡◌, ◌≢◌, ◌<◌, ◌⊎◌, ◌++◌, ℕ, Bool, true, false, nat_lt, List, [], ◌∷◌, Option, None, Some}
 use Rattle.std.specs.Option.{option_map_or}
 use Rattle.vlm_words.specs.declared.locks.Request.{Request}
-use Rattle.vlm_words.specs.declared.locks.LockRow.{LockRow}
+use Rattle.vlm_words.specs.declared.locks.LockState.{LockState}
 use Rattle.vlm_words.specs.declared.resources.Queue.{Queue}
 use Rattle.vlm_words.specs.declared.resources.Queue.TheVariants.{Granted, Conversion, Waiting}
 use Rattle.vlm_words.specs.Flags.{flag_bits, has_flag, nodlckwt}
@@ -25,7 +25,7 @@ all_locks_at res s = option_map_or all_locks (resource_at res s.resources) []
 
 -- the lock is on the resource with this handle
 abbrev pub IsOn : ℕ → ℕ → Records → Type 0
-IsOn lock res s = (row : LockRow) × IsIn (record { at = lock; row = row }) (all_locks_at res s)
+IsOn lock res s = (row : LockState) × IsIn (record { at = lock; row = row }) (all_locks_at res s)
 
 -- the handle of the first of these locks, or of the next one after this lock if one is named
 abbrev pub first_from : Option ℕ → List StoredLock → Option ℕ
@@ -33,19 +33,19 @@ first_from None locks = first_at locks
 first_from (Some at) locks = at_after at locks
 
 -- it is the handle of the first of these locks that passes, or no lock passes and there is no handle
-abbrev pub IsFirstOf : (LockRow → Type 0) → List StoredLock → Option ℕ → Type 0
+abbrev pub IsFirstOf : (LockState → Type 0) → List StoredLock → Option ℕ → Type 0
 IsFirstOf P [] found = found ≡ None
 IsFirstOf P (k ∷ rest) found = (P k.row × (found ≡ Some k.at)) ⊎ ((P k.row → ⊥) × IsFirstOf P rest found)
 
 -- the same for the locks after the lock with this handle, or for all locks if none is named
-abbrev pub IsFirstFrom : (LockRow → Type 0) → Option ℕ → List StoredLock → Option ℕ → Type 0
+abbrev pub IsFirstFrom : (LockState → Type 0) → Option ℕ → List StoredLock → Option ℕ → Type 0
 IsFirstFrom P None locks found = IsFirstOf P locks found
 IsFirstFrom P (Some at) locks found =
-    (before rest : List StoredLock) (row : LockRow) → locks ≡ before ++ record { at = at; row = row } ∷ rest
+    (before rest : List StoredLock) (row : LockState) → locks ≡ before ++ record { at = at; row = row } ∷ rest
     → IsFirstOf P rest found
 
 -- the same for the resource with this handle
-abbrev pub IsNextOn : (Resource → LockRow → Type 0) → Records → ℕ → Option ℕ → Option ℕ → Type 0
+abbrev pub IsNextOn : (Resource → LockState → Type 0) → Records → ℕ → Option ℕ → Option ℕ → Type 0
 IsNextOn P s res from found =
     (r : StoredResource) → resource_at res s.resources ≡ Some r
     → IsFirstFrom (P (plain_resource r)) from (all_locks r) found
@@ -61,8 +61,8 @@ IsNextBlocked s f from found = IsNextOn (λ r row. WaitsOn r row f.row) s f.res 
 -- ---- one lock
 
 -- the numbers of the wanted requests rise along these rows
-abbrev pub IsRising : List LockRow → Type 0
-IsRising rows = EachTwo (λ (later earlier : LockRow). wanted_number earlier < wanted_number later) rows
+abbrev pub IsRising : List LockState → Type 0
+IsRising rows = EachTwo (λ (later earlier : LockState). wanted_number earlier < wanted_number later) rows
 
 -- both queues of each resource are in the order of their requests
 pub record AreInOrder (s : Records) : Type 0 where
@@ -86,16 +86,16 @@ is_before Waiting number Conversion other_number = false
 is_before Waiting number Waiting other_number = nat_lt number other_number
 
 -- a lock in the second queue keeps the request in the first one waiting
-abbrev pub Keeps : Queue → Request → Queue → LockRow → Type 0
+abbrev pub Keeps : Queue → Request → Queue → LockState → Type 0
 Keeps own request queue lock =
     ((queue ≢ Waiting) × HoldsAgainst request.mode lock.held)
     ⊎ ((is_before queue (wanted_number lock) own request.number ≡ true) × BlocksThoseBehind lock.want)
 
 -- the lock with this handle passes, on the resource with the other one
-pub record PassesOn (P : Resource → LockRow → Type 0) (s : Records) (res lock : ℕ) : Type 0 where
+pub record PassesOn (P : Resource → LockState → Type 0) (s : Records) (res lock : ℕ) : Type 0 where
   pub resource : StoredResource
   pub found : resource_at res s.resources ≡ Some resource
-  pub row : LockRow
+  pub row : LockState
   pub stored : Stores s lock row
   pub passes : P (plain_resource resource) row
 

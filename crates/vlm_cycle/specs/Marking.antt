@@ -1,6 +1,6 @@
 -- The marks of a search.
 use Rattle.std.specs.Prelude.{◌≡◌, ◌⊎◌, ℕ, true, false, Option, None, Some}
-use Rattle.vlm_collections.specs.Nodes.{HasRoomFor, is_marked}
+use Rattle.vlm_records.specs.NodeMarks.{HasRoomFor, is_marked}
 use Rattle.vlm_cycle.specs.declared.scratch.Scratch.{Scratch}
 
 -- there is room to mark the process in both sets

@@ -1,6 +1,6 @@
 -- What a pass over queued requests makes of its result.
 use Rattle.std.specs.Prelude.{◌≡◌, List, true}
-use Rattle.vlm_words.specs.declared.locks.LockRow.{LockRow}
+use Rattle.vlm_words.specs.declared.locks.LockState.{LockState}
 use Rattle.vlm_store.specs.Records.{Records}
 use Rattle.vlm_cycle.specs.declared.passes.Pass.{Pass}
 use Rattle.vlm_cycle.specs.declared.passes.Purpose.TheVariants.{Check, Search}
@@ -9,18 +9,18 @@ use Rattle.vlm_cycle.specs.Ranking.{Falls, FallsOn}
 use Rattle.vlm_cycle.specs.Ranks.{Ranks}
 
 -- a check of these rows says that ranks fall only if they fall on these rows too
-pub record Checks (s : Records) (ranks : Ranks) (rows : List LockRow) (old new : Pass) : Type 0 where
+pub record Checks (s : Records) (ranks : Ranks) (rows : List LockState) (old new : Pass) : Type 0 where
   pub before : new.falls ≡ true → old.falls ≡ true
   pub falls : new.falls ≡ true → FallsOn s ranks rows
   pub located : IsLocatedIfAny s old.found → IsLocatedIfAny s new.found
 
 -- a search of these rows finds the most recent deadlocked request
-pub record Searches (s : Records) (rows : List LockRow) (old new : Pass) : Type 0 where
+pub record Searches (s : Records) (rows : List LockState) (old new : Pass) : Type 0 where
   pub falls : new.falls ≡ old.falls
   pub improves : Improves s rows old.found new.found
 
 -- the pass has gone over these rows
-pub record Passes (s : Records) (ranks : Ranks) (rows : List LockRow) (old new : Pass) : Type 0 where
+pub record Passes (s : Records) (ranks : Ranks) (rows : List LockState) (old new : Pass) : Type 0 where
   pub purpose : new.purpose ≡ old.purpose
   pub checks : old.purpose ≡ Check → Checks s ranks rows old new
   pub searches : old.purpose ≡ Search → Searches s rows old new

@@ -2,7 +2,7 @@
 use Rattle.std.specs.Prelude.{◌≡◌, ◌≢◌, ◌<◌, ◌≤◌, ◌==◌, ℕ, false, List, Option, None, Some, find, slice_get, slice_index_or}
 use Rattle.std.specs.Option.{option_map_or}
 use Rattle.vlm_words.specs.declared.locks.Request.{Request}
-use Rattle.vlm_words.specs.declared.locks.LockRow.{LockRow}
+use Rattle.vlm_words.specs.declared.locks.LockState.{LockState}
 use Rattle.vlm_words.specs.declared.modes.Mode.{Mode}
 use Rattle.vlm_words.specs.declared.resources.Queue.{Queue}
 use Rattle.vlm_words.specs.declared.resources.Queue.TheVariants.{Granted, Conversion, Waiting}
@@ -24,24 +24,24 @@ use Rattle.vlm_cycle.specs.Waiting.{OwnsBefore, OwnsBlocker, rows_before, search
 abbrev pub rank_at : Ranks → ℕ → ℕ
 rank_at ranks process = option_map_or (λ note. note.rank) (slice_get ranks process) 0
 
--- the rank of the living process with this identification, or 0
+-- the rank of the living process with this ID, or 0
 unfoldable pub rank_of : Records → Ranks → ℕ → ℕ
 rank_of s ranks pid = option_map_or (λ p. rank_at ranks p.at) (find (λ p. p.process.pid == pid) s.processes) 0
 
 -- no request of these rows waits for a process of a higher rank than its own process
-abbrev pub FallsOn : Records → Ranks → List LockRow → Type 0
+abbrev pub FallsOn : Records → Ranks → List LockState → Type 0
 FallsOn s ranks rows =
-    (row lock : LockRow) → IsIn row rows → WaitsFor (searched s) row lock
+    (row lock : LockState) → IsIn row rows → WaitsFor (searched s) row lock
     → rank_of s ranks lock.pid ≤ rank_of s ranks row.pid
 
 -- no process waits for one of a higher rank
 abbrev pub Falls : Records → Ranks → Type 0
-Falls s ranks = (row lock : LockRow) → WaitsFor (searched s) row lock
+Falls s ranks = (row lock : LockState) → WaitsFor (searched s) row lock
     → rank_of s ranks lock.pid ≤ rank_of s ranks row.pid
 
 -- ---- counts
 
--- a lock of this identification and rank is counted: `most` is above its rank, and so is `rest` if another lock has
+-- a lock of this ID and rank is counted: `most` is above its rank, and so is `rest` if another lock has
 -- the highest rank
 pub record IsCounted (highest : HighestRank) (lkid rank : ℕ) : Type 0 where
   pub most : rank < highest.most
@@ -55,16 +55,16 @@ no_peak = record { lkid = 0; most = 0; rest = 0 }
 abbrev pub highest_of : List HighestRank → Mode → HighestRank
 highest_of peaks mode = slice_index_or peaks (mode_rank mode) no_peak
 
--- the held request is counted for a lock of this identification and rank, unless it has NODLCKBLK
+-- the held request is counted for a lock of this ID and rank, unless it has NODLCKBLK
 abbrev pub CountsHeld : List HighestRank → Option Request → ℕ → ℕ → Type 0
 CountsHeld peaks None lkid rank = Unit {0}
 CountsHeld peaks (Some held) lkid rank =
     has_flag (flag_bits held.flags) nodlckblk ≡ false → IsCounted (highest_of peaks held.mode) lkid rank
 
 -- the held modes of these locks are counted with the ranks of their owners
-abbrev pub CountsHolders : Records → Ranks → List HighestRank → List LockRow → Type 0
+abbrev pub CountsHolders : Records → Ranks → List HighestRank → List LockState → Type 0
 CountsHolders s ranks peaks rows =
-    (row : LockRow) → IsIn row rows → CountsHeld peaks row.held row.lkid (rank_of s ranks row.pid)
+    (row : LockState) → IsIn row rows → CountsHeld peaks row.held row.lkid (rank_of s ranks row.pid)
 
 -- it is above the ranks of the other locks that are counted with a mode
 abbrev pub IsAbove : List HighestRank → Mode → ℕ → ℕ → Type 0
@@ -78,7 +78,7 @@ IsAboveAll peaks mode lkid top = (held : Mode) → is_compatible mode held ≡ f
 -- ---- the blocker ranks of a resource
 
 -- the ranks of the owners whose requests block later ones are below the bound for earlier requests
-abbrev pub HasPassedAll : Records → Ranks → ℕ → List LockRow → Type 0
+abbrev pub HasPassedAll : Records → Ranks → ℕ → List LockState → Type 0
 HasPassedAll s ranks before rows =
     (lkid pid : ℕ) → OwnsBlocker (rows_before lkid rows) pid → rank_of s ranks pid < before
 
@@ -104,13 +104,13 @@ pub record AreBlockerRanksAt (s : Records) (ranks : Ranks) (blocker_ranks : Bloc
       (rows_queued f.res Waiting s) pid → rank_of s ranks pid < blocker_ranks.before
 
 -- the blocker ranks pass a queue
-pub record PassesQueue (s : Records) (ranks : Ranks) (rows : List LockRow) (old new : BlockerRanks) : Type 0 where
+pub record PassesQueue (s : Records) (ranks : Ranks) (rows : List LockState) (old new : BlockerRanks) : Type 0 where
   pub held : new.held ≡ old.held
   pub before : old.before ≤ new.before
   pub passed : HasPassedAll s ranks new.before rows
 
 -- the blocker ranks pass one request, whose owner has this rank
-pub record PassesOne (row : LockRow) (rank : ℕ) (old new : BlockerRanks) : Type 0 where
+pub record PassesOne (row : LockState) (rank : ℕ) (old new : BlockerRanks) : Type 0 where
   pub held : new.held ≡ old.held
   pub before : old.before ≤ new.before
   pub passed : BlocksThoseBehind row.want → rank < new.before

@@ -8,7 +8,7 @@ ghost use Rattle.vlm_words.specs.Modes.{is_compatible};
 ghost use Rattle.vlm_cycle.specs.Ranking.{CountsHeld, IsAbove, IsAboveAll, IsCounted, PassesOne, highest_of};
 
 use crate::conflicts::blocks_those_behind;
-use vlm_store::StoredRow;
+use vlm_store::StoredState;
 use vlm_words::flags::EnqFlags;
 use vlm_words::modes::{Mode, compatible};
 
@@ -75,7 +75,7 @@ impl BlockerRanks {
         }
     }
 
-    pub(crate) fn hold(&mut self, row: &StoredRow, rank: u32)
+    pub(crate) fn hold(&mut self, row: &StoredState, rank: u32)
         ensures counted { CountsHeld self.new.held row.now.held row.now.lkid rank }
         ensures kept { (mode : Mode) (lkid other : ℕ)
             → IsCounted (highest_of self.old.held mode) lkid other
@@ -116,7 +116,7 @@ impl BlockerRanks {
     }
 
     /// A bound above the ranks of the owners for whose locks the request of a row waits.
-    pub(crate) fn top(&self, row: &StoredRow) -> u64
+    pub(crate) fn top(&self, row: &StoredState) -> u64
         ensures held { (want : Request) → row.now.want ≡ Some want
             → has_flag (flag_bits want.flags) nodlckwt ≡ false
             → IsAboveAll self.now.held want.mode row.now.lkid result }
@@ -132,7 +132,7 @@ impl BlockerRanks {
         self.against(want.mode, row.lkid()).max(self.before)
     }
 
-    pub(crate) fn pass(&mut self, row: &StoredRow, rank: u32)
+    pub(crate) fn pass(&mut self, row: &StoredState, rank: u32)
         ensures { PassesOne row.now rank self.old self.new }
     {
         if blocks_those_behind(&row.want()) {

@@ -9,7 +9,7 @@ ghost use Rattle.std.specs.Prelude.{◌≡◌, ◌⊎◌, ◌/◌, false, true};
 ghost use Rattle.std.specs.List.{list_any};
 ghost use Rattle.vlm_model.specs.Deadlocks.{BlocksThoseBehind};
 ghost use Rattle.vlm_words.specs.declared.resources.Queue.{Queue};
-ghost use Rattle.vlm_collections.specs.Nodes.{is_node};
+ghost use Rattle.vlm_records.specs.NodeMarks.{is_node};
 ghost use Rattle.vlm_store.specs.Records.{HasResource};
 ghost use Rattle.vlm_queue.specs.Walks.{rows_queued};
 ghost use Rattle.vlm_locks.specs.Standing.{IsLocated};
@@ -21,13 +21,13 @@ use crate::conflicts::{blocks_those_behind, holds_against};
 use crate::scratch::Scratch;
 use vlm_locks::LocatedLock;
 use vlm_queue::{head, next};
-use vlm_store::{ResAt, Store, StoredRow};
+use vlm_store::{ResAt, Store, StoredState};
 use vlm_words::flags::EnqFlags;
 use vlm_words::modes::Mode;
 use vlm_words::resources::Queue;
 
 // Finds the owner of a lock, if it is another lock whose held mode is incompatible with the mode.
-fn find_holder(scratch: &mut Scratch, row: &StoredRow, lkid: u32, mode: Mode)
+fn find_holder(scratch: &mut Scratch, row: &StoredState, lkid: u32, mode: Mode)
     requires room { HasRoomInBoth scratch.old row.now.pid }
     requires node { is_node (row.now.pid / 65536) ≡ true }
     ensures { Marks (λ pid. IsHolder lkid mode row.now × (row.now.pid ≡ pid)) scratch.old
@@ -40,7 +40,7 @@ fn find_holder(scratch: &mut Scratch, row: &StoredRow, lkid: u32, mode: Mode)
     }
 }
 
-fn find_blocker(scratch: &mut Scratch, row: &StoredRow)
+fn find_blocker(scratch: &mut Scratch, row: &StoredState)
     requires room { HasRoomInBoth scratch.old row.now.pid }
     requires node { is_node (row.now.pid / 65536) ≡ true }
     ensures { Marks (λ pid. BlocksThoseBehind row.now.want × (row.now.pid ≡ pid)) scratch.old
@@ -85,7 +85,7 @@ fn find_blockers(store: &Store, scratch: &mut Scratch, res: ResAt, queue: Queue)
 }
 
 // Whether the request of a row waits for other locks, and later requests wait for it.
-fn covers(row: &StoredRow) -> bool
+fn covers(row: &StoredState) -> bool
     ensures { result ≡ covers row.now }
 {
     match row.want() {
@@ -96,7 +96,7 @@ fn covers(row: &StoredRow) -> bool
     }
 }
 
-fn covers_for(mode: Mode, row: &StoredRow) -> bool
+fn covers_for(mode: Mode, row: &StoredState) -> bool
     ensures { result ≡ covers_for mode row.now }
 {
     match row.want() {

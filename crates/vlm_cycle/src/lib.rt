@@ -1,4 +1,4 @@
-//! The search for a deadlock: processes that wait for each other in a circle, and the victim among their requests.
+//! The search for a deadlock: processes that wait for each other in a cycle, and the victim among their requests.
 //!
 //! A search begins with the locks for which a request waits. It goes on to the processes that own them, and to the
 //! locks for which the queued requests of these processes wait. Two sets mark the processes that it has found, and

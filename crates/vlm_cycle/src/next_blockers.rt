@@ -15,7 +15,7 @@ use crate::first_requests::first_queued;
 use crate::victims::wanted_number;
 use vlm_locks::{LocatedLock, located_lock};
 use vlm_queue::{head, next};
-use vlm_store::{LockAt, ResAt, Store, StoredRow};
+use vlm_store::{LockAt, ResAt, Store, StoredState};
 use vlm_words::flags::EnqFlags;
 use vlm_words::locks::Request;
 use vlm_words::resources::Queue;
@@ -71,7 +71,7 @@ fn is_before(queue: Queue, number: u64, other: Queue, other_number: u64) -> bool
     }
 }
 
-fn keeps_waiting(waiting: &LocatedLock, request: &Request, queue: Queue, row: &StoredRow) -> bool
+fn keeps_waiting(waiting: &LocatedLock, request: &Request, queue: Queue, row: &StoredState) -> bool
     ensures yes { OnTrue result (Keeps waiting.now.queue request.now queue row.now) }
     ensures no { OnFalse result (¬ Keeps waiting.now.queue request.now queue row.now) }
 {

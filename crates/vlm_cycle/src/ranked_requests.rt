@@ -1,7 +1,7 @@
 //! Compares the rank of a queued request with the ranks for which it waits.
 
 ghost use Rattle.std.specs.Prelude.{◌≡◌, ◌+◌, ◌<◌, ◌≤◌, ℕ, Some, true};
-ghost use Rattle.vlm_words.specs.declared.locks.LockRow.{LockRow};
+ghost use Rattle.vlm_words.specs.declared.locks.LockState.{LockState};
 ghost use Rattle.vlm_words.specs.declared.modes.Mode.{Mode};
 ghost use Rattle.vlm_words.specs.declared.resources.Queue.{Queue};
 ghost use Rattle.vlm_store.specs.Records.{HasResource, IsStored, Stores};
@@ -42,7 +42,7 @@ impl RankedRequest {
 
 fn owner_rank(store: &Store, ranks: &Ranks, lock: LockAt) -> u32
     requires { IsStored lock store.now }
-    ensures { (row : LockRow) → Stores store.now lock row
+    ensures { (row : LockState) → Stores store.now lock row
         → result ≡ rank_of store.now ranks.now row.pid }
 {
     ranks.of(store.lock_record(lock).owner)
@@ -53,7 +53,7 @@ pub(crate) fn located_in(store: &Store, res: ResAt, queue: Queue, lock: LockAt) 
     requires come { IsInQueue res queue (Some lock) store.now }
     ensures located { IsLocated result store.now }
     ensures stored { Stores store.now lock result.row }
-    ensures only { (row : LockRow) → Stores store.now lock row → row ≡ result.row }
+    ensures only { (row : LockState) → Stores store.now lock row → row ≡ result.row }
     ensures res { result.res ≡ res }
     ensures queue { result.queue ≡ queue }
     ensures lock { result.lock ≡ lock }

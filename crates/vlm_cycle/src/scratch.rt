@@ -1,12 +1,12 @@
 //! The memory of a search: two sets of processes, and their ranks.
 
 ghost use Rattle.std.specs.Prelude.{◌≡◌, ◌/◌, ℕ, true, OnOk};
-ghost use Rattle.vlm_collections.specs.Nodes.{is_marked, is_node};
+ghost use Rattle.vlm_records.specs.NodeMarks.{is_marked, is_node};
 ghost use Rattle.vlm_cycle.specs.Marking.{HasRoomInBoth, IsClear, TakesNext, KeepsRoom, Marks};
 
 use crate::ranks::Ranks;
 use std::alloc::{AllocError, Global};
-use vlm_collections::NodeMarks;
+use vlm_records::NodeMarks;
 
 /// The marks of a search, with the room that was made for them.
 #[derive(Drop)]

@@ -14,10 +14,10 @@ use crate::rank_checks::check_ranks;
 use crate::scratch::Scratch;
 use crate::tarjan_walk::rank_processes;
 use vlm_locks::LocatedLock;
-use vlm_store::{Store, StoredRow};
+use vlm_store::{Store, StoredState};
 
 /// The number of a row's queued request, 0 if there is none.
-pub(crate) fn wanted_number(row: &StoredRow) -> u64
+pub(crate) fn wanted_number(row: &StoredState) -> u64
     ensures { result ≡ wanted_number row.now }
 {
     match row.want() {
@@ -26,7 +26,7 @@ pub(crate) fn wanted_number(row: &StoredRow) -> u64
     }
 }
 
-pub(crate) fn is_later(row: &StoredRow, best: &Option<LocatedLock>) -> bool
+pub(crate) fn is_later(row: &StoredState, best: &Option<LocatedLock>) -> bool
     ensures later { OnTrue result (IsLater row.now best.now) }
     ensures earlier { OnFalse result (IsNotLater row.now best.now) }
 {

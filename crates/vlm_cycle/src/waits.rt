@@ -7,7 +7,7 @@ ghost use Rattle.vlm_cycle.specs.Notes.{IsWanting};
 use crate::conflicts::{blocks_those_behind, holds_against};
 use crate::ranks::Ranks;
 use crate::tarjan_nodes::BlockerKind;
-use vlm_store::{LockAt, ResAt, Store, StoredRow};
+use vlm_store::{LockAt, ResAt, Store, StoredState};
 use vlm_words::flags::EnqFlags;
 use vlm_words::modes::Mode;
 use vlm_words::resources::Queue;
@@ -23,7 +23,7 @@ pub(crate) struct AwaitedModes {
 }
 
 // The mode for which a row waits; no mode if it has no request, or with NODLCKWT.
-fn awaited_mode(row: &StoredRow) -> Option<Mode> {
+fn awaited_mode(row: &StoredState) -> Option<Mode> {
     let request = row.want()?;
     if request.flags.has(EnqFlags::NODLCKWT) {
         return None;
@@ -52,7 +52,7 @@ pub(crate) fn awaited_modes(store: &Store, lock: LockAt) -> Option<AwaitedModes>
 }
 
 impl AwaitedModes {
-    pub(crate) fn waits_for(&self, part: BlockerKind, lock: LockAt, row: &StoredRow) -> bool {
+    pub(crate) fn waits_for(&self, part: BlockerKind, lock: LockAt, row: &StoredState) -> bool {
         if lock.slot() == self.lock.slot() {
             return false;
         }
@@ -67,7 +67,7 @@ impl AwaitedModes {
     }
 
     /// Whether the request of this row, earlier in its queue, waits for all holders for which this one waits.
-    pub(crate) fn is_like(&self, row: &StoredRow) -> bool {
+    pub(crate) fn is_like(&self, row: &StoredState) -> bool {
         match row.want() {
             Some(request) => request.mode.rank() == self.mode.rank(),
             None => false,

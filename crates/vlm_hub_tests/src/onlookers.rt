@@ -1,7 +1,7 @@
 //! A watcher that keeps the rows that it has seen.
 
 ghost use Rattle.std.specs.Prelude.{◌≡◌, ◌<◌};
-ghost use Rattle.vlm_watch.specs.Watching.{IsAsBefore, board_of, told_board};
+ghost use Rattle.vlm_ports.specs.Watching.{IsAsBefore, board_of, told_board};
 
 use vlm_ports::{Row, Told, Watcher};
 

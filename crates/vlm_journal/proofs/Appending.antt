@@ -1,5 +1,6 @@
 -- What one entry more changes in what is asked for and told.
-use Rattle.std.proofs.Common.{◌≡◌, ◌≢◌, ◌<◌, ◌==◌, ℕ, true, false, List, [], ◌∷◌, ◌++◌, refl, ap, ◌∙◌, sym, append_assoc, append-nil, arith, subst, if◌then◌else◌, Some, None, inl, inr}
+use Rattle.std.proofs.Common.{◌≡◌, ◌≢◌, ◌<◌, ◌==◌, ℕ, true, false, List, [], ◌∷◌, ◌++◌, refl, ap, ◌∙◌, sym}
+use Rattle.std.proofs.Common.{append_assoc, append-nil, arith, subst, if◌then◌else◌, Some, None, inl, inr}
 use Rattle.std.proofs.lemmas.Bool.Decides.{nat_tests, Decides-eqb}
 use Rattle.vlm_words.specs.declared.asts.Ast.{Ast}
 use Rattle.vlm_words.specs.declared.steps.Answer.TheVariants.{Taken}
@@ -19,7 +20,9 @@ use Rattle.vlm_journal.specs.Told.{asked, items_told, told}
 pub asked-append : (k : ℕ) (xs ys : List Entry) → asked k (xs ++ ys) ≡ asked k xs ++ asked k ys
 asked-append k [] ys = refl
 asked-append k (x ∷ xs) ys =
-    elim (x.sender == k) as (λ b. (if b then x.step ∷ asked k (xs ++ ys) else asked k (xs ++ ys)) ≡ (if b then x.step ∷ asked k xs else asked k xs) ++ asked k ys) [
+    elim (x.sender == k) as
+    (λ b. (if b then x.step ∷ asked k (xs ++ ys) else asked k (xs ++ ys)) ≡
+    (if b then x.step ∷ asked k xs else asked k xs) ++ asked k ys) [
       | true ↦ ap (λ zs. x.step ∷ zs) (asked-append k xs ys)
       | false ↦ asked-append k xs ys
     ]

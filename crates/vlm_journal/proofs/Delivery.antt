@@ -1,5 +1,6 @@
 -- Where an AST is pending for a node, a take of its process answers one.
-use Rattle.std.proofs.Common.{◌≡◌, ◌≢◌, ◌<◌, ◌/◌, ◌==◌, ℕ, suc, Bool, true, false, List, [], ◌∷◌, length, Option, None, Some, inl, inr, refl, sym, ap, ◌∙◌, subst, arith, cond}
+use Rattle.std.proofs.Common.{◌≡◌, ◌≢◌, ◌<◌, ◌/◌, ◌==◌, ℕ, suc, Bool, true, false, List, [], ◌∷◌, length, Option, None}
+use Rattle.std.proofs.Common.{Some, inl, inr, refl, sym, ap, ◌∙◌, subst, arith, cond}
 use Rattle.std.specs.Prelude.{AllPairs, find, is_some, nat_lt}
 use Rattle.std.specs.List.{AllByRecursion}
 use Rattle.std.specs.Option.{option_map, option_map_or}
@@ -36,11 +37,11 @@ found_so Q test (y ∷ ys) x all found = by_test (λ there. found_so Q test ys x
         let same : y ≡ x = here found in (subst Q same all.0, subst (λ z. test z ≡ true) same is)
     by_test later false is found = later found
 
--- of two processes of one node the later has the greater identification
+-- of two processes of one node the later has the greater ID
 abbrev Rises : Process → Process → Type 0
 Rises a b = node_of_pid a.pid ≡ node_of_pid b.pid → a.pid < b.pid
 
--- a process that has an AST pending, and lives by this identification
+-- a process that has an AST pending, and lives by this ID
 record Lives (node pid : ℕ) (processes : List Process) : Type 0 where
   process : Process
   lives : process_of processes pid ≡ Some process
@@ -94,15 +95,18 @@ take_refused s pid refused_so =
       answered = sym (ap (λ (x : Stepped). x.answer) so);
     })
 
-module _ (history : History) (s : State) (told : DepartedNodesAreToldSo history s) (none_lives : NoneLivesOnDepartedNodes history s) (rise : ProcessesRise s) (node pid : ℕ)
+module _ (history : History) (s : State) (told : DepartedNodesAreToldSo history s)
+    (none_lives : NoneLivesOnDepartedNodes history s) (rise : ProcessesRise s) (node pid : ℕ)
     (first : first_pending node s.processes ≡ Some pid) where
   lives : Lives node pid s.processes
   lives = first_lives node pid s.processes rise.rising first
 
-  -- the identification and the node of what lives
+  -- the ID and the node of what lives
   named : lives.process.pid ≡ pid
   named =
-      eqb-true lives.process.pid pid (found_so (λ (p : Process). Unit {0}) (λ (p : Process). p.pid == pid) s.processes lives.process (anything s.processes) lives.lives).1
+      eqb-true lives.process.pid pid
+      (found_so (λ (p : Process). Unit {0}) (λ (p : Process). p.pid == pid) s.processes lives.process
+      (anything s.processes) lives.lives).1
     where
       anything : (ps : List Process) → AllByRecursion (λ (p : Process). Unit {0}) ps
       anything [] = tt
@@ -127,7 +131,9 @@ module _ (history : History) (s : State) (told : DepartedNodesAreToldSo history 
   accepted = by_test (has_departed s.nodes (node_of_pid pid)) refl
     where
       by_test : (b : Bool) → has_departed s.nodes (node_of_pid pid) ≡ b → take_refusal s pid ≡ None
-      by_test true is = absurd (not_departed (ap (λ (b : Bool). cond b (Some departed_cond) (cond (is_some (process_of s.processes pid)) None (Some Nonexpr))) is))
+      by_test true is = absurd
+          (not_departed (ap (λ (b : Bool). cond b (Some departed_cond)
+          (cond (is_some (process_of s.processes pid)) None (Some Nonexpr))) is))
       by_test false is = rw (is, lives.lives) refl
 
   pub gives_ast : (new : State) (answer : Answer) → Outcome s (Take pid) new answer → GivesAst node pid answer

@@ -16,7 +16,7 @@ use Rattle.vlm_model.specs.Stepped.{Outcome, outcome_endings, outcome_queued}
 use Rattle.vlm_words.specs.Steps.{node_of}
 use Rattle.vlm_model.specs.Departing.{DepartedNodesAreToldSo, HasLeft, IsDeparture, IsStepOf}
 use Rattle.vlm_model.specs.Happened.{HasHappened}
-use Rattle.vlm_model.proofs.Happened.{all_answered, happened_before, happened_now}
+use Rattle.vlm_model.proofs.LongerRuns.{all_answered, happened_before, happened_now}
 use Rattle.vlm_journal.specs.declared.entries.Entry.{Entry}
 use Rattle.vlm_journal.specs.Accounts.{GoesOn}
 use Rattle.vlm_journal.specs.Departed.{IsAnsweredDeparted, ShowsDeparture, StaysDeparted}
@@ -48,7 +48,8 @@ step_of node (Take pid) is = is
 
 module _ (law : (history : History) (last : State) → Run history last → DepartedNodesAreToldSo history last) where
   -- the entry behind a journal in which its node has left
-  told_so : {entries : List Entry} {old new : State} (node i : ℕ) (leaving entry : Entry) → Journal entries old → IsAllowed entry → Outcome old entry.step new entry.answer
+  told_so : {entries : List Entry} {old new : State} (node i : ℕ) (leaving entry : Entry) → Journal entries old
+      → IsAllowed entry → Outcome old entry.step new entry.answer
       → 0 < node → slice_get entries i ≡ Some leaving → leaving.step ≡ Leave node → leaving.answer ≡ Plain Normal → entry.sender ≡ node
       → entry.answer ≡ Plain departed_cond
   told_so node i leaving entry journal (inl hubs) outcome some at step answer sender = absurd (omega (arith, some, hubs.0, sender))

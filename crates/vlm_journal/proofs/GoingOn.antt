@@ -18,7 +18,8 @@ pub begins : GoesOn 0 [] start
 begins = record { before = []; counted = refl; cut = start; handed_out = begin; since = begin }
 
 -- with one entry more
-pub goes_on : {base : ℕ} {entries : List Entry} {old new : State} (entry : Entry) → GoesOn base entries old → IsAllowed entry → Outcome old entry.step new entry.answer
+pub goes_on : {base : ℕ} {entries : List Entry} {old new : State} (entry : Entry) → GoesOn base entries old
+    → IsAllowed entry → Outcome old entry.step new entry.answer
     → GoesOn base (entries ++ entry ∷ []) new
 goes_on entry journaled allowed outcome = record {
   before = journaled.before;

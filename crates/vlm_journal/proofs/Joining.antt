@@ -55,7 +55,8 @@ same_end (a ∷ xs) (b ∷ ys) x y is =
 -- ---- journals behind one another
 
 module _ (first : State) where
-  pub join : {mid last : State} (before behind : List Entry) → JournalFrom first before mid → JournalFrom mid behind last → JournalFrom first (before ++ behind) last
+  pub join : {mid last : State} (before behind : List Entry) → JournalFrom first before mid
+      → JournalFrom mid behind last → JournalFrom first (before ++ behind) last
   join {mid} before _ one begin = subst (λ (es : List Entry). JournalFrom first es mid) (sym (append-nil before)) one
   join {last = last} before _ one (next {entries} {entry = entry} two allowed outcome) =
       subst (λ (es : List Entry). JournalFrom first es last) (append_assoc before entries (entry ∷ []))
@@ -100,7 +101,8 @@ module _ (first : State) where
         history = history_after before.history entry.step entry.answer (outcome_endings outcome) (outcome_queued outcome);
         run = run_next before.run outcome;
         taken = ap (λ (steps : List Step). steps ++ entry.step ∷ []) before.taken ∙ sym (map-append (λ (e : Entry). e.step) entries (entry ∷ []));
-        answered = ap (λ (answers : List Answer). answers ++ entry.answer ∷ []) before.answered ∙ sym (map-append (λ (e : Entry). e.answer) entries (entry ∷ []));
+        answered = ap (λ (answers : List Answer). answers ++ entry.answer ∷ []) before.answered
+            ∙ sym (map-append (λ (e : Entry). e.answer) entries (entry ∷ []));
       }
 
   pub allowed_of : {entries : List Entry} {last : State} → JournalFrom first entries last → AllByRecursion IsAllowed entries
@@ -121,8 +123,11 @@ module _ (first : State) where
       let asked = same_end history.steps (steps_of xs) step x.step (taken ∙ map-append (λ (e : Entry). e.step) xs (x ∷ [])) in
       let told = same_end history.answers (answers_of xs) answer x.answer (answered ∙ map-append (λ (e : Entry). e.answer) xs (x ∷ [])) in
       let each = each_before xs x all in
-      let so : Outcome old x.step new x.answer = subst (λ (s : Step). Outcome old s new x.answer) asked.1 (subst (λ (a : Answer). Outcome old step new a) told.1 outcome) in
+      let so : Outcome old x.step new x.answer =
+      subst (λ (s : Step). Outcome old s new x.answer) asked.1
+      (subst (λ (a : Answer). Outcome old step new a) told.1 outcome) in
       next (journal_by_end xs (by_end xs) run asked.0 told.0 each.0) each.1 so
 
-  pub journal_of : {last : State} (entries : List Entry) → Legal first (steps_of entries) (answers_of entries) last → All IsAllowed entries → JournalFrom first entries last
+  pub journal_of : {last : State} (entries : List Entry) → Legal first (steps_of entries) (answers_of entries) last
+      → All IsAllowed entries → JournalFrom first entries last
   journal_of entries legal all = journal_by_end entries (by_end entries) legal.run legal.taken legal.answered (recursion_from_All IsAllowed entries all)

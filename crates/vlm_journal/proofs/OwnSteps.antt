@@ -5,7 +5,7 @@ use Rattle.vlm_words.specs.declared.steps.Step.TheVariants.{Leave, Take}
 use Rattle.vlm_words.specs.declared.steps.Step.{Step}
 use Rattle.vlm_journal.specs.declared.entries.Entry.{Entry}
 use Rattle.vlm_journal.specs.Told.{asked}
-use Rattle.vlm_journal.specs.Worlds.{Event, Happens, Reached, World, begin, deliver, lose, next, own_step, own_steps, post, send, serve, take}
+use Rattle.vlm_journal.specs.Worlds.{Event, Happens, Reached, World, begin, deliver, depart, next, own_step, own_steps, post, send, apply, take}
 use Rattle.vlm_journal.proofs.Appending.{asks_no_other, asks_step}
 
 -- one event more
@@ -17,7 +17,7 @@ own-append (e ∷ events) event =
 -- what an event adds
 added : (nodes : ℕ) (w : World) (event : Event) (v : World) → Happens nodes w event v → asked 0 v.journal ≡ asked 0 w.journal ++ own_step event
 added nodes w (post node step) v h = ap (λ (x : World). asked 0 x.journal) h.becomes ∙ sym (append-nil (asked 0 w.journal))
-added nodes w (serve node) v h =
+added nodes w (apply node) v h =
     let e : Entry = record { sender = node; step = h.step; answer = h.answer } in
     ap (λ (x : World). asked 0 x.journal) h.becomes
     ∙ asks_no_other 0 w.journal e (λ is. omega (arith, is, h.node_is.0))
@@ -25,7 +25,7 @@ added nodes w (serve node) v h =
 added nodes w (deliver pid) v h =
     let e : Entry = record { sender = 0; step = Take pid; answer = Taken (Some h.ast) } in
     ap (λ (x : World). asked 0 x.journal) h.becomes ∙ asks_step w.journal e
-added nodes w (lose node) v h =
+added nodes w (depart node) v h =
     let e : Entry = record { sender = 0; step = Leave node; answer = h.answer } in
     ap (λ (x : World). asked 0 x.journal) h.becomes ∙ asks_step w.journal e
 added nodes w (send node) v h = ap (λ (x : World). asked 0 x.journal) h.becomes ∙ sym (append-nil (asked 0 w.journal))

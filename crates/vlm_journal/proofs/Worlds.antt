@@ -1,5 +1,6 @@
 -- Each event keeps a world right.
-use Rattle.std.proofs.Common.{◌≡◌, ◌≢◌, ◌==◌, ◌+◌, ◌<◌, ◌≤◌, ℕ, true, false, List, [], ◌∷◌, ◌++◌, length, refl, ap, ◌∙◌, sym, subst, arith, append_assoc, inl, inr, Some}
+use Rattle.std.proofs.Common.{◌≡◌, ◌≢◌, ◌==◌, ◌+◌, ◌<◌, ◌≤◌, ℕ, true, false, List, [], ◌∷◌, ◌++◌, length, refl, ap, ◌∙◌}
+use Rattle.std.proofs.Common.{sym, subst, arith, append_assoc, inl, inr, Some}
 use mathlib.Core.List.{IsPrefix}
 use Rattle.std.proofs.lemmas.Bool.{cases_eq}
 use Rattle.std.proofs.lemmas.Bool.Decides.{nat_tests, Decides-eqb}
@@ -10,7 +11,8 @@ use Rattle.vlm_words.specs.declared.steps.Step.{Step}
 use Rattle.vlm_journal.specs.declared.entries.Entry.{Entry}
 use Rattle.vlm_journal.specs.Journals.{IsPostOf, Journal, begin as journal_begin, leaves, next as journal_next, takes}
 use Rattle.vlm_journal.specs.Told.{told}
-use Rattle.vlm_journal.specs.Worlds.{Event, Happens, IsInOrder, IsNext, IsNode, IsRight, Lists, Reached, World, begin, deliver, lose, next, post, send, serve, take, with_lists_of}
+use Rattle.vlm_journal.specs.Worlds.{Event, Happens, IsInOrder, IsNext, IsNode, IsRight, Lists, Reached, World, begin}
+use Rattle.vlm_journal.specs.Worlds.{deliver, depart, next, post, send, apply, take, with_lists_of}
 use Rattle.vlm_journal.proofs.Appending.{asks_no_other, asks_step, told-append}
 use Rattle.vlm_journal.proofs.Lists.{prefix_more}
 
@@ -98,7 +100,7 @@ module _ (n : ℕ) (few : n ≤ 8) where
         legal = kept.legal;
         nodes = λ j is. with_cases (λ m x. Fine m w.journal x) w.lists k l here j (λ ne. kept.nodes j is);
       })
-  keeps w (serve k) v kept h =
+  keeps w (apply k) v kept h =
       let l : Lists = record (w.lists k) { served = (w.lists k).served ++ h.step ∷ [] } in
       let e : Entry = record { sender = k; step = h.step; answer = h.answer } in
       let was = kept.nodes k h.node_is in
@@ -124,7 +126,7 @@ module _ (n : ℕ) (few : n ≤ 8) where
         legal = journal_next kept.legal (inl (refl, takes pid h.ast)) h.outcome;
         nodes = λ j is. fine_entry j w.journal e (w.lists j) (λ z. omega (arith, z, is.0)) (kept.nodes j is);
       })
-  keeps w (lose node) v kept h =
+  keeps w (depart node) v kept h =
       let e : Entry = record { sender = 0; step = Leave node; answer = h.answer } in
       subst (λ x. Kept n x) (sym h.becomes) (record {
         legal = journal_next kept.legal (inl (refl, leaves node h.answer)) h.outcome;

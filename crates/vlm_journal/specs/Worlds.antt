@@ -49,9 +49,9 @@ with_node w node own = record { journal = w.journal; state = w.state; lists = wi
 -- the kinds of event: of a node, or a delivery to a process
 pub data Event : Type 0 where
   post : ℕ → Step → Event
-  serve : ℕ → Event
+  apply : ℕ → Event
   deliver : ℕ → Event
-  lose : ℕ → Event
+  depart : ℕ → Event
   send : ℕ → Event
   take : ℕ → Event
 
@@ -113,18 +113,18 @@ pub record Takes (nodes : ℕ) (w : World) (node : ℕ) (v : World) : Type 0 whe
 -- the event leads from one world to another
 abbrev pub Happens : ℕ → World → Event → World → Type 0
 Happens nodes w (post node step) v = Posts nodes w node step v
-Happens nodes w (serve node) v = Serves nodes w node v
+Happens nodes w (apply node) v = Serves nodes w node v
 Happens nodes w (deliver pid) v = Delivers w pid v
-Happens nodes w (lose node) v = Loses w node v
+Happens nodes w (depart node) v = Loses w node v
 Happens nodes w (send node) v = Sends nodes w node v
 Happens nodes w (take node) v = Takes nodes w node v
 
 -- the step that the hub itself asks for at an event: the take of a delivery, or the departure of a lost node
 abbrev pub own_step : Event → List Step
 own_step (deliver pid) = Take pid ∷ []
-own_step (lose node) = Leave node ∷ []
+own_step (depart node) = Leave node ∷ []
 own_step (post node step) = []
-own_step (serve node) = []
+own_step (apply node) = []
 own_step (send node) = []
 own_step (take node) = []
 

@@ -19,7 +19,7 @@ pub struct Entry {
 pub enum Item {
     /// The answer to the node's oldest step that has no answer yet.
     Answer(Answer),
-    /// An AST of one of the node's processes, with the identification of the process.
+    /// An AST of one of the node's processes, with the ID of the process.
     Ast(u32, Ast),
 }
 

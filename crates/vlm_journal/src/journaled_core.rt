@@ -80,7 +80,7 @@ impl JournaledCore {
 
     /// Makes a step that a node has posted, and writes an entry with its answer. The entry takes no memory. The step
     /// may need some, and is answered INSFMEM if that is refused. It costs as much as the step.
-    pub fn serve(&mut self, sender: u8, step: &Step) -> Answer
+    pub fn apply(&mut self, sender: u8, step: &Step) -> Answer
         requires room { 0 < self.old.room }
         requires sender { (0 < sender) × (sender ≤ 8) }
         requires post { IsPostOf sender step.now }
@@ -90,7 +90,7 @@ impl JournaledCore {
     {
         law_entry();
         law_departed();
-        let answer = self.core.make_step(step);
+        let answer = self.core.apply(step);
         self.entries.push_reserved(entry(sender, *step, answer));
         answer
     }
@@ -127,7 +127,7 @@ impl JournaledCore {
 
     /// Makes the departure of a lost node, and writes an entry of the hub. It takes no memory. It answers NORMAL,
     /// BADPARAM if the node is not 1 to 8, or DEPARTED if the node has departed before.
-    pub fn lose(&mut self, node: u8) -> Answer
+    pub fn depart(&mut self, node: u8) -> Answer
         requires room { 0 < self.old.room }
         ensures outcome { Outcome self.old.state (Step.Leave node) self.new.state result }
         ensures written { IsWritten (record { sender = 0; step = Step.Leave node; answer = result })

@@ -21,7 +21,7 @@ ghost use Rattle.vlm_journal.specs.Worlds.{Event, IsRight, Reached, World, own_s
 use vlm_model::histories::{
     law_a_departed_node_is_answered_departed, law_no_process_of_a_departed_node_lives,
 };
-use vlm_model::laws::law_identifications_of_processes_rise;
+use vlm_model::laws::law_process_ids_rise;
 
 /// A journal is legal exactly if its steps and answers are a legal run of the machine, and a hub may make each of its
 /// entries. So every law of such runs holds of a hub.
@@ -74,7 +74,7 @@ pub fn law_delivery()
 {
     law_a_departed_node_is_answered_departed();
     law_no_process_of_a_departed_node_lives();
-    law_identifications_of_processes_rise();
+    law_process_ids_rise();
 }
 
 /// Whatever happens between a hub and its 1 to 8 nodes, the journal is legal. The served posts of a node are its

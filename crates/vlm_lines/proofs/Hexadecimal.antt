@@ -1,5 +1,7 @@
 -- What the crate hex reads is what the definitions read.
-use Rattle.std.proofs.Common.{◌≡◌, ◌≢◌, ◌⊎◌, ◌++◌, ℕ, zero, suc, ◌+◌, ◌*◌, ◌/◌, ◌%◌, ◌==◌, true, false, cond, ◌&&◌, List, [], ◌∷◌, length, min, take, Bool, Result, Ok, Err, inl, inr, refl, sym, ap, ◌∙◌, arith}
+use Rattle.std.proofs.Common.{◌≡◌, ◌≢◌, ◌⊎◌, ◌++◌, ℕ, zero, suc, ◌+◌, ◌*◌, ◌/◌, ◌%◌, ◌==◌, true, false, cond, ◌&&◌}
+use Rattle.std.proofs.Common.{List, [], ◌∷◌, length, min, take, Bool, Result, Ok, Err, inl, inr, refl, sym, ap, ◌∙◌}
+use Rattle.std.proofs.Common.{arith}
 use Rattle.std.proofs.lemmas.Bool.{and_parts, cases_eq}
 use Rattle.std.proofs.lemmas.List.{length-take, length-take-le, take_all, take_at}
 use Rattle.std.proofs.lemmas.Bool.Decides.{nat_tests}
@@ -42,7 +44,8 @@ pairs_read i [] even = refl
 pairs_read i (a ∷ []) even = absurd (omega arith)
 pairs_read i (a ∷ b ∷ rest) even =
     rw (digit_read a i, digit_read b (i + 1))
-    (joined (is_ascii_hexdigit a) (is_ascii_hexdigit b) (list_all is_ascii_hexdigit rest) (digit_value a) (digit_value b) _ _ (hex_value rest) (decode_pairs (i + 2) rest)
+    (joined (is_ascii_hexdigit a) (is_ascii_hexdigit b) (list_all is_ascii_hexdigit rest) (digit_value a)
+    (digit_value b) _ _ (hex_value rest) (decode_pairs (i + 2) rest)
     (pairs_read (i + 2) rest (omega arith)))
 
 -- a result that is not `Ok` is a wrong word
@@ -98,7 +101,8 @@ half_as_many (digit ∷ []) = refl
 half_as_many (high ∷ low ∷ digits) = omega (arith, half_as_many digits)
 
 -- what the crate reads of digits into room for their bytes
-pub all_read : (digits : List ℕ) (count : ℕ) → list_all is_ascii_hexdigit digits ≡ true → length digits ≡ 2 * count → decode_sized digits count ≡ Ok (hex_value digits)
+pub all_read : (digits : List ℕ) (count : ℕ) → list_all is_ascii_hexdigit digits ≡ true → length digits ≡ 2 * count
+    → decode_sized digits count ≡ Ok (hex_value digits)
 all_read digits count all twice =
     decode_sized-twice digits count twice
     ∙ decode_of-even digits (omega (arith, twice))

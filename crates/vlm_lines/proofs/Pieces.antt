@@ -1,5 +1,7 @@
 -- Where the first piece of a list ends.
-use Rattle.std.proofs.Common.{◌≡◌, zero, get_or, length-drop, ℕ, ◌+◌, suc, ◌<◌, Bool, true, false, not, cond, List, [], ◌∷◌, length, take, drop, sym, refl, ap, ◌∙◌, arith, add-one, Option, Some, None, ltb, unwrap_or}
+use Rattle.std.proofs.Common.{◌≡◌, zero, get_or, length-drop, ℕ, ◌+◌, suc, ◌<◌, Bool, true, false, not, cond, List, []}
+use Rattle.std.proofs.Common.{◌∷◌, length, take, drop, sym, refl, ap, ◌∙◌, arith, add-one, Option, Some, None, ltb}
+use Rattle.std.proofs.Common.{unwrap_or}
 use Rattle.std.proofs.lemmas.Bool.Decides.{nat_tests}
 use Rattle.std.proofs.lemmas.List.Sums.{prefix_len-le-length, passes_at_first}
 use Rattle.std.proofs.lemmas.List.{nil_from_length, get_or-drop}
@@ -22,12 +24,15 @@ first_alone ends byte false = refl
 
 -- a list with a byte begins with the piece before its first separator
 first_piece : (ends : ℕ → Bool) (byte : ℕ) (bytes : List ℕ)
-    → pieces ends (byte ∷ bytes) ≡ take (position_or_len ends (byte ∷ bytes)) (byte ∷ bytes) ∷ pieces ends (drop (suc (position_or_len ends (byte ∷ bytes))) (byte ∷ bytes))
+    → pieces ends (byte ∷ bytes) ≡ take (position_or_len ends (byte ∷ bytes)) (byte ∷ bytes) ∷ pieces ends
+    (drop (suc (position_or_len ends (byte ∷ bytes))) (byte ∷ bytes))
 first_piece ends byte [] = first_alone ends byte (ends byte)
 first_piece ends byte (next ∷ bytes) = put_front ends byte _ (next ∷ bytes) (ends byte) (first_piece ends next bytes)
 
 -- the same of a list that is not empty
-pub pieces_first : (ends : ℕ → Bool) (bytes : List ℕ) → 0 < length bytes → pieces ends bytes ≡ take (position_or_len ends bytes) bytes ∷ pieces ends (drop (position_or_len ends bytes + 1) bytes)
+pub pieces_first : (ends : ℕ → Bool) (bytes : List ℕ) → 0 < length bytes
+    → pieces ends bytes ≡ take (position_or_len ends bytes) bytes ∷ pieces ends
+    (drop (position_or_len ends bytes + 1) bytes)
 pieces_first ends [] h = absurd (omega arith)
 pieces_first ends (byte ∷ bytes) h = rw add-one (first_piece ends byte bytes)
 
@@ -43,18 +48,25 @@ words_of-drop_blanks [] = refl
 words_of-drop_blanks (byte ∷ bytes) = drop_blank byte bytes _ (is_blank byte) refl (words_of-drop_blanks bytes)
 
 -- the place of the first separator, or the length where there is none
-pub end_found : (ends : ℕ → Bool) (bytes : List ℕ) (r : Option ℕ) → r ≡ cond (ltb (position_or_len ends bytes) (length bytes)) (Some (position_or_len ends bytes)) None → unwrap_or r (length bytes) ≡ position_or_len ends bytes
+pub end_found : (ends : ℕ → Bool) (bytes : List ℕ) (r : Option ℕ)
+    → r ≡ cond (ltb (position_or_len ends bytes) (length bytes)) (Some (position_or_len ends bytes)) None
+    → unwrap_or r (length bytes) ≡ position_or_len ends bytes
 end_found ends bytes r e = let l = prefix_len-le-length (λ byte. not (ends byte)) bytes in grind (arith, nat_tests)
 
 -- where no byte but blanks is found there is no word
-pub no_word : (bytes : List ℕ) (r : Option ℕ) → r ≡ cond (ltb (position_or_len (λ byte. not (is_blank byte)) bytes) (length bytes)) (Some (position_or_len (λ byte. not (is_blank byte)) bytes)) None → r ≡ None → words_of bytes ≡ []
+pub no_word : (bytes : List ℕ) (r : Option ℕ)
+    → r ≡ cond (ltb (position_or_len (λ byte. not (is_blank byte)) bytes) (length bytes))
+    (Some (position_or_len (λ byte. not (is_blank byte)) bytes)) None → r ≡ None → words_of bytes ≡ []
 no_word bytes r e none =
     let n = position_or_len (λ byte. not (is_blank byte)) bytes in
     let past : length (drop n bytes) ≡ 0 = let l = length-drop n bytes in grind (arith, nat_tests) in
     sym (words_of-drop_blanks bytes) ∙ ap words_of (nil_from_length (drop n bytes) past)
 
 -- the place of the first byte that is no blank, where there is one
-pub start_found : (bytes : List ℕ) (start : ℕ) (r : Option ℕ) → r ≡ cond (ltb (position_or_len (λ byte. not (is_blank byte)) bytes) (length bytes)) (Some (position_or_len (λ byte. not (is_blank byte)) bytes)) None → r ≡ Some start → start ≡ position_or_len (λ byte. not (is_blank byte)) bytes
+pub start_found : (bytes : List ℕ) (start : ℕ) (r : Option ℕ)
+    → r ≡ cond (ltb (position_or_len (λ byte. not (is_blank byte)) bytes) (length bytes))
+    (Some (position_or_len (λ byte. not (is_blank byte)) bytes)) None → r ≡ Some start
+    → start ≡ position_or_len (λ byte. not (is_blank byte)) bytes
 start_found bytes start r e some = grind (arith, nat_tests)
 
 -- a piece with a byte is a word
@@ -70,10 +82,13 @@ some_byte n false e = omega arith
 
 -- a list without a blank in front begins with its first word
 word_in_front : (byte : ℕ) (bytes : List ℕ) → is_blank byte ≡ false
-    → words_of (byte ∷ bytes) ≡ take (position_or_len is_blank (byte ∷ bytes)) (byte ∷ bytes) ∷ words_of (drop (suc (position_or_len is_blank (byte ∷ bytes))) (byte ∷ bytes))
+    → words_of (byte ∷ bytes) ≡ take (position_or_len is_blank (byte ∷ bytes)) (byte ∷ bytes) ∷ words_of
+    (drop (suc (position_or_len is_blank (byte ∷ bytes))) (byte ∷ bytes))
 word_in_front byte bytes h =
     ap (filter (λ word. not (is_nothing word))) (first_piece is_blank byte bytes)
-    ∙ piece_kept (position_or_len is_blank (byte ∷ bytes)) byte bytes (pieces is_blank (drop (suc (position_or_len is_blank (byte ∷ bytes))) (byte ∷ bytes))) (some_byte _ (is_blank byte) h)
+    ∙ piece_kept (position_or_len is_blank (byte ∷ bytes)) byte bytes
+    (pieces is_blank (drop (suc (position_or_len is_blank (byte ∷ bytes))) (byte ∷ bytes)))
+    (some_byte _ (is_blank byte) h)
 
 -- what is not true is false
 false_from_not : (b : Bool) → not b ≡ true → b ≡ false
@@ -101,14 +116,18 @@ blank_kept [] = refl
 blank_kept (byte ∷ bytes) = pass_blank byte bytes _ (is_blank byte) refl (blank_kept bytes)
 
 -- the first word begins after the blanks in front
-pub first_word : (bytes rest : List ℕ) (n : ℕ) → rest ≡ drop (position_or_len (λ byte. not (is_blank byte)) bytes) bytes → 0 < length rest → n ≡ position_or_len is_blank rest
+pub first_word : (bytes rest : List ℕ) (n : ℕ) → rest ≡ drop (position_or_len (λ byte. not (is_blank byte)) bytes) bytes
+    → 0 < length rest → n ≡ position_or_len is_blank rest
     → words_of bytes ≡ take n rest ∷ words_of (drop n rest)
 first_word bytes [] n e h m = absurd (omega arith)
 first_word bytes (byte ∷ rest) n e h m =
     sym (words_of-drop_blanks bytes) ∙ ap words_of (sym e)
-    ∙ rw m (word_in_front byte rest (no_blank bytes rest byte e) ∙ ap (λ words. take (position_or_len is_blank (byte ∷ rest)) (byte ∷ rest) ∷ words) (blank_kept (byte ∷ rest)))
+    ∙ rw m (word_in_front byte rest (no_blank bytes rest byte e)
+    ∙ ap (λ words. take (position_or_len is_blank (byte ∷ rest)) (byte ∷ rest) ∷ words) (blank_kept (byte ∷ rest)))
 
 -- and it has a byte
-pub word_has_byte : (bytes rest : List ℕ) (n : ℕ) → rest ≡ drop (position_or_len (λ byte. not (is_blank byte)) bytes) bytes → 0 < length rest → n ≡ position_or_len is_blank rest → 0 < n
+pub word_has_byte : (bytes rest : List ℕ) (n : ℕ)
+    → rest ≡ drop (position_or_len (λ byte. not (is_blank byte)) bytes) bytes → 0 < length rest
+    → n ≡ position_or_len is_blank rest → 0 < n
 word_has_byte bytes [] n e h m = absurd (omega arith)
 word_has_byte bytes (byte ∷ rest) n e h m = rw m (some_byte _ (is_blank byte) (no_blank bytes rest byte e))

@@ -1,5 +1,7 @@
 -- The lines and words of a script.
-use Rattle.std.specs.Prelude.{ℕ, Bool, true, false, not, ◌&&◌, ◌||◌, ◌==◌, ◌+◌, ◌-◌, ◌*◌, ◌%◌, nat_le, List, [], ◌∷◌, filter, take, drop, length, codes, fold, Option, None, Some, Result, Ok, Err, unwrap_or, if◌then◌else◌}
+use Rattle.std.specs.Prelude.{ℕ, Bool, true, false, not, ◌&&◌, ◌||◌, ◌==◌, ◌+◌, ◌-◌, ◌*◌, ◌%◌, nat_le, List, [], ◌∷◌}
+use Rattle.std.specs.Prelude.{filter, take, drop, length, codes, fold, Option, None, Some, Result, Ok, Err, unwrap_or}
+use Rattle.std.specs.Prelude.{if◌then◌else◌}
 use Rattle.std.specs.List.{list_all, starts_with}
 use Rattle.std.specs.Cmp.Lexicographic.{pointwise}
 use Rattle.std.specs.Char.{is_ascii_digit, is_ascii_alphabetic, is_ascii_alphanumeric, is_ascii_hexdigit}
@@ -17,7 +19,8 @@ use Rattle.vlm_lines.specs.declared.keyed.SetWords.{SetWords}
 use Rattle.vlm_lines.specs.declared.keyed.NodeWords.{NodeWords}
 use Rattle.vlm_lines.specs.declared.flags.FlagWords.{FlagWords}
 use Rattle.vlm_lines.specs.declared.lines.Line.{Line}
-use Rattle.vlm_lines.specs.declared.lines.Line.TheVariants.{Empty, Declare, Enq, Cvt, Deq, Set, End, Leave, Search, Ast, Block as block_words, Tail as tail_words, Show, Tails}
+use Rattle.vlm_lines.specs.declared.lines.Line.TheVariants.{Empty, Declare, Enq, Cvt, Deq, Set, End, Leave, Search, Ast}
+use Rattle.vlm_lines.specs.declared.lines.Line.TheVariants.{Block as block_words, Tail as tail_words, Show, Tails}
 use Rattle.vlm_lines.specs.declared.faults.LineFault.{LineFault}
 use Rattle.vlm_lines.specs.declared.faults.LineFault.TheVariants.{TooLong, UnknownCommand, WrongWord, NumberOutOfRange}
 use Rattle.vlm_words.specs.Flags.{cancel, deqall, expedite, has_flag, invvalblk, nodlckblk, nodlckwt, noqueue, quecvt, syncsts, system, valblk, wide}
@@ -155,13 +158,13 @@ value_of word = bytes_of 16 word
 abbrev pub tail_of : List ℕ → Result (List ℕ) LineFault
 tail_of word = bytes_of 48 word
 
--- a lock: `@N` is the lock in status block N, and a number is the identification of the lock
+-- a lock: `@N` is the lock in status block N, and a number is the ID of the lock
 unfoldable pub lock_named : List ℕ → Result Which LineFault
 lock_named word =
     if has_key (codes "@") word then number_within 255 (after_key (codes "@") word) >>= (λ n. Ok (Block n))
     else number_within 4294967295 word >>= (λ lkid. Ok (Id lkid))
 
--- an identification that no process has: a line names its process instead
+-- an ID that no process has: a line names its process instead
 abbrev pub unnamed_process : ℕ
 unnamed_process = 0
 
@@ -292,7 +295,7 @@ enq_word e word =
     once e.parent (lock_named (after_key (codes "parent=") word)) >>= (λ lock. Ok (record e { parent = lock }))
     else request_word e.request word >>= (λ r. Ok (record e { request = r }))
 
--- without the word the identification 0 names no parent
+-- without the word the ID 0 names no parent
 abbrev pub parent_named : EnqWords → Which
 parent_named e = unwrap_or e.parent (Id 0)
 

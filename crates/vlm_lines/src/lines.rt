@@ -6,7 +6,7 @@ use vlm_words::texts::Text;
 /// A script's name for a process: 1 to 15 bytes.
 pub type ProcessName = Text<15>;
 
-/// An identification that no process has. A step has it until the run knows which process makes the step.
+/// An ID that no process has. A step has it until the run knows which process makes the step.
 pub const NO_PROCESS: u32 = 0;
 
 /// A line without a fault. A line names its process, so its step has [`NO_PROCESS`] until the run puts in the process

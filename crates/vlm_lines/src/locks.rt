@@ -8,7 +8,7 @@ use crate::numbers::{byte, long};
 use crate::words::after_key;
 use vlm_words::steps::Which;
 
-/// A lock: `@N` is the lock in status block N, and a number is the identification of the lock.
+/// A lock: `@N` is the lock in status block N, and a number is the ID of the lock.
 #[tactic(auto, unfolding(crate::specs::Lines::lock_named))]
 pub(crate) fn lock(word: &[u8]) -> Result<Which, LineFault>
     ensures { result ≡ lock_named word.now }

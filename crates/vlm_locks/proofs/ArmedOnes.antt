@@ -1,5 +1,6 @@
--- The locks of a list of armed ones, and the handles that a walk over them has left.
-use Rattle.std.proofs.Common.{◌≡◌, ◌≤◌, ℕ, true, false, List, [], ◌∷◌, ◌++◌, map, length, cond, Option, None, Some, append_assoc, refl, sym, ap, ◌∙◌, subst, inl, inr, arith, eq-eqb, ne_eqb}
+-- The armed locks of a list, and the handles that a walk over them has still to visit.
+use Rattle.std.proofs.Common.{◌≡◌, ◌≤◌, ℕ, true, false, List, [], ◌∷◌, ◌++◌, map, length, cond, Option, None, Some}
+use Rattle.std.proofs.Common.{append_assoc, refl, sym, ap, ◌∙◌, subst, inl, inr, arith, eq-eqb, ne_eqb}
 use Rattle.std.specs.Prelude.{◌==◌}
 use Rattle.std.proofs.lemmas.Bool.{cases_Bool}
 use Rattle.std.proofs.lemmas.List.Elements.{filter-append}
@@ -30,7 +31,8 @@ handles_from (Some at) [] = []
 handles_from (Some at) (x ∷ rest) = cond (x == at) (x ∷ rest) (handles_from (Some at) rest)
 
 -- those from a lock on
-pub from_lock : (lock : StoredLock) (ys xs : List StoredLock) → AreApart (xs ++ lock ∷ ys) → handles_from (Some lock.at) (handles (xs ++ lock ∷ ys)) ≡ lock.at ∷ handles ys
+pub from_lock : (lock : StoredLock) (ys xs : List StoredLock) → AreApart (xs ++ lock ∷ ys)
+    → handles_from (Some lock.at) (handles (xs ++ lock ∷ ys)) ≡ lock.at ∷ handles ys
 from_lock lock ys [] apart = rw (eq-eqb lock.at lock.at refl) refl
 from_lock lock ys (x ∷ xs) apart = rw (ne_eqb x.at lock.at (other_before x lock xs ys apart)) (from_lock lock ys xs apart.1)
 
@@ -45,7 +47,9 @@ module _ (which : Armed) where
   among_armed lock [] among is = absurd among
   among_armed lock (k ∷ rest) among is =
       elim among [
-        | inl here ↦ let armed : is_listed which k.row ≡ true = ap (λ (x : StoredLock). is_listed which x.row) here ∙ is in subst (λ b. IsIn lock (cond b (k ∷ armed_among which rest) (armed_among which rest))) (sym armed) (inl here)
+        | inl here ↦ let armed : is_listed which k.row ≡ true = ap (λ (x : StoredLock). is_listed which x.row) here
+            ∙ is in subst (λ b. IsIn lock (cond b (k ∷ armed_among which rest) (armed_among which rest))) (sym armed)
+            (inl here)
         | inr there ↦ elim (is_listed which k.row) as (λ b. IsIn lock (cond b (k ∷ armed_among which rest) (armed_among which rest))) [
           | true ↦ inr (among_armed lock rest there is)
           | false ↦ among_armed lock rest there is
@@ -56,7 +60,13 @@ module _ (which : Armed) where
   armed_are_among lock [] among = absurd among
   armed_are_among lock (k ∷ rest) among =
       elim (cases_Bool (is_listed which k.row)) [
-        | inl armed ↦ elim (subst (λ b. IsIn lock (cond b (k ∷ armed_among which rest) (armed_among which rest))) armed among) [ inl here ↦ inl here | inr there ↦ inr (armed_are_among lock rest there) ]
+        | inl armed ↦ elim (subst
+            (λ b. IsIn lock (cond b (k ∷ armed_among which rest)
+            (armed_among which rest))) armed among) [
+              | inl here ↦ inl here
+              | inr there ↦ inr
+                  (armed_are_among lock rest there)
+            ]
         | inr unarmed ↦ inr (armed_are_among lock rest (subst (λ b. IsIn lock (cond b (k ∷ armed_among which rest) (armed_among which rest))) unarmed among))
       ]
 
@@ -73,19 +83,24 @@ module _ (which : Armed) where
   pub armed_split : (before : List StoredLock) (lock : StoredLock) (rest : List StoredLock) → is_listed which lock.row ≡ true
       → armed_among which (before ++ lock ∷ rest) ≡ armed_among which before ++ lock ∷ armed_among which rest
   armed_split before lock rest is =
-      filter-append (λ (k : StoredLock). is_listed which k.row) before (lock ∷ rest) ∙ ap (λ b. armed_among which before ++ cond b (lock ∷ armed_among which rest) (armed_among which rest)) is
+      filter-append (λ (k : StoredLock). is_listed which k.row) before (lock ∷ rest)
+      ∙ ap (λ b. armed_among which before ++ cond b (lock ∷ armed_among which rest) (armed_among which rest)) is
 
   -- those from the first armed one on are no more than all
-  pub from_armed : (ys xs : List StoredLock) → AreApart (xs ++ ys) → length (handles_from (first_at (armed_among which ys)) (handles (xs ++ ys))) ≤ length (handles ys)
+  pub from_armed : (ys xs : List StoredLock) → AreApart (xs ++ ys)
+      → length (handles_from (first_at (armed_among which ys)) (handles (xs ++ ys))) ≤ length (handles ys)
   from_armed [] xs apart = omega arith
   from_armed (k ∷ ys) xs apart =
       elim (cases_Bool (is_listed which k.row)) [
         | inl armed ↦
-            subst (λ b. length (handles_from (first_at (cond b (k ∷ armed_among which ys) (armed_among which ys))) (handles (xs ++ k ∷ ys))) ≤ length (handles (k ∷ ys))) (sym armed)
+            subst (λ b. length (handles_from (first_at (cond b (k ∷ armed_among which ys) (armed_among which ys)))
+            (handles (xs ++ k ∷ ys))) ≤ length (handles (k ∷ ys))) (sym armed)
             (rw (from_lock k ys xs apart) (omega arith))
         | inr unarmed ↦
             let moved : xs ++ k ∷ ys ≡ (xs ++ k ∷ []) ++ ys = sym (append_assoc xs (k ∷ []) ys) in
             let few = from_armed ys (xs ++ k ∷ []) (subst AreApart moved apart) in
-            subst (λ b. length (handles_from (first_at (cond b (k ∷ armed_among which ys) (armed_among which ys))) (handles (xs ++ k ∷ ys))) ≤ length (handles (k ∷ ys))) (sym unarmed)
-            (subst (λ locks. length (handles_from (first_at (armed_among which ys)) (handles locks)) ≤ length (handles (k ∷ ys))) (sym moved) (omega (arith, few)))
+            subst (λ b. length (handles_from (first_at (cond b (k ∷ armed_among which ys) (armed_among which ys)))
+            (handles (xs ++ k ∷ ys))) ≤ length (handles (k ∷ ys))) (sym unarmed)
+            (subst (λ locks. length (handles_from (first_at (armed_among which ys)) (handles locks)) ≤ length
+            (handles (k ∷ ys))) (sym moved) (omega (arith, few)))
       ]

@@ -1,7 +1,8 @@
 -- The requests of locks that are given up together end, lock by lock.
-use Rattle.std.proofs.Common.{◌≡◌, ◌≤◌, ◌<◌, ◌+◌, ℕ, Bool, true, false, List, [], ◌∷◌, ◌++◌, map, flat_map, length, get_or, Option, None, Some, refl, sym, ap, ◌∙◌, subst, inl, inr, arith}
+use Rattle.std.proofs.Common.{◌≡◌, ◌≤◌, ◌<◌, ◌+◌, ℕ, Bool, true, false, List, [], ◌∷◌, ◌++◌, map, flat_map, length}
+use Rattle.std.proofs.Common.{get_or, Option, None, Some, refl, sym, ap, ◌∙◌, subst, inl, inr, arith}
 use Rattle.std.proofs.lemmas.List.{append_assoc, append-nil, length-append, length-map}
-use Rattle.vlm_words.specs.declared.locks.LockRow.{LockRow}
+use Rattle.vlm_words.specs.declared.locks.LockState.{LockState}
 use Rattle.std.specs.List.{AllByRecursion}
 use Rattle.vlm_words.specs.declared.locks.Request.{Request}
 use Rattle.vlm_words.specs.declared.resources.ValueBlock.{ValueBlock}
@@ -22,21 +23,22 @@ use Rattle.vlm_locks.specs.Left.{giving_up, is_among}
 use Rattle.vlm_locks.specs.Owing.{IsPaid, OwedMoves, row_at_end}
 use Rattle.vlm_locks.specs.Rest.{IsAtRest}
 use Rattle.vlm_locks.specs.Rising.{handles_of_own}
-use Rattle.vlm_locks.proofs.Chosen.{above, among_in}
-use Rattle.vlm_locks.proofs.Changed.{rests_still}
+use Rattle.vlm_locks.proofs.ChosenLocks.{above, among_in}
+use Rattle.vlm_locks.proofs.ChangedResource.{rests_still}
 use Rattle.vlm_locks.proofs.Granting.{blocks_after_append}
-use Rattle.vlm_locks.proofs.Owing.{notices_twice}
+use Rattle.vlm_locks.proofs.ReservedAsts.{notices_twice}
 use Rattle.vlm_locks.proofs.RunsDown.{its_handles}
-use Rattle.vlm_locks.proofs.Sound.{same_process_of, stands_alike}
+use Rattle.vlm_locks.proofs.SoundRecords.{same_process_of, stands_alike}
 use Rattle.vlm_locks.proofs.Notes.{note_in, number_there}
-use Rattle.vlm_locks.proofs.Stood.{one_lock}
-use Rattle.vlm_locks.proofs.Unowed.{paid_on}
+use Rattle.vlm_locks.proofs.QueuedLocks.{one_lock}
+use Rattle.vlm_locks.proofs.ReservedWithoutEnded.{paid_on}
 use Rattle.vlm_collections.proofs.HandleLists.{in_behind}
 
 -- ---- the locks of the process
 
 -- where notices alone change each process has the locks that it had
-pub same_handles : (s t : Records) → IsSound s → IsSound t → SameButNotices s t → (owner pid : ℕ) → IsProcess owner pid s → own_handles_at owner t ≡ own_handles_at owner s
+pub same_handles : (s t : Records) → IsSound s → IsSound t → SameButNotices s t → (owner pid : ℕ)
+    → IsProcess owner pid s → own_handles_at owner t ≡ own_handles_at owner s
 same_handles s t sound sound_t same owner pid lives =
     let q = same_process_of s.processes t.processes same.processes lives.0 lives.1.0 in
     its_handles owner pid t sound_t (q.0, (q.1.0, q.1.1 ∙ lives.1.1, q.1.2 ∙ lives.1.2))
@@ -51,31 +53,40 @@ ends_push : (f : ℕ → Withdrawal) (lkids : List ℕ) (last : ℕ) (s : Record
 ends_push f [] last s = append-nil (flat_map (withdrawal_endings (f last)) (plain_resources s))
 ends_push f (n ∷ lkids) last s =
     ap (λ (endings : List Ending). flat_map (withdrawal_endings (f n)) (plain_resources s) ++ endings) (ends_push f lkids last s)
-    ∙ sym (append_assoc (flat_map (withdrawal_endings (f n)) (plain_resources s)) (withdrawn_endings (map f lkids) (plain_resources s)) (flat_map (withdrawal_endings (f last)) (plain_resources s)))
+    ∙ sym (append_assoc (flat_map (withdrawal_endings (f n)) (plain_resources s))
+    (withdrawn_endings (map f lkids) (plain_resources s))
+    (flat_map (withdrawal_endings (f last)) (plain_resources s)))
 
 -- they end by abort
 abbrev IsByAbort : Ending → Type 0
 IsByAbort ending = ending.how ≡ by_abort
 
-rows_abort : (rows : List LockRow) → AllByRecursion IsByAbort (flat_map (row_endings by_abort false) rows)
+rows_abort : (rows : List LockState) → AllByRecursion IsByAbort (flat_map (row_endings by_abort false) rows)
 rows_abort [] = tt
-rows_abort (row ∷ rows) = each_append IsByAbort (row_endings by_abort false row) (flat_map (row_endings by_abort false) rows) (of_want row.want) (rows_abort rows)
+rows_abort (row ∷ rows) =
+    each_append IsByAbort (row_endings by_abort false row) (flat_map (row_endings by_abort false) rows)
+    (of_want row.want) (rows_abort rows)
   where
     of_want : (want : Option Request) → AllByRecursion IsByAbort (wanted_endings by_abort false row.lkid row.pid want)
     of_want None = tt
     of_want (Some request) = (refl, tt)
 
-lock_aborts : (invalidates : Bool) (lkid : ℕ) (rs : List Resource) → AllByRecursion IsByAbort (flat_map (withdrawal_endings (giving_up by_abort by_abort invalidates lkid)) rs)
+lock_aborts : (invalidates : Bool) (lkid : ℕ) (rs : List Resource)
+    → AllByRecursion IsByAbort (flat_map (withdrawal_endings (giving_up by_abort by_abort invalidates lkid)) rs)
 lock_aborts invalidates lkid [] = tt
 lock_aborts invalidates lkid (r ∷ rs) =
-    each_append IsByAbort (withdrawal_endings (giving_up by_abort by_abort invalidates lkid) r) (flat_map (withdrawal_endings (giving_up by_abort by_abort invalidates lkid)) rs)
-    (each_append IsByAbort (queue_endings by_abort lkid r.converting) (queue_endings by_abort lkid r.waiting) (rows_abort (rows_of lkid r.converting)) (rows_abort (rows_of lkid r.waiting)))
+    each_append IsByAbort (withdrawal_endings (giving_up by_abort by_abort invalidates lkid) r)
+    (flat_map (withdrawal_endings (giving_up by_abort by_abort invalidates lkid)) rs)
+    (each_append IsByAbort (queue_endings by_abort lkid r.converting) (queue_endings by_abort lkid r.waiting)
+    (rows_abort (rows_of lkid r.converting)) (rows_abort (rows_of lkid r.waiting)))
     (lock_aborts invalidates lkid rs)
 
-all_abort : (invalidates : Bool) (lkids : List ℕ) (rs : List Resource) → AllByRecursion IsByAbort (withdrawn_endings (map (giving_up by_abort by_abort invalidates) lkids) rs)
+all_abort : (invalidates : Bool) (lkids : List ℕ) (rs : List Resource)
+    → AllByRecursion IsByAbort (withdrawn_endings (map (giving_up by_abort by_abort invalidates) lkids) rs)
 all_abort invalidates [] rs = tt
 all_abort invalidates (lkid ∷ lkids) rs =
-    each_append IsByAbort (flat_map (withdrawal_endings (giving_up by_abort by_abort invalidates lkid)) rs) (withdrawn_endings (map (giving_up by_abort by_abort invalidates) lkids) rs)
+    each_append IsByAbort (flat_map (withdrawal_endings (giving_up by_abort by_abort invalidates lkid)) rs)
+    (withdrawn_endings (map (giving_up by_abort by_abort invalidates) lkids) rs)
     (lock_aborts invalidates lkid rs) (all_abort invalidates lkids rs)
 
 -- and leave the value block
@@ -143,11 +154,11 @@ module _ (notes : List Note) (invalidates : Bool) (old s : Records) (many : ℕ)
   others : (those : List ℕ) × (so_far.todo ≡ t.number ∷ those)
   others = number_there so_far.done so_far.todo notes many t so_far.split so_far.count within is
 
-  module _ (sound_old : IsSound old) (row : LockRow) (stored : Stores s t.at row) where
+  module _ (sound_old : IsSound old) (row : LockState) (stored : Stores s t.at row) where
     named : row.lkid ≡ t.number
     named =
         let its = locks t (note_in notes many t within is) in
-        ap (λ (x : LockRow). x.lkid)
+        ap (λ (x : LockState). x.lkid)
         (one_lock old sound_old t.at row its.0 (stored.0, stands_alike t.at row s old (sym so_far.only_notices.resources) stored.0 stored.1) its.1.0)
         ∙ its.1.1
 
@@ -160,7 +171,9 @@ module _ (notes : List Note) (invalidates : Bool) (old s : Records) (many : ℕ)
         of_test true is_yes =
             absurd (omega (
               arith,
-              below_later so_far.done t.number others.0 (subst Rise (so_far.split ∙ ap (λ ns. so_far.done ++ ns) others.1) rise) row.lkid (among_in row so_far.done is_yes),
+              below_later so_far.done t.number others.0
+                  (subst Rise (so_far.split ∙ ap (λ ns. so_far.done ++ ns) others.1) rise) row.lkid
+                  (among_in row so_far.done is_yes),
               named,
             ))
 
@@ -173,7 +186,8 @@ module _ (notes : List Note) (invalidates : Bool) (old s : Records) (many : ℕ)
       only_notices = notices_twice old s new so_far.only_notices same;
       done = so_far.done ++ row.lkid ∷ [];
       todo = others.0;
-      split = so_far.split ∙ ap (λ ns. so_far.done ++ ns) (others.1 ∙ ap (λ n. n ∷ others.0) (sym named)) ∙ sym (append_assoc so_far.done (row.lkid ∷ []) others.0);
+      split = so_far.split ∙ ap (λ ns. so_far.done ++ ns) (others.1 ∙ ap (λ n. n ∷ others.0) (sym named))
+          ∙ sym (append_assoc so_far.done (row.lkid ∷ []) others.0);
       count = omega (arith, so_far.count, length-append so_far.done (row.lkid ∷ []));
       statuses = told;
       paid = paid_on so_far.done s so_far.sound t.at row stored not_yet so_far.paid new same owed;
@@ -198,7 +212,8 @@ module _ (notes : List Note) (invalidates : Bool) (old s : Records) (many : ℕ)
             ∙ ap (λ endings. processes_after endings (plain_processes old)) (sym (ends_push f so_far.done row.lkid old))
 
 -- at the end the requests of all have ended
-pub all_ended : (notes : List Note) (invalidates : Bool) (old s : Records) (many : ℕ) → AreEnding (noted_lkids notes) invalidates old s many → length notes ≤ many
+pub all_ended : (notes : List Note) (invalidates : Bool) (old s : Records) (many : ℕ)
+    → AreEnding (noted_lkids notes) invalidates old s many → length notes ≤ many
     → HaveEnded (noted_lkids notes) invalidates old s
 all_ended notes invalidates old s many so_far over =
     subst (λ lkids. HaveEnded lkids invalidates old s) (sym whole)

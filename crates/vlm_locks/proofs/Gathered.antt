@@ -1,9 +1,10 @@
 -- The locks below a lock are gathered level by level, and those that are noted are the chosen ones.
-use Rattle.std.proofs.Common.{◌≡◌, ◌≢◌, ◌≤◌, ◌<◌, ◌+◌, ℕ, zero, suc, true, false, List, [], ◌∷◌, ◌++◌, length, get_or, Some, refl, sym, ap, ◌∙◌, subst, inl, inr, arith, eq-eqb}
+use Rattle.std.proofs.Common.{◌≡◌, ◌≢◌, ◌≤◌, ◌<◌, ◌+◌, ℕ, zero, suc, true, false, List, [], ◌∷◌, ◌++◌, length, get_or}
+use Rattle.std.proofs.Common.{Some, refl, sym, ap, ◌∙◌, subst, inl, inr, arith, eq-eqb}
 use Rattle.std.specs.Prelude.{◌==◌, ◌||◌}
 use Rattle.std.proofs.lemmas.Bool.{cases_eq, eqb-true, or_cases}
 use Rattle.std.proofs.lemmas.List.{append_assoc, append-nil, length-append, length-map}
-use Rattle.vlm_words.specs.declared.locks.LockRow.{LockRow}
+use Rattle.vlm_words.specs.declared.locks.LockState.{LockState}
 use Rattle.vlm_model.specs.OwnLocks.{is_below, parent_of}
 use Rattle.vlm_collections.specs.Lists.{IsApart, IsIn}
 use Rattle.vlm_collections.proofs.HandleLists.{IsIn-push, IsIn-push_kept, IsIn-push_last, in_ahead, in_behind, in_either, in_map}
@@ -14,15 +15,15 @@ use Rattle.vlm_locks.specs.declared.joint_withdrawals.Scope.TheVariants.{All, Be
 use Rattle.vlm_locks.specs.declared.touched.Note.{Note}
 use Rattle.vlm_locks.specs.GivingUp.{AreChosen, AreOfLocks, IsOwnScope, SublocksGoToo, noted_lkids}
 use Rattle.vlm_locks.specs.Rest.{IsAtRest}
-use Rattle.vlm_locks.specs.Rising.{StandByIdentification}
+use Rattle.vlm_locks.specs.Rising.{StandById}
 use Rattle.vlm_locks.specs.RunningDown.{SublocksAreOwn}
 use Rattle.vlm_locks.specs.Touched.{IsNoted, RiseByNumber, Touches, touched_handles}
-use Rattle.vlm_locks.proofs.Chosen.{absent_before}
+use Rattle.vlm_locks.proofs.ChosenLocks.{absent_before}
 use Rattle.vlm_locks.proofs.InOrder.{handle_among, touch_of}
 use Rattle.vlm_locks.proofs.Notes.{handle_there, note_of, rise_in_order, rise_noted}
 use Rattle.vlm_locks.proofs.ParentsNamed.{below_no_other, parent_named, parent_nowhere, parents_come_first, somewhere_or_not}
 use Rattle.vlm_locks.proofs.RunsDown.{handles_apart, its_handles, owned_here, stored_here, they_rise}
-use Rattle.vlm_locks.proofs.Stood.{one_lock}
+use Rattle.vlm_locks.proofs.QueuedLocks.{one_lock}
 use Rattle.vlm_locks.proofs.Sublocks.{as_many_at_most, below_of, is_below_it, sublocks_apart}
 use Rattle.vlm_records.proofs.Counting.{IsApart-append}
 use Rattle.vlm_store.proofs.Records.{in_a_queue}
@@ -38,38 +39,39 @@ module _ (owner pid : ℕ) (s : Records) (sound : IsSound s) (lives : IsProcess 
       (λ at there. let here = stored_here owner pid s sound lives rest at there in (here.0, here.1.0))
 
   -- those that are noted are chosen
-  pub own_chosen : IsAtRest s → (notes : List Note) → AreOfLocks notes s → touched_handles notes ≡ own_handles_at owner s → AreChosen All pid s (noted_lkids notes)
+  pub own_chosen : IsAtRest s → (notes : List Note) → AreOfLocks notes s
+      → touched_handles notes ≡ own_handles_at owner s → AreChosen All pid s (noted_lkids notes)
   own_chosen rest notes locks noted = record {
-    rise = rise_in_order s notes locks (subst (StandByIdentification s) (sym noted) (they_rise owner pid s sound lives rest));
+    rise = rise_in_order s notes locks (subst (StandById s) (sym noted) (they_rise owner pid s sound lives rest));
     each = λ lkid there.
         let t = note_of lkid notes there in
         let row = locks t.0 t.1.0 in
         let here = stored_here owner pid s sound lives rest t.0.at (subst (IsIn t.0.at) noted (handle_among notes t.0 t.1.0)) in
-        (t.0.at, row.0, (row.1.0, row.1.1 ∙ t.1.1, ap (λ (x : LockRow). x.pid) (one_lock s sound t.0.at row.0 here.0 row.1.0 here.1.0) ∙ here.1.1, refl));
+        (t.0.at, row.0, (row.1.0, row.1.1 ∙ t.1.1, ap (λ (x : LockState). x.pid) (one_lock s sound t.0.at row.0 here.0 row.1.0 here.1.0) ∙ here.1.1, refl));
     all = λ at row stored mine chosen.
         let t = touch_of at notes
         (subst (IsIn at) (sym (noted ∙ its_handles owner pid s sound lives)) (owned_here owner pid s sound lives at row stored mine)) in
         let its = locks t.0 t.1.0 in
         let same : its.0 ≡ row = one_lock s sound at its.0 row (subst (λ h. Stores s h its.0) t.1.1 its.1.0) stored in
-        subst (λ n. IsIn n (noted_lkids notes)) (sym its.1.1 ∙ ap (λ (x : LockRow). x.lkid) same) (in_map (λ (x : Note). x.number) t.0 notes t.1.0);
+        subst (λ n. IsIn n (noted_lkids notes)) (sym its.1.1 ∙ ap (λ (x : LockState). x.lkid) same) (in_map (λ (x : Note). x.number) t.0 notes t.1.0);
   }
 
 -- ---- the locks below a lock
 
 -- the lock has one of these as its parent
-abbrev pub IsUnder : Records → List ℕ → LockRow → Type 0
-IsUnder s parents row = (h : ℕ) × (up : LockRow) × (IsIn h parents × Stores s h up × (row.parent ≡ up.lkid))
+abbrev pub IsUnder : Records → List ℕ → LockState → Type 0
+IsUnder s parents row = (h : ℕ) × (up : LockState) × (IsIn h parents × Stores s h up × (row.parent ≡ up.lkid))
 
--- a lock below the one of this identification, of its process
+-- a lock below the one of this ID, of its process
 abbrev pub IsBelowTop : Records → ℕ → ℕ → ℕ → Type 0
-IsBelowTop s pid top at = (row : LockRow) × (Stores s at row × (row.pid ≡ pid) × (top < row.lkid) × (is_below 15 top (plain_resources s) row.lkid ≡ true))
+IsBelowTop s pid top at = (row : LockState) × (Stores s at row × (row.pid ≡ pid) × (top < row.lkid) × (is_below 15 top (plain_resources s) row.lkid ≡ true))
 
 -- these are the sublocks of these parents, each once
 pub record AreGathered (s : Records) (pid top : ℕ) (parents handles : List ℕ) : Type 0 where
   pub each : (at : ℕ) → IsIn at handles → IsBelowTop s pid top at
   pub apart : IsApart handles
-  pub under : (at : ℕ) (row : LockRow) → IsIn at handles → Stores s at row → IsUnder s parents row
-  pub all : (at : ℕ) (row : LockRow) → Stores s at row → IsUnder s parents row → IsIn at handles
+  pub under : (at : ℕ) (row : LockState) → IsIn at handles → Stores s at row → IsUnder s parents row
+  pub all : (at : ℕ) (row : LockState) → Stores s at row → IsUnder s parents row → IsIn at handles
 
 -- those of no parent are none
 none_gathered : (s : Records) (pid top : ℕ) → AreGathered s pid top [] []
@@ -92,19 +94,20 @@ pub record AreLevels (s : Records) (pid top at_top : ℕ) (was touched : Touches
 
 -- the top is the lock that is found
 pub top_found : (s : Records) → IsSound s → (pid top : ℕ) → IsOwnScope (Below top) pid s → (lock : ℕ) → FindsLock s top (Some lock)
-    → (row : LockRow) × (Stores s lock row × (row.lkid ≡ top) × (row.pid ≡ pid))
+    → (row : LockState) × (Stores s lock row × (row.lkid ≡ top) × (row.pid ≡ pid))
 top_found s sound pid top own lock found =
     let handle : own.1 ≡ lock = sound.lkids_apart own.1 lock own.2 found.0 (inl own.3.0) found.1.0 (own.3.1 ∙ sym found.1.1) in
     (own.2, (subst (λ h. Stores s h own.2) handle own.3.0, own.3.1, own.3.2))
 
-module _ (s : Records) (sound : IsSound s) (rest : IsAtRest s) (pid top : ℕ) (own : IsOwnScope (Below top) pid s) (together : SublocksAreOwn s) (closed : SublocksGoToo (Below top) s) where
+module _ (s : Records) (sound : IsSound s) (rest : IsAtRest s) (pid top : ℕ) (own : IsOwnScope (Below top) pid s)
+    (together : SublocksAreOwn s) (closed : SublocksGoToo (Below top) s) where
   abbrev at_top : ℕ
   at_top = own.1
 
   -- a lock whose sublocks are below the top
   abbrev HasChosenSublocks : ℕ → Type 0
-  HasChosenSublocks h = (up : LockRow) × (Stores s h up × (up.pid ≡ pid) × (top ≤ up.lkid)
-      × ((at : ℕ) (row : LockRow) → Stores s at row → row.parent ≡ up.lkid → is_below 15 top (plain_resources s) row.lkid ≡ true))
+  HasChosenSublocks h = (up : LockState) × (Stores s h up × (up.pid ≡ pid) × (top ≤ up.lkid)
+      × ((at : ℕ) (row : LockState) → Stores s at row → row.parent ≡ up.lkid → is_below 15 top (plain_resources s) row.lkid ≡ true))
 
   -- the top is one
   of_top : HasChosenSublocks at_top
@@ -116,7 +119,8 @@ module _ (s : Records) (sound : IsSound s) (rest : IsAtRest s) (pid top : ℕ) (
       omega (arith, own.3.1),
       λ at row stored names.
           let parent : parent_of row.lkid (plain_resources s) ≡ top = parent_named s sound at row stored ∙ names ∙ own.3.1 in
-          ap (λ b. b || is_below 14 top (plain_resources s) (parent_of row.lkid (plain_resources s))) (eq-eqb (parent_of row.lkid (plain_resources s)) top parent),
+          ap (λ b. b || is_below 14 top (plain_resources s) (parent_of row.lkid (plain_resources s)))
+          (eq-eqb (parent_of row.lkid (plain_resources s)) top parent),
     ),
   )
 
@@ -129,16 +133,16 @@ module _ (s : Records) (sound : IsSound s) (rest : IsAtRest s) (pid top : ℕ) (
 
   -- its sublocks are gathered too
   module _ (parents handles : List ℕ) (gathered : AreGathered s pid top parents handles) (h : ℕ) (chosen : HasChosenSublocks h) (fresh : ¬ IsIn h parents) where
-    abbrev up : LockRow
+    abbrev up : LockState
     up = chosen.0
 
     not_0 : up.lkid ≢ 0
     not_0 is = own.0 (omega (arith, is, chosen.1.2))
 
-    sublock : (at : ℕ) → IsIn at (sublocks_at h s) → (row : LockRow) × (Stores s at row × (row.parent ≡ up.lkid))
+    sublock : (at : ℕ) → IsIn at (sublocks_at h s) → (row : LockState) × (Stores s at row × (row.parent ≡ up.lkid))
     sublock at there =
         let below = below_of s sound h rest at there in
-        (below.1, (below.2.1, below.2.2 ∙ ap (λ (x : LockRow). x.lkid) (one_lock s sound h below.0 up below.2.0 chosen.1.0)))
+        (below.1, (below.2.1, below.2.2 ∙ ap (λ (x : LockState). x.lkid) (one_lock s sound h below.0 up below.2.0 chosen.1.0)))
 
     one_parent_more : AreGathered s pid top (parents ++ h ∷ []) (handles ++ sublocks_at h s)
     one_parent_more = record {
@@ -167,13 +171,13 @@ module _ (s : Records) (sound : IsSound s) (rest : IsAtRest s) (pid top : ℕ) (
             (under.0, under.1, (IsIn-push_kept h under.0 parents under.2.0, under.2.1, under.2.2)))
         | inr behind ↦
             (let below = sublock at behind in
-            (h, up, (IsIn-push_last h parents, chosen.1.0, ap (λ (x : LockRow). x.parent) (one_lock s sound at row below.0 stored below.1.0) ∙ below.1.1)))
+            (h, up, (IsIn-push_last h parents, chosen.1.0, ap (λ (x : LockState). x.parent) (one_lock s sound at row below.0 stored below.1.0) ∙ below.1.1)))
       ];
       all = λ at row stored under. elim (IsIn-push h under.0 parents under.2.0) [
         | inl before ↦ in_ahead at handles (sublocks_at h s) (gathered.all at row stored (under.0, under.1, (before, under.2.1, under.2.2)))
         | inr same ↦
             (let names : row.parent ≡ up.lkid =
-            under.2.2 ∙ ap (λ (x : LockRow). x.lkid) (one_lock s sound h under.1 up (subst (λ k. Stores s k under.1) (sym same) under.2.1) chosen.1.0) in
+            under.2.2 ∙ ap (λ (x : LockState). x.lkid) (one_lock s sound h under.1 up (subst (λ k. Stores s k under.1) (sym same) under.2.1) chosen.1.0) in
             in_behind at handles (sublocks_at h s) (is_below_it s sound h rest at up row chosen.1.0 stored (λ is. not_0 (sym names ∙ is)) names))
       ];
     }
@@ -223,7 +227,7 @@ module _ (s : Records) (sound : IsSound s) (rest : IsAtRest s) (pid top : ℕ) (
     fresh here = elim here [
       | inl same ↦
           (let row : below.0 ≡ own.2 = one_lock s sound t.at below.0 own.2 below.1.0 (subst (λ k. Stores s k own.2) same own.3.0) in
-          absurd (omega (arith, below.1.2, ap (λ (x : LockRow). x.lkid) row, own.3.1)))
+          absurd (omega (arith, below.1.2, ap (λ (x : LockState). x.lkid) row, own.3.1)))
       | inr before ↦ absent_before so_far.front t.at there.0 (subst (λ hs. IsApart (so_far.front ++ hs)) there.1 so_far.gathered.apart) before
     ]
 
@@ -283,17 +287,24 @@ module _ (s : Records) (sound : IsSound s) (rest : IsAtRest s) (pid top : ℕ) (
       no_parent = elim (somewhere_or_not s sound 0) [
         | inr none ↦ parent_nowhere s sound 0 none
         | inl some ↦
-            (let is : parent_of 0 (plain_resources s) ≡ some.1.parent = ap (λ n. parent_of n (plain_resources s)) (sym some.2.1) ∙ parent_named s sound some.0 some.1 some.2.0 in
+            (let is : parent_of 0 (plain_resources s) ≡ some.1.parent =
+            ap (λ n. parent_of n (plain_resources s)) (sym some.2.1)
+            ∙ parent_named s sound some.0 some.1 some.2.0 in
             elim (cases_eq some.1.parent 0) [
               | inl root ↦ is ∙ root
               | inr has ↦
                   (let parent = sound.owned.named some.0 some.1 (inl some.2.0) has in
-                  absurd (omega (arith, some.2.1, parents_come_first s sound rest some.0 parent.1.at some.1 parent.2 some.2.0 (in_a_queue s (none_loose s rest.rising) parent.1.at parent.2 parent.3.3) has (sym parent.3.4))))
+                  absurd (omega (
+                    arith,
+                    some.2.1,
+                    parents_come_first s sound rest some.0 parent.1.at some.1 parent.2 some.2.0
+                        (in_a_queue s (none_loose s rest.rising) parent.1.at parent.2 parent.3.3) has (sym parent.3.4),
+                  )))
             ])
       ]
 
   -- where the sublocks of all are gathered, each lock below the top is
-  each_below : (handles : List ℕ) → AreGathered s pid top (at_top ∷ handles) handles → (levels at : ℕ) (row : LockRow) → Stores s at row
+  each_below : (handles : List ℕ) → AreGathered s pid top (at_top ∷ handles) handles → (levels at : ℕ) (row : LockState) → Stores s at row
       → is_below levels top (plain_resources s) row.lkid ≡ true → IsIn at handles
   each_below handles gathered zero at row stored below = cc
   each_below handles gathered (suc levels) at row stored below =
@@ -354,9 +365,9 @@ module _ (s : Records) (sound : IsSound s) (rest : IsAtRest s) (pid top : ℕ) (
             its.0,
             (
               its.1.0,
-              ap (λ (x : LockRow). x.lkid) same ∙ row.1.1 ∙ t.1.1,
+              ap (λ (x : LockState). x.lkid) same ∙ row.1.1 ∙ t.1.1,
               its.1.1,
-              ap (is_below 15 top (plain_resources s)) (sym (ap (λ (x : LockRow). x.lkid) same ∙ row.1.1 ∙ t.1.1)) ∙ its.1.3,
+              ap (is_below 15 top (plain_resources s)) (sym (ap (λ (x : LockState). x.lkid) same ∙ row.1.1 ∙ t.1.1)) ∙ its.1.3,
             ),
           );
       all = λ at row stored mine chosen.
@@ -364,6 +375,6 @@ module _ (s : Records) (sound : IsSound s) (rest : IsAtRest s) (pid top : ℕ) (
           let its = so_far.locks t.0 t.1.0 in
           let same : its.0 ≡ row = one_lock s sound at its.0 row (subst (λ h. Stores s h its.0) t.1.1 its.1.0) stored in
           let left = each t.0 t.1.0 in
-          subst (λ n. IsIn n (noted_lkids ordered)) (left.1.1 ∙ sym its.1.1 ∙ ap (λ (x : LockRow). x.lkid) same)
+          subst (λ n. IsIn n (noted_lkids ordered)) (left.1.1 ∙ sym its.1.1 ∙ ap (λ (x : LockState). x.lkid) same)
           (in_map (λ (x : Note). x.number) left.0 ordered left.1.0);
     }

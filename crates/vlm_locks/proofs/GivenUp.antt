@@ -1,6 +1,6 @@
 -- Locks that are given up together: their requests end, and then they go.
 use Rattle.std.proofs.Common.{◌≡◌, ℕ, Bool, true, List, [], map, refl, sym, ap, ◌∙◌, subst, arith, inl}
-use Rattle.vlm_words.specs.declared.locks.LockRow.{LockRow}
+use Rattle.vlm_words.specs.declared.locks.LockState.{LockState}
 use Rattle.vlm_words.specs.declared.resources.Queue.TheVariants.{Granted}
 use Rattle.vlm_collections.specs.Lists.{IsIn}
 use Rattle.vlm_records.specs.declared.handles.Place.TheVariants.{Queued}
@@ -12,32 +12,33 @@ use Rattle.vlm_locks.specs.GivingUp.{AreChosen, AreGivenUp, AreGone, AreOfLocks,
 use Rattle.vlm_locks.specs.Left.{is_among, resource_left}
 use Rattle.vlm_locks.specs.RunningDown.{CanEndProcesses}
 use Rattle.vlm_locks.specs.Touched.{Touches}
-use Rattle.vlm_locks.proofs.Changed.{rests_still}
-use Rattle.vlm_locks.proofs.Sound.{stands_alike}
+use Rattle.vlm_locks.proofs.ChangedResource.{rests_still}
+use Rattle.vlm_locks.proofs.SoundRecords.{stands_alike}
 use Rattle.vlm_locks.proofs.GoTogether.{no_notes}
-use Rattle.vlm_locks.proofs.Stood.{one_lock}
+use Rattle.vlm_locks.proofs.QueuedLocks.{one_lock}
 
 module _ (scope : Scope) (pid : ℕ) (old mid : Records) (sound : IsSound old) (same : SameButNotices old mid) (before : Touches) where
   resources_same : plain_resources mid ≡ plain_resources old
   resources_same = ap (map plain_resource) same.resources
 
-  were : (at : ℕ) (row : LockRow) → Stores mid at row → Stores old at row
+  were : (at : ℕ) (row : LockState) → Stores mid at row → Stores old at row
   were at row stored = (stored.0, stands_alike at row mid old (sym same.resources) stored.0 stored.1)
 
-  are : (at : ℕ) (row : LockRow) → Stores old at row → Stores mid at row
+  are : (at : ℕ) (row : LockState) → Stores old at row → Stores mid at row
   are at row stored = (stored.0, stands_alike at row old mid same.resources stored.0 stored.1)
 
   -- a lock that is listed is one of the process, and chosen
-  listed : {lkids : List ℕ} → AreChosen scope pid old lkids → (at : ℕ) (row : LockRow) → Stores old at row → IsIn row.lkid lkids
+  listed : {lkids : List ℕ} → AreChosen scope pid old lkids → (at : ℕ) (row : LockState) → Stores old at row → IsIn row.lkid lkids
       → (row.pid ≡ pid) × (is_chosen scope (plain_resources old) row.lkid ≡ true)
   listed chosen at row stored there =
       let found = chosen.each row.lkid there in
       let handle : found.0 ≡ at = sound.lkids_apart found.0 at found.1 row (inl found.2.0) (inl stored) found.2.1 in
-      (ap (λ (x : LockRow). x.pid) (one_lock old sound at row found.1 stored (subst (λ h. Stores old h found.1) handle found.2.0)) ∙ found.2.2, found.2.3)
+      (ap (λ (x : LockState). x.pid) (one_lock old sound at row found.1 stored (subst (λ h. Stores old h found.1) handle found.2.0)) ∙ found.2.2, found.2.3)
 
   -- the noted locks can go
   pub can_go : (invalidates : Bool) (noted : Touches) → AreChosen scope pid old (noted_lkids noted.noted) → AreOfLocks noted.noted old
-      → HaveEnded (noted_lkids noted.noted) invalidates old mid → CanEndProcesses before old → noted.room ≡ before.room → SublocksGoToo scope old → CanGo pid noted mid
+      → HaveEnded (noted_lkids noted.noted) invalidates old mid → CanEndProcesses before old → noted.room ≡ before.room
+      → SublocksGoToo scope old → CanGo pid noted mid
   can_go invalidates noted chosen locks ended can_end same_room closed = record {
     rise = chosen.rise;
     locks = λ t there. let row = locks t there in (row.0, (are t.at row.0 row.1.0, row.1.1));

@@ -1,8 +1,9 @@
 -- Locks that are given up together go, the last first.
-use Rattle.std.proofs.Common.{◌≡◌, ◌≢◌, ◌<◌, ◌+◌, ℕ, zero, suc, Bool, true, false, List, [], ◌∷◌, ◌++◌, length, get_or, refl, sym, ap, ◌∙◌, subst, inl, inr, arith}
+use Rattle.std.proofs.Common.{◌≡◌, ◌≢◌, ◌<◌, ◌+◌, ℕ, zero, suc, Bool, true, false, List, [], ◌∷◌, ◌++◌, length, get_or}
+use Rattle.std.proofs.Common.{refl, sym, ap, ◌∙◌, subst, inl, inr, arith}
 use Rattle.std.proofs.lemmas.List.{append_assoc, append-nil, length-append, map-append}
 use Rattle.std.proofs.lemmas.Bool.{cases_Bool}
-use Rattle.vlm_words.specs.declared.locks.LockRow.{LockRow}
+use Rattle.vlm_words.specs.declared.locks.LockState.{LockState}
 use Rattle.vlm_model.specs.Withdrawals.{Withdrawal}
 use Rattle.vlm_collections.specs.Lists.{IsIn}
 use Rattle.vlm_store.specs.Records.{HasNoSublocks, IsProcess, IsSound, IsStored, Records, Stores, locks_at, own_handles_at}
@@ -14,12 +15,12 @@ use Rattle.vlm_locks.specs.Owing.{LosesOne}
 use Rattle.vlm_locks.specs.RunningDown.{CanEndProcesses}
 use Rattle.vlm_locks.specs.Touched.{Touches, touched_handles}
 use Rattle.vlm_locks.specs.Withdrawing.{owned_after}
-use Rattle.vlm_locks.proofs.Chosen.{among_in, in_among}
+use Rattle.vlm_locks.proofs.ChosenLocks.{among_in, in_among}
 use Rattle.vlm_locks.proofs.EndsTogether.{below_later}
 use Rattle.vlm_locks.proofs.RunsDown.{AreGoing, IsTurn, among_others, gone, its_handles, next_turn, none_goes, one_were_there, owned_here}
-use Rattle.vlm_locks.proofs.Staying.{among_without}
-use Rattle.vlm_locks.proofs.Stood.{one_lock}
-use Rattle.vlm_locks.proofs.Unowed.{paid_whole, paid_without}
+use Rattle.vlm_locks.proofs.GrantsKeepResources.{among_without}
+use Rattle.vlm_locks.proofs.QueuedLocks.{one_lock}
+use Rattle.vlm_locks.proofs.ReservedWithoutEnded.{paid_whole, paid_without}
 use Rattle.vlm_collections.proofs.HandleLists.{in_ahead, in_behind, in_either, in_map, none_in}
 use Rattle.vlm_store.proofs.Records.{in_a_queue}
 use Rattle.vlm_locks.proofs.Rising.{none_loose}
@@ -44,7 +45,7 @@ pub record AreLeaving (invalidates : Bool) (owner pid : ℕ) (old s : Records) (
   pub all : (t : Note) → IsIn t touched.noted → IsIn t resources
   pub paid : IsPaidBut (noted_lkids before.noted) s
   pub stay : AreOfLocks front s
-  pub left : (at : ℕ) (row : LockRow) → Stores s at row → IsIn row.lkid (noted_lkids before.noted) → IsIn row.lkid (noted_lkids front)
+  pub left : (at : ℕ) (row : LockState) → Stores s at row → IsIn row.lkid (noted_lkids before.noted) → IsIn row.lkid (noted_lkids front)
 
 -- at first none is
 pub none_is_gone : (invalidates : Bool) (owner pid : ℕ) (s : Records) (before : Touches) → IsProcess owner pid s → IsSound s → CanGo pid before s
@@ -138,7 +139,7 @@ module _ (invalidates : Bool) (owner pid : ℕ) (old s : Records) (before now : 
       subst (λ ts. IsIn last.number (noted_lkids ts)) (sym had_whole)
       (in_map (λ (t : Note). t.number) last (init ++ last ∷ so_far.passed) (in_behind last init (last ∷ so_far.passed) (inl refl)))
 
-  were : (at : ℕ) (row : LockRow) → Stores s at row → Stores old at row
+  were : (at : ℕ) (row : LockState) → Stores s at row → Stores old at row
   were at row stored = (stored.0, going.were_there stored.0 (record { at = at; row = row }) stored.1)
 
   -- each before it is below it
@@ -147,11 +148,11 @@ module _ (invalidates : Bool) (owner pid : ℕ) (old s : Records) (before now : 
       below_later (noted_lkids init) last.number (noted_lkids so_far.passed)
       (subst Rise (ap noted_lkids had_whole ∙ map-append (λ (t : Note). t.number) init (last ∷ so_far.passed)) can_go.rise) n there
 
-  module _ (row : LockRow) (stored : Stores s last.at row) where
+  module _ (row : LockState) (stored : Stores s last.at row) where
     named : row.lkid ≡ last.number
     named =
         let its = so_far.stay last last_in in
-        ap (λ (x : LockRow). x.lkid) (one_lock s going.sound last.at row its.0 stored its.1.0) ∙ its.1.1
+        ap (λ (x : LockState). x.lkid) (one_lock s going.sound last.at row its.0 stored its.1.0) ∙ its.1.1
 
     listed : IsIn row.lkid (noted_lkids before.noted)
     listed = subst (λ n. IsIn n (noted_lkids before.noted)) (sym named) listed_last
@@ -172,13 +173,13 @@ module _ (invalidates : Bool) (owner pid : ℕ) (old s : Records) (before now : 
         none_below : (sub : ℕ) → IsIn sub own.sublocks → ⊥
         none_below sub there =
             let below = going.sound.owned.below p own sub in_p in_own there in
-            let up : LockRow = below.0 in
-            let its : LockRow = below.1 in
+            let up : LockState = below.0 in
+            let its : LockState = below.1 in
             let none = none_loose s going.rest.rising in
             let sub_stored : Stores s sub its = in_a_queue s none sub its below.2.1 in
             let up_stored : Stores s own.at up = in_a_queue s none own.at up below.2.0 in
             let above : Stores s last.at up = subst (λ h. Stores s h up) same up_stored in
-            let is : up.lkid ≡ row.lkid = ap (λ (x : LockRow). x.lkid) (one_lock s going.sound last.at up row above stored) in
+            let is : up.lkid ≡ row.lkid = ap (λ (x : LockState). x.lkid) (one_lock s going.sound last.at up row above stored) in
             let older = ((going.rest.rising p in_p).sublocks own in_own).0 sub there up its up_stored sub_stored in
             let goes : IsIn its.lkid (noted_lkids so_far.front) =
             so_far.left sub its sub_stored
@@ -196,13 +197,15 @@ module _ (invalidates : Bool) (owner pid : ℕ) (old s : Records) (before now : 
     -- it goes
     module _ (new : Records) (noted : Touches) (then : Touches) (f : LocatedLock) (w : Withdrawal)
         (turn : IsTurn (is_among (noted_lkids before.noted)) invalidates owner s new so_far.touched noted f w)
-        (same : f.lock ≡ last.at) (its : f.row ≡ row) (own : new.processes ≡ owned_after true f.lock s.processes) (loses : LosesOne (record { at = f.lock; row = f.row }) s new)
-        (touch : Note) (as_noted : noted.noted ≡ so_far.touched.noted ++ touch ∷ []) (put : then.noted ≡ init ++ touch ∷ so_far.resources) (room : then.room ≡ now.room) where
-      was_there : (at : ℕ) (x : LockRow) → Stores new at x → Stores s at x
+        (same : f.lock ≡ last.at) (its : f.row ≡ row) (own : new.processes ≡ owned_after true f.lock s.processes)
+        (loses : LosesOne (record { at = f.lock; row = f.row }) s new)
+        (touch : Note) (as_noted : noted.noted ≡ so_far.touched.noted ++ touch ∷ [])
+        (put : then.noted ≡ init ++ touch ∷ so_far.resources) (room : then.room ≡ now.room) where
+      was_there : (at : ℕ) (x : LockState) → Stores new at x → Stores s at x
       was_there at x there =
           (there.0, one_were_there s new going.sound turn.sound f turn.located turn.beside turn.own_locks there.0 (record { at = at; row = x }) there.1)
 
-      others_stay : (at : ℕ) (x : LockRow) → at ≢ last.at → Stores s at x → Stores new at x
+      others_stay : (at : ℕ) (x : LockState) → at ≢ last.at → Stores s at x → Stores new at x
       others_stay at x differs there = (
         there.0,
         among_without f.lock (record { at = at; row = x }) (locks_at there.0 new)
@@ -245,19 +248,21 @@ module _ (invalidates : Bool) (owner pid : ℕ) (old s : Records) (before now : 
               (
                 others_stay t.at was.0
                     (λ e. let here : was.0 ≡ row = one_lock s going.sound last.at was.0 row (subst (λ h. Stores s h was.0) e was.1.0) stored in
-                    omega (arith, lower, was.1.1, ap (λ (x : LockRow). x.lkid) here, named))
+                    omega (arith, lower, was.1.1, ap (λ (x : LockState). x.lkid) here, named))
                     was.1.0,
                 was.1.1,
               ),
             );
         left = λ at x there listed_x.
             elim (in_either x.lkid (noted_lkids init) (last.number ∷ [])
-            (subst (IsIn x.lkid) (ap noted_lkids parted.2.0 ∙ map-append (λ (t : Note). t.number) init (last ∷ [])) (so_far.left at x (was_there at x there) listed_x))) [
+            (subst (IsIn x.lkid) (ap noted_lkids parted.2.0 ∙ map-append (λ (t : Note). t.number) init (last ∷ []))
+            (so_far.left at x (was_there at x there) listed_x))) [
               | inl earlier ↦ earlier
               | inr later ↦ elim later [
                 | inr none ↦ absurd none
                 | inl here ↦
-                    (let handle : at ≡ f.lock = going.sound.lkids_apart at last.at x row (inl (was_there at x there)) (inl stored) (sym here ∙ sym named) ∙ sym same in
+                    (let handle : at ≡ f.lock = going.sound.lkids_apart at last.at x row (inl (was_there at x there))
+                    (inl stored) (sym here ∙ sym named) ∙ sym same in
                     absurd (gone s new going.sound turn.sound f turn.located turn.beside turn.own_locks x (subst (λ h. Stores new h x) handle there)))
               ]
             ];
@@ -265,7 +270,8 @@ module _ (invalidates : Bool) (owner pid : ℕ) (old s : Records) (before now : 
 
 -- ---- at the end
 
-module _ (invalidates : Bool) (owner pid : ℕ) (old s : Records) (before now : Touches) (many : ℕ) (so_far : AreLeaving invalidates owner pid old s before now many) (over : many ≡ 0) where
+module _ (invalidates : Bool) (owner pid : ℕ) (old s : Records) (before now : Touches) (many : ℕ)
+    (so_far : AreLeaving invalidates owner pid old s before now many) (over : many ≡ 0) where
   none_in_front : so_far.front ≡ []
   none_in_front = none so_far.front (omega (arith, so_far.count, over))
     where
@@ -273,7 +279,7 @@ module _ (invalidates : Bool) (owner pid : ℕ) (old s : Records) (before now : 
       none [] is = refl
       none (t ∷ ts) is = absurd (omega (arith, is))
 
-  none_listed : (at : ℕ) (row : LockRow) → Stores s at row → is_among (noted_lkids before.noted) row ≡ false
+  none_listed : (at : ℕ) (row : LockState) → Stores s at row → is_among (noted_lkids before.noted) row ≡ false
   none_listed at row stored = elim (cases_Bool (is_among (noted_lkids before.noted) row)) [
     | inr other ↦ other
     | inl listed ↦
@@ -298,7 +304,8 @@ module _ (invalidates : Bool) (owner pid : ℕ) (old s : Records) (before now : 
       kept = λ t there. absurd there;
       only_touched = λ r there untouched.
           so_far.going.only_touched r there
-          (λ noted. untouched (subst (λ ts. IsIn r.at (touched_handles ts)) (sym resources_alone) (handle_kept r.at so_far.touched.noted so_far.resources so_far.all noted)));
+          (λ noted. untouched (subst (λ ts. IsIn r.at (touched_handles ts)) (sym resources_alone)
+          (handle_kept r.at so_far.touched.noted so_far.resources so_far.all noted)));
       same_room = so_far.same_room ∙ so_far.going.same_room;
     };
     statuses = so_far.going.statuses;

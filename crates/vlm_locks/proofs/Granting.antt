@@ -1,8 +1,9 @@
--- What one grant from the front of a queue leaves to serve.
-use Rattle.std.proofs.Common.{◌≡◌, ◌≢◌, ◌<◌, ℕ, Bool, true, false, List, [], ◌∷◌, ◌++◌, length, Option, None, Some, IfSome, IsSome, refl, sym, ap, ◌∙◌, subst, arith}
+-- What is left to serve after one grant from the head of a queue.
+use Rattle.std.proofs.Common.{◌≡◌, ◌≢◌, ◌<◌, ℕ, Bool, true, false, List, [], ◌∷◌, ◌++◌, length, Option, None, Some}
+use Rattle.std.proofs.Common.{IfSome, IsSome, refl, sym, ap, ◌∙◌, subst, arith}
 use Rattle.std.proofs.lemmas.List.{map-append}
 use Rattle.vlm_words.specs.declared.locks.Request.{Request}
-use Rattle.vlm_words.specs.declared.locks.LockRow.{LockRow}
+use Rattle.vlm_words.specs.declared.locks.LockState.{LockState}
 use Rattle.vlm_words.specs.declared.resources.Queue.{Queue}
 use Rattle.vlm_words.specs.declared.resources.Queue.TheVariants.{Granted, Conversion, Waiting}
 use Rattle.vlm_words.specs.declared.resources.ValueBlock.{ValueBlock}
@@ -12,12 +13,13 @@ use Rattle.vlm_model.specs.Grants.{Service, grant_endings, no_service, service_a
 use Rattle.vlm_words.specs.Rows.{granted_row}
 use Rattle.vlm_records.specs.declared.handles.Place.TheVariants.{Queued}
 use Rattle.vlm_store.specs.Plain.{plain_processes, plain_resource}
-use Rattle.vlm_store.specs.Records.{HasResource, IsSound, Records, SameButNotices, StoredLock, StoredResource, Stores, first_at, locks_at, moving, queued, resource_at, rows_of_locks, with_lists}
+use Rattle.vlm_store.specs.Records.{HasResource, IsSound, Records, SameButNotices, StoredLock, StoredResource, Stores}
+use Rattle.vlm_store.specs.Records.{first_at, locks_at, moving, queued, resource_at, rows_of_locks, with_lists}
 use Rattle.vlm_locks.specs.Serving.{IsLeft, IsServiceOf, service_from, wanted_fits_beside}
 use Rattle.vlm_locks.specs.Staying.{LocksStay}
-use Rattle.vlm_locks.proofs.Found.{on_resource-own}
-use Rattle.vlm_locks.proofs.Staying.{all_stay, none_join_granted, stay_granted, stay_twice}
-use Rattle.vlm_locks.proofs.Moves.{IsHead, alone_here, behind, granted_first, granted_first-queue, head_is, left_next, locks_found, none_queued}
+use Rattle.vlm_locks.proofs.FoundByHandle.{on_resource-own}
+use Rattle.vlm_locks.proofs.GrantsKeepResources.{all_stay, none_join_granted, stay_granted, stay_twice}
+use Rattle.vlm_locks.proofs.MovedToGranted.{IsHead, alone_here, behind, granted_first, granted_first-queue, head_is, left_next, locks_found, none_queued}
 
 -- what ends first takes effect first
 pub blocks_after_append : (first later : List Ending) (b : Blocks) → blocks_after (first ++ later) b ≡ blocks_after later (blocks_after first b)
@@ -26,19 +28,24 @@ blocks_after_append (ending ∷ first) later b =
     blocks_after_append first later (blocks_after_ending ending b)
 
 -- what the first of a queue wants fits beside the others
-abbrev fits_first : Queue → LockRow → List StoredLock → StoredResource → Bool
+abbrev fits_first : Queue → LockState → List StoredLock → StoredResource → Bool
 fits_first Granted row rest r = false
 fits_first Conversion row rest r = wanted_fits row.want (rows_of_locks r.granted) (rows_of_locks rest)
 fits_first Waiting row rest r = wanted_fits row.want (rows_of_locks r.granted) (rows_of_locks r.converting)
 
-fits_are : (s : Records) (sound : IsSound s) (res : ℕ) (r : StoredResource) (queue : Queue) (at : ℕ) (row : LockRow) (found : resource_at res s.resources ≡ Some r) (head : IsHead queue r at row)
+fits_are : (s : Records) (sound : IsSound s) (res : ℕ) (r : StoredResource) (queue : Queue) (at : ℕ) (row : LockState)
+    (found : resource_at res s.resources ≡ Some r) (head : IsHead queue r at row)
     → Granted ≢ queue → wanted_fits_beside row.want at r ≡ fits_first queue row head.rest r
 fits_are s sound res r Granted at row found head differs = absurd (differs refl)
 fits_are s sound res r Conversion at row found head differs = of_want row.want
   where
     of_want : (want : Option Request) → wanted_fits_beside want at r ≡ wanted_fits want (rows_of_locks r.granted) (rows_of_locks head.rest)
     of_want None = refl
-    of_want (Some request) = rw (alone_here s sound res r Conversion at row found head Granted (λ e. cc), behind s sound res r Conversion at row found head) refl
+    of_want (Some request) =
+        rw (
+          alone_here s sound res r Conversion at row found head Granted (λ e. cc),
+          behind s sound res r Conversion at row found head,
+        ) refl
 fits_are s sound res r Waiting at row found head differs = of_want row.want
   where
     of_want : (want : Option Request) → wanted_fits_beside want at r ≡ wanted_fits want (rows_of_locks r.granted) (rows_of_locks r.converting)
@@ -47,7 +54,7 @@ fits_are s sound res r Waiting at row found head differs = of_want row.want
         rw (alone_here s sound res r Waiting at row found head Granted (λ e. cc), alone_here s sound res r Waiting at row found head Conversion (λ e. cc)) refl
 
 -- the service of a queue whose first lock is granted, that does not fit, and that is empty
-service_next : (queue : Queue) (r : StoredResource) (at : ℕ) (row : LockRow) (head : IsHead queue r at row) → fits_first queue row head.rest r ≡ true
+service_next : (queue : Queue) (r : StoredResource) (at : ℕ) (row : LockState) (head : IsHead queue r at row) → fits_first queue row head.rest r ≡ true
     → service_from queue (plain_resource r)
     ≡ service_after_grant row (service_from queue (plain_resource (granted_first queue (record { at = at; row = granted_row row }) head.rest r)))
 service_next Granted r at row head fits = cc
@@ -56,7 +63,7 @@ service_next Conversion r at row head fits =
 service_next Waiting r at row head fits =
     rw (head.is, fits, map-append (λ (k : StoredLock). k.row) r.granted (record { at = at; row = granted_row row } ∷ [])) refl
 
-service_stopped : (queue : Queue) (r : StoredResource) (at : ℕ) (row : LockRow) (head : IsHead queue r at row) → fits_first queue row head.rest r ≡ false
+service_stopped : (queue : Queue) (r : StoredResource) (at : ℕ) (row : LockState) (head : IsHead queue r at row) → fits_first queue row head.rest r ≡ false
     → service_from queue (plain_resource r) ≡ no_service (plain_resource r)
 service_stopped Granted r at row head fits = refl
 service_stopped Conversion r at row head fits = rw (head.is, fits) refl
@@ -103,9 +110,11 @@ serving_begun queue res block s sound there = of_found (resource_at res s.resour
       effect = refl;
     }
 
-module _ (queue : Queue) (res : ℕ) (old_block : ValueBlock) (old : Records) (block : ValueBlock) (s : Records) (serving : IsServing queue res old_block old block s) where
+module _ (queue : Queue) (res : ℕ) (old_block : ValueBlock) (old : Records) (block : ValueBlock) (s : Records)
+    (serving : IsServing queue res old_block old block s) where
   -- nothing more is granted
-  over : service_from queue (plain_resource serving.left) ≡ no_service (plain_resource serving.left) → IsServiceOf (service_from queue) res old_block old block s
+  over : service_from queue (plain_resource serving.left) ≡ no_service (plain_resource serving.left)
+      → IsServiceOf (service_from queue) res old_block old block s
   over none = record {
     had = serving.had;
     left = serving.left;
@@ -123,17 +132,21 @@ module _ (queue : Queue) (res : ℕ) (old_block : ValueBlock) (old : Records) (b
   pub serving_there : HasResource res s
   serving_there = subst IsSome (sym serving.change.now) refl
 
-  module _ (at : ℕ) (row : LockRow) (sound : IsSound s) (first : Some at ≡ first_at (locks_at (Queued res queue) s)) (only : (x : LockRow) → Stores s at x → x ≡ row) (differs : Granted ≢ queue) where
+  module _ (at : ℕ) (row : LockState) (sound : IsSound s) (first : Some at ≡ first_at (locks_at (Queued res queue) s))
+      (only : (x : LockState) → Stores s at x → x ≡ row) (differs : Granted ≢ queue) where
     abbrev head : IsHead queue serving.left at row
     head = head_is s res serving.left queue at row serving.change.now (sym first) only
 
-    fits_here : (fits : Bool) → IfSome (resource_at res s.resources) (λ r. fits ≡ wanted_fits_beside row.want at r) → fits ≡ fits_first queue row head.rest serving.left
+    fits_here : (fits : Bool) → IfSome (resource_at res s.resources) (λ r. fits ≡ wanted_fits_beside row.want at r)
+        → fits ≡ fits_first queue row head.rest serving.left
     fits_here fits told =
-        let here : IfSome (Some serving.left) (λ r. fits ≡ wanted_fits_beside row.want at r) = subst (λ o. IfSome o (λ r. fits ≡ wanted_fits_beside row.want at r)) serving.change.now told in
+        let here : IfSome (Some serving.left) (λ r. fits ≡ wanted_fits_beside row.want at r) =
+        subst (λ o. IfSome o (λ r. fits ≡ wanted_fits_beside row.want at r)) serving.change.now told in
         here ∙ fits_are s sound res serving.left queue at row serving.change.now head differs
 
     -- the first does not fit
-    pub serving_stopped : IfSome (resource_at res s.resources) (λ r. false ≡ wanted_fits_beside row.want at r) → IsServiceOf (service_from queue) res old_block old block s
+    pub serving_stopped : IfSome (resource_at res s.resources) (λ r. false ≡ wanted_fits_beside row.want at r)
+        → IsServiceOf (service_from queue) res old_block old block s
     serving_stopped told = over (service_stopped queue serving.left at row head (sym (fits_here false told)))
 
     module _ (new_block : ValueBlock) (new : Records)
@@ -165,7 +178,9 @@ module _ (queue : Queue) (res : ℕ) (old_block : ValueBlock) (old : Records) (b
       unfolding serving_next
       serving_shorter =
           let next : StoredResource = granted_first queue (record { at = at; row = granted_row row }) head.rest serving.left in
-          let before : locks_at (Queued res queue) s ≡ record { at = at; row = row } ∷ head.rest = locks_found s res serving.left queue serving.change.now ∙ head.is in
+          let before : locks_at (Queued res queue) s ≡ record { at = at; row = row } ∷ head.rest =
+          locks_found s res serving.left queue serving.change.now ∙ head.is in
           let after : locks_at (Queued res queue) new ≡ head.rest =
-          locks_found new res next queue serving_next.change.now ∙ granted_first-queue queue (record { at = at; row = granted_row row }) head.rest serving.left differs in
+          locks_found new res next queue serving_next.change.now
+          ∙ granted_first-queue queue (record { at = at; row = granted_row row }) head.rest serving.left differs in
           rw (before, after) (omega arith)

@@ -1,5 +1,6 @@
 -- Touched resources in the order of their making.
-use Rattle.std.proofs.Common.{◌≡◌, ◌≤◌, ◌<◌, ℕ, Bool, true, false, cond, List, [], ◌∷◌, ◌++◌, length, get_or, refl, sym, ap, subst, ◌∙◌, zero, suc, inl, inr, arith}
+use Rattle.std.proofs.Common.{◌≡◌, ◌≤◌, ◌<◌, ℕ, Bool, true, false, cond, List, [], ◌∷◌, ◌++◌, length, get_or, refl, sym}
+use Rattle.std.proofs.Common.{ap, subst, ◌∙◌, zero, suc, inl, inr, arith}
 use Rattle.std.specs.Prelude.{◌==◌}
 use Rattle.std.specs.List.{AllByRecursion, dedup, dedup_from}
 use Rattle.std.specs.List.Sorted.{IsNonDecreasingBy, IsPermutation}
@@ -37,7 +38,9 @@ resource_among P (y ∷ xs) each x (inr there) = resource_among P xs each.1 x th
 pub permuted_in : (xs ys : List Note) → IsPermutation xs ys → (t : Note) → IsIn t ys → IsIn t xs
 permuted_in xs ys moved t there =
     one_among (λ y. IsIn y xs) ys
-    (recursion_from_All (λ y. IsIn y xs) ys (All-permutation (λ y. IsIn y xs) xs ys moved (All-from_recursion (λ y. IsIn y xs) xs (all_among (λ y. IsIn y xs) xs (λ y here. here)))))
+    (recursion_from_All (λ y. IsIn y xs) ys
+    (All-permutation (λ y. IsIn y xs) xs ys moved
+    (All-from_recursion (λ y. IsIn y xs) xs (all_among (λ y. IsIn y xs) xs (λ y here. here)))))
     t there
 
 -- ---- each once
@@ -56,28 +59,41 @@ climbs_from (x ∷ xs) n above up = (
 )
 
 -- where they climb, those that are left rise
-rise_from : (k : Note) (xs : List Note) → Climbs k.number xs → AllByRecursion (λ later. k.number ≤ later.number) (dedup_from same_number k xs) × RiseByNumber (dedup_from same_number k xs)
+rise_from : (k : Note) (xs : List Note) → Climbs k.number xs
+    → AllByRecursion (λ later. k.number ≤ later.number) (dedup_from same_number k xs)
+    × RiseByNumber (dedup_from same_number k xs)
 rise_from k [] up = ((omega arith, tt), (tt, tt))
 rise_from k (x ∷ xs) up =
     of_test (x.number == k.number) refl
     (λ is. rise_from k xs (subst (λ n. Climbs n xs) (eqb-true x.number k.number is) up.1)) (rise_from x xs up.1)
   where
     of_test : (b : Bool) → (x.number == k.number) ≡ b
-        → ((x.number == k.number) ≡ true → AllByRecursion (λ later. k.number ≤ later.number) (dedup_from same_number k xs) × RiseByNumber (dedup_from same_number k xs))
+        → ((x.number == k.number) ≡ true
+        → AllByRecursion (λ later. k.number ≤ later.number) (dedup_from same_number k xs)
+        × RiseByNumber (dedup_from same_number k xs))
         → AllByRecursion (λ later. x.number ≤ later.number) (dedup_from same_number x xs) × RiseByNumber (dedup_from same_number x xs)
         → AllByRecursion (λ later. k.number ≤ later.number) (cond b (dedup_from same_number k xs) (k ∷ dedup_from same_number x xs))
         × RiseByNumber (cond b (dedup_from same_number k xs) (k ∷ dedup_from same_number x xs))
     of_test true is same behind = same is
     of_test false is same behind =
         let above : k.number < x.number = grind (arith, nat_tests, is, up.0) in (
-          (omega arith, each_weaker (λ later. x.number ≤ later.number) (λ later. k.number ≤ later.number) (λ later is_above. omega (arith, above, is_above)) (dedup_from same_number x xs) behind.0),
-          (each_weaker (λ later. x.number ≤ later.number) (λ later. k.number < later.number) (λ later is_above. omega (arith, above, is_above)) (dedup_from same_number x xs) behind.0, behind.1),
+          (
+            omega arith,
+            each_weaker (λ later. x.number ≤ later.number) (λ later. k.number ≤ later.number)
+                (λ later is_above. omega (arith, above, is_above)) (dedup_from same_number x xs) behind.0,
+          ),
+          (
+            each_weaker (λ later. x.number ≤ later.number) (λ later. k.number < later.number)
+                (λ later is_above. omega (arith, above, is_above)) (dedup_from same_number x xs) behind.0,
+            behind.1,
+          ),
         )
 
 pub rise_once : (xs : List Note) → IsNonDecreasingBy (λ t. t.number) xs → RiseByNumber (dedup same_number xs)
 rise_once [] up = tt
 rise_once (x ∷ xs) up =
-    (rise_from x xs (climbs_from xs x.number (λ k d within. up zero (suc k) d (omega arith) (omega arith)) (λ i j d le within. up (suc i) (suc j) d (omega arith) (omega arith)))).1
+    (rise_from x xs (climbs_from xs x.number (λ k d within. up zero (suc k) d (omega arith) (omega arith))
+    (λ i j d le within. up (suc i) (suc j) d (omega arith) (omega arith)))).1
 
 -- what is left was there
 left_from : (k : Note) (xs : List Note) (t : Note) → IsIn t (dedup_from same_number k xs) → IsIn t (k ∷ xs)

@@ -1,5 +1,6 @@
 -- A resource of the store is found by its handle among the plain resources.
-use Rattle.std.proofs.Common.{◌≡◌, ◌≢◌, ◌⊎◌, ◌<◌, ℕ, Bool, List, [], ◌∷◌, map, find, true, false, ◌&&◌, None, Some, refl, sym, ap, ◌∙◌, inl, inr, ne_eqb, nat_eq, arith}
+use Rattle.std.proofs.Common.{◌≡◌, ◌≢◌, ◌⊎◌, ◌<◌, ℕ, Bool, List, [], ◌∷◌, map, find, true, false, ◌&&◌, None, Some}
+use Rattle.std.proofs.Common.{refl, sym, ap, ◌∙◌, inl, inr, ne_eqb, nat_eq, arith}
 use Rattle.std.specs.Cmp.Lexicographic.{pointwise}
 use Rattle.vlm_words.specs.declared.resources.Domain.{Domain}
 use Rattle.vlm_words.specs.declared.resources.Key.{Key}
@@ -10,9 +11,9 @@ use Rattle.vlm_words.specs.Resources.{is_at, is_domain, IsKeyed}
 use Rattle.vlm_collections.specs.Lists.{IsIn}
 use Rattle.vlm_store.specs.Plain.{plain_resource, plain_resources}
 use Rattle.vlm_store.specs.Records.{FindsResource, IsSound, Records, StoredResource, resource_at}
-use Rattle.vlm_locks.proofs.Found.{resource_alone}
+use Rattle.vlm_locks.proofs.FoundByHandle.{resource_alone}
 use Rattle.vlm_locks.specs.Rest.{IsAtRest}
-use Rattle.vlm_locks.proofs.Stood.{resource_among}
+use Rattle.vlm_locks.proofs.QueuedLocks.{resource_among}
 
 -- each of the resources is in the domain of its key
 abbrev pub AreKeyed : List StoredResource → Type 0
@@ -23,7 +24,8 @@ abbrev pub IsKeyFree : Key → List StoredResource → Type 0
 IsKeyFree key rs = (r : StoredResource) → IsIn r rs → r.key ≢ key
 
 -- a resource in the domain of its key stands under just that key
-same_key : (r : StoredResource) (own key : Key) (domain : Domain) → IsKeyed r.domain own → IsKeyed domain key → is_at key (plain_resource (record r { key = own })) ≡ is_same_key own key
+same_key : (r : StoredResource) (own key : Key) (domain : Domain) → IsKeyed r.domain own → IsKeyed domain key
+    → is_at key (plain_resource (record r { key = own })) ≡ is_same_key own key
 same_key r (Root a name) (Root b other) domain own_under_handle keyed = ap (λ d. is_domain d b && pointwise nat_eq name other) own_under_handle
 same_key r (Root a name) (Below q other) domain own_under_handle keyed = rw (ne_eqb 0 q (λ e. absurd (positive q keyed e))) refl
   where
@@ -110,7 +112,8 @@ module _ (domain : Domain) (key : Key) (keyed : IsKeyed domain key) where
         (λ x among same. resource_alone res s.resources r x sound.resources_apart here among
         (sound.keys_apart x found.0 among found.1.0 (same ∙ sym found.1.2) ∙ found.1.1))
       where
-        own_handle : (sound : IsSound s) (res : ℕ) (found : FindsResource s key (Some res)) (r : StoredResource) → resource_at res s.resources ≡ Some r → r.key ≡ key
+        own_handle : (sound : IsSound s) (res : ℕ) (found : FindsResource s key (Some res)) (r : StoredResource)
+            → resource_at res s.resources ≡ Some r → r.key ≡ key
         own_handle sound res found r here =
             ap (λ (y : StoredResource). y.key) (sym (resource_alone res s.resources r found.0 sound.resources_apart here found.1.0 found.1.1)) ∙ found.1.2
 

@@ -1,7 +1,8 @@
 -- The processes of a node end one by one.
-use Rattle.std.proofs.Common.{◌≡◌, ◌+◌, ◌≤◌, ℕ, Bool, true, false, not, cond, List, [], ◌∷◌, map, length, Option, None, Some, refl, sym, ap, ◌∙◌, subst, inl, inr, arith, eq-eqb}
+use Rattle.std.proofs.Common.{◌≡◌, ◌+◌, ◌≤◌, ℕ, Bool, true, false, not, cond, List, [], ◌∷◌, map, length, Option, None}
+use Rattle.std.proofs.Common.{Some, refl, sym, ap, ◌∙◌, subst, inl, inr, arith, eq-eqb}
 use Rattle.std.specs.Prelude.{◌==◌, ◌&&◌, ◌||◌}
-use Rattle.vlm_words.specs.declared.locks.LockRow.{LockRow}
+use Rattle.vlm_words.specs.declared.locks.LockState.{LockState}
 use Rattle.vlm_words.specs.declared.resources.ValueBlock.{ValueBlock}
 use Rattle.vlm_words.specs.Steps.{is_of_node}
 use Rattle.vlm_model.specs.Rundown.{processes_but}
@@ -19,7 +20,7 @@ use Rattle.vlm_locks.specs.Left.{has_writer_among, resource_left, rows_left}
 use Rattle.vlm_locks.specs.RunningDown.{AreEnded, CanEndProcesses, resource_after_rundown}
 use Rattle.vlm_locks.specs.Touched.{AreStillNoted, OnlyTouched, Touches, touched_handles}
 use Rattle.vlm_locks.proofs.InOrder.{handle_among, touch_of}
-use Rattle.vlm_locks.proofs.Left.{assoc, swap}
+use Rattle.vlm_locks.proofs.ReleasedResources.{assoc, swap}
 use Rattle.vlm_locks.proofs.RunsDown.{none_goes}
 
 -- the processes end so far: what is left without theirs is what was there without theirs
@@ -43,18 +44,19 @@ none_ended is_one s touched can_end = record {
 
 -- ---- one more ends
 
-module _ (goes first : LockRow → Bool) (within : (row : LockRow) → first row ≡ true → goes row ≡ true) where
-  but_both : (rows : List LockRow) → rows_left goes (rows_left first rows) ≡ rows_left goes rows
+module _ (goes first : LockState → Bool) (within : (row : LockState) → first row ≡ true → goes row ≡ true) where
+  but_both : (rows : List LockState) → rows_left goes (rows_left first rows) ≡ rows_left goes rows
   but_both [] = refl
   but_both (row ∷ rows) = of_test (first row) refl (but_both rows)
     where
-      of_test : (b : Bool) → first row ≡ b → rows_left goes (rows_left first rows) ≡ rows_left goes rows → rows_left goes (cond (not b) (row ∷ rows_left first rows) (rows_left first rows))
+      of_test : (b : Bool) → first row ≡ b → rows_left goes (rows_left first rows) ≡ rows_left goes rows
+          → rows_left goes (cond (not b) (row ∷ rows_left first rows) (rows_left first rows))
           ≡ cond (not (goes row)) (row ∷ rows_left goes rows) (rows_left goes rows)
       of_test true is rest = rw (within row is) rest
-      of_test false is rest = ap (λ (kept : List LockRow). cond (not (goes row)) (row ∷ kept) kept) rest
+      of_test false is rest = ap (λ (kept : List LockState). cond (not (goes row)) (row ∷ kept) kept) rest
 
   -- a writer that goes is one of the first or of the others
-  writer_of_both : (rows : List LockRow) → has_writer_among goes rows ≡ (has_writer_among first rows || has_writer_among goes (rows_left first rows))
+  writer_of_both : (rows : List LockState) → has_writer_among goes rows ≡ (has_writer_among first rows || has_writer_among goes (rows_left first rows))
   writer_of_both [] = refl
   writer_of_both (row ∷ rows) = of_test (first row) refl (writer_of_both rows)
     where
@@ -77,7 +79,8 @@ module _ (goes first : LockRow → Bool) (within : (row : LockRow) → first row
         converting = rows_left goes r.converting;
         waiting = rows_left goes r.waiting;
       })
-      (of_tests (has_writer_among first r.granted) (has_writer_among first r.converting) (has_writer_among goes (rows_left first r.granted)) (has_writer_among goes (rows_left first r.converting))))
+      (of_tests (has_writer_among first r.granted) (has_writer_among first r.converting)
+      (has_writer_among goes (rows_left first r.granted)) (has_writer_among goes (rows_left first r.converting))))
     where
       invalid : ValueBlock
       invalid = invalid_value_block r.value_block
@@ -109,7 +112,9 @@ module _ (is_one is_first : ℕ → Bool) (within : (pid : ℕ) → is_first pid
   processes_of_both [] = refl
   processes_of_both (p ∷ ps) = of_test (is_first p.pid) refl (processes_of_both ps)
     where
-      of_test : (b : Bool) → is_first p.pid ≡ b → processes_but is_one (processes_but is_first ps) ≡ processes_but is_one ps → processes_but is_one (cond (not b) (p ∷ processes_but is_first ps) (processes_but is_first ps))
+      of_test : (b : Bool) → is_first p.pid ≡ b
+          → processes_but is_one (processes_but is_first ps) ≡ processes_but is_one ps
+          → processes_but is_one (cond (not b) (p ∷ processes_but is_first ps) (processes_but is_first ps))
           ≡ cond (not (is_one p.pid)) (p ∷ processes_but is_one ps) (processes_but is_one ps)
       of_test true is rest = rw (within p.pid is) rest
       of_test false is rest = ap (λ (kept : List Process). cond (not (is_one p.pid)) (p ∷ kept) kept) rest
@@ -117,7 +122,9 @@ module _ (is_one is_first : ℕ → Bool) (within : (pid : ℕ) → is_first pid
   pub one_more_ends : (old s new : Records) (before touched noted : Touches) → AreEnding is_one old s before touched → AreEnded is_first s new touched noted
       → CanEndProcesses noted new → AreEnding is_one old new before noted
   one_more_ends old s new before touched noted so_far ended can_end = record {
-    resources = ap (map (resource_after_rundown is_one)) ended.resources ∙ each_of_both (λ row. is_one row.pid) (λ row. is_first row.pid) (λ row. within row.pid) (plain_resources s) ∙ so_far.resources;
+    resources = ap (map (resource_after_rundown is_one)) ended.resources
+        ∙ each_of_both (λ row. is_one row.pid) (λ row. is_first row.pid) (λ row. within row.pid) (plain_resources s)
+        ∙ so_far.resources;
     processes = ap (processes_but is_one) ended.processes ∙ processes_of_both (plain_processes s) ∙ so_far.processes;
     kept = λ t there. ended.kept t (so_far.kept t there);
     only_touched = λ r there untouched.
@@ -182,7 +189,7 @@ all_ended is_one old s before touched sound so_far none = record {
   same_room = so_far.same_room;
 }
   where
-    none_stored : (at : ℕ) (row : LockRow) → Stores s at row → is_one row.pid ≡ false
+    none_stored : (at : ℕ) (row : LockState) → Stores s at row → is_one row.pid ≡ false
     none_stored at row stored =
         let owned = sound.owned.owned at row (inl stored) in
         ap is_one (sym owned.2.1) ∙ none owned.0 owned.2.0
@@ -221,6 +228,7 @@ none_lives node None ps above below none is p there = of_node (is_node node) (is
 none_lives node (Some pid) ps above below first is p there = absurd (none-some pid (sym is))
 
 -- a process that lives is found
-pub not_found : (pid : ℕ) (s : Records) (result : Option ℕ) → FindsProcess s pid result → result ≡ None → (p : StoredProcess) → IsIn p s.processes → p.process.pid ≡ pid → ⊥
+pub not_found : (pid : ℕ) (s : Records) (result : Option ℕ) → FindsProcess s pid result → result ≡ None
+    → (p : StoredProcess) → IsIn p s.processes → p.process.pid ≡ pid → ⊥
 not_found pid s None none is p there its = none p there its
 not_found pid s (Some at) found is p there its = absurd (none-some at (sym is))

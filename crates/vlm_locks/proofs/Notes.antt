@@ -1,15 +1,15 @@
--- Lists of notes of locks: their identifications and handles.
+-- Lists of notes of locks: their IDs and handles.
 use Rattle.std.proofs.Common.{◌≡◌, ◌<◌, ℕ, zero, suc, List, [], ◌∷◌, ◌++◌, map, length, get_or, refl, sym, ap, ◌∙◌, inl, inr, arith}
 use Rattle.std.specs.List.{AllByRecursion}
-use Rattle.vlm_words.specs.declared.locks.LockRow.{LockRow}
+use Rattle.vlm_words.specs.declared.locks.LockState.{LockState}
 use Rattle.vlm_collections.specs.Lists.{IsIn}
 use Rattle.vlm_store.specs.Records.{Records, Stores}
 use Rattle.vlm_locks.specs.declared.touched.Note.{Note}
 use Rattle.vlm_locks.specs.GivingUp.{AreOfLocks, Rise, noted_lkids}
-use Rattle.vlm_locks.specs.Rising.{StandByIdentification}
+use Rattle.vlm_locks.specs.Rising.{StandById}
 use Rattle.vlm_locks.specs.Touched.{RiseByNumber, touched_handles}
 
--- where the notes rise, so do the identifications
+-- where the notes rise, so do the IDs
 pub rise_noted : (notes : List Note) → RiseByNumber notes → Rise (noted_lkids notes)
 rise_noted [] rise = tt
 rise_noted (t ∷ notes) rise = (each_noted notes rise.0, rise_noted notes rise.1)
@@ -19,15 +19,17 @@ rise_noted (t ∷ notes) rise = (each_noted notes rise.0, rise_noted notes rise.
     each_noted (x ∷ ts) each = (each.0, each_noted ts each.1)
 
 -- and so they do where the locks stand by them
-pub rise_in_order : (s : Records) (notes : List Note) → AreOfLocks notes s → StandByIdentification s (touched_handles notes) → Rise (noted_lkids notes)
+pub rise_in_order : (s : Records) (notes : List Note) → AreOfLocks notes s → StandById s (touched_handles notes) → Rise (noted_lkids notes)
 rise_in_order s [] locks stand = tt
 rise_in_order s (t ∷ notes) locks stand =
     (each_noted notes (λ x there. locks x (inr there)) (λ at there. stand.0 at there), rise_in_order s notes (λ x there. locks x (inr there)) stand.1)
   where
-    first : (row : LockRow) × (Stores s t.at row × (row.lkid ≡ t.number))
+    first : (row : LockState) × (Stores s t.at row × (row.lkid ≡ t.number))
     first = locks t (inl refl)
 
-    each_noted : (ts : List Note) → AreOfLocks ts s → ((at : ℕ) → IsIn at (touched_handles ts) → (a b : LockRow) → Stores s t.at a → Stores s at b → a.lkid < b.lkid)
+    each_noted : (ts : List Note) → AreOfLocks ts s
+        → ((at : ℕ) → IsIn at (touched_handles ts) → (a b : LockState) → Stores s t.at a → Stores s at b
+        → a.lkid < b.lkid)
         → AllByRecursion (λ later. t.number < later) (noted_lkids ts)
     each_noted [] those older = tt
     each_noted (x ∷ ts) those older =
@@ -36,7 +38,7 @@ rise_in_order s (t ∷ notes) locks stand =
           each_noted ts (λ y there. those y (inr there)) (λ at there. older at (inr there)),
         )
 
--- the note of an identification
+-- the note of an ID
 pub note_of : (lkid : ℕ) (notes : List Note) → IsIn lkid (noted_lkids notes) → (t : Note) × (IsIn t notes × (t.number ≡ lkid))
 note_of lkid [] there = absurd there
 note_of lkid (t ∷ notes) there = elim there [

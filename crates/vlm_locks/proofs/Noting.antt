@@ -2,14 +2,14 @@
 use Rattle.std.proofs.Common.{◌≡◌, ◌≤◌, ◌<◌, ◌+◌, ℕ, List, [], ◌∷◌, ◌++◌, length, Option, None, Some, refl, sym, ap, ◌∙◌, subst, inl, inr, arith}
 use Rattle.std.proofs.lemmas.Option.{same_Some}
 use Rattle.std.proofs.lemmas.List.{append_assoc, append-nil, length-append, length-map, map-append}
-use Rattle.vlm_words.specs.declared.locks.LockRow.{LockRow}
+use Rattle.vlm_words.specs.declared.locks.LockState.{LockState}
 use Rattle.vlm_collections.specs.Lists.{IsApart, IsIn, first_handle, handle_after}
 use Rattle.vlm_collections.proofs.Walks.{handle_after-among}
 use Rattle.vlm_store.specs.Records.{Records, Stores}
 use Rattle.vlm_locks.specs.declared.touched.Note.{Note}
 use Rattle.vlm_locks.specs.GivingUp.{AreOfLocks}
 use Rattle.vlm_locks.specs.Touched.{Touches, touched_handles}
-use Rattle.vlm_locks.proofs.Chosen.{absent_before, on_from, on_from_first}
+use Rattle.vlm_locks.proofs.ChosenLocks.{absent_before, on_from, on_from_first}
 use Rattle.vlm_collections.proofs.HandleLists.{in_behind, in_either}
 
 -- the handles up to this spot are noted, behind what was
@@ -23,7 +23,8 @@ pub record AreNoted (s : Records) (handles : List ℕ) (was touched : Touches) (
   pub room : touched.room ≡ was.room
 
 -- at first none is
-pub none_is_noted : (s : Records) (handles : List ℕ) (was : Touches) (next : Option ℕ) → AreOfLocks was.noted s → next ≡ first_handle handles → AreNoted s handles was was next
+pub none_is_noted : (s : Records) (handles : List ℕ) (was : Touches) (next : Option ℕ) → AreOfLocks was.noted s
+    → next ≡ first_handle handles → AreNoted s handles was was next
 none_is_noted s handles was next locks first = record {
   done = [];
   todo = handles;
@@ -36,7 +37,8 @@ none_is_noted s handles was next locks first = record {
 
 -- ---- a turn
 
-module _ (s : Records) (handles : List ℕ) (was touched : Touches) (lock : ℕ) (so_far : AreNoted s handles was touched (Some lock)) (apart : IsApart handles) where
+module _ (s : Records) (handles : List ℕ) (was touched : Touches) (lock : ℕ)
+    (so_far : AreNoted s handles was touched (Some lock)) (apart : IsApart handles) where
   -- the handles behind this one
   pub behind : (others : List ℕ) × (so_far.todo ≡ lock ∷ others)
   behind = of_todo so_far.todo refl so_far.at
@@ -92,7 +94,8 @@ module _ (s : Records) (handles : List ℕ) (was touched : Touches) (lock : ℕ)
       )
 
   -- it is noted too
-  pub one_more : (t : Note) → t.at ≡ lock → (row : LockRow) → Stores s lock row → row.lkid ≡ t.number → (noted : Touches) → noted.noted ≡ touched.noted ++ t ∷ []
+  pub one_more : (t : Note) → t.at ≡ lock → (row : LockState) → Stores s lock row → row.lkid ≡ t.number
+      → (noted : Touches) → noted.noted ≡ touched.noted ++ t ∷ []
       → noted.room ≡ touched.room → (next : Option ℕ) → next ≡ first_handle others → AreNoted s handles was noted next
   one_more t its row stored lkid noted notes room next is = record {
     done = so_far.done ++ lock ∷ [];
@@ -117,7 +120,8 @@ module _ (s : Records) (handles : List ℕ) (was touched : Touches) (lock : ℕ)
 pub all_noted : (s : Records) (handles : List ℕ) (was touched : Touches) (next : Option ℕ) → AreNoted s handles was touched next → next ≡ None
     → touched_handles touched.noted ≡ touched_handles was.noted ++ handles
 all_noted s handles was touched next so_far none =
-    so_far.noted ∙ ap (λ hs. touched_handles was.noted ++ hs) (sym (so_far.split ∙ ap (λ hs. so_far.done ++ hs) (none_left so_far.todo so_far.at) ∙ append-nil so_far.done))
+    so_far.noted ∙ ap (λ hs. touched_handles was.noted ++ hs)
+    (sym (so_far.split ∙ ap (λ hs. so_far.done ++ hs) (none_left so_far.todo so_far.at) ∙ append-nil so_far.done))
   where
     none_left : (todo : List ℕ) → next ≡ first_handle todo → todo ≡ []
     none_left [] at = refl

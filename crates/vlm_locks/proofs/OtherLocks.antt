@@ -1,15 +1,18 @@
--- What a change of one lock leaves of all others.
+-- A change of one lock leaves all other locks as they were.
 use Rattle.std.proofs.Common.{◌≡◌, ℕ, Bool, true, false, not, cond, List, [], ◌∷◌, ◌++◌, map, Option, refl, sym, ap, ◌∙◌, inl, inr, eq-eqb, ne_eqb}
 use Rattle.std.specs.Prelude.{◌==◌}
 use Rattle.std.specs.Option.{option_map_or}
 use Rattle.std.proofs.lemmas.Bool.{cases_eq}
-use Rattle.vlm_words.specs.declared.locks.LockRow.{LockRow}
+use Rattle.vlm_words.specs.declared.locks.LockState.{LockState}
 use Rattle.vlm_words.specs.declared.resources.Queue.{Queue}
 use Rattle.vlm_words.specs.declared.resources.Queue.TheVariants.{Granted, Conversion, Waiting}
 use Rattle.vlm_words.specs.declared.resources.ValueBlock.{ValueBlock}
 use Rattle.vlm_records.specs.declared.handles.Place.{Place}
 use Rattle.vlm_records.specs.declared.handles.Place.TheVariants.{Queued}
-use Rattle.vlm_store.specs.Records.{Records, Room, SameButNotices, StoredLock, StoredProcess, StoredResource, but_notices, is_place, joining, leaving, locks_at, moving, on_resource, process_without_lock, queued, resource_at, resource_with, with_lists, with_lock_room, with_new_lock, without_lock, without_stored_lock}
+use Rattle.vlm_store.specs.Records.{Records, Room, SameButNotices, StoredLock, StoredProcess, StoredResource}
+use Rattle.vlm_store.specs.Records.{but_notices, is_place, joining, leaving, locks_at, moving, on_resource}
+use Rattle.vlm_store.specs.Records.{process_without_lock, queued, resource_at, resource_with, with_lists}
+use Rattle.vlm_store.specs.Records.{with_lock_room, with_new_lock, without_lock, without_stored_lock}
 use Rattle.vlm_locks.specs.Rest.{OtherLocksStay}
 use Rattle.vlm_locks.specs.Withdrawing.{owned_after}
 
@@ -40,7 +43,8 @@ without_moved to k place locks = of_test (is_place place to)
     of_test false = without_twice k.at locks
 
 -- a change of lists that shows in no list without the lock
-lists_stay : (lock : ℕ) (change : Place → List StoredLock → List StoredLock) → ((place : Place) (locks : List StoredLock) → without_lock lock (change place locks) ≡ without_lock lock locks)
+lists_stay : (lock : ℕ) (change : Place → List StoredLock → List StoredLock)
+    → ((place : Place) (locks : List StoredLock) → without_lock lock (change place locks) ≡ without_lock lock locks)
     → (s : Records) → OtherLocksStay lock s (with_lists change s)
 lists_stay lock change stays s (Queued x queue) = of_list s.resources
   where
@@ -50,7 +54,9 @@ lists_stay lock change stays s (Queued x queue) = of_list s.resources
     of_queue Waiting r = stays (Queued r.at Waiting) r.waiting
 
     of_list : (rs : List StoredResource)
-        → without_lock lock (option_map_or (queued queue) (resource_at x (map (resource_with change) rs)) []) ≡ without_lock lock (option_map_or (queued queue) (resource_at x rs) [])
+        → without_lock lock (option_map_or (queued queue)
+        (resource_at x (map (resource_with change) rs)) []) ≡ without_lock lock
+        (option_map_or (queued queue) (resource_at x rs) [])
     of_list [] = refl
     of_list (r ∷ rest) =
         elim (cases_eq r.at x) [
@@ -63,7 +69,7 @@ pub moved_alone : (to : Place) (k : StoredLock) (s : Records) → OtherLocksStay
 moved_alone to k s = lists_stay k.at (moving to k) (without_moved to k) s
 
 -- a lock is made that joins a list
-pub added_alone : (lock : ℕ) (row : LockRow) (owner : ℕ) (parent : Option ℕ) (to : Place) (room : Room) (s : Records)
+pub added_alone : (lock : ℕ) (row : LockState) (owner : ℕ) (parent : Option ℕ) (to : Place) (room : Room) (s : Records)
     → OtherLocksStay lock s (with_lock_room room (with_new_lock lock row owner parent to s))
 added_alone lock row owner parent to room s place =
     shown place ∙ lists_stay lock (joining to (record { at = lock; row = row })) (without_come (record { at = lock; row = row })) s place
@@ -76,18 +82,24 @@ added_alone lock row owner parent to room s place =
         of_test false = refl
 
     shown : (place : Place)
-        → without_lock lock (locks_at place (with_lock_room room (with_new_lock lock row owner parent to s))) ≡ without_lock lock (locks_at place (with_lists (joining to (record { at = lock; row = row })) s))
+        → without_lock lock (locks_at place
+        (with_lock_room room (with_new_lock lock row owner parent to s))) ≡ without_lock lock
+        (locks_at place (with_lists (joining to (record { at = lock; row = row })) s))
     shown (Queued x queue) = refl
 
 -- a lock is removed
 pub removed_alone : (lock : ℕ) (room : Room) (s : Records) → OtherLocksStay lock s (with_lock_room room (without_stored_lock lock s))
 removed_alone lock room s place = shown place ∙ lists_stay lock (leaving lock) (λ place locks. without_twice lock locks) s place
   where
-    shown : (place : Place) → without_lock lock (locks_at place (with_lock_room room (without_stored_lock lock s))) ≡ without_lock lock (locks_at place (with_lists (leaving lock) s))
+    shown : (place : Place)
+        → without_lock lock (locks_at place (with_lock_room room (without_stored_lock lock s))) ≡ without_lock lock
+        (locks_at place (with_lists (leaving lock) s))
     shown (Queued x queue) = refl
 
 -- a value block is written
-pub block_alone : (lock res : ℕ) (block : ValueBlock) (s : Records) → OtherLocksStay lock s (record s { resources = on_resource res (λ r. record r { value_block = block }) s.resources })
+pub block_alone : (lock res : ℕ) (block : ValueBlock) (s : Records)
+    → OtherLocksStay lock s
+    (record s { resources = on_resource res (λ r. record r { value_block = block }) s.resources })
 block_alone lock res block s (Queued x queue) = ap (without_lock lock) (of_list s.resources)
   where
     of_queue : (queue : Queue) (b : Bool) (r : StoredResource) → queued queue (cond b (record r { value_block = block }) r) ≡ queued queue r
@@ -101,12 +113,22 @@ block_alone lock res block s (Queued x queue) = ap (without_lock lock) (of_list 
     at_put false r = refl
 
     of_list : (rs : List StoredResource)
-        → option_map_or (queued queue) (resource_at x (on_resource res (λ r. record r { value_block = block }) rs)) [] ≡ option_map_or (queued queue) (resource_at x rs) []
+        → option_map_or (queued queue)
+        (resource_at x (on_resource res (λ r. record r { value_block = block }) rs)) [] ≡ option_map_or
+        (queued queue) (resource_at x rs) []
     of_list [] = refl
     of_list (r ∷ rest) =
         elim (cases_eq r.at x) [
-          | inl same ↦ rw (eq-eqb (cond (r.at == res) (record r { value_block = block }) r).at x (at_put (r.at == res) r ∙ same), eq-eqb r.at x same) (of_queue queue (r.at == res) r)
-          | inr differs ↦ rw (ne_eqb (cond (r.at == res) (record r { value_block = block }) r).at x (λ e. differs (sym (at_put (r.at == res) r) ∙ e)), ne_eqb r.at x differs) (of_list rest)
+          | inl same ↦ rw (
+            eq-eqb (cond (r.at == res) (record r { value_block = block }) r).at x (at_put (r.at == res) r
+                ∙ same),
+            eq-eqb r.at x same,
+          ) (of_queue queue (r.at == res) r)
+          | inr differs ↦ rw (
+            ne_eqb (cond (r.at == res) (record r { value_block = block }) r).at x
+                (λ e. differs (sym (at_put (r.at == res) r) ∙ e)),
+            ne_eqb r.at x differs,
+          ) (of_list rest)
         ]
 
 -- status blocks are written

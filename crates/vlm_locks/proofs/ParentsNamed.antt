@@ -3,7 +3,7 @@ use Rattle.std.proofs.Common.{◌≡◌, ◌≢◌, ◌<◌, ◌⊎◌, ℕ, zer
 use Rattle.std.specs.Prelude.{◌==◌, ◌||◌, slice_get}
 use Rattle.std.specs.Option.{option_map_or}
 use Rattle.std.proofs.lemmas.Bool.{cases_eq}
-use Rattle.vlm_words.specs.declared.locks.LockRow.{LockRow}
+use Rattle.vlm_words.specs.declared.locks.LockState.{LockState}
 use Rattle.vlm_words.specs.declared.resources.Queue.{Queue}
 use Rattle.vlm_words.specs.declared.resources.Queue.TheVariants.{Granted, Conversion, Waiting}
 use Rattle.vlm_model.specs.OwnLocks.{all_rows_of, is_below, parent_of}
@@ -13,80 +13,80 @@ use Rattle.vlm_collections.specs.Lists.{IsIn}
 use Rattle.vlm_store.specs.Plain.{plain_resource, plain_resources}
 use Rattle.vlm_store.specs.Records.{IsSound, Records, StoredLock, StoredResource, Stores, queued, rows_of_locks}
 use Rattle.vlm_locks.specs.Rest.{IsAtRest}
-use Rattle.vlm_locks.proofs.Named.{IsAbsent, rows-absent}
-use Rattle.vlm_locks.proofs.Stood.{in_queue, one_lock, queued_stored}
+use Rattle.vlm_locks.proofs.FoundInLists.{IsAbsent, rows-absent}
+use Rattle.vlm_locks.proofs.QueuedLocks.{in_queue, one_lock, queued_stored}
 
 -- the row stands first in the list
-abbrev IsFirst : LockRow → List LockRow → Type 0
-IsFirst row rows = (rest : List LockRow) × (rows ≡ row ∷ rest)
+abbrev IsFirst : LockState → List LockState → Type 0
+IsFirst row rows = (rest : List LockState) × (rows ≡ row ∷ rest)
 
 -- the list is empty, or the row stands first in it
-abbrev IsFirstIfAny : LockRow → List LockRow → Type 0
+abbrev IsFirstIfAny : LockState → List LockState → Type 0
 IsFirstIfAny row rows = (rows ≡ []) ⊎ IsFirst row rows
 
 -- ---- lists of which one is put behind another
 
-first_before : (row : LockRow) (xs ys : List LockRow) → IsFirst row xs → IsFirst row (xs ++ ys)
-first_before row xs ys first = (first.0 ++ ys, ap (λ (rows : List LockRow). rows ++ ys) first.1)
+first_before : (row : LockState) (xs ys : List LockState) → IsFirst row xs → IsFirst row (xs ++ ys)
+first_before row xs ys first = (first.0 ++ ys, ap (λ (rows : List LockState). rows ++ ys) first.1)
 
-first_behind : (row : LockRow) (xs ys : List LockRow) → IsFirstIfAny row xs → IsFirst row ys → IsFirst row (xs ++ ys)
-first_behind row xs ys (inl none) first = (first.0, ap (λ (rows : List LockRow). rows ++ ys) none ∙ first.1)
+first_behind : (row : LockState) (xs ys : List LockState) → IsFirstIfAny row xs → IsFirst row ys → IsFirst row (xs ++ ys)
+first_behind row xs ys (inl none) first = (first.0, ap (λ (rows : List LockState). rows ++ ys) none ∙ first.1)
 first_behind row xs ys (inr before) first = first_before row xs ys before
 
-if_any_both : (row : LockRow) (xs ys : List LockRow) → IsFirstIfAny row xs → IsFirstIfAny row ys → IsFirstIfAny row (xs ++ ys)
-if_any_both row xs ys (inl none) (inl empty) = inl (ap (λ (rows : List LockRow). rows ++ ys) none ∙ empty)
+if_any_both : (row : LockState) (xs ys : List LockState) → IsFirstIfAny row xs → IsFirstIfAny row ys → IsFirstIfAny row (xs ++ ys)
+if_any_both row xs ys (inl none) (inl empty) = inl (ap (λ (rows : List LockState). rows ++ ys) none ∙ empty)
 if_any_both row xs ys (inl none) (inr first) = inr (first_behind row xs ys (inl none) first)
 if_any_both row xs ys (inr first) any = inr (first_before row xs ys first)
 
--- ---- the rows of one identification, where each of them is this row
+-- ---- the rows of one ID, where each of them is this row
 
--- each lock of the list with the identification of the row has the row
-abbrev AreItsOwn : LockRow → List StoredLock → Type 0
+-- each lock of the list with the ID of the row has the row
+abbrev AreItsOwn : LockState → List StoredLock → Type 0
 AreItsOwn row locks = (k : StoredLock) → IsIn k locks → k.row.lkid ≡ row.lkid → k.row ≡ row
 
-if_any_of : (row : LockRow) (locks : List StoredLock) → AreItsOwn row locks → IsFirstIfAny row (rows_of row.lkid (rows_of_locks locks))
+if_any_of : (row : LockState) (locks : List StoredLock) → AreItsOwn row locks → IsFirstIfAny row (rows_of row.lkid (rows_of_locks locks))
 if_any_of row [] own = inl refl
 if_any_of row (k ∷ rest) own =
     elim (cases_eq k.row.lkid row.lkid) [
       | inl same ↦
           rw (eq-eqb k.row.lkid row.lkid same)
-          (inr (rows_of row.lkid (rows_of_locks rest), ap (λ (x : LockRow). x ∷ rows_of row.lkid (rows_of_locks rest)) (own k (inl refl) same)))
+          (inr (rows_of row.lkid (rows_of_locks rest), ap (λ (x : LockState). x ∷ rows_of row.lkid (rows_of_locks rest)) (own k (inl refl) same)))
       | inr differs ↦ rw (ne_eqb k.row.lkid row.lkid differs) (if_any_of row rest (λ x there. own x (inr there)))
     ]
 
-first_of : (row : LockRow) (locks : List StoredLock) (k : StoredLock) → AreItsOwn row locks → IsIn k locks → k.row ≡ row
+first_of : (row : LockState) (locks : List StoredLock) (k : StoredLock) → AreItsOwn row locks → IsIn k locks → k.row ≡ row
     → IsFirst row (rows_of row.lkid (rows_of_locks locks))
 first_of row [] k own among is = absurd among
 first_of row (x ∷ rest) k own among is =
     elim (cases_eq x.row.lkid row.lkid) [
       | inl same ↦
           rw (eq-eqb x.row.lkid row.lkid same)
-          (rows_of row.lkid (rows_of_locks rest), ap (λ (y : LockRow). y ∷ rows_of row.lkid (rows_of_locks rest)) (own x (inl refl) same))
+          (rows_of row.lkid (rows_of_locks rest), ap (λ (y : LockState). y ∷ rows_of row.lkid (rows_of_locks rest)) (own x (inl refl) same))
       | inr differs ↦
           rw (ne_eqb x.row.lkid row.lkid differs)
           (elim among [
-            | inl here ↦ absurd (differs (ap (λ (y : StoredLock). y.row.lkid) here ∙ ap (λ (y : LockRow). y.lkid) is))
+            | inl here ↦ absurd (differs (ap (λ (y : StoredLock). y.row.lkid) here ∙ ap (λ (y : LockState). y.lkid) is))
             | inr there ↦ first_of row rest k (λ y later. own y (inr later)) there is
           ])
     ]
 
--- the rows of one identification on a resource
-abbrev rows_here : ℕ → StoredResource → List LockRow
+-- the rows of one ID on a resource
+abbrev rows_here : ℕ → StoredResource → List LockState
 rows_here lkid r = rows_of lkid (rows_of_locks r.granted) ++ rows_of lkid (rows_of_locks r.converting) ++ rows_of lkid (rows_of_locks r.waiting)
 
--- each lock of the resource with the identification of the row has the row
-abbrev AreItsOwnOn : LockRow → StoredResource → Type 0
+-- each lock of the resource with the ID of the row has the row
+abbrev AreItsOwnOn : LockState → StoredResource → Type 0
 AreItsOwnOn row r = (queue : Queue) → AreItsOwn row (queued queue r)
 
-module _ (row : LockRow) (r : StoredResource) (own : AreItsOwnOn row r) where
+module _ (row : LockState) (r : StoredResource) (own : AreItsOwnOn row r) where
   -- its rows in each queue, and in those that hold
-  abbrev granted : List LockRow
+  abbrev granted : List LockState
   granted = rows_of row.lkid (rows_of_locks r.granted)
 
-  abbrev converting : List LockRow
+  abbrev converting : List LockState
   converting = rows_of row.lkid (rows_of_locks r.converting)
 
-  abbrev waiting : List LockRow
+  abbrev waiting : List LockState
   waiting = rows_of row.lkid (rows_of_locks r.waiting)
 
   if_any_held : IsFirstIfAny row (granted ++ converting)
@@ -103,7 +103,7 @@ module _ (row : LockRow) (r : StoredResource) (own : AreItsOwnOn row r) where
       (first_behind row granted converting (if_any_of row r.granted (own Granted)) (first_of row r.converting k (own Conversion) among is))
   first_here Waiting k among is = first_behind row (granted ++ converting) waiting if_any_held (first_of row r.waiting k (own Waiting) among is)
 
-first_among : (row : LockRow) (rs : List StoredResource) → ((r : StoredResource) → IsIn r rs → AreItsOwnOn row r)
+first_among : (row : LockState) (rs : List StoredResource) → ((r : StoredResource) → IsIn r rs → AreItsOwnOn row r)
     → (r : StoredResource) → IsIn r rs → (queue : Queue) (k : StoredLock) → IsIn k (queued queue r) → k.row ≡ row
     → IsFirst row (all_rows_of row.lkid (map plain_resource rs))
 first_among row [] own r among queue k here is = absurd among
@@ -117,7 +117,7 @@ first_among row (x ∷ rest) own r among queue k here is =
           (first_among row rest (λ y later. own y (inr later)) r there queue k here is)
     ]
 
--- where no lock has the identification there are none
+-- where no lock has the ID there are none
 none_among : (lkid : ℕ) (rs : List StoredResource) → ((r : StoredResource) → IsIn r rs → (queue : Queue) → IsAbsent lkid (queued queue r))
     → all_rows_of lkid (map plain_resource rs) ≡ []
 none_among lkid [] none = refl
@@ -130,20 +130,20 @@ none_among lkid (r ∷ rest) none =
 
 -- ---- the parent lock
 
--- no stored lock has this identification
+-- no stored lock has this ID
 abbrev pub IsNowhere : ℕ → Records → Type 0
-IsNowhere lkid s = (at : ℕ) (row : LockRow) → Stores s at row → row.lkid ≢ lkid
+IsNowhere lkid s = (at : ℕ) (row : LockState) → Stores s at row → row.lkid ≢ lkid
 
--- some stored lock has this identification
+-- some stored lock has this ID
 abbrev pub IsSomewhere : ℕ → Records → Type 0
-IsSomewhere lkid s = (at : ℕ) × (row : LockRow) × (Stores s at row × (row.lkid ≡ lkid))
+IsSomewhere lkid s = (at : ℕ) × (row : LockState) × (Stores s at row × (row.lkid ≡ lkid))
 
 module _ (s : Records) (sound : IsSound s) where
   -- the parent lock of a lock is the one that its row names
-  pub parent_named : (at : ℕ) (row : LockRow) → Stores s at row → parent_of row.lkid (plain_resources s) ≡ row.parent
+  pub parent_named : (at : ℕ) (row : LockState) → Stores s at row → parent_of row.lkid (plain_resources s) ≡ row.parent
   unfolding parent_of
   parent_named at row stored =
-      ap (λ (rows : List LockRow). option_map_or (λ (x : LockRow). x.parent) (slice_get rows 0) 0) first.1
+      ap (λ (rows : List LockState). option_map_or (λ (x : LockState). x.parent) (slice_get rows 0) 0) first.1
     where
       own : (r : StoredResource) → IsIn r s.resources → AreItsOwnOn row r
       own r among queue k here same =
@@ -159,17 +159,18 @@ module _ (s : Records) (sound : IsSound s) where
   pub parent_nowhere : (lkid : ℕ) → IsNowhere lkid s → parent_of lkid (plain_resources s) ≡ 0
   unfolding parent_of
   parent_nowhere lkid none =
-      ap (λ (rows : List LockRow). option_map_or (λ (x : LockRow). x.parent) (slice_get rows 0) 0)
+      ap (λ (rows : List LockState). option_map_or (λ (x : LockState). x.parent) (slice_get rows 0) 0)
       (none_among lkid s.resources (λ r among queue k here. none k.at k.row (queued_stored s sound r among queue k here)))
 
 -- what is its own parent is below no other
-pub below_no_other : (resources : List Resource) (levels top lkid : ℕ) → parent_of lkid resources ≡ lkid → lkid ≢ top → is_below levels top resources lkid ≡ false
+pub below_no_other : (resources : List Resource) (levels top lkid : ℕ) → parent_of lkid resources ≡ lkid → lkid ≢ top
+    → is_below levels top resources lkid ≡ false
 below_no_other resources zero top lkid own other = refl
 below_no_other resources (suc levels) top lkid own other =
     ap (λ up. (up == top) || is_below levels top resources up) own ∙ ap (λ b. b || is_below levels top resources lkid) (ne_eqb lkid top other)
     ∙ below_no_other resources levels top lkid own other
 
--- ---- whether a lock has the identification
+-- ---- whether a lock has the ID
 
 in_locks : (lkid : ℕ) (locks : List StoredLock) → ((k : StoredLock) × (IsIn k locks × (k.row.lkid ≡ lkid))) ⊎ IsAbsent lkid locks
 in_locks lkid [] = inr (λ k none same. none)
@@ -186,7 +187,7 @@ in_locks lkid (k ∷ rest) =
     none_of differs none x (inl here) same = differs (ap (λ (y : StoredLock). y.row.lkid) here ∙ same)
     none_of differs none x (inr there) same = none x there same
 
--- a lock with the identification, in a queue of the resource
+-- a lock with the ID, in a queue of the resource
 abbrev IsOnOne : ℕ → StoredResource → Type 0
 IsOnOne lkid r = (queue : Queue) × (k : StoredLock) × (IsIn k (queued queue r) × (k.row.lkid ≡ lkid))
 
@@ -225,7 +226,7 @@ on_some lkid (r ∷ rest) =
     none_of none later x (inl here) queue = subst (λ (y : StoredResource). IsAbsent lkid (queued queue y)) here (none queue)
     none_of none later x (inr there) queue = later x there queue
 
--- some lock has an identification or none has it
+-- some lock has an ID or none has it
 pub somewhere_or_not : (s : Records) → IsSound s → (lkid : ℕ) → IsSomewhere lkid s ⊎ IsNowhere lkid s
 somewhere_or_not s sound lkid =
     elim (on_some lkid s.resources) [
@@ -238,9 +239,9 @@ somewhere_or_not s sound lkid =
 
 -- ---- parents before their sublocks
 
--- each stored parent has a lower identification than a lock that names it
+-- each stored parent has a lower ID than a lock that names it
 abbrev pub ParentsComeFirst : Records → Type 0
-ParentsComeFirst s = (at other : ℕ) (sub up : LockRow) → Stores s at sub → Stores s other up → sub.parent ≢ 0 → sub.parent ≡ up.lkid → up.lkid < sub.lkid
+ParentsComeFirst s = (at other : ℕ) (sub up : LockState) → Stores s at sub → Stores s other up → sub.parent ≢ 0 → sub.parent ≡ up.lkid → up.lkid < sub.lkid
 
 -- between two steps they do
 pub parents_come_first : (s : Records) → IsSound s → IsAtRest s → ParentsComeFirst s

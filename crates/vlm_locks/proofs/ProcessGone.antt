@@ -5,7 +5,7 @@ use Rattle.std.specs.Option.{option_map_or}
 use Rattle.std.specs.List.{sum_by}
 use Rattle.std.proofs.lemmas.Bool.{eqb-true}
 use Rattle.std.proofs.lemmas.List.Sums.{sum_by-cons}
-use Rattle.vlm_words.specs.declared.locks.LockRow.{LockRow}
+use Rattle.vlm_words.specs.declared.locks.LockState.{LockState}
 use Rattle.vlm_words.specs.declared.resources.Queue.TheVariants.{Granted, Conversion, Waiting}
 use Rattle.vlm_words.specs.Dues.{due_to}
 use Rattle.vlm_model.specs.Rundown.{processes_but}
@@ -14,7 +14,9 @@ use Rattle.vlm_collections.specs.Lists.{IsIn}
 use Rattle.vlm_records.specs.declared.handles.Place.{Place}
 use Rattle.vlm_records.specs.declared.handles.Place.TheVariants.{Queued}
 use Rattle.vlm_store.specs.Plain.{plain_processes, plain_resources}
-use Rattle.vlm_store.specs.Records.{AreProcessesApart, HasNoLocks, IsProcess, IsSound, Records, Room, StoredLock, StoredProcess, StoredResource, Stores, due_of, locks_at, own_handles_at, with_process_room, without_process}
+use Rattle.vlm_store.specs.Records.{AreProcessesApart, HasNoLocks, IsProcess, IsSound, Records, Room, StoredLock}
+use Rattle.vlm_store.specs.Records.{StoredProcess, StoredResource, Stores, due_of, locks_at, own_handles_at}
+use Rattle.vlm_store.specs.Records.{with_process_room, without_process}
 use Rattle.vlm_locks.specs.Owing.{IsPaid, due_among, due_for, due_on}
 use Rattle.vlm_locks.specs.Rest.{IsAtRest}
 use Rattle.vlm_locks.specs.Rising.{handles_of_own}
@@ -22,7 +24,7 @@ use Rattle.vlm_locks.specs.RunningDown.{AreEnded, CanEndProcesses, SublocksAreOw
 use Rattle.vlm_locks.specs.Touched.{AreStillNoted, OnlyTouched, Touches}
 use Rattle.vlm_locks.proofs.Rising.{rises_still, were_stored}
 use Rattle.vlm_locks.proofs.RunsDown.{none_is_own}
-use Rattle.vlm_locks.proofs.Stood.{queued_stored}
+use Rattle.vlm_locks.proofs.QueuedLocks.{queued_stored}
 
 -- ---- the processes that are left
 
@@ -33,7 +35,7 @@ one_and_the_same p q same =
 neither : (p q : StoredProcess) → p.at ≢ q.at → p.process.pid ≢ q.process.pid → (p.at == q.at) ≡ (p.process.pid == q.process.pid)
 neither p q first second = ne_eqb p.at q.at first ∙ sym (ne_eqb p.process.pid q.process.pid second)
 
--- the process of a handle has its identification, and no other process has it
+-- the process of a handle has its ID, and no other process has it
 same_process : (ps : List StoredProcess) → AreProcessesApart ps → (p q : StoredProcess) → IsIn p ps → IsIn q ps
     → (p.at == q.at) ≡ (p.process.pid == q.process.pid)
 same_process [] apart p q none second = absurd none
@@ -69,7 +71,8 @@ was_left : (at : ℕ) (ps : List StoredProcess) (p : StoredProcess) → IsIn p (
 was_left at [] p none = absurd none
 was_left at (x ∷ ps) p there = of_test (x.at == at) there (was_left at ps p)
   where
-    of_test : (b : Bool) → IsIn p (cond (not b) (x ∷ without_process at ps) (without_process at ps)) → (IsIn p (without_process at ps) → IsIn p ps) → IsIn p (x ∷ ps)
+    of_test : (b : Bool) → IsIn p (cond (not b) (x ∷ without_process at ps) (without_process at ps))
+        → (IsIn p (without_process at ps) → IsIn p ps) → IsIn p (x ∷ ps)
     of_test true among later = inr (later among)
     of_test false (inl here) later = inl here
     of_test false (inr behind) later = inr (later behind)
@@ -134,7 +137,9 @@ module _ (s : Records) (sound : IsSound s) (owner pid : ℕ) (lives : IsProcess 
 
   its_tests : (p : StoredProcess) → IsIn p s.processes → (p.at == owner) ≡ (p.process.pid == pid)
   its_tests p there =
-      ap (λ handle. p.at == handle) (sym lives.1.1) ∙ same_process s.processes sound.processes_apart p lives.0 there lives.1.0 ∙ ap (λ other. p.process.pid == other) lives.1.2
+      ap (λ handle. p.at == handle) (sym lives.1.1)
+      ∙ same_process s.processes sound.processes_apart p lives.0 there lives.1.0
+      ∙ ap (λ other. p.process.pid == other) lives.1.2
 
   pub processes_left : map (λ p. p.process) (without_process owner s.processes) ≡ processes_but (λ p. p == pid) (plain_processes s)
   processes_left = left owner pid s.processes its_tests
@@ -154,10 +159,11 @@ module _ (s : Records) (sound : IsSound s) (owner pid : ℕ) (lives : IsProcess 
     pub together_left : SublocksAreOwn s → SublocksAreOwn gone
     together_left together at other row up stored above named = together at other row up (was_stored at row stored) (was_stored other up above) named
       where
-        was_stored : (handle : ℕ) (its : LockRow) → Stores gone handle its → Stores s handle its
+        was_stored : (handle : ℕ) (its : LockState) → Stores gone handle its → Stores s handle its
         was_stored handle its there = (there.0, by_place there.0 there.1)
           where
-            by_place : (place : Place) → IsIn (record { at = handle; row = its }) (locks_at place gone) → IsIn (record { at = handle; row = its }) (locks_at place s)
+            by_place : (place : Place) → IsIn (record { at = handle; row = its }) (locks_at place gone)
+                → IsIn (record { at = handle; row = its }) (locks_at place s)
             by_place (Queued res queue) among = among
 
     pub paid_left : IsPaid s → IsPaid gone
@@ -170,7 +176,8 @@ module _ (s : Records) (sound : IsSound s) (owner pid : ℕ) (lives : IsProcess 
 -- ---- the process ends
 
 -- what is left once the process is run down and gone
-pub process_ended : (old mid new : Records) (before noted : Touches) (owner pid : ℕ) (room : Room) → IsSound mid → IsProcess owner pid mid → HasNoLocks owner mid
+pub process_ended : (old mid new : Records) (before noted : Touches) (owner pid : ℕ) (room : Room) → IsSound mid
+    → IsProcess owner pid mid → HasNoLocks owner mid
     → new ≡ with_process_room room (record mid { processes = without_process owner mid.processes })
     → plain_resources mid ≡ map (resource_after_rundown (λ p. p == pid)) (plain_resources old) → plain_processes mid ≡ plain_processes old
     → AreStillNoted before.noted noted.noted → OnlyTouched noted.noted old mid → noted.room ≡ before.room → AreEnded (λ p. p == pid) old new before noted

@@ -1,20 +1,24 @@
--- The own locks of a process, and the locks below a lock, stand by rising identification as locks come, change and go.
-use Rattle.std.proofs.Common.{◌≡◌, ◌⊎◌, ℕ, Bool, true, false, List, [], ◌∷◌, ◌++◌, map, filter, not, cond, Option, None, Some, refl, sym, ap, ◌∙◌, subst, inl, inr, arith, eq-eqb, ne_eqb}
+-- The own locks of a process, and the locks below a lock, stand by rising ID as locks come, change and go.
+use Rattle.std.proofs.Common.{◌≡◌, ◌⊎◌, ℕ, Bool, true, false, List, [], ◌∷◌, ◌++◌, map, filter, not, cond, Option, None}
+use Rattle.std.proofs.Common.{Some, refl, sym, ap, ◌∙◌, subst, inl, inr, arith, eq-eqb, ne_eqb}
 use Rattle.std.specs.Prelude.{◌==◌}
 use Rattle.std.proofs.lemmas.Bool.{cases_eq}
 use Rattle.std.proofs.lemmas.List.{append-nil, map-append}
 use Rattle.std.specs.Option.{option_map_or}
-use Rattle.vlm_words.specs.declared.locks.LockRow.{LockRow}
+use Rattle.vlm_words.specs.declared.locks.LockState.{LockState}
 use Rattle.vlm_collections.specs.Lists.{IsIn, without}
 use Rattle.vlm_collections.proofs.HandleLists.{IsIn-push, IsIn-without}
 use Rattle.vlm_records.specs.declared.handles.Place.{Place}
 use Rattle.vlm_records.specs.declared.handles.Place.TheVariants.{Queued}
 use Rattle.vlm_store.proofs.Counted.{own_handle}
-use Rattle.vlm_store.specs.Records.{IsNewLock, IsRowOf, IsSound, IsStored, OwnLock, Records, StoredProcess, StoredResource, Stores, but_notices, locks_at, new_own, process_with_lock, process_without_lock, queued, resource_at, with_sublock, without_sublock, NoneIsLoose}
+use Rattle.vlm_store.specs.Records.{IsNewLock, IsRowOf, IsSound, IsStored, OwnLock, Records, StoredProcess}
+use Rattle.vlm_store.specs.Records.{StoredResource, Stores, but_notices, locks_at, new_own, process_with_lock}
+use Rattle.vlm_store.specs.Records.{process_without_lock, queued, resource_at, with_sublock, without_sublock}
+use Rattle.vlm_store.specs.Records.{NoneIsLoose}
 use Rattle.vlm_locks.specs.Staying.{LocksStayAmong}
-use Rattle.vlm_locks.specs.Rising.{IsOlder, HasRisingLocks, IsAboveEachLock, StandByIdentification, handles_of_own}
-use Rattle.vlm_locks.proofs.Staying.{same_back, same_lock}
-use Rattle.vlm_locks.proofs.Stood.{queued_stored, resource_among}
+use Rattle.vlm_locks.specs.Rising.{IsOlder, HasRisingLocks, IsAboveEachLock, StandById, handles_of_own}
+use Rattle.vlm_locks.proofs.GrantsKeepResources.{same_back, same_lock}
+use Rattle.vlm_locks.proofs.QueuedLocks.{queued_stored, resource_among}
 use Rattle.vlm_store.proofs.Records.{in_a_queue}
 
 -- each process has rising locks
@@ -23,13 +27,13 @@ AllRise s ps = (p : StoredProcess) → IsIn p ps → HasRisingLocks s p
 
 -- each lock that is stored was stored under its handle, as the same lock
 abbrev pub WereStored : Records → Records → Type 0
-WereStored old new = (at : ℕ) (row : LockRow) → Stores new at row → IsRowOf at row old
+WereStored old new = (at : ℕ) (row : LockState) → Stores new at row → IsRowOf at row old
 
 -- ---- handles
 
 -- handles of which each two keep their order stand by it still
 stand_still : (s t : Records) (handles : List ℕ) → ((a b : ℕ) → IsIn a handles → IsIn b handles → IsOlder s a b → IsOlder t a b)
-    → StandByIdentification s handles → StandByIdentification t handles
+    → StandById s handles → StandById t handles
 stand_still s t [] kept stand = tt
 stand_still s t (at ∷ rest) kept stand = (
   λ later there. kept at later (inl refl) (inr there) (stand.0 later there),
@@ -37,7 +41,7 @@ stand_still s t (at ∷ rest) kept stand = (
 )
 
 -- so do those that are left of them
-stand_without : (s : Records) (lock : ℕ) (handles : List ℕ) → StandByIdentification s handles → StandByIdentification s (without lock handles)
+stand_without : (s : Records) (lock : ℕ) (handles : List ℕ) → StandById s handles → StandById s (without lock handles)
 stand_without s lock [] stand = tt
 stand_without s lock (at ∷ rest) stand =
     elim (cases_eq at lock) [
@@ -46,8 +50,8 @@ stand_without s lock (at ∷ rest) stand =
     ]
 
 -- and with a last one that each of them comes before
-stand_with : (s : Records) (handles : List ℕ) (last : ℕ) → ((at : ℕ) → IsIn at handles → IsOlder s at last) → StandByIdentification s handles
-    → StandByIdentification s (handles ++ last ∷ [])
+stand_with : (s : Records) (handles : List ℕ) (last : ℕ) → ((at : ℕ) → IsIn at handles → IsOlder s at last) → StandById s handles
+    → StandById s (handles ++ last ∷ [])
 stand_with s [] last before stand = (λ later there. absurd there, tt)
 stand_with s (at ∷ rest) last before stand = (
   λ later there. elim (IsIn-push last later rest there) [
@@ -70,7 +74,9 @@ pub were_stored : (old new : Records) → new.resources ≡ old.resources → We
 were_stored old new resources at row stored = (row, ((stored.0, by_place stored.0 stored.1), same_lock row))
   where
     by_place : (place : Place) → IsIn (record { at = at; row = row }) (locks_at place new) → IsIn (record { at = at; row = row }) (locks_at place old)
-    by_place (Queued res queue) among = subst (λ rs. IsIn (record { at = at; row = row }) (option_map_or (queued queue) (resource_at res rs) [])) resources among
+    by_place (Queued res queue) among =
+        subst (λ rs. IsIn (record { at = at; row = row })
+        (option_map_or (queued queue) (resource_at res rs) [])) resources among
 
 -- and where none joins the resources
 pub none_joined : (old new : Records) → IsSound old → LocksStayAmong new.resources old.resources → WereStored old new
@@ -79,7 +85,8 @@ none_joined old new sound none_join at row stored = by_place stored.0 stored.1
     by_place : (place : Place) → IsIn (record { at = at; row = row }) (locks_at place new) → IsRowOf at row old
     by_place (Queued res queue) among = of_found (resource_at res new.resources) refl among
       where
-        of_found : (found : Option StoredResource) → resource_at res new.resources ≡ found → IsIn (record { at = at; row = row }) (option_map_or (queued queue) found []) → IsRowOf at row old
+        of_found : (found : Option StoredResource) → resource_at res new.resources ≡ found
+            → IsIn (record { at = at; row = row }) (option_map_or (queued queue) found []) → IsRowOf at row old
         of_found None is here = absurd here
         of_found (Some r) is here =
             let stays = none_join r queue (record { at = at; row = row }) (resource_among res new.resources r is) here in
@@ -92,7 +99,8 @@ none_joined old new sound none_join at row stored = by_place stored.0 stored.1
             )
 
 -- a process has the locks of one that was there
-pub same_own : (old new : List StoredProcess) → map but_notices new ≡ map but_notices old → (p : StoredProcess) → IsIn p new → (q : StoredProcess) × (IsIn q old × (q.own ≡ p.own))
+pub same_own : (old new : List StoredProcess) → map but_notices new ≡ map but_notices old → (p : StoredProcess)
+    → IsIn p new → (q : StoredProcess) × (IsIn q old × (q.own ≡ p.own))
 same_own [] [] same p among = absurd among
 same_own [] (x ∷ new) same p among = cc
 same_own (y ∷ old) [] same p among = absurd among
@@ -114,12 +122,16 @@ same_own (y ∷ old) (x ∷ new) same p among =
 pub rises_still : (old new : Records) (q p : StoredProcess) → WereStored old new → q.own ≡ p.own → HasRisingLocks old q → HasRisingLocks new p
 rises_still old new q p were same rises = record {
   queued = λ own among. rises.queued own (subst (IsIn own) (sym same) among);
-  own = subst (λ owns. StandByIdentification new (handles_of_own owns)) same (stand_still old new (handles_of_own q.own) (λ a b in_a in_b. before_still old new were a b) rises.own);
-  sublocks = λ own among. stand_still old new (own.at ∷ own.sublocks) (λ a b in_a in_b. before_still old new were a b) (rises.sublocks own (subst (IsIn own) (sym same) among));
+  own = subst (λ owns. StandById new (handles_of_own owns)) same
+      (stand_still old new (handles_of_own q.own) (λ a b in_a in_b. before_still old new were a b) rises.own);
+  sublocks = λ own among. stand_still old new (own.at ∷ own.sublocks) (λ a b in_a in_b. before_still old new were a b)
+      (rises.sublocks own (subst (IsIn own) (sym same) among));
 }
 
 -- so all have where none gets another lock
-pub all_rise_still : (old new : Records) → WereStored old new → map but_notices new.processes ≡ map but_notices old.processes → AllRise old old.processes → AllRise new new.processes
+pub all_rise_still : (old new : Records) → WereStored old new
+    → map but_notices new.processes ≡ map but_notices old.processes → AllRise old old.processes
+    → AllRise new new.processes
 all_rise_still old new were same rising p among =
     let was = same_own old.processes new.processes same p among in
     rises_still old new was.0 p were was.1.1 (rising was.0 was.1.0)
@@ -150,7 +162,9 @@ was_own lock (x ∷ owns) own among =
     ]
 
 -- of the handles just its own goes
-pub handles_without : (lock : ℕ) (owns : List OwnLock) → handles_of_own (map (without_sublock lock) (filter (λ (o : OwnLock). not (o.at == lock)) owns)) ≡ without lock (handles_of_own owns)
+pub handles_without : (lock : ℕ) (owns : List OwnLock)
+    → handles_of_own (map (without_sublock lock) (filter (λ (o : OwnLock). not (o.at == lock)) owns)) ≡ without lock
+    (handles_of_own owns)
 handles_without lock [] = refl
 handles_without lock (x ∷ owns) =
     elim (cases_eq x.at lock) [
@@ -161,11 +175,11 @@ handles_without lock (x ∷ owns) =
 rises_without : (s : Records) (lock : ℕ) (q : StoredProcess) → HasRisingLocks s q → HasRisingLocks s (process_without_lock lock q)
 rises_without s lock q rises = record {
   queued = λ own among. let was = was_own lock q.own own among in ap (λ (o : OwnLock). o.loose) (sym was.1.1) ∙ rises.queued was.0 was.1.0;
-  own = subst (StandByIdentification s) (sym (handles_without lock q.own)) (stand_without s lock (handles_of_own q.own) rises.own);
+  own = subst (StandById s) (sym (handles_without lock q.own)) (stand_without s lock (handles_of_own q.own) rises.own);
   sublocks = λ own among.
       let was = was_own lock q.own own among in
       let stand = rises.sublocks was.0 was.1.0 in
-      subst (λ (o : OwnLock). StandByIdentification s (o.at ∷ o.sublocks)) was.1.1
+      subst (λ (o : OwnLock). StandById s (o.at ∷ o.sublocks)) was.1.1
       (λ later there. stand.0 later (IsIn-without lock later was.0.sublocks there).0, stand_without s lock was.0.sublocks stand.1);
 }
 
@@ -181,7 +195,7 @@ none_loose s rising p own among own_among = (rising p among).queued own own_amon
 
 -- ---- a lock that is made
 
--- an identification above all is new
+-- an ID above all is new
 pub new_above : (lkid : ℕ) (s : Records) → NoneIsLoose s → IsAboveEachLock lkid s → IsNewLock lkid s
 new_above lkid s none above at row has same = absurd (omega (arith, above at row (in_a_queue s none at row has), same))
 
@@ -219,16 +233,18 @@ module _ (owner : ℕ) (parent : Option ℕ) (lock : ℕ) where
 
   handles_with : (owns : List OwnLock) → handles_of_own (map (with_sublock parent lock) owns) ≡ handles_of_own owns
   handles_with [] = refl
-  handles_with (o ∷ owns) = ap (λ at. at ∷ handles_of_own (map (with_sublock parent lock) owns)) (same_at parent o) ∙ ap (λ handles. o.at ∷ handles) (handles_with owns)
+  handles_with (o ∷ owns) = ap (λ at. at ∷ handles_of_own (map (with_sublock parent lock) owns)) (same_at parent o)
+      ∙ ap (λ handles. o.at ∷ handles) (handles_with owns)
 
   module _ (s new : Records) (sound : IsSound s) (none : NoneIsLoose s) (lkid : ℕ) (fresh : ¬ IsStored lock s) (above : IsAboveEachLock lkid s)
-      (cases : (at : ℕ) (row : LockRow) → Stores new at row → ((at ≡ lock) × (row.lkid ≡ lkid)) ⊎ Stores s at row) where
+      (cases : (at : ℕ) (row : LockState) → Stores new at row → ((at ≡ lock) × (row.lkid ≡ lkid)) ⊎ Stores s at row) where
     -- another lock was stored
-    was_stored : (at : ℕ) → IsStored at s → (row : LockRow) → Stores new at row → Stores s at row
+    was_stored : (at : ℕ) → IsStored at s → (row : LockState) → Stores new at row → Stores s at row
     was_stored at stored row now = elim (cases at row now) [ inl is ↦ absurd (fresh (subst (λ k. IsStored k s) is.0 stored)) | inr was ↦ was ]
 
     before_kept : (first second : ℕ) → IsStored first s → IsStored second s → IsOlder s first second → IsOlder new first second
-    before_kept first second stored_first stored_second before a b in_a in_b = before a b (was_stored first stored_first a in_a) (was_stored second stored_second b in_b)
+    before_kept first second stored_first stored_second before a b in_a in_b =
+        before a b (was_stored first stored_first a in_a) (was_stored second stored_second b in_b)
 
     -- each comes before the new one
     before_last : (at : ℕ) → IsStored at s → IsOlder new at lock
@@ -239,10 +255,10 @@ module _ (owner : ℕ) (parent : Option ℕ) (lock : ℕ) where
         ]
 
     -- handles of stored locks stand so still, and with the new one as their last
-    stand_kept : (handles : List ℕ) → ((at : ℕ) → IsIn at handles → IsStored at s) → StandByIdentification s handles → StandByIdentification new handles
+    stand_kept : (handles : List ℕ) → ((at : ℕ) → IsIn at handles → IsStored at s) → StandById s handles → StandById new handles
     stand_kept handles stored stand = stand_still s new handles (λ a b in_a in_b. before_kept a b (stored a in_a) (stored b in_b)) stand
 
-    stand_joined : (handles : List ℕ) → ((at : ℕ) → IsIn at handles → IsStored at s) → StandByIdentification s handles → StandByIdentification new (handles ++ lock ∷ [])
+    stand_joined : (handles : List ℕ) → ((at : ℕ) → IsIn at handles → IsStored at s) → StandById s handles → StandById new (handles ++ lock ∷ [])
     stand_joined handles stored stand = stand_with new handles lock (λ at there. before_last at (stored at there)) (stand_kept handles stored stand)
 
     rises_with : (q : StoredProcess) → IsIn q s.processes → HasRisingLocks s q → HasRisingLocks new (process_with_lock owner parent lock q)
@@ -253,8 +269,8 @@ module _ (owner : ℕ) (parent : Option ℕ) (lock : ℕ) where
       ];
       own = of_owner (q.at == owner);
       sublocks = λ own there. elim (had_own (q.at == owner) q.own own there) [
-        | inl was ↦ subst (λ (o : OwnLock). StandByIdentification new (o.at ∷ o.sublocks)) was.1.1 (of_parent parent was.0 was.1.0)
-        | inr is ↦ subst (λ (o : OwnLock). StandByIdentification new (o.at ∷ o.sublocks)) is (λ later none. absurd none, tt)
+        | inl was ↦ subst (λ (o : OwnLock). StandById new (o.at ∷ o.sublocks)) was.1.1 (of_parent parent was.0 was.1.0)
+        | inr is ↦ subst (λ (o : OwnLock). StandById new (o.at ∷ o.sublocks)) is (λ later none. absurd none, tt)
       ];
     }
       where
@@ -270,29 +286,30 @@ module _ (owner : ℕ) (parent : Option ℕ) (lock : ℕ) where
           | inr later ↦ (let below = sound.owned.below q o at among own later in (below.1, in_a_queue s none at below.1 below.2.1))
         ]
 
-        of_owner : (mine : Bool) → StandByIdentification new (handles_of_own (map (with_sublock parent lock) q.own ++ cond mine (new_own lock) []))
+        of_owner : (mine : Bool) → StandById new (handles_of_own (map (with_sublock parent lock) q.own ++ cond mine (new_own lock) []))
         of_owner true =
-            subst (StandByIdentification new)
-            (sym (map-append (λ (o : OwnLock). o.at) (map (with_sublock parent lock) q.own) (new_own lock) ∙ ap (λ handles. handles ++ lock ∷ []) (handles_with q.own)))
+            subst (StandById new)
+            (sym (map-append (λ (o : OwnLock). o.at) (map (with_sublock parent lock) q.own) (new_own lock)
+            ∙ ap (λ handles. handles ++ lock ∷ []) (handles_with q.own)))
             (stand_joined (handles_of_own q.own) own_stored rises.own)
         of_owner false =
-            subst (StandByIdentification new)
+            subst (StandById new)
             (sym (map-append (λ (o : OwnLock). o.at) (map (with_sublock parent lock) q.own) [] ∙ append-nil _ ∙ handles_with q.own))
             (stand_kept (handles_of_own q.own) own_stored rises.own)
 
         of_parent : (up : Option ℕ) (o : OwnLock) → IsIn o q.own
-            → StandByIdentification new ((with_sublock up lock o).at ∷ (with_sublock up lock o).sublocks)
+            → StandById new ((with_sublock up lock o).at ∷ (with_sublock up lock o).sublocks)
         of_parent None o own = stand_kept (o.at ∷ o.sublocks) (below_stored o own) (rises.sublocks o own)
         of_parent (Some handle) o own = of_test (o.at == handle)
           where
             with_lock : Bool → OwnLock
             with_lock b = cond b (record o { sublocks = o.sublocks ++ lock ∷ [] }) o
 
-            of_test : (b : Bool) → StandByIdentification new ((with_lock b).at ∷ (with_lock b).sublocks)
+            of_test : (b : Bool) → StandById new ((with_lock b).at ∷ (with_lock b).sublocks)
             of_test true = stand_joined (o.at ∷ o.sublocks) (below_stored o own) (rises.sublocks o own)
             of_test false = stand_kept (o.at ∷ o.sublocks) (below_stored o own) (rises.sublocks o own)
 
-    -- the locks of each process stand by rising identification with a new lock that is above all
+    -- the locks of each process stand by rising ID with a new lock that is above all
     pub all_rise_with : AllRise s s.processes → AllRise new (map (process_with_lock owner parent lock) s.processes)
     all_rise_with rising p among =
         let had = was_process (process_with_lock owner parent lock) s.processes p among in

@@ -1,7 +1,12 @@
 -- The rundown of a process, lock by lock.
-use Rattle.std.proofs.Common.{◌≡◌, ◌≤◌, ◌+◌, ◌==◌, ℕ, map, length, ◌<◌, ◌⊎◌, Bool, true, false, List, [], ◌∷◌, Option, None, Some, refl, sym, ap, ◌∙◌, subst, inl, inr, arith, ◌≢◌, ◌++◌, not, cond, eq-eqb, ne_eqb, flat_map, IsSome, IfSome}
+use Rattle.std.proofs.Common.{◌≡◌, ◌≤◌, ◌+◌, ◌==◌, ℕ, map, length, ◌<◌, ◌⊎◌, Bool, true, false, List, [], ◌∷◌, Option}
+use Rattle.std.proofs.Common.{None, Some, refl, sym, ap, ◌∙◌, subst, inl, inr, arith, ◌≢◌, ◌++◌, not, cond, eq-eqb}
+use Rattle.std.proofs.Common.{ne_eqb, flat_map, IsSome, IfSome}
 use Rattle.vlm_store.specs.Plain.{plain_processes, plain_resources, plain_resource}
-use Rattle.vlm_store.specs.Records.{IsProcess, IsSound, Records, HasNoLocks, HasNoSublocks, IsStored, OwnLock, StoredLock, StoredProcess, StoredResource, Stores, own_at, own_handles_at, process_at, rows_of_locks, but_notices, locks_at, process_without_lock, without_lock, without_resource, AreResourcesApart, queued, resource_at}
+use Rattle.vlm_store.specs.Records.{IsProcess, IsSound, Records, HasNoLocks, HasNoSublocks, IsStored, OwnLock}
+use Rattle.vlm_store.specs.Records.{StoredLock, StoredProcess, StoredResource, Stores, own_at, own_handles_at}
+use Rattle.vlm_store.specs.Records.{process_at, rows_of_locks, but_notices, locks_at, process_without_lock}
+use Rattle.vlm_store.specs.Records.{without_lock, without_resource, AreResourcesApart, queued, resource_at}
 use Rattle.vlm_locks.specs.Owing.{IsPaid}
 use Rattle.vlm_locks.specs.Rest.{IsAtRest, LeavesOthers}
 use Rattle.vlm_locks.specs.Left.{giving_up, resource_left}
@@ -15,20 +20,20 @@ use Rattle.std.specs.Option.{option_map_or}
 use Rattle.std.proofs.lemmas.Option.{none-some, same_Some}
 use Rattle.std.proofs.lemmas.Bool.{eqb-true, cases_eq, eqb-false}
 use Rattle.vlm_collections.specs.Lists.{IsIn, last_from, last_handle, without, IsApart}
-use Rattle.vlm_words.specs.declared.locks.LockRow.{LockRow}
+use Rattle.vlm_words.specs.declared.locks.LockState.{LockState}
 use Rattle.vlm_words.specs.declared.resources.Queue.TheVariants.{Granted, Conversion, Waiting}
 use Rattle.vlm_store.proofs.Counted.{one_process, own_handle, own_handles-apart, own_under_handle}
-use Rattle.vlm_store.proofs.Plain.{process_at-stored}
-use Rattle.vlm_locks.specs.Rising.{IsOlder, HasRisingLocks, StandByIdentification, handles_of_own}
-use Rattle.vlm_locks.proofs.Left.{IsOthers, nothing_left, IsOwnRow, OwnRows, one_withdrawn}
-use Rattle.vlm_locks.proofs.Stood.{one_lock, queued_stored, only, own_among, resource_among, stored}
+use Rattle.vlm_store.proofs.PlainProcesses.{process_at-stored}
+use Rattle.vlm_locks.specs.Rising.{IsOlder, HasRisingLocks, StandById, handles_of_own}
+use Rattle.vlm_locks.proofs.ReleasedResources.{IsOthers, nothing_left, IsOwnRow, OwnRows, one_withdrawn}
+use Rattle.vlm_locks.proofs.QueuedLocks.{one_lock, queued_stored, only, own_among, resource_among, stored}
 use Rattle.vlm_collections.proofs.HandleLists.{IsIn-without, length-without, none_in, in_map}
 use Rattle.vlm_records.specs.declared.handles.Place.TheVariants.{Queued}
 use Rattle.vlm_locks.specs.declared.located_locks.LocatedLock.{LocatedLock}
 use Rattle.vlm_locks.specs.declared.touched.Note.{Note}
 use Rattle.vlm_locks.specs.Standing.{IsLocated}
 use Rattle.vlm_locks.proofs.Rising.{handles_without, same_own, was_process, none_loose}
-use Rattle.vlm_locks.proofs.Staying.{among_without}
+use Rattle.vlm_locks.proofs.GrantsKeepResources.{among_without}
 use Rattle.std.proofs.lemmas.List.Sums.{sum_by-cons}
 use Rattle.vlm_words.specs.State.{Resource}
 use Rattle.vlm_words.specs.declared.resources.Queue.{Queue}
@@ -36,18 +41,19 @@ use Rattle.vlm_words.specs.Rows.{rows_without}
 use Rattle.vlm_model.specs.Rundown.{rundown_of}
 use Rattle.vlm_words.specs.ValueBlocks.{new_value_block}
 use Rattle.vlm_model.specs.Effects.{Blocks, blocks_with}
-use Rattle.vlm_model.specs.Withdrawals.{Withdrawal, is_held_by_writer, processes_after, resource_after_withdrawals, resource_without, value_block_after_writer, withdrawal_endings}
-use Rattle.vlm_model.proofs.Apart.{standing, stands}
-use Rattle.vlm_model.proofs.Ended.{lock_ends, write_nothing}
+use Rattle.vlm_model.specs.Withdrawals.{Withdrawal, is_held_by_writer, processes_after, resource_after_withdrawals}
+use Rattle.vlm_model.specs.Withdrawals.{resource_without, value_block_after_writer, withdrawal_endings}
+use Rattle.vlm_model.proofs.IdsApart.{standing, stands}
+use Rattle.vlm_model.proofs.ProcessEnds.{lock_ends, write_nothing}
 use Rattle.vlm_model.proofs.Keys.{withdrawals_keep_place}
 use Rattle.vlm_model.proofs.Weights.{weigh}
-use Rattle.vlm_locks.proofs.Found.{resource_alone, resource_at-at}
-use Rattle.vlm_locks.proofs.Sound.{same_process_of}
+use Rattle.vlm_locks.proofs.FoundByHandle.{resource_alone, resource_at-at}
+use Rattle.vlm_locks.proofs.SoundRecords.{same_process_of}
 use Rattle.std.proofs.lemmas.List.{length-append}
 use Rattle.vlm_store.proofs.Records.{in_a_queue}
 
 -- some locks of the process are gone so far: what is left without all that go is the same as at first
-pub record AreGoing (goes : LockRow → Bool) (invalidates : Bool) (owner pid : ℕ) (old s : Records) (before touched : Touches) : Type 0 where
+pub record AreGoing (goes : LockState → Bool) (invalidates : Bool) (owner pid : ℕ) (old s : Records) (before touched : Touches) : Type 0 where
   pub resources : map (resource_left goes invalidates) (plain_resources s) ≡ map (resource_left goes invalidates) (plain_resources old)
   pub statuses : plain_processes s ≡ plain_processes old
   pub lives : IsProcess owner pid s
@@ -63,7 +69,7 @@ pub record AreGoing (goes : LockRow → Bool) (invalidates : Bool) (owner pid : 
   pub same_room : touched.room ≡ before.room
 
 -- the row is one of the process
-abbrev pub is_row_of : ℕ → LockRow → Bool
+abbrev pub is_row_of : ℕ → LockState → Bool
 is_row_of pid row = row.pid == pid
 
 -- the process is run down so far
@@ -89,7 +95,7 @@ last_in (x ∷ rest) last is = elim (last_among rest x last is) [
 ]
 
 -- and each other comes before it
-all_before_last : (s : Records) (handles : List ℕ) (first last other : ℕ) → StandByIdentification s (first ∷ handles) → last_from (Some first) handles ≡ Some last
+all_before_last : (s : Records) (handles : List ℕ) (first last other : ℕ) → StandById s (first ∷ handles) → last_from (Some first) handles ≡ Some last
     → IsIn other (first ∷ handles) → (other ≡ last) ⊎ IsOlder s other last
 all_before_last s [] first last other stand is among = elim among [
   | inl here ↦ inl (sym here ∙ same_Some first last is)
@@ -100,7 +106,7 @@ all_before_last s (x ∷ rest) first last other stand is among = elim among [
   | inr later ↦ all_before_last s rest x last other stand.1 is later
 ]
 
-before_last : (s : Records) (handles : List ℕ) (last other : ℕ) → StandByIdentification s handles → last_handle handles ≡ Some last
+before_last : (s : Records) (handles : List ℕ) (last other : ℕ) → StandById s handles → last_handle handles ≡ Some last
     → IsIn other handles → (other ≡ last) ⊎ IsOlder s other last
 before_last s [] last other stand is among = absurd among
 before_last s (x ∷ rest) last other stand is among = all_before_last s rest x last other stand is among
@@ -119,7 +125,8 @@ no_own [] is = refl
 no_own (own ∷ owns) is = cc
 
 -- where no row goes, what is left is what is there
-module _ (s : Records) (sound : IsSound s) (goes : LockRow → Bool) (invalidates : Bool) (none : (at : ℕ) (row : LockRow) → Stores s at row → goes row ≡ false) where
+module _ (s : Records) (sound : IsSound s) (goes : LockState
+    → Bool) (invalidates : Bool) (none : (at : ℕ) (row : LockState) → Stores s at row → goes row ≡ false) where
   each_other : (locks : List StoredLock) → ((k : StoredLock) → IsIn k locks → Stores s k.at k.row) → AllByRecursion (IsOthers goes) (rows_of_locks locks)
   each_other [] each = tt
   each_other (k ∷ locks) each = (none k.at k.row (each k (inl refl)), each_other locks (λ x there. each x (inr there)))
@@ -162,23 +169,23 @@ module _ (owner pid : ℕ) (s : Records) (sound : IsSound s) (lives : IsProcess 
   pub handles_apart : IsApart (own_handles_at owner s)
   handles_apart = subst IsApart (sym its_handles) (own_handles-apart p.own (sound.own_apart p lives.1.0))
 
-  -- they stand by rising identification
-  pub they_rise : IsAtRest s → StandByIdentification s (own_handles_at owner s)
-  they_rise rest = subst (StandByIdentification s) (sym its_handles) (rest.rising p lives.1.0).own
+  -- they stand by rising ID
+  pub they_rise : IsAtRest s → StandById s (own_handles_at owner s)
+  they_rise rest = subst (StandById s) (sym its_handles) (rest.rising p lives.1.0).own
 
-  -- no other process has its identification
+  -- no other process has its ID
   only_it : (q : StoredProcess) → IsIn q s.processes → q.process.pid ≡ pid → q ≡ p
   only_it q among same = one_process s.processes sound.processes_apart q p among lives.1.0 (same ∙ sym lives.1.2)
 
   -- each of its locks is among its own
-  pub owned_here : (at : ℕ) (row : LockRow) → Stores s at row → row.pid ≡ pid → IsIn at (handles_of_own p.own)
+  pub owned_here : (at : ℕ) (row : LockState) → Stores s at row → row.pid ≡ pid → IsIn at (handles_of_own p.own)
   owned_here at row stored mine =
       let owned = sound.owned.owned at row (inl stored) in
       let same : owned.0 ≡ p = only_it owned.0 owned.2.0 (owned.2.1 ∙ mine) in
       subst (λ h. IsIn h (handles_of_own p.own)) owned.2.3 (own_under_handle p.own owned.1 (subst (λ (q : StoredProcess). IsIn owned.1 q.own) same owned.2.2))
 
-  -- and stands with its identification
-  pub stored_here : IsAtRest s → (at : ℕ) → IsIn at (own_handles_at owner s) → (row : LockRow) × (Stores s at row × (row.pid ≡ pid))
+  -- and stands with its ID
+  pub stored_here : IsAtRest s → (at : ℕ) → IsIn at (own_handles_at owner s) → (row : LockState) × (Stores s at row × (row.pid ≡ pid))
   stored_here rest at there =
       let own = own_handle p.own at (subst (IsIn at) its_handles there) in
       let owns = sound.owned.owns p own.0 lives.1.0 own.1.0 in
@@ -198,9 +205,9 @@ module _ (owner pid : ℕ) (s : Records) (sound : IsSound s) (lives : IsProcess 
         rises : HasRisingLocks s q
         rises = rest.rising q in_q
 
-        of_order : (up row : LockRow) (sub : ℕ) → up.lkid < row.lkid → (sub ≡ lock) ⊎ IsOlder s sub lock → Stores s lock up → Stores s sub row → ⊥
+        of_order : (up row : LockState) (sub : ℕ) → up.lkid < row.lkid → (sub ≡ lock) ⊎ IsOlder s sub lock → Stores s lock up → Stores s sub row → ⊥
         of_order up row sub more (inl is) stored_up stored_row =
-            omega (arith, more, ap (λ (x : LockRow). x.lkid) (one_lock s sound lock up row stored_up (subst (λ h. Stores s h row) is stored_row)))
+            omega (arith, more, ap (λ (x : LockState). x.lkid) (one_lock s sound lock up row stored_up (subst (λ h. Stores s h row) is stored_row)))
         of_order up row sub more (inr before) stored_up stored_row = omega (arith, more, before row up stored_row stored_up)
 
         none_below : (sub : ℕ) → IsIn sub own.sublocks → ⊥
@@ -212,14 +219,14 @@ module _ (owner pid : ℕ) (s : Records) (sound : IsSound s) (lives : IsProcess 
             let here = stored_here rest lock last_there in
             let up_same : here.0 ≡ below.0 = one_lock s sound lock here.0 below.0 here.1.0 up_stored in
             let mine : below.1.pid ≡ pid =
-            together sub lock below.1 below.0 sub_stored up_stored below.2.2 ∙ ap (λ (row : LockRow). row.pid) (sym up_same) ∙ here.1.1 in
+            together sub lock below.1 below.0 sub_stored up_stored below.2.2 ∙ ap (λ (row : LockState). row.pid) (sym up_same) ∙ here.1.1 in
             let after : IsOlder s lock sub = subst (λ h. IsOlder s h sub) same ((rises.sublocks own in_own).0 sub there) in
             let order = before_last s (handles_of_own p.own) lock sub (rest.rising p lives.1.0).own (sym (ap last_handle its_handles) ∙ last)
             (owned_here sub below.1 sub_stored mine) in
             of_order below.0 below.1 sub (after below.0 below.1 up_stored sub_stored) order up_stored sub_stored
 
   -- where the process has no lock, no row is its own
-  pub none_is_own : own_handles_at owner s ≡ [] → (at : ℕ) (row : LockRow) → Stores s at row → (row.pid == pid) ≡ false
+  pub none_is_own : own_handles_at owner s ≡ [] → (at : ℕ) (row : LockState) → Stores s at row → (row.pid == pid) ≡ false
   none_is_own none at row stored = of_test (row.pid == pid) refl
     where
       of_test : (b : Bool) → (row.pid == pid) ≡ b → b ≡ false
@@ -271,7 +278,8 @@ pub of_others : (res : ℕ) (r : StoredResource) (rs : List StoredResource) → 
 of_others res r [] there = there
 of_others res r (x ∷ rs) there = of_test (x.at == res) there (of_others res r rs)
   where
-    of_test : (b : Bool) → IsIn r (cond (not b) (x ∷ without_resource res rs) (without_resource res rs)) → (IsIn r (without_resource res rs) → IsIn r rs) → IsIn r (x ∷ rs)
+    of_test : (b : Bool) → IsIn r (cond (not b) (x ∷ without_resource res rs) (without_resource res rs))
+        → (IsIn r (without_resource res rs) → IsIn r rs) → IsIn r (x ∷ rs)
     of_test true behind later = inr (later behind)
     of_test false among later = elim among [
       | inl here ↦ inl here
@@ -281,12 +289,14 @@ of_others res r (x ∷ rs) there = of_test (x.at == res) there (of_others res r 
 module _ (s new : Records) (sound : IsSound s) (sound_new : IsSound new) (f : LocatedLock) (located : IsLocated f s) (beside : LeavesOthers f.res f.lock s new)
     (own_locks : map but_notices new.processes ≡ map but_notices (map (process_without_lock f.lock) s.processes)) where
   -- the lock is gone
-  pub gone : (row : LockRow) → Stores new f.lock row → ⊥
+  pub gone : (row : LockState) → Stores new f.lock row → ⊥
   gone row stored =
       let owned = sound_new.owned.owned f.lock row (inl stored) in
       let was = same_own (map (process_without_lock f.lock) s.processes) new.processes own_locks owned.0 owned.2.0 in
       let here : IsIn f.lock (handles_of_own was.0.own) =
-      subst (λ owns. IsIn f.lock (handles_of_own owns)) (sym was.1.1) (subst (λ h. IsIn h (handles_of_own owned.0.own)) owned.2.3 (own_under_handle owned.0.own owned.1 owned.2.2)) in
+      subst (λ owns. IsIn f.lock (handles_of_own owns)) (sym was.1.1)
+      (subst (λ h. IsIn h (handles_of_own owned.0.own)) owned.2.3
+      (own_under_handle owned.0.own owned.1 owned.2.2)) in
       let had = was_process (process_without_lock f.lock) s.processes was.0 was.1.0 in
       (IsIn-without f.lock f.lock (handles_of_own had.0.own)
       (subst (IsIn f.lock) (ap (λ (q : StoredProcess). handles_of_own q.own) (sym had.1.1) ∙ handles_without f.lock had.0.own) here)).1 refl
@@ -295,7 +305,12 @@ module _ (s new : Records) (sound : IsSound s) (sound_new : IsSound new) (f : Lo
   pub one_were_there : WereThere s new
   one_were_there place k there =
       among_without f.lock k (locks_at place s)
-      (subst (IsIn k) (beside.locks place) (among_others f.lock k (locks_at place new) (λ same. gone k.row (place, subst (λ h. IsIn (record { at = h; row = k.row }) (locks_at place new)) same there)) there))
+      (subst (IsIn k) (beside.locks place)
+      (among_others f.lock k (locks_at place new)
+      (λ same. gone k.row (
+        place,
+        subst (λ h. IsIn (record { at = h; row = k.row }) (locks_at place new)) same there,
+      )) there))
 
   pub still_together : SublocksAreOwn s → SublocksAreOwn new
   still_together together at other row up stored above same =
@@ -307,7 +322,9 @@ module _ (s new : Records) (sound : IsSound s) (sound_new : IsSound new) (f : Lo
 
   -- the process lives on, without the lock
   module _ (owner pid : ℕ) (lives : IsProcess owner pid s) where
-    process_left : (q : StoredProcess) × (IsIn q new.processes × (q.at ≡ lives.0.at) × (q.process.pid ≡ lives.0.process.pid) × (q.own ≡ (process_without_lock f.lock lives.0).own))
+    process_left : (q : StoredProcess)
+        × (IsIn q new.processes × (q.at ≡ lives.0.at) × (q.process.pid ≡ lives.0.process.pid)
+        × (q.own ≡ (process_without_lock f.lock lives.0).own))
     process_left =
         same_process_of (map (process_without_lock f.lock) s.processes) new.processes own_locks (process_without_lock f.lock lives.0)
         (in_map (process_without_lock f.lock) lives.0 s.processes lives.1.0)
@@ -327,7 +344,12 @@ module _ (s new : Records) (sound : IsSound s) (sound_new : IsSound new) (f : Lo
       → OnlyTouched (touches ++ record { number = serial; at = f.res } ∷ []) old new
   one_only_touched touches serial old only r there untouched =
       only r
-      (of_others f.res r s.resources (subst (IsIn r) beside.others (other_resource f.res r new.resources (λ same. untouched (subst (λ h. IsIn h (touched_handles (touches ++ record { number = serial; at = f.res } ∷ []))) (sym same) (last_touched touches))) there)))
+      (of_others f.res r s.resources
+      (subst (IsIn r) beside.others
+      (other_resource f.res r new.resources
+      (λ same. untouched (subst
+      (λ h. IsIn h (touched_handles (touches ++ record { number = serial; at = f.res } ∷ []))) (sym same)
+      (last_touched touches))) there)))
       (λ touched. untouched (more_touched touches touched))
     where
       last_touched : (ts : List Note) → IsIn f.res (touched_handles (ts ++ record { number = serial; at = f.res } ∷ []))
@@ -344,8 +366,10 @@ module _ (s new : Records) (sound : IsSound s) (sound_new : IsSound new) (f : Lo
 -- ---- what the plain machine makes of it
 
 -- all rows of the lock go
-module _ (s : Records) (sound : IsSound s) (f : LocatedLock) (located : IsLocated f s) (goes : LockRow → Bool) (invalidates : Bool) (its : goes f.row ≡ true) where
-  each_own : (r : StoredResource) → IsIn r s.resources → (queue : Queue) → (locks : List StoredLock) → ((k : StoredLock) → IsIn k locks → IsIn k (queued queue r))
+module _ (s : Records) (sound : IsSound s) (f : LocatedLock) (located : IsLocated f s) (goes : LockState
+    → Bool) (invalidates : Bool) (its : goes f.row ≡ true) where
+  each_own : (r : StoredResource) → IsIn r s.resources → (queue : Queue) → (locks : List StoredLock)
+      → ((k : StoredLock) → IsIn k locks → IsIn k (queued queue r))
       → AllByRecursion (IsOwnRow goes f.row.lkid) (rows_of_locks locks)
   each_own r among queue [] there = tt
   each_own r among queue (k ∷ locks) there = (
@@ -363,7 +387,9 @@ module _ (s : Records) (sound : IsSound s) (f : LocatedLock) (located : IsLocate
   -- what is left is the same
   module _ (waiting converting : How) where
     leaves_same : (rs : List StoredResource) → ((r : StoredResource) → IsIn r rs → IsIn r s.resources)
-        → map (resource_left goes invalidates) (map (resource_after_withdrawals (giving_up waiting converting invalidates f.row.lkid ∷ [])) (map plain_resource rs))
+        → map (resource_left goes invalidates)
+        (map (resource_after_withdrawals (giving_up waiting converting invalidates f.row.lkid ∷ []))
+        (map plain_resource rs))
         ≡ map (resource_left goes invalidates) (map plain_resource rs)
     leaves_same [] there = refl
     leaves_same (r ∷ rs) there =
@@ -384,7 +410,8 @@ pub one_untold : (new s : Records) (lkid : ℕ) (w : Withdrawal) → w ≡ rundo
 one_untold new s lkid w is after =
     after ∙ ap (λ (v : Withdrawal). processes_after (flat_map (withdrawal_endings v) (plain_resources s)) (plain_processes s)) is
     ∙ ap (λ (b : Blocks). b.processes)
-    (write_nothing (flat_map (withdrawal_endings (rundown_of lkid)) (plain_resources s)) (blocks_with new_value_block (plain_processes s)) (lock_ends lkid (plain_resources s)))
+    (write_nothing (flat_map (withdrawal_endings (rundown_of lkid)) (plain_resources s))
+    (blocks_with new_value_block (plain_processes s)) (lock_ends lkid (plain_resources s)))
 
 -- ---- how many are left
 
@@ -392,11 +419,13 @@ one_untold new s lkid w is after =
 rows_count : List Resource → ℕ
 rows_count rs = sum_by (weigh (λ row. 1)) rs
 
-ones : (locks : List StoredLock) → sum_by (λ (row : LockRow). 1) (rows_of_locks locks) ≡ length locks
+ones : (locks : List StoredLock) → sum_by (λ (row : LockState). 1) (rows_of_locks locks) ≡ length locks
 ones [] = refl
-ones (k ∷ locks) = omega (arith, ones locks, sum_by-cons (λ (row : LockRow). 1) k.row (rows_of_locks locks))
+ones (k ∷ locks) = omega (arith, ones locks, sum_by-cons (λ (row : LockState). 1) k.row (rows_of_locks locks))
 
-pub total_is : (rs : List StoredResource) → sum_by (λ r. length r.granted + length r.converting + length r.waiting) rs ≡ sum_by (weigh (λ row. 1)) (map plain_resource rs)
+pub total_is : (rs : List StoredResource)
+    → sum_by (λ r. length r.granted + length r.converting + length r.waiting) rs ≡ sum_by (weigh (λ row. 1))
+    (map plain_resource rs)
 total_is [] = refl
 total_is (r ∷ rs) =
     omega (
@@ -409,16 +438,19 @@ total_is (r ∷ rs) =
       sum_by-cons (weigh (λ row. 1)) (plain_resource r) (map plain_resource rs),
     )
 
-rows_parted : (lkid : ℕ) (rows : List LockRow) → sum_by (λ (row : LockRow). 1) (rows_without lkid rows) + sum_by (stands lkid) rows ≡ sum_by (λ (row : LockRow). 1) rows
+rows_parted : (lkid : ℕ) (rows : List LockState)
+    → sum_by (λ (row : LockState). 1) (rows_without lkid rows) + sum_by (stands lkid) rows ≡ sum_by
+    (λ (row : LockState). 1) rows
 rows_parted lkid [] = refl
 rows_parted lkid (row ∷ rows) = of_test (row.lkid == lkid) refl (rows_parted lkid rows)
   where
     of_test : (b : Bool) → (row.lkid == lkid) ≡ b
-        → sum_by (λ (x : LockRow). 1) (rows_without lkid rows) + sum_by (stands lkid) rows ≡ sum_by (λ (x : LockRow). 1) rows
-        → sum_by (λ (x : LockRow). 1) (cond (not b) (row ∷ rows_without lkid rows) (rows_without lkid rows)) + sum_by (stands lkid) (row ∷ rows) ≡ sum_by (λ (x : LockRow). 1) (row ∷ rows)
+        → sum_by (λ (x : LockState). 1) (rows_without lkid rows) + sum_by (stands lkid) rows ≡ sum_by (λ (x : LockState). 1) rows
+        → sum_by (λ (x : LockState). 1) (cond (not b) (row ∷ rows_without lkid rows) (rows_without lkid rows)) + sum_by
+        (stands lkid) (row ∷ rows) ≡ sum_by (λ (x : LockState). 1) (row ∷ rows)
     of_test true is behind =
         let one : stands lkid row ≡ 1 = ap (λ (b : Bool). cond b 1 0) is in
-        omega (arith, behind, one, sum_by-cons (stands lkid) row rows, sum_by-cons (λ (x : LockRow). 1) row rows)
+        omega (arith, behind, one, sum_by-cons (stands lkid) row rows, sum_by-cons (λ (x : LockState). 1) row rows)
     of_test false is behind =
         let none : stands lkid row ≡ 0 = ap (λ (b : Bool). cond b 1 0) is in
         omega (
@@ -426,8 +458,8 @@ rows_parted lkid (row ∷ rows) = of_test (row.lkid == lkid) refl (rows_parted l
           behind,
           none,
           sum_by-cons (stands lkid) row rows,
-          sum_by-cons (λ (x : LockRow). 1) row rows,
-          sum_by-cons (λ (x : LockRow). 1) row (rows_without lkid rows),
+          sum_by-cons (λ (x : LockState). 1) row rows,
+          sum_by-cons (λ (x : LockState). 1) row (rows_without lkid rows),
         )
 
 module _ (waiting converting : How) (invalidates : Bool) (lkid : ℕ) where
@@ -437,13 +469,19 @@ module _ (waiting converting : How) (invalidates : Bool) (lkid : ℕ) where
   resource_parted r = of_test (is_held_by_writer lkid r)
     where
       of_test : (b : Bool)
-          → weigh (λ row. 1) (resource_without lkid (cond b (record r { value_block = value_block_after_writer (giving_up waiting converting invalidates lkid) r.value_block }) r))
+          → weigh (λ row. 1) (resource_without lkid
+          (cond b (record r {
+            value_block =
+                value_block_after_writer (giving_up waiting converting invalidates lkid) r.value_block;
+          }) r))
           + weigh (stands lkid) r ≡ weigh (λ row. 1) r
       of_test true = omega (arith, rows_parted lkid r.granted, rows_parted lkid r.converting, rows_parted lkid r.waiting)
       of_test false = omega (arith, rows_parted lkid r.granted, rows_parted lkid r.converting, rows_parted lkid r.waiting)
 
   all_parted : (rs : List Resource)
-      → sum_by (weigh (λ row. 1)) (map (resource_after_withdrawals (giving_up waiting converting invalidates lkid ∷ [])) rs) + standing lkid rs ≡ sum_by (weigh (λ row. 1)) rs
+      → sum_by (weigh (λ row. 1))
+      (map (resource_after_withdrawals
+      (giving_up waiting converting invalidates lkid ∷ [])) rs) + standing lkid rs ≡ sum_by (weigh (λ row. 1)) rs
   all_parted [] = refl
   all_parted (r ∷ rs) =
       omega (
@@ -471,7 +509,8 @@ counted_on k r Granted there = omega (arith, counted_in k r.granted there)
 counted_on k r Conversion there = omega (arith, counted_in k r.converting there)
 counted_on k r Waiting there = omega (arith, counted_in k r.waiting there)
 
-counted_among : (k : StoredLock) (r : StoredResource) (queue : Queue) → IsIn k (queued queue r) → (rs : List StoredResource) → IsIn r rs → 1 ≤ standing k.row.lkid (map plain_resource rs)
+counted_among : (k : StoredLock) (r : StoredResource) (queue : Queue) → IsIn k (queued queue r)
+    → (rs : List StoredResource) → IsIn r rs → 1 ≤ standing k.row.lkid (map plain_resource rs)
 counted_among k r queue there [] among = absurd among
 counted_among k r queue there (x ∷ rs) among = elim among [
   | inl here ↦
@@ -507,7 +546,9 @@ serials_but res r (x ∷ rs) apart there named = of_test (x.at == res) refl ther
   where
     none_but : (at : ℕ) (ys : List StoredResource) → ((y : StoredResource) → IsIn y ys → y.at ≡ at → ⊥) → without_resource at ys ≡ ys
     none_but at [] none = refl
-    none_but at (y ∷ ys) none = rw (ne_eqb y.at at (none y (inl refl))) (ap (λ (kept : List StoredResource). y ∷ kept) (none_but at ys (λ z later. none z (inr later))))
+    none_but at (y ∷ ys) none =
+        rw (ne_eqb y.at at (none y (inl refl)))
+        (ap (λ (kept : List StoredResource). y ∷ kept) (none_but at ys (λ z later. none z (inr later))))
 
     of_test : (b : Bool) → (x.at == res) ≡ b → IsIn r (x ∷ rs)
         → (IsIn r rs → r.at ≡ res → sum_by (λ y. y.serial) (without_resource res rs) + r.serial ≡ sum_by (λ y. y.serial) rs)
@@ -535,7 +576,12 @@ serials_but res r (x ∷ rs) apart there named = of_test (x.at == res) refl ther
 serials_plain : (rs : List StoredResource) → sum_by (λ r. r.serial) rs ≡ sum_by (λ r. r.serial) (map plain_resource rs)
 serials_plain [] = refl
 serials_plain (r ∷ rs) =
-    omega (arith, serials_plain rs, sum_by-cons (λ (x : StoredResource). x.serial) r rs, sum_by-cons (λ (x : Resource). x.serial) (plain_resource r) (map plain_resource rs))
+    omega (
+      arith,
+      serials_plain rs,
+      sum_by-cons (λ (x : StoredResource). x.serial) r rs,
+      sum_by-cons (λ (x : Resource). x.serial) (plain_resource r) (map plain_resource rs),
+    )
 
 serials_kept : (w : Withdrawal) (rs : List Resource) → sum_by (λ r. r.serial) (map (resource_after_withdrawals (w ∷ [])) rs) ≡ sum_by (λ r. r.serial) rs
 serials_kept w [] = refl
@@ -556,7 +602,8 @@ module _ (s new : Records) (sound : IsSound s) (sound_new : IsSound new) (f : Lo
       omega (
         arith,
         serials_but f.res r new.resources sound_new.resources_apart there named,
-        serials_but f.res located.resource s.resources sound.resources_apart (own_among s sound f located) (resource_at-at f.res s.resources located.resource located.found),
+        serials_but f.res located.resource s.resources sound.resources_apart (own_among s sound f located)
+            (resource_at-at f.res s.resources located.resource located.found),
         ap (sum_by (λ (x : StoredResource). x.serial)) beside.others,
         serials_plain s.resources,
         serials_plain new.resources,
@@ -569,7 +616,15 @@ module _ (s new : Records) (sound : IsSound s) (sound_new : IsSound new) (f : Lo
       → AreThere (touches ++ record { number = serial; at = f.res } ∷ []) new
   still_there touches serial there its t among = elim (was_or_last touches among) [
     | inl was ↦ of_old t (there t was)
-    | inr last ↦ (let r = now_at in (r.0, (r.1.0, r.1.1 ∙ ap (λ (x : Note). x.at) last, sym (subst (λ (o : Option StoredResource). IfSome o (λ x. serial ≡ x.serial)) r.1.2 its) ∙ ap (λ (x : Note). x.number) last)))
+    | inr last ↦ (let r = now_at in (
+      r.0,
+      (
+        r.1.0,
+        r.1.1 ∙ ap (λ (x : Note). x.at) last,
+        sym (subst (λ (o : Option StoredResource). IfSome o (λ x. serial ≡ x.serial)) r.1.2 its)
+            ∙ ap (λ (x : Note). x.number) last,
+      ),
+    ))
   ]
     where
       now_at : (r : StoredResource) × (IsIn r new.resources × (r.at ≡ f.res) × (resource_at f.res new.resources ≡ Some r))
@@ -590,11 +645,20 @@ module _ (s new : Records) (sound : IsSound s) (sound_new : IsSound new) (f : Lo
                 r.1.0,
                 r.1.1 ∙ sym same ∙ old.1.1,
                 same_serial r.0 r.1.0 r.1.1
-                    ∙ sym (ap (λ (y : StoredResource). y.serial) (resource_alone f.res s.resources located.resource old.0 sound.resources_apart located.found old.1.0 same)) ∙ old.1.2,
+                    ∙ sym (ap (λ (y : StoredResource). y.serial)
+                    (resource_alone f.res s.resources located.resource old.0 sound.resources_apart located.found
+                    old.1.0 same)) ∙ old.1.2,
               ),
             ))
-        | inr differs ↦
-            (old.0, (of_others f.res old.0 new.resources (subst (IsIn old.0) (sym beside.others) (other_resource f.res old.0 s.resources differs old.1.0)), old.1.1, old.1.2))
+        | inr differs ↦ (
+          old.0,
+          (
+            of_others f.res old.0 new.resources
+                (subst (IsIn old.0) (sym beside.others) (other_resource f.res old.0 s.resources differs old.1.0)),
+            old.1.1,
+            old.1.2,
+          ),
+        )
       ]
 
       was_or_last : (ts : List Note) → IsIn t (ts ++ record { number = serial; at = f.res } ∷ []) → IsIn t ts ⊎ (record { number = serial; at = f.res } ≡ t)
@@ -618,7 +682,8 @@ noted_before t (x ∷ touches) last there = elim there [
 -- ---- a turn
 
 -- what a turn has, which withdraws a lock of the process that goes, and notes its resource
-pub record IsTurn (goes : LockRow → Bool) (invalidates : Bool) (owner : ℕ) (s new : Records) (touched noted : Touches) (f : LocatedLock) (w : Withdrawal) : Type 0 where
+pub record IsTurn (goes : LockState → Bool) (invalidates : Bool) (owner : ℕ) (s new : Records) (touched noted : Touches)
+    (f : LocatedLock) (w : Withdrawal) : Type 0 where
   pub sound : IsSound new
   pub located : IsLocated f s
   pub mine : IsIn f.lock (own_handles_at owner s)
@@ -636,13 +701,15 @@ pub record IsTurn (goes : LockRow → Bool) (invalidates : Bool) (owner : ℕ) (
   pub room : noted.room ≡ touched.room
 
 -- a lock of the process is a row of it
-pub its_row : (owner pid : ℕ) (s : Records) (sound : IsSound s) (lives : IsProcess owner pid s) → IsAtRest s → (f : LocatedLock) → IsLocated f s → IsIn f.lock (own_handles_at owner s)
+pub its_row : (owner pid : ℕ) (s : Records) (sound : IsSound s) (lives : IsProcess owner pid s) → IsAtRest s
+    → (f : LocatedLock) → IsLocated f s → IsIn f.lock (own_handles_at owner s)
     → f.row.pid ≡ pid
 its_row owner pid s sound lives rest f located there =
     let here = stored_here owner pid s sound lives rest f.lock there in
-    ap (λ (row : LockRow). row.pid) (one_lock s sound f.lock f.row here.0 (stored s f located) here.1.0) ∙ here.1.1
+    ap (λ (row : LockState). row.pid) (one_lock s sound f.lock f.row here.0 (stored s f located) here.1.0) ∙ here.1.1
 
-module _ (goes : LockRow → Bool) (invalidates : Bool) (owner pid : ℕ) (old s new : Records) (before touched noted : Touches) (f : LocatedLock) (w : Withdrawal)
+module _ (goes : LockState → Bool) (invalidates : Bool) (owner pid : ℕ) (old s new : Records)
+    (before touched noted : Touches) (f : LocatedLock) (w : Withdrawal)
     (so_far : AreGoing goes invalidates owner pid old s before touched) (turn : IsTurn goes invalidates owner s new touched noted f w) where
   pub own_apart : IsApart (own_handles_at owner s)
   own_apart = handles_apart owner pid s so_far.sound so_far.lives

@@ -5,7 +5,7 @@ use Rattle.std.specs.List.{sum_by}
 use Rattle.std.proofs.lemmas.Bool.{cases_eq}
 use Rattle.std.proofs.lemmas.List.{length-append, length-map}
 use Rattle.std.proofs.lemmas.List.Sums.{sum_by-cons}
-use Rattle.vlm_words.specs.declared.locks.LockRow.{LockRow}
+use Rattle.vlm_words.specs.declared.locks.LockState.{LockState}
 use Rattle.vlm_words.specs.declared.resources.Queue.{Queue}
 use Rattle.vlm_words.specs.declared.resources.Queue.TheVariants.{Granted, Conversion, Waiting}
 use Rattle.vlm_collections.specs.Lists.{IsApart, IsIn, without}
@@ -14,8 +14,8 @@ use Rattle.vlm_store.specs.Total.{lock_total}
 use Rattle.vlm_store.proofs.Counted.{one_process}
 use Rattle.vlm_store.proofs.Siblings.{all_of_own, own_found, own_of_all}
 use Rattle.vlm_locks.specs.Rest.{IsAtRest}
-use Rattle.vlm_locks.specs.Rising.{StandByIdentification}
-use Rattle.vlm_locks.proofs.Stood.{in_queue, one_lock}
+use Rattle.vlm_locks.specs.Rising.{StandById}
+use Rattle.vlm_locks.proofs.QueuedLocks.{in_queue, one_lock}
 use Rattle.vlm_collections.proofs.HandleLists.{IsIn-without_kept, in_ahead, in_behind, in_map}
 use Rattle.vlm_store.proofs.Records.{in_a_queue}
 use Rattle.vlm_locks.proofs.Rising.{none_loose}
@@ -129,13 +129,14 @@ module _ (s : Records) (sound : IsSound s) where
       let first = sound.owned.owns p o in_p in_o in
       let second = sound.owned.owns q u in_q in_u in
       let row : first.0 ≡ second.0 =
-      one_lock s sound o.at first.0 second.0 (in_a_queue s none o.at first.0 first.1.0) (subst (λ h. Stores s h second.0) (sym same) (in_a_queue s none u.at second.0 second.1.0)) in
+      one_lock s sound o.at first.0 second.0 (in_a_queue s none o.at first.0 first.1.0)
+      (subst (λ h. Stores s h second.0) (sym same) (in_a_queue s none u.at second.0 second.1.0)) in
       let process : p ≡ q =
-      one_process s.processes sound.processes_apart p q in_p in_q (sym first.1.1 ∙ ap (λ (x : LockRow). x.pid) row ∙ second.1.1) in
+      one_process s.processes sound.processes_apart p q in_p in_q (sym first.1.1 ∙ ap (λ (x : LockState). x.pid) row ∙ second.1.1) in
       one_apart q.own (sound.own_apart q in_q) o u (subst (λ (x : StoredProcess). IsIn o x.own) process in_o) in_u same
 
-  -- handles that stand by rising identification are apart
-  apart_in_order : (handles : List ℕ) → ((at : ℕ) → IsIn at handles → IsStored at s) → StandByIdentification s handles → IsApart handles
+  -- handles that stand by rising ID are apart
+  apart_in_order : (handles : List ℕ) → ((at : ℕ) → IsIn at handles → IsStored at s) → StandById s handles → IsApart handles
   apart_in_order [] stored stand = tt
   apart_in_order (at ∷ handles) stored stand = (
     λ there. let row = stored at (inl refl) in absurd (omega (arith, stand.0 at there row.0 row.0 row.1 row.1)),
@@ -147,19 +148,29 @@ module _ (s : Records) (sound : IsSound s) where
     owns = flat_map (λ (p : StoredProcess). p.own) s.processes
 
     -- a sublock names the lock as its parent
-    pub below_of : IsAtRest s → (at : ℕ) → IsIn at (sublocks_at h s) → (up : LockRow) × (row : LockRow) × (Stores s h up × Stores s at row × (row.parent ≡ up.lkid))
+    pub below_of : IsAtRest s → (at : ℕ) → IsIn at (sublocks_at h s) → (up : LockState) × (row : LockState)
+        × (Stores s h up × Stores s at row × (row.parent ≡ up.lkid))
     below_of rest at there =
         elim (own_found h owns) [
           | inr none ↦ absurd (subst (IsIn at) (ap (λ o. option_map_or (λ (x : OwnLock). x.sublocks) o []) none.0) there)
           | inl found ↦ (let of = all_of_own found.0 s.processes found.1.1 in
               let below = sound.owned.below of.0 found.0 at of.1.0 of.1.1
               (subst (IsIn at) (ap (λ o. option_map_or (λ (x : OwnLock). x.sublocks) o []) found.1.0) there) in
-              let none = none_loose s rest.rising in
-              (below.0, below.1, (subst (λ k. Stores s k below.0) found.1.2 (in_a_queue s none found.0.at below.0 below.2.0), in_a_queue s none at below.1 below.2.1, below.2.2)))
+              let none = none_loose s rest.rising in (
+                below.0,
+                below.1,
+                (
+                  subst (λ k. Stores s k below.0) found.1.2
+                      (in_a_queue s none found.0.at below.0 below.2.0),
+                  in_a_queue s none at below.1 below.2.1,
+                  below.2.2,
+                ),
+              ))
         ]
 
     -- a lock that names it is a sublock
-    pub is_below_it : IsAtRest s → (at : ℕ) (up row : LockRow) → Stores s h up → Stores s at row → row.parent ≢ 0 → row.parent ≡ up.lkid → IsIn at (sublocks_at h s)
+    pub is_below_it : IsAtRest s → (at : ℕ) (up row : LockState) → Stores s h up → Stores s at row → row.parent ≢ 0
+        → row.parent ≡ up.lkid → IsIn at (sublocks_at h s)
     is_below_it rest at up row above stored has names =
         let named = sound.owned.named at row (inl stored) has in
         let same : named.1.at ≡ h = sound.lkids_apart named.1.at h named.2 up named.3.3 (inl above) (named.3.4 ∙ names) in
@@ -179,5 +190,5 @@ module _ (s : Records) (sound : IsSound s) where
           | inl found ↦ (let of = all_of_own found.0 s.processes found.1.1 in
               let is : sublocks_at h s ≡ found.0.sublocks = ap (λ o. option_map_or (λ (x : OwnLock). x.sublocks) o []) found.1.0 in
               apart_in_order (sublocks_at h s) (λ at there. let below = below_of rest at there in (below.1, below.2.1))
-              (subst (StandByIdentification s) (sym is) ((rest.rising of.0 of.1.0).sublocks found.0 of.1.1).1))
+              (subst (StandById s) (sym is) ((rest.rising of.0 of.1.0).sublocks found.0 of.1.1).1))
         ]

@@ -1,5 +1,6 @@
 -- One resource is swept.
-use Rattle.std.proofs.Common.{◌≡◌, ◌≢◌, ℕ, Bool, true, false, not, ◌&&◌, cond, List, [], ◌∷◌, ◌++◌, map, Some, refl, sym, ap, ◌∙◌, subst, inl, inr, eq-eqb, ne_eqb}
+use Rattle.std.proofs.Common.{◌≡◌, ◌≢◌, ℕ, Bool, true, false, not, ◌&&◌, cond, List, [], ◌∷◌, ◌++◌, map, Some, refl}
+use Rattle.std.proofs.Common.{sym, ap, ◌∙◌, subst, inl, inr, eq-eqb, ne_eqb}
 use Rattle.std.specs.Prelude.{◌==◌}
 use Rattle.std.proofs.lemmas.Bool.{and_parts}
 use Rattle.std.proofs.lemmas.List.{map-append}
@@ -10,17 +11,18 @@ use Rattle.vlm_words.specs.State.{Process}
 use Rattle.vlm_model.specs.Sweeps.{blocks_after_service, is_vacant, resource_after_service}
 use Rattle.vlm_collections.specs.Lists.{IsIn}
 use Rattle.vlm_store.specs.Plain.{plain_processes, plain_resource}
-use Rattle.vlm_store.specs.Records.{IsIdle, IsSound, Records, Room, StoredResource, but_notices, on_resource, queued, resource_at, rows_of_locks, with_resource_room, without_resource}
+use Rattle.vlm_store.specs.Records.{IsIdle, IsSound, Records, Room, StoredResource, but_notices, on_resource, queued}
+use Rattle.vlm_store.specs.Records.{resource_at, rows_of_locks, with_resource_room, without_resource}
 use Rattle.vlm_queue.proofs.Idle.{none_shown}
 use Rattle.vlm_locks.specs.Rest.{but_service}
 use Rattle.vlm_locks.specs.Serving.{IsServed}
 use Rattle.vlm_locks.specs.Staying.{LocksStay}
 use Rattle.vlm_locks.specs.Sweeping.{IsSwept, Parted}
-use Rattle.vlm_locks.proofs.Found.{resource_alone, resource_at-put}
-use Rattle.vlm_locks.proofs.Moves.{locks_found}
-use Rattle.vlm_locks.proofs.Parting.{after_differ, before_differ, own_there}
-use Rattle.vlm_locks.proofs.Replaced.{left_at}
-use Rattle.vlm_locks.proofs.Staying.{stay_alone, stay_none}
+use Rattle.vlm_locks.proofs.FoundByHandle.{resource_alone, resource_at-put}
+use Rattle.vlm_locks.proofs.MovedToGranted.{locks_found}
+use Rattle.vlm_locks.proofs.OrderOfResources.{after_differ, before_differ, own_there}
+use Rattle.vlm_locks.proofs.ReplacedResource.{left_at}
+use Rattle.vlm_locks.proofs.GrantsKeepResources.{stay_alone, stay_none}
 
 -- resources of other handles stay where one is put in the place of another
 put_apart : (res : ℕ) (left : StoredResource) (rs : List StoredResource) → ((x : StoredResource) → IsIn x rs → x.at ≢ res) → on_resource res (λ r. left) rs ≡ rs
@@ -58,7 +60,11 @@ vacant_idle s res r found vacant queue = locks_found s res r queue found ∙ emp
 idle_vacant : (s : Records) (res : ℕ) (r : StoredResource) → resource_at res s.resources ≡ Some r → IsIdle res s → is_vacant (plain_resource r) ≡ true
 idle_vacant s res r found idle =
     let empty : (queue : Queue) → queued queue r ≡ [] = λ queue. sym (locks_found s res r queue found) ∙ idle queue in
-    rw (ap (λ xs. is_empty (rows_of_locks xs)) (empty Granted), ap (λ xs. is_empty (rows_of_locks xs)) (empty Conversion), ap (λ xs. is_empty (rows_of_locks xs)) (empty Waiting)) refl
+    rw (
+      ap (λ xs. is_empty (rows_of_locks xs)) (empty Granted),
+      ap (λ xs. is_empty (rows_of_locks xs)) (empty Conversion),
+      ap (λ xs. is_empty (rows_of_locks xs)) (empty Waiting),
+    ) refl
 
 not_vacant : (b : Bool) → (b ≡ true → ⊥) → b ≡ false
 not_vacant true not = absurd (not refl)
@@ -75,7 +81,8 @@ module _ (res : ℕ) (old s : Records) (sound : IsSound old) (served : IsServed 
   left_handle = left_at res served.had left old s served.replaced
 
   own_is : was.own ≡ served.had
-  own_is = resource_alone res old.resources served.had was.own sound.resources_apart served.replaced.was (own_there res old.resources sound.resources_apart was) was.keyed
+  own_is = resource_alone res old.resources served.had was.own sound.resources_apart served.replaced.was
+      (own_there res old.resources sound.resources_apart was) was.keyed
 
   -- it stands where it stood
   now : s.resources ≡ was.before ++ left ∷ was.after
@@ -83,7 +90,8 @@ module _ (res : ℕ) (old s : Records) (sound : IsSound old) (served : IsServed 
       served.replaced.resources
       ∙ ap (on_resource res (λ r. left)) was.parted
       ∙ map-append (λ r. cond (r.at == res) left r) was.before (was.own ∷ was.after)
-      ∙ ap (λ xs. xs ++ on_resource res (λ r. left) (was.own ∷ was.after)) (put_apart res left was.before (before_differ res old.resources sound.resources_apart was))
+      ∙ ap (λ xs. xs ++ on_resource res (λ r. left) (was.own ∷ was.after))
+      (put_apart res left was.before (before_differ res old.resources sound.resources_apart was))
       ∙ ap (λ xs. was.before ++ xs)
       (ap (λ b. cond b left was.own ∷ on_resource res (λ r. left) was.after) (eq-eqb was.own.at res was.keyed)
       ∙ ap (λ xs. left ∷ xs) (put_apart res left was.after (after_differ res old.resources sound.resources_apart was)))
@@ -116,7 +124,9 @@ module _ (res : ℕ) (old s : Records) (sound : IsSound old) (served : IsServed 
   }
 
   -- no lock is left
-  pub swept_idle : IsIdle res s → (new : Records) (room : Room) → new ≡ with_resource_room room (record s { resources = without_resource res s.resources }) → IsSwept res old new was
+  pub swept_idle : IsIdle res s → (new : Records) (room : Room)
+      → new ≡ with_resource_room room (record s { resources = without_resource res s.resources })
+      → IsSwept res old new was
   swept_idle idle new room is = record {
     left = [];
     resources =

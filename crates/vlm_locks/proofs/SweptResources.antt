@@ -1,34 +1,35 @@
 -- The touched resources are swept one after the other.
-use Rattle.std.proofs.Common.{◌≡◌, ◌<◌, ◌+◌, ℕ, true, false, not, cond, List, [], ◌∷◌, ◌++◌, length, get_or, drop, map, refl, sym, ap, ◌∙◌, subst, inl, inr, eq-eqb, arith}
+use Rattle.std.proofs.Common.{◌≡◌, ◌<◌, ◌+◌, ℕ, true, false, not, cond, List, [], ◌∷◌, ◌++◌, length, get_or, drop, map}
+use Rattle.std.proofs.Common.{refl, sym, ap, ◌∙◌, subst, inl, inr, eq-eqb, arith}
 use Rattle.std.specs.Prelude.{◌==◌}
 use Rattle.std.specs.List.{AllByRecursion, list_any}
 use Rattle.std.proofs.lemmas.List.{drop_all, drop_more, get_or-map, length-map, map-append}
 use Rattle.std.proofs.lemmas.List.Folds.{list_any_at}
 use Rattle.vlm_words.specs.Resources.{IsKeyed}
-use Rattle.vlm_model.specs.Settled.{IsSettled, IsSweptNext, IsUnswept, unless_vacant}
+use Rattle.vlm_model.specs.Stable.{IsStable, IsSweptNext, IsUnswept, unless_vacant}
 use Rattle.vlm_words.specs.State.{Process, Resource}
 use Rattle.vlm_model.specs.Sweeps.{processes_after_service, resource_after_service, resources_after_sweep}
 use Rattle.vlm_collections.specs.Lists.{IsIn}
 use Rattle.vlm_store.specs.Plain.{plain_processes, plain_resource, plain_resources}
 use Rattle.vlm_store.specs.Records.{IsSound, Records, StoredResource, but_notices}
 use Rattle.vlm_locks.specs.Rest.{IsAtRest}
-use Rattle.vlm_locks.specs.Sweeping.{AreSettledBut, IsSwept, Parted, StandInOrder, but_touched}
+use Rattle.vlm_locks.specs.Sweeping.{AreStableBut, IsSwept, Parted, StandInOrder, but_touched}
 use Rattle.vlm_locks.specs.Staying.{LocksStayAmong}
 use Rattle.vlm_locks.specs.declared.touched.Note.{Note}
 use Rattle.vlm_locks.specs.Touched.{touched_handles}
 use Rattle.vlm_locks.proofs.Rising.{all_rise_still, none_joined}
-use Rattle.vlm_locks.proofs.Staying.{stay_all_among, stay_parts, stay_twice_among}
-use Rattle.vlm_locks.proofs.Parting.{AreToSweep, among_after, among_before, to_sweep, to_sweep_behind}
+use Rattle.vlm_locks.proofs.GrantsKeepResources.{stay_all_among, stay_parts, stay_twice_among}
+use Rattle.vlm_locks.proofs.OrderOfResources.{AreToSweep, among_after, among_before, to_sweep, to_sweep_behind}
 
 -- a sweep goes on with a resource, as the law has it
 abbrev pub GoesOn : Type 0
 GoesOn =
-    (processes : List Process) (before : List Resource) (r : Resource) (after : List Resource) → AllByRecursion IsSettled before
+    (processes : List Process) (before : List Resource) (r : Resource) (after : List Resource) → AllByRecursion IsStable before
     → IsSweptNext processes before r after
 
 -- and it is done
 abbrev pub IsDone : Type 0
-IsDone = (processes : List Process) (resources : List Resource) → AllByRecursion IsSettled resources → IsUnswept processes resources
+IsDone = (processes : List Process) (resources : List Resource) → AllByRecursion IsStable resources → IsUnswept processes resources
 
 -- these are to be swept still, and the sweep of what stands now is that of what stood before
 pub record IsSweeping (touched later : List ℕ) (old now : Records) : Type 0 where
@@ -41,10 +42,10 @@ pub record IsSweeping (touched later : List ℕ) (old now : Records) : Type 0 wh
   pub processes : map but_notices now.processes ≡ map but_notices old.processes
   pub rest : IsAtRest now
 
-pub sweeping_begun : (touched : List ℕ) (s : Records) → StandInOrder touched s.resources → AreSettledBut touched s.resources → IsAtRest s
+pub sweeping_begun : (touched : List ℕ) (s : Records) → StandInOrder touched s.resources → AreStableBut touched s.resources → IsAtRest s
     → IsSweeping touched touched s s
-sweeping_begun touched s stand settled rest = record {
-  left = to_sweep touched s.resources rest.sound.resources_apart stand settled;
+sweeping_begun touched s stand stable rest = record {
+  left = to_sweep touched s.resources rest.sound.resources_apart stand stable;
   resources = refl;
   statuses = refl;
   others = refl;
@@ -65,7 +66,8 @@ but-append touched (x ∷ xs) ys =
     ]
 
 -- the touched are not among them
-none_touched : (touched : List ℕ) (rs : List StoredResource) → ((x : StoredResource) → IsIn x rs → list_any (λ res. x.at == res) touched ≡ true) → but_touched touched rs ≡ []
+none_touched : (touched : List ℕ) (rs : List StoredResource)
+    → ((x : StoredResource) → IsIn x rs → list_any (λ res. x.at == res) touched ≡ true) → but_touched touched rs ≡ []
 none_touched touched [] each = refl
 none_touched touched (r ∷ rs) each = rw (each r (inl refl)) (none_touched touched rs (λ x there. each x (inr there)))
 
@@ -100,7 +102,11 @@ module _ (touched : List ℕ) (res : ℕ) (later : List ℕ) (old s new : Record
 
   own_touched : (x : StoredResource) → IsIn x (was.own ∷ []) → list_any (λ t. x.at == t) touched ≡ true
   own_touched x among =
-      elim among [ inl is ↦ ap (λ at. list_any (λ t. at == t) touched) (ap (λ (r : StoredResource). r.at) (sym is) ∙ was.keyed) ∙ is_touched | inr none ↦ absurd none ]
+      elim among [
+        | inl is ↦ ap (λ at. list_any (λ t. at == t) touched) (ap (λ (r : StoredResource). r.at) (sym is)
+            ∙ was.keyed) ∙ is_touched
+        | inr none ↦ absurd none
+      ]
 
   others_stay : but_touched touched new.resources ≡ but_touched touched s.resources
   others_stay =
@@ -108,15 +114,19 @@ module _ (touched : List ℕ) (res : ℕ) (later : List ℕ) (old s new : Record
       → but_touched touched (was.before ++ (own ++ was.after)) ≡ but_touched touched was.before ++ but_touched touched was.after =
       λ own each.
       but-append touched was.before (own ++ was.after)
-      ∙ ap (λ xs. but_touched touched was.before ++ xs) (but-append touched own was.after ∙ ap (λ xs. xs ++ but_touched touched was.after) (none_touched touched own each))
+      ∙ ap (λ xs. but_touched touched was.before ++ xs) (but-append touched own was.after
+      ∙ ap (λ xs. xs ++ but_touched touched was.after) (none_touched touched own each))
       in
       ap (but_touched touched) swept.resources ∙ parts swept.left left_touched
       ∙ sym (ap (but_touched touched) was.parted ∙ parts (was.own ∷ []) own_touched)
 
   keyed : (x : StoredResource) → IsIn x new.resources → IsKeyed x.domain x.key
-  keyed x among = of_part was.before (swept.left ++ was.after) (subst (IsIn x) swept.resources among) (λ here. old_keyed (among_before was.before (was.own ∷ was.after) x here))
+  keyed x among = of_part was.before (swept.left ++ was.after) (subst (IsIn x) swept.resources among)
+      (λ here. old_keyed (among_before was.before (was.own ∷ was.after) x here))
       (λ there. of_part swept.left was.after there
-      (λ here. subst (λ (r : StoredResource). IsKeyed r.domain r.key) (sym (swept.same x here)) (so_far.rest.keyed was.own (subst (IsIn was.own) (sym was.parted) (among_after was.before (was.own ∷ was.after) was.own (inl refl)))))
+      (λ here. subst (λ (r : StoredResource). IsKeyed r.domain r.key) (sym (swept.same x here))
+      (so_far.rest.keyed was.own
+      (subst (IsIn was.own) (sym was.parted) (among_after was.before (was.own ∷ was.after) was.own (inl refl)))))
       (λ behind. old_keyed (among_after was.before (was.own ∷ was.after) x (inr behind))))
     where
       old_keyed : IsIn x (was.before ++ was.own ∷ was.after) → IsKeyed x.domain x.key
@@ -131,26 +141,32 @@ module _ (touched : List ℕ) (res : ℕ) (later : List ℕ) (old s new : Record
   none_join : LocksStayAmong new.resources old.resources
   none_join = stay_twice_among new.resources s.resources old.resources
       (subst (λ rs. LocksStayAmong rs s.resources) (sym swept.resources)
-      (subst (LocksStayAmong (was.before ++ (swept.left ++ was.after))) (sym was.parted) (stay_parts swept.left (was.own ∷ []) swept.none_join was.before was.after)))
+      (subst (LocksStayAmong (was.before ++ (swept.left ++ was.after))) (sym was.parted)
+      (stay_parts swept.left (was.own ∷ []) swept.none_join was.before was.after)))
       so_far.none_join
 
   pub sweeping_next : IsSweeping touched later old new
   sweeping_next = record {
     left = subst (AreToSweep later) (sym swept.resources)
         (to_sweep_behind was.before so_far.left.1.0 later (swept.left ++ was.after)
-        (to_sweep_behind swept.left (subst (AllByRecursion IsSettled) (sym swept.served) next.settled) later was.after so_far.left.1.1));
+        (to_sweep_behind swept.left (subst (AllByRecursion IsStable) (sym swept.served) next.stable) later was.after so_far.left.1.1));
     resources =
         ap (resources_after_sweep (plain_processes new)) shown_after
-        ∙ ap (λ ps. resources_after_sweep ps (before ++ (unless_vacant (resource_after_service (plain_processes s) (plain_resource was.own)) ++ after))) swept.statuses
+        ∙ ap (λ ps. resources_after_sweep ps
+        (before ++ (unless_vacant
+        (resource_after_service (plain_processes s) (plain_resource was.own)) ++ after))) swept.statuses
         ∙ sym next.resources ∙ sym (ap (resources_after_sweep (plain_processes s)) shown_before) ∙ so_far.resources;
     statuses =
         ap (processes_after_service (plain_processes new)) shown_after
-        ∙ ap (λ ps. processes_after_service ps (before ++ (unless_vacant (resource_after_service (plain_processes s) (plain_resource was.own)) ++ after))) swept.statuses
+        ∙ ap (λ ps. processes_after_service ps
+        (before ++ (unless_vacant
+        (resource_after_service (plain_processes s) (plain_resource was.own)) ++ after))) swept.statuses
         ∙ sym next.statuses ∙ sym (ap (processes_after_service (plain_processes s)) shown_before) ∙ so_far.statuses;
     others = others_stay ∙ so_far.others;
     stay = stay_twice_among old.resources s.resources new.resources so_far.stay
         (subst (LocksStayAmong s.resources) (sym swept.resources)
-        (subst (λ rs. LocksStayAmong rs (was.before ++ (swept.left ++ was.after))) (sym was.parted) (stay_parts (was.own ∷ []) swept.left swept.stay was.before was.after)));
+        (subst (λ rs. LocksStayAmong rs (was.before ++ (swept.left ++ was.after))) (sym was.parted)
+        (stay_parts (was.own ∷ []) swept.left swept.stay was.before was.after)));
     none_join = none_join;
     processes = swept.processes ∙ so_far.processes;
     rest = record {

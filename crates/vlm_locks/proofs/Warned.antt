@@ -1,5 +1,7 @@
 -- The granted locks of a resource are warned, one after the other.
-use Rattle.std.proofs.Common.{◌≡◌, ◌≢◌, ◌≤◌, ◌<◌, ◌+◌, ◌-◌, ℕ, Bool, true, false, List, [], ◌∷◌, ◌++◌, map, flat_map, length, cond, Option, None, Some, IfSome, IsSome, append_assoc, refl, sym, ap, ◌∙◌, subst, inl, inr, arith, eq-eqb, ne_eqb}
+use Rattle.std.proofs.Common.{◌≡◌, ◌≢◌, ◌≤◌, ◌<◌, ◌+◌, ◌-◌, ℕ, Bool, true, false, List, [], ◌∷◌, ◌++◌, map, flat_map}
+use Rattle.std.proofs.Common.{length, cond, Option, None, Some, IfSome, IsSome, append_assoc, refl, sym, ap, ◌∙◌, subst}
+use Rattle.std.proofs.Common.{inl, inr, arith, eq-eqb, ne_eqb}
 use Rattle.std.specs.Prelude.{◌==◌, ◌&&◌}
 use Rattle.std.specs.List.{list_any}
 use Rattle.std.specs.Option.{option_map_or}
@@ -7,12 +9,14 @@ use Rattle.std.proofs.lemmas.Bool.{and_parts, cases_Bool, cases_eq}
 use Rattle.std.proofs.lemmas.List.{append-nil, map-append}
 use Rattle.std.proofs.lemmas.Option.{none-some, same_Some}
 use Rattle.vlm_words.specs.declared.locks.Request.{Request}
-use Rattle.vlm_words.specs.declared.locks.LockRow.{LockRow}
+use Rattle.vlm_words.specs.declared.locks.LockState.{LockState}
 use Rattle.vlm_words.specs.declared.resources.Queue.{Queue}
 use Rattle.vlm_words.specs.declared.resources.Queue.TheVariants.{Granted, Conversion, Waiting}
 use Rattle.vlm_words.specs.Rows.{is_empty}
 use Rattle.vlm_words.specs.State.{Process, Resource}
-use Rattle.vlm_model.specs.Asts.{Queued as QueuedAst, blocking_asts, has_to_warn, blocks_a_request, is_to_warn, processes_after_asts, processes_after_queueing, resource_after_warning, row_after_warning, row_warnings, warnings}
+use Rattle.vlm_model.specs.Asts.{Queued as QueuedAst, blocking_asts, has_to_warn, blocks_a_request, is_to_warn}
+use Rattle.vlm_model.specs.Asts.{processes_after_asts, processes_after_queueing, resource_after_warning}
+use Rattle.vlm_model.specs.Asts.{row_after_warning, row_warnings, warnings}
 use Rattle.vlm_words.specs.Dues.{due_to, one_where, routines_of, row_due}
 use Rattle.vlm_model.proofs.Warned.{blind_warned}
 use Rattle.vlm_collections.specs.Lists.{IsIn}
@@ -22,28 +26,31 @@ use Rattle.vlm_records.specs.Armed.{is_listed}
 use Rattle.vlm_store.specs.Armed.{IsArmedAt, armed_among, armed_at}
 use Rattle.vlm_store.specs.Plain.{plain_processes, plain_resource}
 use Rattle.vlm_store.proofs.Walks.{lock_among}
-use Rattle.vlm_model.proofs.Settled.{unwarned_says_nothing, unwarned_stays}
-use Rattle.vlm_store.specs.Records.{AreApart, DueChanges, HasResource, IsSameLock, IsSound, Records, SameButNotices, StoredLock, StoredResource, Stores, at_after, but_notices, disarmed, disarming, due_of, first_at, locks_at, on_resource, queued, resource_at, resource_with, rows_of_locks, with_lists}
+use Rattle.vlm_model.proofs.Stable.{unwarned_says_nothing, unwarned_stays}
+use Rattle.vlm_store.specs.Records.{AreApart, DueChanges, HasResource, IsSameLock, IsSound, Records, SameButNotices}
+use Rattle.vlm_store.specs.Records.{StoredLock, StoredResource, Stores, at_after, but_notices, disarmed, disarming}
+use Rattle.vlm_store.specs.Records.{due_of, first_at, locks_at, on_resource, queued, resource_at, resource_with}
+use Rattle.vlm_store.specs.Records.{rows_of_locks, with_lists}
 use Rattle.vlm_store.proofs.Records.{map_on, queue_at}
 use Rattle.vlm_locks.specs.Owing.{DueMoves, IsPaid, OwedMoves, due_for}
 use Rattle.vlm_locks.specs.Rest.{IsReplaced}
 use Rattle.vlm_locks.specs.Serving.{nothing_queued}
 use Rattle.vlm_locks.specs.Staying.{LocksStay}
-use Rattle.vlm_locks.proofs.Ended.{empty_is}
+use Rattle.vlm_model.proofs.NothingLeft.{is_empty-true}
 use Rattle.vlm_locks.specs.Warning.{IsLockWarned, IsWarned, SparesOthers, disarmed_if, disarmed_row, is_warned_on}
 use Rattle.vlm_locks.proofs.ArmedOnes.{StartsArmed, among_armed, armed_apart, armed_split, behind, from_armed, from_lock, handles, handles_from}
-use Rattle.vlm_locks.proofs.Found.{on_resource-own, on_resource-put, resource_alone, resource_at-put}
-use Rattle.vlm_locks.proofs.Moves.{no_first}
-use Rattle.vlm_locks.proofs.Owing.{due_noticed, owed_moves, owed_other, owed_own, paid_still, weight}
-use Rattle.vlm_locks.proofs.Replaced.{found_left, left_at}
-use Rattle.vlm_locks.proofs.Staying.{all_stay, same_back, same_lock}
-use Rattle.vlm_locks.proofs.Stood.{resource_among}
-use Rattle.vlm_locks.proofs.Weighing.{disarmed_weighs}
+use Rattle.vlm_locks.proofs.FoundByHandle.{on_resource-own, on_resource-put, resource_alone, resource_at-put}
+use Rattle.vlm_locks.proofs.MovedToGranted.{no_first}
+use Rattle.vlm_locks.proofs.ReservedAsts.{due_noticed, owed_moves, owed_other, owed_own, paid_still, weight}
+use Rattle.vlm_locks.proofs.ReplacedResource.{found_left, left_at}
+use Rattle.vlm_locks.proofs.GrantsKeepResources.{all_stay, same_back, same_lock}
+use Rattle.vlm_locks.proofs.QueuedLocks.{resource_among}
+use Rattle.vlm_locks.proofs.SumsOverLocks.{disarmed_weighs}
 
 -- ---- one lock
 
 -- its warning is owed, and is queued or forgiven
-pub warned_owed : (row : LockRow) (old new : Records) → row.armed ≡ true → row_due row ≤ due_of row.pid old → DueChanges row.pid (λ due. due - 1) old new
+pub warned_owed : (row : LockState) (old new : Records) → row.armed ≡ true → row_due row ≤ due_of row.pid old → DueChanges row.pid (λ due. due - 1) old new
     → OwedMoves row (disarmed_row row) old new
 warned_owed row old new armed enough changes =
     let before : row_due row ≡ routines_of row.want + 1 = ap (λ (b : Bool). routines_of row.want + one_where b) armed in
@@ -53,13 +60,14 @@ warned_owed row old new armed enough changes =
     (λ pid differs. owed_other row (λ due. due - 1) old new changes pid differs)
 
 -- an armed lock is owed one AST at least
-pub warning_fits : (row : LockRow) (s : Records) → row.armed ≡ true → row_due row ≤ due_of row.pid s → 1 ≤ due_of row.pid s
+pub warning_fits : (row : LockState) (s : Records) → row.armed ≡ true → row_due row ≤ due_of row.pid s → 1 ≤ due_of row.pid s
 warning_fits row s armed enough =
     let before : row_due row ≡ routines_of row.want + 1 = ap (λ (b : Bool). routines_of row.want + one_where b) armed in
     omega (arith, before, enough)
 
 -- a lock that is to be warned is armed
-pub armed_there : (res : ℕ) (s : Records) (row : LockRow) → HasResource res s → ((r : StoredResource) → resource_at res s.resources ≡ Some r → is_warned_on r row ≡ true) → row.armed ≡ true
+pub armed_there : (res : ℕ) (s : Records) (row : LockState) → HasResource res s
+    → ((r : StoredResource) → resource_at res s.resources ≡ Some r → is_warned_on r row ≡ true) → row.armed ≡ true
 unfolding is_to_warn
 armed_there res s row there warned = of_found (resource_at res s.resources) refl there
   where
@@ -68,7 +76,7 @@ armed_there res s row there warned = of_found (resource_at res s.resources) refl
     of_found (Some r) found there = (and_parts row.armed (blocks_a_request row.held (rows_of_locks r.converting) (rows_of_locks r.waiting)) (warned r found)).0
 
 -- one that is not to be warned stays as it is
-pub lock_unwarned : (r : StoredResource) (lock : ℕ) (row : LockRow) (s : Records) → is_warned_on r row ≡ false → IsLockWarned r lock row s s
+pub lock_unwarned : (r : StoredResource) (lock : ℕ) (row : LockState) (s : Records) → is_warned_on r row ≡ false → IsLockWarned r lock row s s
 unfolding row_warnings row_after_warning
 lock_unwarned r lock row s is = record {
   queued = rw is refl;
@@ -77,8 +85,9 @@ lock_unwarned r lock row s is = record {
 }
 
 -- and one that is queues its warning, and is armed no more
-pub lock_warned : (r : StoredResource) (lock : ℕ) (row : LockRow) (s t new : Records) → is_warned_on r row ≡ true
-    → plain_processes t ≡ processes_after_asts (blocking_asts row.held row.lkid row.pid) (plain_processes s) → OwedMoves row (disarmed_row row) s t → SameButNotices s t
+pub lock_warned : (r : StoredResource) (lock : ℕ) (row : LockState) (s t new : Records) → is_warned_on r row ≡ true
+    → plain_processes t ≡ processes_after_asts (blocking_asts row.held row.lkid row.pid) (plain_processes s)
+    → OwedMoves row (disarmed_row row) s t → SameButNotices s t
     → new ≡ with_lists (disarming lock) t → IsLockWarned r lock row s new
 unfolding row_warnings row_after_warning
 lock_warned r lock row s t new is told owed same wrote = record {
@@ -94,7 +103,7 @@ lock_warned r lock row s t new is told owed same wrote = record {
 }
 
 -- what is due for it changes so
-due_warned : (s t : Records) → IsSound s → (r : StoredResource) (lock : ℕ) (row : LockRow) → Stores s lock row → IsLockWarned r lock row s t
+due_warned : (s t : Records) → IsSound s → (r : StoredResource) (lock : ℕ) (row : LockState) → Stores s lock row → IsLockWarned r lock row s t
     → DueMoves row (row_after_warning (rows_of_locks r.converting) (rows_of_locks r.waiting) row) s t
 unfolding row_after_warning
 due_warned s t sound r lock row stored warned pid = of_test (is_warned_on r row) refl
@@ -107,9 +116,11 @@ due_warned s t sound r lock row stored warned pid = of_test (is_warned_on r row)
         let same : SameButNotices s t = subst (λ b. SameButNotices (disarmed_if b lock s) t) is warned.only in
         omega (arith, due_noticed s t same pid)
 
-pub paid_warned : (s t : Records) → IsSound s → (r : StoredResource) (lock : ℕ) (row : LockRow) → Stores s lock row → IsLockWarned r lock row s t → IsPaid s → IsPaid t
+pub paid_warned : (s t : Records) → IsSound s → (r : StoredResource) (lock : ℕ) (row : LockState) → Stores s lock row
+    → IsLockWarned r lock row s t → IsPaid s → IsPaid t
 paid_warned s t sound r lock row stored warned =
-    paid_still row (row_after_warning (rows_of_locks r.converting) (rows_of_locks r.waiting) row) s t (due_warned s t sound r lock row stored warned) warned.owed
+    paid_still row (row_after_warning (rows_of_locks r.converting) (rows_of_locks r.waiting) row) s t
+    (due_warned s t sound r lock row stored warned) warned.owed
 
 -- ---- all of them
 
@@ -135,7 +146,8 @@ pub record IsWarning (res : ℕ) (old s : Records) (next : Option ℕ) : Type 0 
   pub split : had.granted ≡ done ++ todo
   pub replaced : IsReplaced res had (halfway had done todo) old s
   pub first : next ≡ first_at todo
-  pub effect : processes_after_asts (flat_map (row_warnings (rows_of_locks had.converting) (rows_of_locks had.waiting)) (rows_of_locks todo)) (plain_processes s)
+  pub effect : processes_after_asts (flat_map (row_warnings (rows_of_locks had.converting) (rows_of_locks had.waiting))
+      (rows_of_locks todo)) (plain_processes s)
       ≡ processes_after_asts (warnings (plain_resource had)) (plain_processes old)
 
 -- one that is not to be warned stays, and says nothing
@@ -143,12 +155,14 @@ lock_is_not_warned : (r : StoredResource) (k : StoredLock) → is_warned_on r k.
 unfolding row_after_warning
 lock_is_not_warned r k is = rw is refl
 
-lock_says_nothing : (r : StoredResource) (k : StoredLock) → is_warned_on r k.row ≡ false → row_warnings (rows_of_locks r.converting) (rows_of_locks r.waiting) k.row ≡ []
+lock_says_nothing : (r : StoredResource) (k : StoredLock) → is_warned_on r k.row ≡ false
+    → row_warnings (rows_of_locks r.converting) (rows_of_locks r.waiting) k.row ≡ []
 unfolding row_warnings
 lock_says_nothing r k is = rw is refl
 
 -- the walk passes over it
-passed : (res : ℕ) (old s : Records) (next : Option ℕ) (w : IsWarning res old s next) (k : StoredLock) (rest : List StoredLock) → w.todo ≡ k ∷ rest → is_warned_on w.had k.row ≡ false
+passed : (res : ℕ) (old s : Records) (next : Option ℕ) (w : IsWarning res old s next) (k : StoredLock)
+    (rest : List StoredLock) → w.todo ≡ k ∷ rest → is_warned_on w.had k.row ≡ false
     → (x : IsWarning res old s (first_at rest)) × (x.todo ≡ rest)
 passed res old s next w k rest is unwarned =
     let warned = warned_lock w.had in
@@ -181,15 +195,35 @@ pub record IsAtArmed (which : Armed) (res : ℕ) (old s : Records) (next : Optio
   pub armed : StartsArmed which warning.todo
 
 -- from where it stands it goes on to the first that is armed
-to_armed : (which : Armed) (res : ℕ) (old s : Records) → SparesOthers which res old → (todo : List StoredLock) (next after : Option ℕ) (w : IsWarning res old s next) → w.todo ≡ todo → after ≡ first_at (armed_among which todo) → IsAtArmed which res old s after
+to_armed : (which : Armed) (res : ℕ) (old s : Records) → SparesOthers which res old
+    → (todo : List StoredLock) (next after : Option ℕ) (w : IsWarning res old s next) → w.todo ≡ todo
+    → after ≡ first_at (armed_among which todo) → IsAtArmed which res old s after
 to_armed which res old s spares [] next after w is first = record {
-  warning = record { had = w.had; done = w.done; todo = w.todo; split = w.split; replaced = w.replaced; first = first ∙ ap first_at (sym is); effect = w.effect };
+  warning = record {
+    had = w.had;
+    done = w.done;
+    todo = w.todo;
+    split = w.split;
+    replaced = w.replaced;
+    first = first
+        ∙ ap first_at (sym is);
+    effect = w.effect;
+  };
   armed = subst (StartsArmed which) (sym is) tt;
 }
 to_armed which res old s spares (k ∷ rest) next after w is first =
     elim (cases_Bool (is_listed which k.row)) [
       | inl armed ↦ record {
-        warning = record { had = w.had; done = w.done; todo = w.todo; split = w.split; replaced = w.replaced; first = (rw armed at first) ∙ ap first_at (sym is); effect = w.effect };
+        warning = record {
+          had = w.had;
+          done = w.done;
+          todo = w.todo;
+          split = w.split;
+          replaced = w.replaced;
+          first =
+              (rw armed at first) ∙ ap first_at (sym is);
+          effect = w.effect;
+        };
         armed = subst (StartsArmed which) (sym is) armed;
       }
       | inr unarmed ↦
@@ -198,7 +232,8 @@ to_armed which res old s spares (k ∷ rest) next after w is first =
     ]
 
 -- before the first
-pub warning_begun : (which : Armed) (res : ℕ) (s : Records) (next : Option ℕ) → IsSound s → HasResource res s → SparesOthers which res s → next ≡ first_at (armed_at which res s) → IsAtArmed which res s s next
+pub warning_begun : (which : Armed) (res : ℕ) (s : Records) (next : Option ℕ) → IsSound s → HasResource res s
+    → SparesOthers which res s → next ≡ first_at (armed_at which res s) → IsAtArmed which res s s next
 unfolding warnings
 warning_begun which res s next sound there spares is = of_found (resource_at res s.resources) refl there
   where
@@ -219,10 +254,12 @@ warning_begun which res s next sound there spares is = of_found (resource_at res
           first = refl;
           effect = refl;
         } in
-        to_armed which res s s spares r.granted (first_at r.granted) next w refl (is ∙ ap (λ o. first_at (armed_among which (option_map_or (queued Granted) o []))) found)
+        to_armed which res s s spares r.granted (first_at r.granted) next w refl (is
+        ∙ ap (λ o. first_at (armed_among which (option_map_or (queued Granted) o []))) found)
 
 -- a list without the lock stays
-disarm_absent : (at : ℕ) (locks : List StoredLock) → ((row : LockRow) → ¬ IsIn (record { at = at; row = row }) locks) → map (λ (k : StoredLock). cond (k.at == at) (disarmed k) k) locks ≡ locks
+disarm_absent : (at : ℕ) (locks : List StoredLock) → ((row : LockState) → ¬ IsIn (record { at = at; row = row }) locks)
+    → map (λ (k : StoredLock). cond (k.at == at) (disarmed k) k) locks ≡ locks
 disarm_absent at [] absent = refl
 disarm_absent at (k ∷ rest) absent =
     elim (cases_eq k.at at) [
@@ -235,7 +272,9 @@ disarm_among : (before rest : List StoredLock) (k : StoredLock) → AreApart (be
     → map (λ (x : StoredLock). cond (x.at == k.at) (disarmed x) x) (before ++ k ∷ rest) ≡ before ++ disarmed k ∷ rest
 disarm_among [] rest k apart = rw (eq-eqb k.at k.at refl) (ap (λ xs. disarmed k ∷ xs) (disarm_absent k.at rest apart.0))
 disarm_among (x ∷ before) rest k apart =
-    rw (ne_eqb x.at k.at (λ same. apart.0 k.row (subst (λ (y : ℕ). IsIn (record { at = y; row = k.row }) (before ++ k ∷ rest)) (sym same) (lock_among k before rest))))
+    rw (ne_eqb x.at k.at (λ same. apart.0 k.row
+    (subst (λ (y : ℕ). IsIn (record { at = y; row = k.row }) (before ++ k ∷ rest)) (sym same)
+    (lock_among k before rest))))
     (ap (λ xs. x ∷ xs) (disarm_among before rest k apart.1))
 
 -- those that a walk of the granted locks has left
@@ -260,7 +299,8 @@ among_warned r k [] among = absurd among
 among_warned r k (x ∷ locks) among = elim among [ inl here ↦ inl (ap (warned_lock r) here) | inr there ↦ inr (among_warned r k locks there) ]
 
 -- each warned lock was there
-was_warned : (r : StoredResource) (k : StoredLock) (locks : List StoredLock) → IsIn k (map (warned_lock r) locks) → (x : StoredLock) × (IsIn x locks × (warned_lock r x ≡ k))
+was_warned : (r : StoredResource) (k : StoredLock) (locks : List StoredLock) → IsIn k (map (warned_lock r) locks)
+    → (x : StoredLock) × (IsIn x locks × (warned_lock r x ≡ k))
 was_warned r k [] among = absurd among
 was_warned r k (x ∷ locks) among =
     elim among [
@@ -269,7 +309,8 @@ was_warned r k (x ∷ locks) among =
     ]
 
 -- so each lock of the resource stays there, and none joins
-module _ (had left : StoredResource) (granted : left.granted ≡ map (warned_lock had) had.granted) (converting : left.converting ≡ had.converting) (waiting : left.waiting ≡ had.waiting) where
+module _ (had left : StoredResource) (granted : left.granted ≡ map (warned_lock had) had.granted)
+    (converting : left.converting ≡ had.converting) (waiting : left.waiting ≡ had.waiting) where
   warned_stay : LocksStay had left
   warned_stay Granted k among = record {
     queue = Granted;
@@ -306,7 +347,9 @@ warned_resource had left granted rest =
     rows_warned (k ∷ locks) = ap (λ rows. row_after_warning (rows_of_locks had.converting) (rows_of_locks had.waiting) k.row ∷ rows) (rows_warned locks)
 
 -- a lock is disarmed where it stands: of the resources just its own is another
-disarmed_resources : (s : Records) → IsSound s → (res : ℕ) (r : StoredResource) (lock : ℕ) (row : LockRow) (before rest : List StoredLock) → resource_at res s.resources ≡ Some r
+disarmed_resources : (s : Records) → IsSound s
+    → (res : ℕ) (r : StoredResource) (lock : ℕ) (row : LockState) (before rest : List StoredLock)
+    → resource_at res s.resources ≡ Some r
     → r.granted ≡ before ++ record { at = lock; row = row } ∷ rest → (then : StoredResource) → then ≡ record r { granted = then.granted }
     → then.granted ≡ before ++ disarmed (record { at = lock; row = row }) ∷ rest
     → map (resource_with (disarming lock)) s.resources ≡ on_resource res (λ x. then) s.resources
@@ -384,14 +427,16 @@ module _ (res : ℕ) (old s : Records) (next : Option ℕ) (warning : IsWarning 
       none_join = none_join_warned warning.had now granted_now refl refl;
       resource = warned_resource warning.had now granted_now refl;
       statuses =
-          ap (λ locks. processes_after_asts (flat_map (row_warnings (rows_of_locks warning.had.converting) (rows_of_locks warning.had.waiting)) (rows_of_locks locks)) (plain_processes s)) (sym all_done)
+          ap (λ locks. processes_after_asts
+          (flat_map (row_warnings (rows_of_locks warning.had.converting) (rows_of_locks warning.had.waiting))
+          (rows_of_locks locks)) (plain_processes s)) (sym all_done)
           ∙ warning.effect;
     }
 
   module _ (sound : IsSound s) (lock : ℕ) (first : Some lock ≡ next) where
     -- the next lock and those behind it
     pub record HasNext : Type 0 where
-      pub row : LockRow
+      pub row : LockState
       pub rest : List StoredLock
       pub is : warning.todo ≡ record { at = lock; row = row } ∷ rest
 
@@ -432,15 +477,20 @@ module _ (res : ℕ) (old s : Records) (next : Option ℕ) (warning : IsWarning 
       -- the armed lock that follows it
       pub follows : (after : Option ℕ) → after ≡ at_after lock (armed_at which res s) → after ≡ first_at (armed_among which has_next.rest)
       follows after is =
-          let split : armed_among which (before ++ own ∷ has_next.rest) ≡ armed_among which before ++ own ∷ armed_among which has_next.rest = armed_split which before own has_next.rest own_armed in
+          let split : armed_among which
+          (before ++ own ∷ has_next.rest) ≡ armed_among which before ++ own ∷ armed_among which has_next.rest =
+          armed_split which before own has_next.rest own_armed in
           is ∙ ap (at_after lock) (ap (armed_among which) granted_split ∙ split)
-          ∙ behind own (armed_among which has_next.rest) (armed_among which before) (subst AreApart split (armed_apart which (before ++ own ∷ has_next.rest) granted_apart))
+          ∙ behind own (armed_among which has_next.rest) (armed_among which before)
+          (subst AreApart split (armed_apart which (before ++ own ∷ has_next.rest) granted_apart))
 
     -- what is left for the walk is one less behind it
-    pub left_shorter : (which : Armed) (after : Option ℕ) → after ≡ first_at (armed_among which has_next.rest) → length (left_to_warn res after s) < length (left_to_warn res next s)
+    pub left_shorter : (which : Armed) (after : Option ℕ) → after ≡ first_at (armed_among which has_next.rest)
+        → length (left_to_warn res after s) < length (left_to_warn res next s)
     left_shorter which after is =
         let here : left_to_warn res next s ≡ lock ∷ handles has_next.rest =
-        ap (λ (n : Option ℕ). handles_from n (handles (locks_at (Queued res Granted) s))) (sym first) ∙ ap (λ locks. handles_from (Some lock) (handles locks)) granted_split
+        ap (λ (n : Option ℕ). handles_from n (handles (locks_at (Queued res Granted) s))) (sym first)
+        ∙ ap (λ locks. handles_from (Some lock) (handles locks)) granted_split
         ∙ from_lock own has_next.rest before granted_apart in
         let apart : before ++ own ∷ has_next.rest ≡ (before ++ own ∷ []) ++ has_next.rest = sym (append_assoc before (own ∷ []) has_next.rest) in
         let there : left_to_warn res after s ≡ handles_from (first_at (armed_among which has_next.rest)) (handles ((before ++ own ∷ []) ++ has_next.rest)) =
@@ -466,13 +516,15 @@ module _ (res : ℕ) (old s : Records) (next : Option ℕ) (warning : IsWarning 
           of_test : (b : Bool) → is_warned_on now has_next.row ≡ b → t.resources ≡ on_resource res (λ r. then) s.resources
           of_test true is =
               let same : SameButNotices (with_lists (disarming lock) s) t = subst (λ b. SameButNotices (disarmed_if b lock s) t) is warned.only in
-              same.resources ∙ disarmed_resources s sound res now lock has_next.row before has_next.rest now_found (ap (λ locks. before ++ locks) has_next.is) then refl
+              same.resources ∙ disarmed_resources s sound res now lock has_next.row before has_next.rest now_found
+              (ap (λ locks. before ++ locks) has_next.is) then refl
               (then_granted ∙ ap (λ k. before ++ k ∷ has_next.rest) (lock_is_warned warning.had own is))
           of_test false is =
               let same : SameButNotices s t = subst (λ b. SameButNotices (disarmed_if b lock s) t) is warned.only in
               let stays : then ≡ now =
               ap (λ locks. record warning.had { granted = locks })
-              (then_granted ∙ ap (λ k. before ++ k ∷ has_next.rest) (lock_is_not_warned warning.had own is) ∙ ap (λ locks. before ++ locks) (sym has_next.is)) in
+              (then_granted ∙ ap (λ k. before ++ k ∷ has_next.rest) (lock_is_not_warned warning.had own is)
+              ∙ ap (λ locks. before ++ locks) (sym has_next.is)) in
               same.resources ∙ sym (ap (λ r. on_resource res (λ x. r) s.resources) stays ∙ on_resource-own res now s.resources sound.resources_apart now_found)
 
       processes_then : map but_notices t.processes ≡ map but_notices s.processes
@@ -483,7 +535,8 @@ module _ (res : ℕ) (old s : Records) (next : Option ℕ) (warning : IsWarning 
           of_test false is = (subst (λ b. SameButNotices (disarmed_if b lock s) t) is warned.only).processes
 
       -- the walk goes on
-      pub warning_next : (which : Armed) → SparesOthers which res old → (after : Option ℕ) → after ≡ first_at (armed_among which has_next.rest) → IsAtArmed which res old t after
+      pub warning_next : (which : Armed) → SparesOthers which res old → (after : Option ℕ)
+          → after ≡ first_at (armed_among which has_next.rest) → IsAtArmed which res old t after
       warning_next which spares after is =
           let w : IsWarning res old t (first_at has_next.rest) = record {
             had = warning.had;
@@ -501,20 +554,22 @@ module _ (res : ℕ) (old s : Records) (next : Option ℕ) (warning : IsWarning 
             first = refl;
             effect =
                 ap (processes_after_asts (flat_map (row_warnings converting waiting) (rows_of_locks has_next.rest))) warned.queued
-                ∙ sym (asts_append (row_warnings converting waiting has_next.row) (flat_map (row_warnings converting waiting) (rows_of_locks has_next.rest)) (plain_processes s))
+                ∙ sym (asts_append (row_warnings converting waiting has_next.row)
+                (flat_map (row_warnings converting waiting) (rows_of_locks has_next.rest)) (plain_processes s))
                 ∙ ap (λ locks. processes_after_asts (flat_map (row_warnings converting waiting) (rows_of_locks locks)) (plain_processes s)) (sym has_next.is)
                 ∙ warning.effect;
           } in
           to_armed which res old t spares has_next.rest (first_at has_next.rest) after w refl is
         where
-          converting : List LockRow
+          converting : List LockState
           converting = rows_of_locks warning.had.converting
 
-          waiting : List LockRow
+          waiting : List LockState
           waiting = rows_of_locks warning.had.waiting
 
       -- with one lock less to look at
-      pub warning_shorter : (which : Armed) (after : Option ℕ) → after ≡ first_at (armed_among which has_next.rest) → length (left_to_warn res after t) < length (left_to_warn res next s)
+      pub warning_shorter : (which : Armed) (after : Option ℕ) → after ≡ first_at (armed_among which has_next.rest)
+          → length (left_to_warn res after t) < length (left_to_warn res next s)
       warning_shorter which after is =
           let there : handles (locks_at (Queued res Granted) t) ≡ handles (locks_at (Queued res Granted) s) =
           ap (λ o. handles (option_map_or (queued Granted) o []))
@@ -527,7 +582,8 @@ module _ (res : ℕ) (old s : Records) (next : Option ℕ) (warning : IsWarning 
           same_handles (x ∷ xs) = ap (λ hs. x.at ∷ hs) (same_handles xs)
 
 -- what is known of what is found
-pub if_found : (P : StoredResource → Type 0) (res : ℕ) (s : Records) (r : StoredResource) → resource_at res s.resources ≡ Some r → P r → IfSome (resource_at res s.resources) P
+pub if_found : (P : StoredResource → Type 0) (res : ℕ) (s : Records) (r : StoredResource)
+    → resource_at res s.resources ≡ Some r → P r → IfSome (resource_at res s.resources) P
 if_found P res s r found holds = subst (λ o. IfSome o P) (sym found) holds
 
 -- nobody is to be warned
@@ -535,7 +591,8 @@ pub none_warned : (res : ℕ) (s : Records) → IsSound s → HasResource res s 
     → IfSome (resource_at res s.resources) (λ r. IsWarned res r s s)
 none_warned res s sound there none = of_found (resource_at res s.resources) refl none
   where
-    of_found : (o : Option StoredResource) → resource_at res s.resources ≡ o → IfSome o (λ r. false ≡ has_to_warn (plain_resource r)) → IfSome o (λ r. IsWarned res r s s)
+    of_found : (o : Option StoredResource) → resource_at res s.resources ≡ o
+        → IfSome o (λ r. false ≡ has_to_warn (plain_resource r)) → IfSome o (λ r. IsWarned res r s s)
     of_found None found none = tt
     of_found (Some r) found none = record {
       left = r;
@@ -552,7 +609,7 @@ none_warned res s sound there none = of_found (resource_at res s.resources) refl
     }
 
 -- where nothing is queued nobody is to be warned
-unwarned : (queued : Resource) → nothing_queued queued ≡ true → (row : LockRow) → is_to_warn queued.converting queued.waiting row ≡ false
+unwarned : (queued : Resource) → nothing_queued queued ≡ true → (row : LockState) → is_to_warn queued.converting queued.waiting row ≡ false
 unfolding is_to_warn
 unwarned queued nothing row = rw (not_held row.held) (one row.armed)
   where
@@ -561,13 +618,14 @@ unwarned queued nothing row = rw (not_held row.held) (one row.armed)
 
     not_held : (held : Option Request) → blocks_a_request held queued.converting queued.waiting ≡ false
     not_held None = refl
-    not_held (Some held) = rw (empty_is queued.converting both.0, empty_is queued.waiting both.1) refl
+    not_held (Some held) = rw (is_empty-true queued.converting both.0, is_empty-true queued.waiting both.1) refl
 
     one : (armed : Bool) → (armed && false) ≡ false
     one true = refl
     one false = refl
 
-none_unwarned : (queued : Resource) → nothing_queued queued ≡ true → (rows : List LockRow) → list_any (is_to_warn queued.converting queued.waiting) rows ≡ false
+none_unwarned : (queued : Resource) → nothing_queued queued ≡ true → (rows : List LockState)
+    → list_any (is_to_warn queued.converting queued.waiting) rows ≡ false
 none_unwarned queued nothing [] = refl
 none_unwarned queued nothing (row ∷ rows) = rw (unwarned queued nothing row) (none_unwarned queued nothing rows)
 
@@ -581,5 +639,6 @@ none_blocks res s sound there nothing = none_warned res s sound there (of_found 
     of_found (Some r) nothing = sym (none_unwarned (plain_resource r) (sym nothing) (plain_resource r).granted)
 
 -- the walk is at its end
-pub if_warned : (res : ℕ) (old s : Records) (next : Option ℕ) (warning : IsWarning res old s next) → None ≡ next → IfSome (resource_at res old.resources) (λ r. IsWarned res r old s)
+pub if_warned : (res : ℕ) (old s : Records) (next : Option ℕ) (warning : IsWarning res old s next) → None ≡ next
+    → IfSome (resource_at res old.resources) (λ r. IsWarned res r old s)
 if_warned res old s next warning none = if_found (λ r. IsWarned res r old s) res old warning.had warning.replaced.was (warning_over res old s next warning none)

@@ -5,7 +5,7 @@ use Rattle.std.proofs.lemmas.List.{append-nil}
 use Rattle.std.proofs.lemmas.Option.{none-some, same_Some}
 use Rattle.vlm_words.specs.declared.conditions.Cond.{Cond}
 use Rattle.vlm_words.specs.declared.locks.Request.{Request}
-use Rattle.vlm_words.specs.declared.locks.LockRow.{LockRow}
+use Rattle.vlm_words.specs.declared.locks.LockState.{LockState}
 use Rattle.vlm_words.specs.declared.resources.Queue.{Queue}
 use Rattle.vlm_words.specs.declared.resources.Queue.TheVariants.{Granted, Conversion, Waiting}
 use Rattle.vlm_model.specs.Asts.{completion_asts, processes_after_asts}
@@ -22,7 +22,7 @@ use Rattle.vlm_locks.specs.declared.withdrawals.EndReason.{EndReason}
 use Rattle.vlm_locks.specs.Withdrawals.{how_ended}
 use Rattle.vlm_locks.specs.declared.located_locks.LocatedLock.{LocatedLock}
 use Rattle.vlm_locks.specs.Standing.{IsLocated}
-use Rattle.vlm_locks.proofs.Stood.{own_among}
+use Rattle.vlm_locks.proofs.QueuedLocks.{own_among}
 use Rattle.vlm_locks.proofs.Withdrawn.{rows_elsewhere, rows_here}
 use Rattle.vlm_model.specs.Endings.How.{by_rundown}
 
@@ -33,7 +33,8 @@ ends_none ends [] none = refl
 ends_none ends (x ∷ rs) none = ap (λ xs. xs ++ flat_map ends (map plain_resource rs)) (none x (inl refl)) ∙ ends_none ends rs (λ y there. none y (inr there))
 
 -- where one resource alone has ends, these are all
-pub ends_one : {X : Type 0} (ends : Resource → List X) (res : ℕ) (r : StoredResource) (rs : List StoredResource) → AreResourcesApart rs → resource_at res rs ≡ Some r
+pub ends_one : {X : Type 0} (ends : Resource → List X) (res : ℕ) (r : StoredResource) (rs : List StoredResource)
+    → AreResourcesApart rs → resource_at res rs ≡ Some r
     → ((x : StoredResource) → IsIn x rs → x.at ≢ res → ends (plain_resource x) ≡ [])
     → flat_map ends (map plain_resource rs) ≡ ends (plain_resource r)
 ends_one ends res r [] apart found none = absurd (none-some r found)
@@ -49,7 +50,7 @@ ends_one ends res r (x ∷ rs) apart found none =
     ]
 
 -- how the request of a lock of this queue ends
-abbrev pub queued_endings : Withdrawal → Queue → LockRow → List Ending
+abbrev pub queued_endings : Withdrawal → Queue → LockState → List Ending
 queued_endings w Granted row = []
 queued_endings w Conversion row = row_endings w.converting false row
 queued_endings w Waiting row = row_endings w.waiting false row
@@ -65,7 +66,8 @@ module _ (s : Records) (sound : IsSound s) (f : LocatedLock) (located : IsLocate
   ends_elsewhere how x among queue differs = ap (flat_map (row_endings how false)) (rows_elsewhere s sound f located x among queue differs)
 
   -- the end in its queue
-  ends_here : (how : How) (queue : Queue) → f.queue ≡ queue → queue_endings how f.row.lkid (rows_of_locks (queued queue located.resource)) ≡ row_endings how false f.row
+  ends_here : (how : How) (queue : Queue) → f.queue ≡ queue
+      → queue_endings how f.row.lkid (rows_of_locks (queued queue located.resource)) ≡ row_endings how false f.row
   ends_here how queue is =
       ap (λ q. queue_endings how f.row.lkid (rows_of_locks (queued q located.resource))) (sym is)
       ∙ ap (flat_map (row_endings how false)) (rows_here s sound f located)
@@ -98,25 +100,30 @@ module _ (s : Records) (sound : IsSound s) (f : LocatedLock) (located : IsLocate
       ∙ ends_own queue is
 
 -- so these requests end as the lock is withdrawn
-pub withdrawn_ends : (s : Records) (sound : IsSound s) (f : LocatedLock) (located : IsLocated f s) (w : Withdrawal) → w.lkid ≡ f.row.lkid → (queue : Queue) → f.queue ≡ queue
+pub withdrawn_ends : (s : Records) (sound : IsSound s) (f : LocatedLock) (located : IsLocated f s) (w : Withdrawal)
+    → w.lkid ≡ f.row.lkid → (queue : Queue) → f.queue ≡ queue
     → flat_map (withdrawal_endings w) (plain_resources s) ≡ queued_endings w queue f.row
 withdrawn_ends s sound f located w named queue is =
     ap (λ k. flat_map (withdrawal_endings (record w { lkid = k })) (plain_resources s)) named ∙ ends_are s sound f located w queue is
 
 -- the end of what a row wants writes its status, and queues its completion
-pub end_written : (ended : EndReason) (cond : Cond) (row : LockRow) (request : Request) (ps : List Process) → ending_status (how_ended ended) ≡ Some cond
+pub end_written : (ended : EndReason) (cond : Cond) (row : LockState) (request : Request) (ps : List Process) → ending_status (how_ended ended) ≡ Some cond
     → row.want ≡ Some request → processes_after (row_endings (how_ended ended) false row) ps
     ≡ processes_after_asts (completion_asts false request row.lkid row.pid) (processes_after_status row.pid request.block cond ps)
 end_written Aborted cond row request ps status is =
-    rw is (ap (λ c. processes_after_asts (completion_asts false request row.lkid row.pid) (processes_after_status row.pid request.block c ps)) (same_Some _ _ status))
+    rw is (ap (λ c. processes_after_asts (completion_asts false request row.lkid row.pid)
+    (processes_after_status row.pid request.block c ps)) (same_Some _ _ status))
 end_written Cancelled cond row request ps status is =
-    rw is (ap (λ c. processes_after_asts (completion_asts false request row.lkid row.pid) (processes_after_status row.pid request.block c ps)) (same_Some _ _ status))
+    rw is (ap (λ c. processes_after_asts (completion_asts false request row.lkid row.pid)
+    (processes_after_status row.pid request.block c ps)) (same_Some _ _ status))
 end_written Deadlocked cond row request ps status is =
-    rw is (ap (λ c. processes_after_asts (completion_asts false request row.lkid row.pid) (processes_after_status row.pid request.block c ps)) (same_Some _ _ status))
+    rw is (ap (λ c. processes_after_asts (completion_asts false request row.lkid row.pid)
+    (processes_after_status row.pid request.block c ps)) (same_Some _ _ status))
 end_written RunDown cond row request ps status is = cc
 
 -- where its process ends nothing is written, and no completion queued
-pub none_written : (ended : EndReason) (row : LockRow) (ps : List Process) → ending_status (how_ended ended) ≡ None → processes_after (row_endings (how_ended ended) false row) ps ≡ ps
+pub none_written : (ended : EndReason) (row : LockState) (ps : List Process) → ending_status (how_ended ended) ≡ None
+    → processes_after (row_endings (how_ended ended) false row) ps ≡ ps
 none_written Aborted row ps status = cc
 none_written Cancelled row ps status = cc
 none_written Deadlocked row ps status = cc

@@ -1,7 +1,7 @@
 -- The conversion of a granted lock.
 use Rattle.std.specs.Prelude.{◌≡◌, true, IfSome, List, map}
 use Rattle.vlm_words.specs.declared.locks.Request.{Request}
-use Rattle.vlm_words.specs.declared.locks.LockRow.{LockRow}
+use Rattle.vlm_words.specs.declared.locks.LockState.{LockState}
 use Rattle.vlm_words.specs.declared.resources.Queue.{Queue}
 use Rattle.vlm_words.specs.declared.resources.Queue.TheVariants.{Granted}
 use Rattle.vlm_model.specs.Convert.{ConversionAdmission, conversion_blocks, converts_at_once, resource_after_conversion}
@@ -40,15 +40,15 @@ pub record IsConverted (f : LocatedLock) (asked : Request) (accepted : List Proc
   pub statuses : plain_processes new ≡ (conversion_blocks (admission_on f asked r) accepted).processes
 
 -- the resource after this lock moves to the end of a queue, with this row
-abbrev pub moved_in : LocatedLock → LockRow → Queue → StoredResource → StoredResource
+abbrev pub moved_in : LocatedLock → LockState → Queue → StoredResource → StoredResource
 moved_in f row queue r = resource_with (moving (Queued f.res queue) (record { at = f.lock; row = row })) r
 
 -- the value block and the processes after the grant of the row
-abbrev pub blocks_granted : LockRow → StoredResource → List Process → Blocks
+abbrev pub blocks_granted : LockState → StoredResource → List Process → Blocks
 blocks_granted row r accepted = blocks_after (grant_endings true row) (blocks_with r.value_block accepted)
 
 -- the request of the lock is granted at once on its resource; these are the processes after it was accepted
-pub record IsConvertedAtOnce (f : LocatedLock) (row : LockRow) (accepted : List Process) (r : StoredResource)
+pub record IsConvertedAtOnce (f : LocatedLock) (row : LockState) (accepted : List Process) (r : StoredResource)
     (old new : Records) : Type 0 where
   pub replaced : IsReplaced f.res r (record (moved_in f (granted_row row) Granted r)
       { value_block = (blocks_granted row r accepted).value_block }) old new

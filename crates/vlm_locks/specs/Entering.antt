@@ -1,7 +1,7 @@
 -- The entry of a new lock into the queues of a resource.
 use Rattle.std.specs.Prelude.{◌≡◌, ◌+◌, ℕ, Bool, true, false, List, [], find, map, unwrap_or, IfSome, None, Some, if◌then◌else◌}
 use Rattle.vlm_store.specs.Index.{hash_key}
-use Rattle.vlm_words.specs.declared.locks.LockRow.{LockRow}
+use Rattle.vlm_words.specs.declared.locks.LockState.{LockState}
 use Rattle.vlm_words.specs.declared.resources.Queue.{Queue}
 use Rattle.vlm_words.specs.declared.resources.Queue.TheVariants.{Granted, Waiting}
 use Rattle.vlm_words.specs.Dues.{due_to, routines_of}
@@ -13,14 +13,16 @@ use Rattle.vlm_words.specs.State.{Process, Resource}
 use Rattle.vlm_model.specs.StatusBlocks.{processes_after_acceptance}
 use Rattle.vlm_words.specs.declared.resources.ValueBlock.{ValueBlock}
 use Rattle.vlm_store.specs.Plain.{plain_processes, plain_resources}
-use Rattle.vlm_store.specs.Records.{DueChanges, DuesStay, HasResource, HasRoomForLock, HasRoomForResource, IsParentOf, IsProcess, IsSameLock, IsStored, ProcessesStay, Records, Stores, but_notices, process_with_lock, resource_at}
+use Rattle.vlm_store.specs.Records.{DueChanges, DuesStay, HasResource, HasRoomForLock, HasRoomForResource, IsParentOf}
+use Rattle.vlm_store.specs.Records.{IsProcess, IsSameLock, IsStored, ProcessesStay, Records, Stores, but_notices}
+use Rattle.vlm_store.specs.Records.{process_with_lock, resource_at}
 use Rattle.vlm_locks.specs.declared.new_locks.NewLock.{NewLock}
 use Rattle.vlm_locks.specs.Owing.{IsPaid, due_for}
 use Rattle.vlm_locks.specs.Rest.{IsAtRest, OtherLocksStay, OthersStay}
 use Rattle.vlm_locks.specs.Rising.{IsAboveEachLock}
 
 -- the row of the new lock: it wants the requested mode and holds none
-abbrev pub new_row : NewLock → LockRow
+abbrev pub new_row : NewLock → LockState
 new_row e = record {
   lkid = e.lkid;
   pid = e.pid;
@@ -38,7 +40,7 @@ resource_for e resources = unwrap_or (find (is_at e.site.key) resources) (new_re
 abbrev pub entered_queue : Bool → Queue
 entered_queue at_once = if at_once then Granted else Waiting
 
--- between two steps the new lock may enter: its identification is higher than all others, its process and its parent
+-- between two steps the new lock may enter: its ID is higher than all others, its process and its parent
 -- lock exist, its resource is in the domain of its key, and the hash of the key is the index's
 pub record MayEnter (e : NewLock) (s : Records) : Type 0 where
   pub rest : IsAtRest s
@@ -66,7 +68,7 @@ pub record IsReady (e : NewLock) (old new : Records) : Type 0 where
   pub owed : DueChanges e.pid (λ due. due + routines_of (Some e.asked)) old new
 
 -- the ASTs for a new lock with this row are due in addition, and the ASTs owed stay the same
-pub record IsDueMore (row : LockRow) (old new : Records) : Type 0 where
+pub record IsDueMore (row : LockState) (old new : Records) : Type 0 where
   pub due : (pid : ℕ) → due_for pid new ≡ due_for pid old + due_to pid row
   pub dues : DuesStay old new
 
@@ -85,7 +87,7 @@ processes_entered e block processes =
 pub record IsAdded (e : NewLock) (old new : Records) : Type 0 where
   pub lock : ℕ
   pub fresh : ¬ IsStored lock old
-  pub row : LockRow
+  pub row : LockState
   pub stands : Stores new lock row
   pub same : IsSameLock (new_row e) row
   pub own_locks : map but_notices new.processes ≡ map but_notices

@@ -1,7 +1,7 @@
 -- Locks of a process that are given up together.
 use Rattle.std.specs.Prelude.{◌≡◌, ◌≢◌, ◌≤◌, ◌<◌, ⊤, ℕ, Bool, true, List, [], ◌∷◌, map, if◌then◌else◌}
 use Rattle.std.specs.List.{AllByRecursion}
-use Rattle.vlm_words.specs.declared.locks.LockRow.{LockRow}
+use Rattle.vlm_words.specs.declared.locks.LockState.{LockState}
 use Rattle.vlm_words.specs.Dues.{due_to}
 use Rattle.vlm_model.specs.Endings.How.{by_abort}
 use Rattle.vlm_model.specs.OwnLocks.{is_below}
@@ -32,36 +32,36 @@ abbrev pub Rise : List ℕ → Type 0
 Rise [] = ⊤
 Rise (lkid ∷ lkids) = AllByRecursion (λ later. lkid < later) lkids × Rise lkids
 
--- these are the identifications of the chosen locks of a process, in rising order
+-- these are the IDs of the chosen locks of a process, in rising order
 pub record AreChosen (scope : Scope) (pid : ℕ) (s : Records) (lkids : List ℕ) : Type 0 where
   pub rise : Rise lkids
   pub each : (lkid : ℕ) → IsIn lkid lkids
-      → (at : ℕ) × (row : LockRow) × (Stores s at row × (row.lkid ≡ lkid) × (row.pid ≡ pid)
+      → (at : ℕ) × (row : LockState) × (Stores s at row × (row.lkid ≡ lkid) × (row.pid ≡ pid)
       × (is_chosen scope (plain_resources s) lkid ≡ true))
-  pub all : (at : ℕ) (row : LockRow) → Stores s at row → row.pid ≡ pid
+  pub all : (at : ℕ) (row : LockState) → Stores s at row → row.pid ≡ pid
       → is_chosen scope (plain_resources s) row.lkid ≡ true → IsIn row.lkid lkids
 
--- the lock whose sublocks are given up is a stored lock of the process; its identification is not 0, which a row
+-- the lock whose sublocks are given up is a stored lock of the process; its ID is not 0, which a row
 -- without a parent names
 abbrev pub IsOwnScope : Scope → ℕ → Records → Type 0
 IsOwnScope All pid s = ⊤
-IsOwnScope (Below top) pid s = (top ≢ 0) × (at : ℕ) × (row : LockRow)
+IsOwnScope (Below top) pid s = (top ≢ 0) × (at : ℕ) × (row : LockState)
     × (Stores s at row × (row.lkid ≡ top) × (row.pid ≡ pid))
 
 -- the sublocks of a chosen lock are chosen too
 abbrev pub SublocksGoToo : Scope → Records → Type 0
-SublocksGoToo scope s = (at other : ℕ) (row up : LockRow) → Stores s at row → Stores s other up → row.parent ≡ up.lkid
+SublocksGoToo scope s = (at other : ℕ) (row up : LockState) → Stores s at row → Stores s other up → row.parent ≡ up.lkid
     → is_chosen scope (plain_resources s) up.lkid ≡ true → is_chosen scope (plain_resources s) row.lkid ≡ true
 
 -- ---- how they are noted
 
--- the identifications of noted locks
+-- the IDs of noted locks
 abbrev pub noted_lkids : List Note → List ℕ
 noted_lkids notes = map (λ t. t.number) notes
 
--- each note has the handle and the identification of a stored lock
+-- each note has the handle and the ID of a stored lock
 abbrev pub AreOfLocks : List Note → Records → Type 0
-AreOfLocks notes s = (t : Note) → IsIn t notes → (row : LockRow) × (Stores s t.at row × (row.lkid ≡ t.number))
+AreOfLocks notes s = (t : Note) → IsIn t notes → (row : LockState) × (Stores s t.at row × (row.lkid ≡ t.number))
 
 -- ---- ASTs that are owed on the way
 
@@ -93,8 +93,8 @@ pub record HaveEnded (lkids : List ℕ) (invalidates : Bool) (old new : Records)
 pub record CanGo (pid : ℕ) (touched : Touches) (s : Records) : Type 0 where
   pub rise : Rise (noted_lkids touched.noted)
   pub locks : AreOfLocks touched.noted s
-  pub own : (at : ℕ) (row : LockRow) → Stores s at row → IsIn row.lkid (noted_lkids touched.noted) → row.pid ≡ pid
-  pub closed : (at other : ℕ) (row up : LockRow) → Stores s at row → Stores s other up → row.parent ≡ up.lkid
+  pub own : (at : ℕ) (row : LockState) → Stores s at row → IsIn row.lkid (noted_lkids touched.noted) → row.pid ≡ pid
+  pub closed : (at other : ℕ) (row up : LockState) → Stores s at row → Stores s other up → row.parent ≡ up.lkid
       → IsIn up.lkid (noted_lkids touched.noted) → IsIn row.lkid (noted_lkids touched.noted)
   pub paid : IsPaidBut (noted_lkids touched.noted) s
   pub rest : IsAtRest s
@@ -114,7 +114,7 @@ pub record AreGone (lkids : List ℕ) (invalidates : Bool) (old new : Records) (
   pub left : HaveLeft lkids invalidates old new before after
   pub statuses : plain_processes new ≡ plain_processes old
 
--- the chosen locks are given up together: their requests have ended, by rising identification, and they are gone
+-- the chosen locks are given up together: their requests have ended, by rising ID, and they are gone
 pub record AreGivenUp (scope : Scope) (invalidates : Bool) (pid : ℕ) (old new : Records)
     (before after : Touches) : Type 0 where
   pub lkids : List ℕ

@@ -1,7 +1,7 @@
 -- The ASTs that a process is owed, and the ASTs that are due to it for its locks.
 use Rattle.std.specs.Prelude.{◌≡◌, ◌==◌, ◌+◌, ℕ, Bool, false, List, sum_by, None, Some, is_some, if◌then◌else◌}
 use Rattle.vlm_words.specs.declared.locks.Request.{Request}
-use Rattle.vlm_words.specs.declared.locks.LockRow.{LockRow}
+use Rattle.vlm_words.specs.declared.locks.LockState.{LockState}
 use Rattle.vlm_model.specs.Asts.{is_synchronous}
 use Rattle.vlm_words.specs.Dues.{due_to, one_where}
 use Rattle.vlm_model.specs.Effects.{Blocks, blocks_after_grant}
@@ -47,23 +47,23 @@ abbrev pub OwesMore : ℕ → ℕ → Records → Type 0
 OwesMore owner more s = (pid : ℕ) → due_of pid s ≡ due_for pid s + (if pid == owner then more else 0)
 
 -- the ASTs due change only for one lock, whose row changed from the first to the second
-abbrev pub DueMoves : LockRow → LockRow → Records → Records → Type 0
+abbrev pub DueMoves : LockState → LockState → Records → Records → Type 0
 DueMoves was now old new = (pid : ℕ) → due_for pid new + due_to pid was ≡ due_for pid old + due_to pid now
 
 -- the ASTs owed change as the ASTs due for one lock, whose row changed from the first to the second
-abbrev pub OwedMoves : LockRow → LockRow → Records → Records → Type 0
+abbrev pub OwedMoves : LockState → LockState → Records → Records → Type 0
 OwedMoves was now old new = (pid : ℕ) → due_of pid new + due_to pid was ≡ due_of pid old + due_to pid now
 
 -- the row after its queued request has ended
-abbrev pub row_after_end : LockRow → LockRow
+abbrev pub row_after_end : LockState → LockState
 row_after_end row = record row { want = None }
 
 -- the row of a lock for which nothing is due any more
-abbrev pub row_at_end : LockRow → LockRow
+abbrev pub row_at_end : LockState → LockState
 row_at_end row = record row { want = None; armed = false }
 
 -- the row of a withdrawn lock: gone, or without its queued request
-abbrev pub left_row : Bool → LockRow → LockRow
+abbrev pub left_row : Bool → LockState → LockState
 left_row gone row = if gone then row_at_end row else row_after_end row
 
 -- how many completion ASTs a request queues when it ends, at once or later
@@ -72,7 +72,7 @@ completions_queued at_once request =
     if is_synchronous at_once request then 0 else one_where (is_some request.completion)
 
 -- the value block and the processes after a grant, without the completion AST
-abbrev pub blocks_written : LockRow → Request → Blocks → Blocks
+abbrev pub blocks_written : LockState → Request → Blocks → Blocks
 blocks_written row request b =
     blocks_after_grant (grant_act row.held (Some request))
     (record {
@@ -90,5 +90,5 @@ suppressed_completions at_once request =
     if is_synchronous at_once request then one_where (is_some request.completion) else 0
 
 -- the row of a lock that has entered: granted at once, or waiting
-abbrev pub granted_if_at_once : Bool → LockRow → LockRow
+abbrev pub granted_if_at_once : Bool → LockState → LockState
 granted_if_at_once at_once row = if at_once then granted_row row else row

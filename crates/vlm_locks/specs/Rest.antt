@@ -4,11 +4,12 @@ use Rattle.vlm_words.specs.Resources.{IsKeyed}
 use Rattle.vlm_words.specs.ValueBlocks.{new_value_block}
 use Rattle.vlm_collections.specs.Lists.{IsIn}
 use Rattle.vlm_records.specs.declared.handles.Place.{Place}
-use Rattle.vlm_store.specs.Records.{HasResource, IsSound, Records, StoredProcess, StoredResource, but_notices, locks_at, on_resource, resource_at, without_lock, without_resource}
+use Rattle.vlm_store.specs.Records.{HasResource, IsSound, Records, StoredProcess, StoredResource, but_notices, locks_at}
+use Rattle.vlm_store.specs.Records.{on_resource, resource_at, without_lock, without_resource}
 use Rattle.vlm_locks.specs.Rising.{HasRisingLocks}
 
 -- between two steps the records are sound, and each resource is in the domain of its key; the locks of a process, and
--- each lock with its sublocks, are in the order of identifications
+-- each lock with its sublocks, are in the order of IDs
 pub record IsAtRest (s : Records) : Type 0 where
   pub keyed : (r : StoredResource) → IsIn r s.resources → IsKeyed r.domain r.key
   pub rising : (p : StoredProcess) → IsIn p s.processes → HasRisingLocks s p

@@ -1,6 +1,6 @@
 -- The records after processes have ended.
 use Rattle.std.specs.Prelude.{◌≡◌, ◌==◌, ◌≤◌, ◌+◌, ℕ, Bool, true, length, map, None}
-use Rattle.vlm_words.specs.declared.locks.LockRow.{LockRow}
+use Rattle.vlm_words.specs.declared.locks.LockState.{LockState}
 use Rattle.vlm_words.specs.declared.resources.Queue.TheVariants.{Granted}
 use Rattle.vlm_words.specs.State.{Resource}
 use Rattle.vlm_collections.specs.Lists.{IsIn}
@@ -21,7 +21,7 @@ resource_after_rundown is_one = resource_left (λ row. is_one row.pid) true
 
 -- a sublock belongs to its parent's process
 abbrev pub SublocksAreOwn : Records → Type 0
-SublocksAreOwn s = (at other : ℕ) (row up : LockRow) → Stores s at row → Stores s other up → row.parent ≡ up.lkid
+SublocksAreOwn s = (at other : ℕ) (row up : LockState) → Stores s at row → Stores s other up → row.parent ≡ up.lkid
     → row.pid ≡ up.pid
 
 -- a granted lock wants nothing

@@ -1,14 +1,14 @@
 -- Locks that stay on their resource, whatever modes they hold and want.
 use Rattle.std.specs.Prelude.{◌≡◌, List}
-use Rattle.vlm_words.specs.declared.locks.LockRow.{LockRow}
+use Rattle.vlm_words.specs.declared.locks.LockState.{LockState}
 use Rattle.vlm_words.specs.declared.resources.Queue.{Queue}
 use Rattle.vlm_collections.specs.Lists.{IsIn}
 use Rattle.vlm_store.specs.Records.{IsSameLock, StoredLock, StoredResource, queued}
 
--- the lock is on the resource, in any queue, with the same handle, identification, process and parent lock
+-- the lock is on the resource, in any queue, with the same handle, ID, process and parent lock
 pub record StandsStill (lock : StoredLock) (r : StoredResource) : Type 0 where
   pub queue : Queue
-  pub row : LockRow
+  pub row : LockState
   pub among : IsIn (record { at = lock.at; row = row }) (queued queue r)
   pub same : IsSameLock lock.row row
 

@@ -2,7 +2,7 @@
 use Rattle.std.specs.Prelude.{◌≡◌, ◌==◌, ⊤, ℕ, not, List, [], ◌∷◌, ◌++◌, filter, map}
 use Rattle.std.specs.List.{list_any}
 use Rattle.vlm_collections.specs.Lists.{IsIn}
-use Rattle.vlm_model.specs.Settled.{IsSettled, unless_vacant}
+use Rattle.vlm_model.specs.Stable.{IsStable, unless_vacant}
 use Rattle.vlm_model.specs.Sweeps.{blocks_after_service, processes_after_service, resource_after_service, resources_after_sweep}
 use Rattle.vlm_store.specs.Plain.{plain_processes, plain_resource, plain_resources}
 use Rattle.vlm_store.specs.Records.{Records, StoredResource}
@@ -24,9 +24,9 @@ StandInOrder [] resources = ⊤
 StandInOrder (res ∷ touched) resources = (here : Parted res resources) × StandInOrder touched here.after
 
 -- only the touched resources may need a sweep
-abbrev pub AreSettledBut : List ℕ → List StoredResource → Type 0
-AreSettledBut touched resources = (r : StoredResource) → IsIn r resources → (IsIn r.at touched → ⊥)
-    → IsSettled (plain_resource r)
+abbrev pub AreStableBut : List ℕ → List StoredResource → Type 0
+AreStableBut touched resources = (r : StoredResource) → IsIn r resources → (IsIn r.at touched → ⊥)
+    → IsStable (plain_resource r)
 
 -- the resources that are not touched
 abbrev pub but_touched : List ℕ → List StoredResource → List StoredResource

@@ -1,6 +1,6 @@
 -- The warnings of a resource's granted locks.
 use Rattle.std.specs.Prelude.{◌≡◌, ℕ, Bool, false, Some, if◌then◌else◌}
-use Rattle.vlm_words.specs.declared.locks.LockRow.{LockRow}
+use Rattle.vlm_words.specs.declared.locks.LockState.{LockState}
 use Rattle.vlm_model.specs.Asts.{is_to_warn, processes_after_asts, resource_after_warning, row_after_warning, row_warnings, warnings}
 use Rattle.vlm_records.specs.declared.handles.Armed.{Armed}
 use Rattle.vlm_records.specs.Armed.{is_listed}
@@ -11,16 +11,16 @@ use Rattle.vlm_locks.specs.Rest.{IsReplaced}
 use Rattle.vlm_locks.specs.Staying.{LocksStay}
 
 -- the row of a lock that is no longer armed
-abbrev pub disarmed_row : LockRow → LockRow
+abbrev pub disarmed_row : LockState → LockState
 disarmed_row row = record row { armed = false }
 
 -- a granted lock with this row is to be warned on the resource
-abbrev pub is_warned_on : StoredResource → LockRow → Bool
+abbrev pub is_warned_on : StoredResource → LockState → Bool
 is_warned_on r row = is_to_warn (rows_of_locks r.converting) (rows_of_locks r.waiting) row
 
 -- every lock of the resource that is to be warned is in this list of armed locks
 abbrev pub SparesOthers : Armed → ℕ → Records → Type 0
-SparesOthers which res s = (r : StoredResource) (row : LockRow) → resource_at res s.resources ≡ Some r
+SparesOthers which res s = (r : StoredResource) (row : LockState) → resource_at res s.resources ≡ Some r
     → is_listed which row ≡ false → is_warned_on r row ≡ false
 
 -- the records after the lock is disarmed, if it is warned
@@ -28,7 +28,7 @@ abbrev pub disarmed_if : Bool → ℕ → Records → Records
 disarmed_if warned lock s = if warned then with_lists (disarming lock) s else s
 
 -- a granted lock of the resource is warned, if it is to be
-pub record IsLockWarned (r : StoredResource) (lock : ℕ) (row : LockRow) (old new : Records) : Type 0 where
+pub record IsLockWarned (r : StoredResource) (lock : ℕ) (row : LockState) (old new : Records) : Type 0 where
   pub queued : plain_processes new
       ≡ processes_after_asts (row_warnings (rows_of_locks r.converting) (rows_of_locks r.waiting) row)
       (plain_processes old)

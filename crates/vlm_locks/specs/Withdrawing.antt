@@ -1,6 +1,6 @@
 -- The withdrawal of a lock, and its parts.
 use Rattle.std.specs.Prelude.{◌≡◌, ℕ, Bool, true, false, List, [], ◌∷◌, flat_map, map}
-use Rattle.vlm_words.specs.declared.locks.LockRow.{LockRow}
+use Rattle.vlm_words.specs.declared.locks.LockState.{LockState}
 use Rattle.vlm_words.specs.declared.resources.Queue.{Queue}
 use Rattle.vlm_words.specs.declared.resources.Queue.TheVariants.{Granted, Conversion, Waiting}
 use Rattle.vlm_model.specs.Withdrawals.{is_writer, processes_after, resource_after_withdrawals, withdrawal_endings}
@@ -14,7 +14,7 @@ use Rattle.vlm_locks.specs.Rest.{IsAtRest, LeavesOthers, OtherLocksStay, OthersS
 use Rattle.vlm_locks.specs.Withdrawals.{plain_withdrawal}
 
 -- a lock in this queue may write the value block when it goes: it holds PW or EX, granted or converting
-abbrev pub may_write : Queue → LockRow → Bool
+abbrev pub may_write : Queue → LockState → Bool
 may_write Granted row = is_writer row.held
 may_write Conversion row = is_writer row.held
 may_write Waiting row = false

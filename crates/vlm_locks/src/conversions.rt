@@ -19,7 +19,7 @@ use crate::routines::owe_routines;
 use std::alloc::AllocError;
 use vlm_procs::accept;
 use vlm_queue::is_empty;
-use vlm_store::{Place, Store, StoredRow};
+use vlm_store::{Place, Store, StoredState};
 use vlm_words::flags::EnqFlags;
 use vlm_words::locks::Request;
 use vlm_words::modes::Mode;
@@ -50,7 +50,7 @@ pub fn converts_at_once(store: &Store, located: &LocatedLock, flags: EnqFlags, m
         && (!flags.has(EnqFlags::QUECVT) || is_empty(store, located.res, Queue::Conversion))
 }
 
-fn convert_now(store: &mut Store, located: &LocatedLock, row: &StoredRow, asked: &Request)
+fn convert_now(store: &mut Store, located: &LocatedLock, row: &StoredState, asked: &Request)
     requires located { IsLocated located.now store.old }
     requires row { IsSameLock located.now.row row.now }
     requires wanted { row.now.want ≡ Some asked.now }
@@ -75,7 +75,7 @@ fn convert_now(store: &mut Store, located: &LocatedLock, row: &StoredRow, asked:
     }
 }
 
-fn convert_later(store: &mut Store, located: &LocatedLock, row: StoredRow, asked: &Request)
+fn convert_later(store: &mut Store, located: &LocatedLock, row: StoredState, asked: &Request)
     requires located { IsLocated located.now store.old }
     requires row { IsSameLock located.now.row row }
     ensures replaced { IfSome (resource_at located.now.res store.old.resources) (λ r.

@@ -15,7 +15,7 @@ ghost use Rattle.vlm_store.specs.Records.{DueChanges, DuesStay, IsProcess, SameB
 ghost use Rattle.vlm_locks.specs.Owing.{OwedMoves, blocks_written, completions_queued, suppressed_completions};
 
 use vlm_procs::{accept_granted, end, end_with_return, forgive, queue_ast, status_block_or_new};
-use vlm_store::{ProcAt, Store, StoredRow};
+use vlm_store::{ProcAt, Store, StoredState};
 use vlm_words::asts::{Ast, AstKind};
 use vlm_words::blocks::Block;
 use vlm_words::conditions::Cond;
@@ -49,7 +49,7 @@ fn write_grant(
     value_block: &mut ValueBlock,
     store: &mut Store,
     at: ProcAt,
-    row: &StoredRow,
+    row: &StoredState,
     request: &Request,
 )
     requires { IsProcess at row.now.pid store.old }
@@ -78,7 +78,7 @@ fn write_grant(
 pub(crate) fn complete(
     store: &mut Store,
     at: ProcAt,
-    row: &StoredRow,
+    row: &StoredState,
     request: &Request,
     at_once: bool,
 )
@@ -116,7 +116,7 @@ fn suppressed_completions(request: &Request, at_once: bool) -> usize
 }
 
 // Queues the completion AST of a granted request, and frees the room of the ASTs that will not come.
-fn tell_grant(store: &mut Store, at: ProcAt, row: &StoredRow, request: &Request, at_once: bool)
+fn tell_grant(store: &mut Store, at: ProcAt, row: &StoredState, request: &Request, at_once: bool)
     requires process { IsProcess at row.now.pid store.old }
     requires wanted { row.now.want ≡ Some request.now }
     requires owed { row_due row.now ≤ due_of row.now.pid store.old }
@@ -138,7 +138,7 @@ fn tell_grant(store: &mut Store, at: ProcAt, row: &StoredRow, request: &Request,
 pub(crate) fn grant_without_value_block(
     store: &mut Store,
     at: ProcAt,
-    row: &StoredRow,
+    row: &StoredState,
     request: &Request,
 )
     requires process { IsProcess at row.now.pid store.old }
@@ -162,7 +162,7 @@ pub(crate) fn end_by_grant(
     value_block: &mut ValueBlock,
     store: &mut Store,
     at: ProcAt,
-    row: &StoredRow,
+    row: &StoredState,
     at_once: bool,
 )
     requires process { IsProcess at row.now.pid store.old }

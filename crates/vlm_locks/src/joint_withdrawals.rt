@@ -19,7 +19,7 @@ use vlm_store::{ProcAt, Store};
 #[derive(Clone, Copy)]
 pub enum Scope {
     All,
-    /// The locks at any depth below the lock with this identification, without that lock.
+    /// The locks at any depth below the lock with this ID, without that lock.
     Below(u32),
 }
 
@@ -85,7 +85,7 @@ fn remove_noted(store: &mut Store, touched: &mut Touched, joint: &JointWithdrawa
 }
 
 /// Gives up locks of a process together. First their requests end with ABORT and queue their completion ASTs, by rising
-/// identification. Then all of the locks go. It notes their resources, and grants nothing. The cost grows with the
+/// ID. Then all of the locks go. It notes their resources, and grants nothing. The cost grows with the
 /// number of locks that go; for sorting them, with that number times its logarithm.
 pub fn give_up_together(store: &mut Store, touched: &mut Touched, joint: &JointWithdrawal)
     requires owner { IsProcess joint.now.owner joint.now.pid store.old }

@@ -2,7 +2,7 @@
 
 ghost use Rattle.std.specs.Prelude.{◌≡◌, ◌≢◌, IfSome, is_some};
 ghost use Rattle.std.specs.Bool.{OnFalse, OnTrue};
-ghost use Rattle.vlm_words.specs.declared.locks.LockRow.{LockRow};
+ghost use Rattle.vlm_words.specs.declared.locks.LockState.{LockState};
 ghost use Rattle.vlm_words.specs.declared.resources.Queue.{Queue};
 ghost use Rattle.std.specs.List.{list_any};
 ghost use Rattle.vlm_model.specs.Checks.{holds_lock};
@@ -11,7 +11,7 @@ ghost use Rattle.vlm_store.specs.Records.{IsStored, Stores};
 ghost use Rattle.vlm_locks.specs.Rest.{IsAtRest};
 ghost use Rattle.vlm_locks.specs.Standing.{IsLockOf, IsLocated};
 
-use vlm_store::{LockAt, ProcAt, ResAt, Store, StoredRow};
+use vlm_store::{LockAt, ProcAt, ResAt, Store, StoredState};
 use vlm_words::resources::Queue;
 
 /// A lock, with its process, its row, its resource and its queue.
@@ -19,7 +19,7 @@ use vlm_words::resources::Queue;
 pub struct LocatedLock {
     pub lock: LockAt,
     pub owner: ProcAt,
-    pub row: StoredRow,
+    pub row: StoredState,
     pub res: ResAt,
     pub queue: Queue,
 }
@@ -40,7 +40,7 @@ pub fn located_lock(store: &Store, lock: LockAt) -> LocatedLock
     ensures located { IsLocated result store.now }
     ensures lock { result.lock ≡ lock }
     ensures row { Stores store.now lock result.row }
-    ensures only { (row : LockRow) → Stores store.now lock row → row ≡ result.row }
+    ensures only { (row : LockState) → Stores store.now lock row → row ≡ result.row }
 {
     let record = store.lock_record(lock);
     let (res, queue) = record.place.parts();
@@ -53,7 +53,7 @@ pub fn located_lock(store: &Store, lock: LockAt) -> LocatedLock
     }
 }
 
-/// The lock with this identification, if there is one and the process owns it.
+/// The lock with this ID, if there is one and the process owns it.
 pub fn find_lock(store: &Store, pid: u32, lkid: u32) -> Option<LockAt>
     requires { IsAtRest store.now }
     ensures held { is_some result ≡ list_any (holds_lock pid lkid) (plain_resources store.now) }

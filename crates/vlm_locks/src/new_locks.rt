@@ -2,7 +2,7 @@
 
 ghost use Rattle.std.specs.Prelude.{◌≡◌, ◌≤◌, true, None, Some, IfOk, IfSome, IsOk, OnErr, OnOk};
 ghost use Rattle.vlm_words.specs.declared.locks.Request.{Request};
-ghost use Rattle.vlm_words.specs.declared.locks.LockRow.{LockRow};
+ghost use Rattle.vlm_words.specs.declared.locks.LockState.{LockState};
 ghost use Rattle.vlm_words.specs.Dues.{row_due};
 ghost use Rattle.vlm_model.specs.Enqueue.{is_at_once};
 ghost use Rattle.vlm_store.specs.Plain.{plain_processes, plain_resource};
@@ -15,9 +15,9 @@ use crate::routines::owe_routines;
 use std::alloc::AllocError;
 use vlm_procs::accept;
 use vlm_queue::is_empty;
-use vlm_store::{LockAt, Place, ProcAt, ResAt, Store, StoredRow};
+use vlm_store::{LockAt, Place, ProcAt, ResAt, Store, StoredState};
 use vlm_words::flags::EnqFlags;
-use vlm_words::locks::{LockRow, Request};
+use vlm_words::locks::{LockState, Request};
 use vlm_words::modes::Mode;
 use vlm_words::resources::{Queue, Site};
 
@@ -59,7 +59,7 @@ pub struct NewLock {
 }
 
 // Adds a new lock at the end of a queue: granted if it is granted at once, else waiting.
-fn enter_at(store: &mut Store, new_lock: &NewLock, row: &StoredRow, res: ResAt)
+fn enter_at(store: &mut Store, new_lock: &NewLock, row: &StoredState, res: ResAt)
     requires may_enter { MayEnter new_lock.now store.old }
     requires row { row.now ≡ new_row new_lock.now }
     requires found { FindsResource store.old new_lock.now.site.key (Some res) }
@@ -86,7 +86,7 @@ fn resource_or_new(store: &mut Store, new_lock: &NewLock) -> ResAt
     ensures lock_room { HasRoomForLock new_lock.now.lkid store.old → HasRoomForLock new_lock.now.lkid store.new }
     ensures entered { (then : Records) → IsEntered new_lock.now result store.new then
         → IsEntered new_lock.now result store.old then }
-    ensures due { (row : LockRow) (then : Records) → IsDueMore row store.new then
+    ensures due { (row : LockState) (then : Records) → IsDueMore row store.new then
         → IsDueMore row store.old then }
 {
     match new_lock.res {
@@ -97,7 +97,7 @@ fn resource_or_new(store: &mut Store, new_lock: &NewLock) -> ResAt
 
 // Accepts the request of a lock that has entered, and ends it if it is granted at once. Such a grant never writes the
 // value block.
-fn accept_entered(store: &mut Store, new_lock: &NewLock, row: &StoredRow, res: ResAt)
+fn accept_entered(store: &mut Store, new_lock: &NewLock, row: &StoredState, res: ResAt)
     requires row { row.now ≡ new_row new_lock.now }
     requires owner { IsProcess new_lock.now.owner new_lock.now.pid store.old }
     requires there { HasResource res store.old }
@@ -156,7 +156,7 @@ pub fn enter(store: &mut Store, new_lock: &NewLock) -> Result<ResAt, AllocError>
     ensures err { OnErr result (IsUnchanged store.old store.new) }
 {
     make_ready(store, new_lock)?;
-    let row = StoredRow::of(&LockRow {
+    let row = StoredState::of(&LockState {
         lkid: new_lock.lkid,
         pid: new_lock.pid,
         parent: new_lock.parent_lkid,

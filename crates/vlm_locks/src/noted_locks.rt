@@ -46,7 +46,7 @@ fn note_sublocks(store: &Store, touched: &mut Touched, lock: LockAt)
     }
 }
 
-// Notes all locks below the lock with this identification, by rising identification. It goes level by level, and the
+// Notes all locks below the lock with this ID, by rising ID. It goes level by level, and the
 // notes are its queue of locks whose sublocks come next. So it looks at no other lock, and takes no memory.
 pub(crate) fn note_below(store: &Store, touched: &mut Touched, pid: u32, top: u32)
     requires rest { IsAtRest store.now }

@@ -169,7 +169,7 @@ fn block_after_writer(block: ValueBlock, withdrawal: &Withdrawal) -> ValueBlock
     left
 }
 
-fn leave_value(store: &mut Store, located: &LocatedLock, withdrawal: &Withdrawal)
+fn write_released_value(store: &mut Store, located: &LocatedLock, withdrawal: &Withdrawal)
     requires rest { IsAtRest store.old }
     requires located { IsLocated located.now store.old }
     requires named { withdrawal.now.lkid ≡ located.now.row.lkid }
@@ -240,7 +240,7 @@ pub(crate) fn give_up(store: &mut Store, located: &LocatedLock, withdrawal: &Wit
     requires childless { HasNoSublocks located.now.lock store.old }
     ensures { HasGivenUp located.now withdrawal.now store.old store.new }
 {
-    leave_value(store, located, withdrawal);
+    write_released_value(store, located, withdrawal);
     remove(store, located);
 }
 
@@ -262,7 +262,7 @@ pub fn withdraw(store: &mut Store, located: &LocatedLock, withdrawal: &Withdrawa
 {
     end_notices(store, located, withdrawal);
     if withdrawal.stays {
-        leave_value(store, located, withdrawal);
+        write_released_value(store, located, withdrawal);
         cancel(store, located);
     } else {
         give_up(store, located, withdrawal);

@@ -15,7 +15,7 @@ ghost use Rattle.vlm_locks.specs.Serving.{HasGranted, IsServed, IsServiceOf, not
 use crate::endings::end_by_grant;
 use crate::warnings::warn;
 use vlm_queue::{head, is_empty};
-use vlm_store::{LockAt, Place, ResAt, Store, StoredRow};
+use vlm_store::{LockAt, Place, ResAt, Store, StoredState};
 use vlm_words::locks::Request;
 use vlm_words::resources::{Queue, ValueBlock};
 
@@ -31,7 +31,13 @@ fn wanted_fits(store: &Store, res: ResAt, lock: LockAt, want: Option<Request>) -
     }
 }
 
-fn grant(value_block: &mut ValueBlock, store: &mut Store, res: ResAt, lock: LockAt, row: &StoredRow)
+fn grant(
+    value_block: &mut ValueBlock,
+    store: &mut Store,
+    res: ResAt,
+    lock: LockAt,
+    row: &StoredState,
+)
     requires there { HasResource res store.old }
     requires stored { Stores store.old lock row.now }
     requires owed { row_due row.now ≤ due_of row.now.pid store.old }

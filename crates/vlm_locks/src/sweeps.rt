@@ -6,12 +6,12 @@ ghost use Rattle.vlm_store.specs.Plain.{plain_processes, plain_resources};
 ghost use Rattle.vlm_store.specs.Records.{HasResource, IsSound};
 ghost use Rattle.vlm_locks.specs.Owing.{IsPaid};
 ghost use Rattle.vlm_locks.specs.Rest.{IsAtRest};
-ghost use Rattle.vlm_locks.specs.Sweeping.{AreSettledBut, IsSwept, Parted, StandInOrder, HasSwept};
+ghost use Rattle.vlm_locks.specs.Sweeping.{AreStableBut, IsSwept, Parted, StandInOrder, HasSwept};
 ghost use Rattle.vlm_locks.specs.Touched.{touched_handles};
 
 use crate::services::serve;
 use crate::touched::Note;
-use vlm_model::laws::law_a_sweep_touches_only_what_is_not_settled;
+use vlm_model::laws::law_a_sweep_touches_only_what_is_not_stable;
 use vlm_queue::is_idle;
 use vlm_store::{ResAt, Store};
 
@@ -34,7 +34,7 @@ fn sweep_one(store: &mut Store, res: ResAt)
 pub fn sweep_resource(store: &mut Store, res: ResAt)
     requires rest { IsAtRest store.old }
     requires there { HasResource res store.old }
-    requires settled { AreSettledBut (res ∷ []) store.old.resources }
+    requires stable { AreStableBut (res ∷ []) store.old.resources }
     requires paid { IsPaid store.old }
     ensures resources { plain_resources store.new
         ≡ resources_after_sweep (plain_processes store.old) (plain_resources store.old) }
@@ -43,7 +43,7 @@ pub fn sweep_resource(store: &mut Store, res: ResAt)
     ensures rest { IsAtRest store.new }
     ensures paid { IsPaid store.new }
 {
-    law_a_sweep_touches_only_what_is_not_settled();
+    law_a_sweep_touches_only_what_is_not_stable();
     sweep_one(store, res);
 }
 
@@ -52,11 +52,11 @@ pub fn sweep_resource(store: &mut Store, res: ResAt)
 pub fn sweep(store: &mut Store, touches: &[Note])
     requires rest { IsAtRest store.old }
     requires in_order { StandInOrder (touched_handles touches.now) store.old.resources }
-    requires settled { AreSettledBut (touched_handles touches.now) store.old.resources }
+    requires stable { AreStableBut (touched_handles touches.now) store.old.resources }
     requires paid { IsPaid store.old }
     ensures { HasSwept (touched_handles touches.now) store.old store.new }
 {
-    law_a_sweep_touches_only_what_is_not_settled();
+    law_a_sweep_touches_only_what_is_not_stable();
     for touch in touches {
         sweep_one(store, touch.res());
     }

@@ -1,7 +1,7 @@
 //! The notes of a step: the resources that it touches, for its sweep; before that the locks that it gives up together.
 
 ghost use Rattle.std.specs.Prelude.{◌≡◌, ◌<◌, ◌≤◌, List, [], ◌∷◌, ◌++◌, length, vec_capacity, IfSome, OnErr, OnOk};
-ghost use Rattle.vlm_words.specs.declared.locks.LockRow.{LockRow};
+ghost use Rattle.vlm_words.specs.declared.locks.LockState.{LockState};
 ghost use Rattle.vlm_collections.specs.Lists.{IsIn};
 ghost use Rattle.vlm_store.specs.Records.{HasResource, IsSound, IsStored, Stores, resource_at};
 ghost use Rattle.vlm_locks.specs.Touched.{IsNoted, RiseByNumber};
@@ -18,7 +18,7 @@ pub struct NotedKind;
 /// A note of a resource that a step has touched, or of a lock that it will give up. The step knows which.
 #[derive(Clone, Copy)]
 pub struct Note {
-    // the serial of a resource, or the identification of a lock: notes in this order are in the order of making
+    // the serial of a resource, or the ID of a lock: notes in this order are in the order of making
     number: u32,
     at: At<NotedKind>,
 }
@@ -40,7 +40,7 @@ impl Note {
     pub fn of_lock(store: &Store, lock: LockAt) -> Note
         requires { IsStored lock store.now }
         ensures lock { result.at ≡ lock }
-        ensures lkid { (row : LockRow) → Stores store.now lock row → row.lkid ≡ result.number }
+        ensures lkid { (row : LockState) → Stores store.now lock row → row.lkid ≡ result.number }
     {
         Note {
             number: store.lock_record(lock).row.lkid(),

@@ -1,7 +1,7 @@
 //! Warns the armed locks of a resource that block a queued request.
 
 ghost use Rattle.std.specs.Prelude.{◌≡◌, ◌≤◌, true, IfSome, Some};
-ghost use Rattle.vlm_words.specs.declared.locks.LockRow.{LockRow};
+ghost use Rattle.vlm_words.specs.declared.locks.LockState.{LockState};
 ghost use Rattle.vlm_model.specs.Asts.{blocking_asts, is_to_warn, processes_after_asts};
 ghost use Rattle.vlm_words.specs.Dues.{row_due};
 ghost use Rattle.vlm_store.specs.Plain.{plain_processes};
@@ -10,12 +10,12 @@ ghost use Rattle.vlm_locks.specs.Owing.{IsPaid, OwedMoves};
 ghost use Rattle.vlm_locks.specs.Warning.{IsLockWarned, IsWarned, SparesOthers, disarmed_row};
 
 use vlm_procs::{forgive, queue_ast};
-use vlm_store::{Armed, LockAt, ProcAt, ResAt, Store, StoredRow};
+use vlm_store::{Armed, LockAt, ProcAt, ResAt, Store, StoredState};
 use vlm_words::asts::{Ast, AstKind};
 use vlm_words::modes::Mode;
 
 #[tactic(auto, unfolding(vlm_model::specs::Asts::is_to_warn))]
-fn is_to_warn(store: &Store, res: ResAt, row: &StoredRow) -> bool
+fn is_to_warn(store: &Store, res: ResAt, row: &StoredState) -> bool
     requires { HasResource res store.now }
     ensures { (r : StoredResource) → resource_at res store.now.resources ≡ Some r → result
         ≡ is_to_warn (rows_of_locks r.converting) (rows_of_locks r.waiting) row.now }
@@ -27,7 +27,7 @@ fn is_to_warn(store: &Store, res: ResAt, row: &StoredRow) -> bool
 }
 
 // Queues the blocking AST of a lock, or forgives the AST owed for it if the granted request names no routine.
-fn queue_warning(store: &mut Store, at: ProcAt, row: &StoredRow)
+fn queue_warning(store: &mut Store, at: ProcAt, row: &StoredState)
     requires process { IsProcess at row.now.pid store.old }
     requires owed { row_due row.now ≤ due_of row.now.pid store.old }
     requires armed { row.now.armed ≡ true }
@@ -57,7 +57,7 @@ fn warn_lock(store: &mut Store, res: ResAt, lock: LockAt)
     requires there { HasResource res store.old }
     requires stored { IsStored lock store.old }
     requires paid { IsPaid store.old }
-    ensures warned { (r : StoredResource) (row : LockRow)
+    ensures warned { (r : StoredResource) (row : LockState)
         → resource_at res store.old.resources ≡ Some r → Stores store.old lock row
         → IsLockWarned r lock row store.old store.new }
     ensures sound { IsSound store.new }

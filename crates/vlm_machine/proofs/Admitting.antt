@@ -1,12 +1,13 @@
 -- Conversions and dequeues as they are admitted.
-use Rattle.std.proofs.Common.{◌≡◌, ◌≢◌, ℕ, Bool, true, false, not, ◌||◌, ◌&&◌, cond, List, [], ◌∷◌, map, find, Option, None, Some, refl, sym, ap, ◌∙◌, subst, inl, inr}
+use Rattle.std.proofs.Common.{◌≡◌, ◌≢◌, ℕ, Bool, true, false, not, ◌||◌, ◌&&◌, cond, List, [], ◌∷◌, map, find, Option}
+use Rattle.std.proofs.Common.{None, Some, refl, sym, ap, ◌∙◌, subst, inl, inr}
 use Rattle.std.specs.List.{list_any}
 use Rattle.std.proofs.lemmas.Bool.{cases_eq, or_right}
 use Rattle.std.specs.Prelude.{◌==◌, is_some}
 use Rattle.vlm_words.specs.declared.conditions.Cond.{Cond}
 use Rattle.vlm_words.specs.declared.conditions.Cond.TheVariants.{Cancelgrant}
 use Rattle.vlm_words.specs.declared.locks.Request.{Request}
-use Rattle.vlm_words.specs.declared.locks.LockRow.{LockRow}
+use Rattle.vlm_words.specs.declared.locks.LockState.{LockState}
 use Rattle.vlm_words.specs.declared.resources.Queue.{Queue}
 use Rattle.vlm_words.specs.declared.resources.Queue.TheVariants.{Granted}
 use Rattle.vlm_words.specs.declared.steps.Conversion.{Conversion}
@@ -20,12 +21,12 @@ use Rattle.vlm_words.specs.Rows.{is_lock_of}
 use Rattle.vlm_collections.specs.Lists.{IsIn}
 use Rattle.vlm_store.specs.Plain.{plain_resource, plain_resources}
 use Rattle.vlm_store.specs.Records.{IsSound, Records, StoredResource, queued, rows_of_locks}
-use Rattle.vlm_locks.proofs.Found.{resource_alone, resource_at-at}
+use Rattle.vlm_locks.proofs.FoundByHandle.{resource_alone, resource_at-at}
 use Rattle.vlm_locks.specs.declared.located_locks.LocatedLock.{LocatedLock}
 use Rattle.vlm_locks.specs.Converting.{admission_on}
 use Rattle.vlm_locks.specs.Standing.{IsLocated, IsLocatedLockOf}
-use Rattle.vlm_locks.proofs.Named.{IsAbsent, any-absent, any-among, find-absent, find-only}
-use Rattle.vlm_locks.proofs.Stood.{absent, only, own_among}
+use Rattle.vlm_locks.proofs.FoundInLists.{IsAbsent, any-absent, any-among, find-absent, find-only}
+use Rattle.vlm_locks.proofs.QueuedLocks.{absent, only, own_among}
 use Rattle.vlm_machine.specs.Admissions.{IsAdmittedDequeue, later_refusal, refusal_alone}
 use Rattle.vlm_machine.specs.Machine.{MachineState, plain_state}
 
@@ -51,15 +52,17 @@ module _ (s : Records) (sound : IsSound s) (f : LocatedLock) (located : IsLocate
   admits asked rs = admission_among asked f.row.pid f.row.lkid (map plain_resource rs)
 
   -- the lock in the granted queue of this resource
-  abbrev granted_row : StoredResource → Option LockRow
+  abbrev granted_row : StoredResource → Option LockState
   granted_row r = find (is_lock_of f.row.pid f.row.lkid) (rows_of_locks r.granted)
 
   -- the conversion of a granted lock is admitted on its resource
-  pub admitted_here : (asked : Request) → f.queue ≡ Granted → admission_among asked f.row.pid f.row.lkid (plain_resources s) ≡ Some (admission_on f asked located.resource)
+  pub admitted_here : (asked : Request) → f.queue ≡ Granted
+      → admission_among asked f.row.pid f.row.lkid (plain_resources s) ≡ Some (admission_on f asked located.resource)
   admitted_here asked granted = of_list s.resources (λ r here. here) (own_among s sound f located)
     where
       found : granted_row own ≡ Some f.row
-      found = find-only (record { at = f.lock; row = f.row }) own.granted (only s sound f located own (own_among s sound f located) Granted) (in_granted granted)
+      found = find-only (record { at = f.lock; row = f.row }) own.granted
+          (only s sound f located own (own_among s sound f located) Granted) (in_granted granted)
 
       of_list : (rs : List StoredResource) → ((r : StoredResource) → IsIn r rs → IsIn r s.resources) → IsIn own rs
           → admits asked rs ≡ Some (admission_on f asked own)
@@ -73,7 +76,8 @@ module _ (s : Records) (sound : IsSound s) (f : LocatedLock) (located : IsLocate
             | inr differs ↦ elim among [
               | inl here ↦ absurd (differs (ap (λ (x : StoredResource). x.at) here ∙ resource_at-at f.res s.resources own located.found))
               | inr there ↦
-                  ap (λ o. admission_or asked (plain_resource r) o (admits asked rest)) (find-absent f.row.pid f.row.lkid r.granted (on_no_other r (within r (inl refl)) differs))
+                  ap (λ o. admission_or asked (plain_resource r) o (admits asked rest))
+                  (find-absent f.row.pid f.row.lkid r.granted (on_no_other r (within r (inl refl)) differs))
                   ∙ of_list rest (λ x later. within x (inr later)) there
             ]
           ]
@@ -85,7 +89,8 @@ module _ (s : Records) (sound : IsSound s) (f : LocatedLock) (located : IsLocate
       of_list : (rs : List StoredResource) → ((r : StoredResource) → IsIn r rs → IsIn r s.resources) → admits asked rs ≡ None
       of_list [] within = refl
       of_list (r ∷ rest) within =
-          ap (λ o. admission_or asked (plain_resource r) o (admits asked rest)) (find-absent f.row.pid f.row.lkid r.granted (in_no_granted ungranted r (within r (inl refl))))
+          ap (λ o. admission_or asked (plain_resource r) o (admits asked rest))
+          (find-absent f.row.pid f.row.lkid r.granted (in_no_granted ungranted r (within r (inl refl))))
           ∙ of_list rest (λ x later. within x (inr later))
 
   -- the lock is granted on this resource
@@ -102,7 +107,8 @@ module _ (s : Records) (sound : IsSound s) (f : LocatedLock) (located : IsLocate
           elim among [
             | inl here ↦
                 ap (λ (x : StoredResource). holds x || is_granted f.row.pid f.row.lkid (map plain_resource rest)) here
-                ∙ ap (λ b. b || is_granted f.row.pid f.row.lkid (map plain_resource rest)) (any-among (record { at = f.lock; row = f.row }) own.granted (in_granted granted))
+                ∙ ap (λ b. b || is_granted f.row.pid f.row.lkid (map plain_resource rest))
+                (any-among (record { at = f.lock; row = f.row }) own.granted (in_granted granted))
             | inr there ↦ or_right (holds r) (is_granted f.row.pid f.row.lkid (map plain_resource rest)) (of_list rest there)
           ]
 
@@ -110,15 +116,19 @@ module _ (s : Records) (sound : IsSound s) (f : LocatedLock) (located : IsLocate
   pub granted_nowhere : f.queue ≢ Granted → is_granted f.row.pid f.row.lkid (plain_resources s) ≡ false
   granted_nowhere ungranted = of_list s.resources (λ r here. here)
     where
-      of_list : (rs : List StoredResource) → ((r : StoredResource) → IsIn r rs → IsIn r s.resources) → is_granted f.row.pid f.row.lkid (map plain_resource rs) ≡ false
+      of_list : (rs : List StoredResource) → ((r : StoredResource) → IsIn r rs → IsIn r s.resources)
+          → is_granted f.row.pid f.row.lkid (map plain_resource rs) ≡ false
       of_list [] within = refl
       of_list (r ∷ rest) within =
-          ap (λ b. b || is_granted f.row.pid f.row.lkid (map plain_resource rest)) (any-absent f.row.pid f.row.lkid r.granted (in_no_granted ungranted r (within r (inl refl))))
+          ap (λ b. b || is_granted f.row.pid f.row.lkid (map plain_resource rest))
+          (any-absent f.row.pid f.row.lkid r.granted (in_no_granted ungranted r (within r (inl refl))))
           ∙ of_list rest (λ x later. within x (inr later))
 
-module _ (m : MachineState) (sound : IsSound m.records) (c : Conversion) (f : LocatedLock) (located : IsLocatedLockOf c.pid (convert_lkid (plain_state m) c) f m.records) where
+module _ (m : MachineState) (sound : IsSound m.records) (c : Conversion) (f : LocatedLock)
+    (located : IsLocatedLockOf c.pid (convert_lkid (plain_state m) c) f m.records) where
   -- the conversion by the lock that stands
-  by_lock : (asked : Request) → asked ≡ convert_request (plain_state m) c → convert_admission (plain_state m) c ≡ admission_among asked f.row.pid f.row.lkid (plain_resources m.records)
+  by_lock : (asked : Request) → asked ≡ convert_request (plain_state m) c
+      → convert_admission (plain_state m) c ≡ admission_among asked f.row.pid f.row.lkid (plain_resources m.records)
   unfolding convert_admission
   by_lock asked is =
       ap (λ q. admission_among q c.pid (convert_lkid (plain_state m) c) (plain_resources m.records)) (sym is)
@@ -126,12 +136,14 @@ module _ (m : MachineState) (sound : IsSound m.records) (c : Conversion) (f : Lo
       ∙ ap (λ lkid. admission_among asked f.row.pid lkid (plain_resources m.records)) (sym located.named)
 
   -- a conversion of a granted lock is admitted
-  pub is_admitted : (asked : Request) → asked ≡ convert_request (plain_state m) c → f.queue ≡ Granted → convert_admission (plain_state m) c ≡ Some (admission_on f asked located.located.resource)
+  pub is_admitted : (asked : Request) → asked ≡ convert_request (plain_state m) c → f.queue ≡ Granted
+      → convert_admission (plain_state m) c ≡ Some (admission_on f asked located.located.resource)
   is_admitted asked is granted = by_lock asked is ∙ admitted_here m.records sound f located.located asked granted
 
   -- and one of another lock is not
   pub not_admitted : f.queue ≢ Granted → convert_admission (plain_state m) c ≡ None
-  not_admitted ungranted = by_lock (convert_request (plain_state m) c) refl ∙ admitted_nowhere m.records sound f located.located (convert_request (plain_state m) c) ungranted
+  not_admitted ungranted = by_lock (convert_request (plain_state m) c) refl
+      ∙ admitted_nowhere m.records sound f located.located (convert_request (plain_state m) c) ungranted
 
 module _ (m : MachineState) (sound : IsSound m.records) (d : Dequeue) (f : LocatedLock) (admitted : IsAdmittedDequeue m d f) where
   -- whether the lock is granted, by the lock that stands
@@ -183,7 +195,8 @@ later_of_all s d all goes = rw (all, goes) (nothing_more (cond (dequeue_lkid s d
 
 -- where DEQALL comes with what it goes with, it cancels nothing
 pub cancels_nothing : (d : Dequeue) → has_flag d.flags deqall ≡ true → is_mixed d ≡ false → has_flag d.flags cancel ≡ false
-cancels_nothing d all fitting = of_tests (has_flag d.flags deqall) (has_flag d.flags cancel) (is_some d.value) (is_some d.tail && not (is_some d.value)) all fitting
+cancels_nothing d all fitting = of_tests (has_flag d.flags deqall) (has_flag d.flags cancel) (is_some d.value)
+    (is_some d.tail && not (is_some d.value)) all fitting
   where
     of_tests : (a b c t : Bool) → a ≡ true → ((a && (b || c)) || t) ≡ false → b ≡ false
     of_tests true true c t is none = cc

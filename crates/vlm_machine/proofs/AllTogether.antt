@@ -1,10 +1,11 @@
 -- A dequeue with DEQALL: the locks that it takes are those that are chosen among the records, and where they are given up
 -- together the plain machine has made its step.
-use Rattle.std.proofs.Common.{◌≡◌, ◌<◌, ◌≤◌, ◌+◌, ◌-◌, ℕ, Bool, zero, suc, true, false, not, ◌&&◌, ◌||◌, cond, List, [], ◌∷◌, map, filter, None, refl, sym, ap, ◌∙◌, subst, inl, inr, arith, eq-eqb, ne_eqb}
+use Rattle.std.proofs.Common.{◌≡◌, ◌<◌, ◌≤◌, ◌+◌, ◌-◌, ℕ, Bool, zero, suc, true, false, not, ◌&&◌, ◌||◌, cond, List, []}
+use Rattle.std.proofs.Common.{◌∷◌, map, filter, None, refl, sym, ap, ◌∙◌, subst, inl, inr, arith, eq-eqb, ne_eqb}
 use Rattle.std.specs.Prelude.{◌==◌}
 use Rattle.std.specs.List.{list_any, range_with_len}
 use Rattle.std.proofs.lemmas.Bool.{and_parts, cond_both, eqb-true, or_cases, or_right}
-use Rattle.vlm_words.specs.declared.locks.LockRow.{LockRow}
+use Rattle.vlm_words.specs.declared.locks.LockState.{LockState}
 use Rattle.vlm_words.specs.declared.resources.Queue.{Queue}
 use Rattle.vlm_words.specs.declared.resources.Queue.TheVariants.{Granted, Conversion, Waiting}
 use Rattle.vlm_words.specs.declared.steps.Dequeue.{Dequeue}
@@ -15,7 +16,7 @@ use Rattle.vlm_model.specs.OwnLocks.{has_lock_among, is_below, is_lock_among, ow
 use Rattle.vlm_words.specs.State.{Process, Resource, State}
 use Rattle.vlm_model.specs.Withdrawals.{Withdrawal, processes_after, resource_after_withdrawals, withdrawn_endings}
 use Rattle.vlm_model.proofs.Each.{each_filter, each_weaker}
-use Rattle.vlm_model.proofs.Leaving.{in_filter, is_listed}
+use Rattle.vlm_model.proofs.EndedLocks.{in_filter, is_listed}
 use Rattle.vlm_model.proofs.Together.{OfOneEach, dequeues_apart, from_on}
 use Rattle.vlm_collections.specs.Lists.{IsIn}
 use Rattle.vlm_store.specs.Plain.{plain_processes, plain_resource, plain_resources}
@@ -27,17 +28,17 @@ use Rattle.vlm_locks.specs.Left.{giving_up, is_among, resource_left}
 use Rattle.vlm_locks.specs.Rest.{IsAtRest}
 use Rattle.vlm_locks.specs.RunningDown.{CanEndProcesses}
 use Rattle.vlm_locks.specs.Touched.{Touches}
-use Rattle.vlm_locks.proofs.Chosen.{among_in, one_scope}
+use Rattle.vlm_locks.proofs.ChosenLocks.{among_in, one_scope}
 use Rattle.vlm_locks.proofs.ParentsNamed.{parent_named}
-use Rattle.vlm_locks.proofs.Stood.{in_queue, queued_stored}
-use Rattle.vlm_locks.proofs.TogetherDown.{given_up_by_rows}
+use Rattle.vlm_locks.proofs.QueuedLocks.{in_queue, queued_stored}
+use Rattle.vlm_locks.proofs.ProcessEndsAlike.{given_up_by_rows}
 use Rattle.vlm_machine.specs.Admissions.{scope_of}
 use Rattle.vlm_machine.specs.Between.{IsBetweenSteps}
 use Rattle.vlm_machine.specs.Machine.{MachineState, plain_state}
 use Rattle.vlm_machine.specs.Notes.{IsToSweep}
 use Rattle.vlm_machine.proofs.EndOfProcess.{to_sweep_left}
 use Rattle.vlm_machine.proofs.RunDown.{is_apart}
-use Rattle.vlm_machine.proofs.ToCome.{above_all}
+use Rattle.vlm_machine.proofs.FutureIds.{above_all}
 
 -- the locks that the dequeue takes with DEQALL
 abbrev pub taken_lkids : State → Dequeue → List ℕ
@@ -145,7 +146,8 @@ some_on pid r queue k there owned = of_queue queue there
 
 -- ---- the state after
 
-module _ (m : MachineState) (d : Dequeue) (all : has_flag d.flags deqall ≡ true) (goes : has_flag d.flags cancel ≡ false) (plain : d.value ≡ None) (short : d.tail ≡ None) where
+module _ (m : MachineState) (d : Dequeue) (all : has_flag d.flags deqall ≡ true)
+    (goes : has_flag d.flags cancel ≡ false) (plain : d.value ≡ None) (short : d.tail ≡ None) where
   -- such a dequeue gives each lock up so
   given_so : (lkid : ℕ) → withdrawal_of d lkid ≡ gives_up d lkid
   given_so lkid =
@@ -226,22 +228,22 @@ module _ (m : MachineState) (sound : IsSound m.records) (rest : IsAtRest m.recor
       (or_right (parent_of row.lkid resources == top) (is_below 15 top resources (parent_of row.lkid resources))
       (ap (is_below 15 top resources) parent ∙ chosen))
 
-  -- where a lock is stored, some identification was given
-  some_given : (at : ℕ) (row : LockRow) → Stores m.records at row → 0 < m.next_lkid
-  some_given at row stored = omega (arith, above_all m.records m.next_lkid between.identifications.none_to_come at row stored)
+  -- where a lock is stored, some ID was given
+  some_given : (at : ℕ) (row : LockState) → Stores m.records at row → 0 < m.next_lkid
+  some_given at row stored = omega (arith, above_all m.records m.next_lkid between.ids.none_to_come at row stored)
 
   -- each lock of the process is one of its own locks
-  own_listed : (pid at : ℕ) (row : LockRow) → Stores m.records at row → row.pid ≡ pid
+  own_listed : (pid at : ℕ) (row : LockState) → Stores m.records at row → row.pid ≡ pid
       → list_any (λ n. row.lkid == n) (own_lkids (λ p. p == pid) (plain_state m)) ≡ true
   own_listed pid at row stored owned =
       let stands = in_queue m.records at row stored in
-      is_listed (λ p. p == pid) (plain_state m) (is_apart (plain_state m) between.identifications (some_given at row stored)) row.lkid
+      is_listed (λ p. p == pid) (plain_state m) (is_apart (plain_state m) between.ids (some_given at row stored)) row.lkid
       (some_pass plain_resource (has_lock_among (λ p. p == pid) row.lkid) m.records.resources stands.resource stands.there
       (some_on pid stands.resource stands.queue (record { at = at; row = row }) stands.among owned))
 
   -- and each of these is that of a stored lock of the process
   own_stored : (pid lkid : ℕ) → list_any (has_lock_among (λ p. p == pid) lkid) (plain_resources m.records) ≡ true
-      → (at : ℕ) × (row : LockRow) × (Stores m.records at row × (row.lkid ≡ lkid) × (row.pid ≡ pid))
+      → (at : ℕ) × (row : LockState) × (Stores m.records at row × (row.lkid ≡ lkid) × (row.pid ≡ pid))
   own_stored pid lkid some =
       let found = one_passes plain_resource (has_lock_among (λ p. p == pid) lkid) m.records.resources some in
       let one : IsOneOn pid lkid found.0 = one_on pid lkid found.0 found.1.1 in
@@ -250,7 +252,8 @@ module _ (m : MachineState) (sound : IsSound m.records) (rest : IsAtRest m.recor
 
   module _ (d : Dequeue) where
     -- the locks that the dequeue takes are the chosen ones of the caller
-    pub dequeued_are_chosen : (choice : Scope) → choice ≡ scope_of (dequeue_lkid (plain_state m) d) → AreChosen choice d.pid m.records (taken_lkids (plain_state m) d)
+    pub dequeued_are_chosen : (choice : Scope) → choice ≡ scope_of (dequeue_lkid (plain_state m) d)
+        → AreChosen choice d.pid m.records (taken_lkids (plain_state m) d)
     dequeued_are_chosen choice is = record {
       rise =
           rise_filter (is_dequeued (plain_state m) d) (own_lkids (λ pid. pid == d.pid) (plain_state m))
@@ -258,7 +261,8 @@ module _ (m : MachineState) (sound : IsSound m.records) (rest : IsAtRest m.recor
           (rise_range 1 (m.next_lkid - 1)));
       each = λ lkid there.
           let left = left_by (is_dequeued (plain_state m) d) (own_lkids (λ pid. pid == d.pid) (plain_state m)) lkid there in
-          let own = left_by (λ n. list_any (has_lock_among (λ pid. pid == d.pid) n) (plain_resources m.records)) (range_with_len 1 (m.next_lkid - 1)) lkid left.1 in
+          let own = left_by (λ n. list_any (has_lock_among (λ pid. pid == d.pid) n) (plain_resources m.records))
+          (range_with_len 1 (m.next_lkid - 1)) lkid left.1 in
           let found = own_stored d.pid lkid own.0 in
           (found.0, found.1, (found.2.0, found.2.1, found.2.2, same lkid ∙ left.0));
       all = λ at row stored owned chosen.
@@ -275,7 +279,8 @@ module _ (m : MachineState) (sound : IsSound m.records) (rest : IsAtRest m.recor
     -- where they are given up together, the plain machine has made the change of the dequeue
     pub state_given_up : has_flag d.flags deqall ≡ true → has_flag d.flags cancel ≡ false → d.value ≡ None → d.tail ≡ None
         → (choice : Scope) → choice ≡ scope_of (dequeue_lkid (plain_state m) d) → (new : Records) (before after : Touches)
-        → AreGivenUp choice (has_flag d.flags invvalblk) d.pid m.records new before after → plain_state (record m { records = new }) ≡ deq_change (plain_state m) d
+        → AreGivenUp choice (has_flag d.flags invvalblk) d.pid m.records new before after
+        → plain_state (record m { records = new }) ≡ deq_change (plain_state m) d
     state_given_up all goes plain short choice is new before after given =
         let same : given.lkids ≡ taken_lkids (plain_state m) d =
         one_scope choice d.pid m.records given.lkids (taken_lkids (plain_state m) d) given.chosen (dequeued_are_chosen choice is) in

@@ -1,9 +1,9 @@
--- The process that makes a step, by its handle and by its identification.
+-- The process that makes a step, by its handle and by its ID.
 use Rattle.std.proofs.Common.{◌≡◌, ℕ, None, IsSome, refl, sym, ap, ◌∙◌}
 use Rattle.vlm_words.specs.State.{process_of}
 use Rattle.vlm_store.specs.Plain.{plain_processes}
 use Rattle.vlm_store.specs.Records.{FindsProcess, IsProcess, IsSound, Records}
-use Rattle.vlm_store.proofs.Plain.{process_of-none, process_of-stored}
+use Rattle.vlm_store.proofs.PlainProcesses.{process_of-none, process_of-stored}
 
 -- what is found of a process
 pub found_lives : (s : Records) (at pid : ℕ) → IsSound s → IsProcess at pid s → IsSome (process_of (plain_processes s) pid)

@@ -1,11 +1,12 @@
 -- Locks without sublocks, in the records and in the plain machine.
-use Rattle.std.proofs.Common.{◌≡◌, ◌≢◌, ℕ, Bool, true, false, not, ◌||◌, ◌&&◌, cond, List, [], ◌∷◌, ◌++◌, map, None, Some, refl, sym, ap, ◌∙◌, subst, inl, inr, eq-eqb, ne_eqb, arith}
+use Rattle.std.proofs.Common.{◌≡◌, ◌≢◌, ℕ, Bool, true, false, not, ◌||◌, ◌&&◌, cond, List, [], ◌∷◌, ◌++◌, map, None}
+use Rattle.std.proofs.Common.{Some, refl, sym, ap, ◌∙◌, subst, inl, inr, eq-eqb, ne_eqb, arith}
 use Rattle.std.specs.Prelude.{◌==◌, All, Any}
 use Rattle.std.specs.List.{AllByRecursion, list_any, sum_by}
 use Rattle.std.proofs.lemmas.List.Elements.{recursion_from_All}
 use Rattle.std.proofs.lemmas.Bool.{or_right}
 use Rattle.vlm_words.specs.declared.conditions.Cond.TheVariants.{Sublocks}
-use Rattle.vlm_words.specs.declared.locks.LockRow.{LockRow}
+use Rattle.vlm_words.specs.declared.locks.LockState.{LockState}
 use Rattle.vlm_words.specs.declared.resources.Queue.{Queue}
 use Rattle.vlm_words.specs.declared.resources.Queue.TheVariants.{Granted, Conversion, Waiting}
 use Rattle.vlm_model.specs.Dequeue.{has_sublock, has_sublock_on, sublocks_refusal}
@@ -15,14 +16,15 @@ use Rattle.vlm_model.proofs.Each.{Any-cases, Any-none, each_weaker}
 use Rattle.vlm_collections.specs.Lists.{IsIn}
 use Rattle.vlm_records.specs.declared.handles.Place.TheVariants.{Queued}
 use Rattle.vlm_store.specs.Plain.{plain_resource, plain_resources}
-use Rattle.vlm_store.specs.Records.{HasNoSublocks, IsSound, OwnLock, Records, StoredLock, StoredProcess, StoredResource, Stores, locks_at, queued, rows_of_locks, NoneIsLoose}
+use Rattle.vlm_store.specs.Records.{HasNoSublocks, IsSound, OwnLock, Records, StoredLock, StoredProcess, StoredResource}
+use Rattle.vlm_store.specs.Records.{Stores, locks_at, queued, rows_of_locks, NoneIsLoose}
 use Rattle.vlm_locks.specs.declared.located_locks.LocatedLock.{LocatedLock}
 use Rattle.vlm_locks.specs.Standing.{IsLocated}
 use Rattle.vlm_locks.specs.Withdrawing.{goes}
-use Rattle.vlm_locks.proofs.Stood.{in_queue, one_lock, queued_stored, stands, stored}
+use Rattle.vlm_locks.proofs.QueuedLocks.{in_queue, one_lock, queued_stored, stands, stored}
 use Rattle.vlm_machine.specs.Machine.{MachineState, plain_state}
-use Rattle.vlm_machine.proofs.Siting.{each_resource}
-use Rattle.vlm_machine.proofs.ToCome.{counted_all, counted_on}
+use Rattle.vlm_machine.proofs.ParentLocks.{each_resource}
+use Rattle.vlm_machine.proofs.FutureIds.{counted_all, counted_on}
 use Rattle.vlm_store.proofs.Records.{queue_at, in_a_queue}
 
 -- what holds on a resource stands in its granted or its conversion queue
@@ -31,27 +33,27 @@ pub held_stands : (r : StoredResource) (lkid pid : ℕ) → HoldsOn lkid pid (pl
 held_stands r lkid pid holds = of_granted r.granted (λ k here. here) holds
   where
     of_converting : (locks : List StoredLock) → ((k : StoredLock) → IsIn k locks → IsIn k r.converting)
-        → Any (λ (row : LockRow). (row.lkid ≡ lkid) × (row.pid ≡ pid)) (rows_of_locks locks)
+        → Any (λ (row : LockState). (row.lkid ≡ lkid) × (row.pid ≡ pid)) (rows_of_locks locks)
         → (k : StoredLock) × (queue : Queue) × (IsIn k (queued queue r) × (queue ≢ Waiting) × (k.row.lkid ≡ lkid) × (k.row.pid ≡ pid))
-    of_converting [] within any = absurd (Any-none (λ (row : LockRow). (row.lkid ≡ lkid) × (row.pid ≡ pid)) any)
+    of_converting [] within any = absurd (Any-none (λ (row : LockState). (row.lkid ≡ lkid) × (row.pid ≡ pid)) any)
     of_converting (k ∷ rest) within any =
-        elim (Any-cases (λ (row : LockRow). (row.lkid ≡ lkid) × (row.pid ≡ pid)) k.row (rows_of_locks rest) any) [
+        elim (Any-cases (λ (row : LockState). (row.lkid ≡ lkid) × (row.pid ≡ pid)) k.row (rows_of_locks rest) any) [
           | inl here ↦ (k, Conversion, (within k (inl refl), (λ e. cc), here.0, here.1))
           | inr there ↦ of_converting rest (λ x later. within x (inr later)) there
         ]
 
     of_granted : (locks : List StoredLock) → ((k : StoredLock) → IsIn k locks → IsIn k r.granted)
-        → Any (λ (row : LockRow). (row.lkid ≡ lkid) × (row.pid ≡ pid)) (rows_of_locks locks ++ rows_of_locks r.converting)
+        → Any (λ (row : LockState). (row.lkid ≡ lkid) × (row.pid ≡ pid)) (rows_of_locks locks ++ rows_of_locks r.converting)
         → (k : StoredLock) × (queue : Queue) × (IsIn k (queued queue r) × (queue ≢ Waiting) × (k.row.lkid ≡ lkid) × (k.row.pid ≡ pid))
     of_granted [] within any = of_converting r.converting (λ k here. here) any
     of_granted (k ∷ rest) within any =
-        elim (Any-cases (λ (row : LockRow). (row.lkid ≡ lkid) × (row.pid ≡ pid)) k.row (rows_of_locks rest ++ rows_of_locks r.converting) any) [
+        elim (Any-cases (λ (row : LockState). (row.lkid ≡ lkid) × (row.pid ≡ pid)) k.row (rows_of_locks rest ++ rows_of_locks r.converting) any) [
           | inl here ↦ (k, Granted, (within k (inl refl), (λ e. cc), here.0, here.1))
           | inr there ↦ of_granted rest (λ x later. within x (inr later)) there
         ]
 
 -- what holds of each row of a resource holds of the row of a lock in one of its queues
-pub of_queue : (r : StoredResource) (queue : Queue) (k : StoredLock) (P : LockRow → Type 0)
+pub of_queue : (r : StoredResource) (queue : Queue) (k : StoredLock) (P : LockState → Type 0)
     → AllByRecursion P (rows_of_locks r.granted ++ rows_of_locks r.converting ++ rows_of_locks r.waiting) → IsIn k (queued queue r) → P k.row
 of_queue r queue k P each = of_its queue
   where
@@ -63,7 +65,7 @@ of_queue r queue k P each = of_its queue
           | inr later ↦ in_rows rest all.1 later
         ]
 
-    parts : (xs ys : List LockRow) → AllByRecursion P (xs ++ ys) → AllByRecursion P xs × AllByRecursion P ys
+    parts : (xs ys : List LockState) → AllByRecursion P (xs ++ ys) → AllByRecursion P xs × AllByRecursion P ys
     parts [] ys all = (tt, all)
     parts (x ∷ xs) ys all = let rest = parts xs ys all.1 in ((all.0, rest.0), rest.1)
 
@@ -93,13 +95,15 @@ rows_some lkid (x ∷ rest) k among is =
     ]
 
 -- a sublock stands on a resource, whichever its queue
-on_resource_some : (lkid : ℕ) (r : StoredResource) (queue : Queue) (k : StoredLock) → IsIn k (queued queue r) → k.row.parent ≡ lkid → has_sublock_on lkid (plain_resource r) ≡ true
+on_resource_some : (lkid : ℕ) (r : StoredResource) (queue : Queue) (k : StoredLock) → IsIn k (queued queue r)
+    → k.row.parent ≡ lkid → has_sublock_on lkid (plain_resource r) ≡ true
 on_resource_some lkid r Granted k among is = rw (rows_some lkid r.granted k among is) refl
 on_resource_some lkid r Conversion k among is =
     ap (λ b. b || has_sublock lkid (rows_of_locks r.waiting))
     (or_right (has_sublock lkid (rows_of_locks r.granted)) (has_sublock lkid (rows_of_locks r.converting)) (rows_some lkid r.converting k among is))
 on_resource_some lkid r Waiting k among is =
-    or_right (has_sublock lkid (rows_of_locks r.granted) || has_sublock lkid (rows_of_locks r.converting)) (has_sublock lkid (rows_of_locks r.waiting)) (rows_some lkid r.waiting k among is)
+    or_right (has_sublock lkid (rows_of_locks r.granted) || has_sublock lkid (rows_of_locks r.converting))
+    (has_sublock lkid (rows_of_locks r.waiting)) (rows_some lkid r.waiting k among is)
 
 -- and among all
 among_all_some : (lkid : ℕ) (rs : List StoredResource) (r : StoredResource) → IsIn r rs → has_sublock_on lkid (plain_resource r) ≡ true
@@ -107,8 +111,10 @@ among_all_some : (lkid : ℕ) (rs : List StoredResource) (r : StoredResource) �
 among_all_some lkid [] r among is = absurd among
 among_all_some lkid (x ∷ rest) r among is =
     elim among [
-      | inl here ↦ ap (λ b. b || list_any (has_sublock_on lkid) (map plain_resource rest)) (ap (λ (y : StoredResource). has_sublock_on lkid (plain_resource y)) here ∙ is)
-      | inr there ↦ or_right (has_sublock_on lkid (plain_resource x)) (list_any (has_sublock_on lkid) (map plain_resource rest)) (among_all_some lkid rest r there is)
+      | inl here ↦ ap (λ b. b || list_any (has_sublock_on lkid) (map plain_resource rest))
+          (ap (λ (y : StoredResource). has_sublock_on lkid (plain_resource y)) here ∙ is)
+      | inr there ↦ or_right (has_sublock_on lkid (plain_resource x))
+          (list_any (has_sublock_on lkid) (map plain_resource rest)) (among_all_some lkid rest r there is)
     ]
 
 module _ (s : Records) (sound : IsSound s) (f : LocatedLock) (located : IsLocated f s) where
@@ -116,7 +122,7 @@ module _ (s : Records) (sound : IsSound s) (f : LocatedLock) (located : IsLocate
   pub none_in_rows : f.row.lkid ≢ 0 → HasNoSublocks f.lock s → list_any (has_sublock_on f.row.lkid) (plain_resources s) ≡ false
   none_in_rows named childless = of_list s.resources (λ r here. here)
     where
-      none_stored : (at : ℕ) (row : LockRow) → Stores s at row → row.parent ≢ f.row.lkid
+      none_stored : (at : ℕ) (row : LockState) → Stores s at row → row.parent ≢ f.row.lkid
       none_stored at row there is =
           let parent = sound.owned.named at row (inl there) (λ zero. named (sym is ∙ zero)) in
           let same : parent.1.at ≡ f.lock =
@@ -137,12 +143,12 @@ module _ (s : Records) (sound : IsSound s) (f : LocatedLock) (located : IsLocate
 
   -- a sublock in the list of the lock is a stored lock whose row names it
   sublock_stored : NoneIsLoose s → (p : StoredProcess) (own : OwnLock) (at : ℕ) → IsIn p s.processes → IsIn own p.own → own.at ≡ f.lock → IsIn at own.sublocks
-      → (row : LockRow) × (Stores s at row × (row.parent ≡ f.row.lkid))
+      → (row : LockState) × (Stores s at row × (row.parent ≡ f.row.lkid))
   sublock_stored none p own at among here same is_in =
       let below = sound.owned.below p own at among here is_in in
       let up : below.0 ≡ f.row =
       one_lock s sound f.lock below.0 f.row (subst (λ x. Stores s x below.0) same (in_a_queue s none own.at below.0 below.2.0)) (stored s f located) in
-      (below.1, (in_a_queue s none at below.1 below.2.1, below.2.2 ∙ ap (λ (x : LockRow). x.lkid) up))
+      (below.1, (in_a_queue s none at below.1 below.2.1, below.2.2 ∙ ap (λ (x : LockState). x.lkid) up))
 
   -- where no row of all names the lock as its parent, it has no sublocks
   no_rows_childless : NoneIsLoose s → list_any (has_sublock_on f.row.lkid) (plain_resources s) ≡ false → HasNoSublocks f.lock s
@@ -167,7 +173,7 @@ module _ (s : Records) (sound : IsSound s) (f : LocatedLock) (located : IsLocate
       of_test true is = refl
       of_test false is = absurd (has (no_rows_childless queued is))
 
-  -- no lock has the identification 0
+  -- no lock has the ID 0
   pub not_zero : sum_by (rows_on 0) (plain_resources s) ≡ 0 → f.row.lkid ≢ 0
   not_zero none is =
       let there = in_queue s f.lock f.row (stored s f located) in
@@ -177,7 +183,7 @@ module _ (s : Records) (sound : IsSound s) (f : LocatedLock) (located : IsLocate
 
   -- ---- a lock that waits has no sublocks: a parent holds a mode
 
-  -- on some resource a lock of the identification holds a mode: then the lock that waits is another
+  -- on some resource a lock of the ID holds a mode: then the lock that waits is another
   none_waits : f.queue ≡ Waiting → (rs : List StoredResource) → ((r : StoredResource) → IsIn r rs → IsIn r s.resources) → (serial pid : ℕ)
       → Any (λ up. (up.serial ≡ serial) × HoldsOn f.row.lkid pid up) (map plain_resource rs) → ⊥
   none_waits waits [] within serial pid any = Any-none (λ (up : Resource). (up.serial ≡ serial) × HoldsOn f.row.lkid pid up) any
@@ -208,11 +214,12 @@ module _ (s : Records) (sound : IsSound s) (f : LocatedLock) (located : IsLocate
       of_list [] is = refl
       of_list (at ∷ rest) is =
           let below = sublock_stored queued p own at among here same (subst (IsIn at) (sym is) (inl refl)) in
-          let row : LockRow = below.0 in
+          let row : LockState = below.0 in
           let in_q = in_queue s at row below.1.0 in
           let its : HasItsParent (plain_resources s) (plain_resource in_q.resource) row =
           of_queue in_q.resource in_q.queue (record { at = at; row = row }) (HasItsParent (plain_resources s) (plain_resource in_q.resource))
-          (each_resource (λ r. AllByRecursion (HasItsParent (plain_resources s) r) (r.granted ++ r.converting ++ r.waiting)) s.resources parents in_q.resource in_q.there) in_q.among in
+          (each_resource (λ r. AllByRecursion (HasItsParent (plain_resources s) r)
+          (r.granted ++ r.converting ++ r.waiting)) s.resources parents in_q.resource in_q.there) in_q.among in
           elim its [
             | inl root ↦ absurd (not_zero no_lkid_0 (sym below.1.1 ∙ root.1))
             | inr up ↦ absurd (none_waits waits s.resources (λ r there. there) (plain_resource in_q.resource).parent row.pid
@@ -232,7 +239,8 @@ by_recursion resources all =
 
 module _ (m : MachineState) (sound : IsSound m.records) (f : LocatedLock) (located : IsLocated f m.records) (cancels : Bool) where
   -- a lock with sublocks is not given up
-  pub sublocks_refused : NoneIsLoose m.records → cancels ≡ false → ¬ HasNoSublocks f.lock m.records → Some Sublocks ≡ sublocks_refusal (plain_state m) cancels f.row.lkid
+  pub sublocks_refused : NoneIsLoose m.records → cancels ≡ false → ¬ HasNoSublocks f.lock m.records
+      → Some Sublocks ≡ sublocks_refusal (plain_state m) cancels f.row.lkid
   unfolding sublocks_refusal
   sublocks_refused queued plain has = rw (plain, some_in_rows m.records sound f located queued has) refl
 

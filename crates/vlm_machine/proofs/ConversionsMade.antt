@@ -6,7 +6,8 @@ use Rattle.vlm_words.specs.declared.locks.Request.{Request}
 use Rattle.vlm_words.specs.declared.resources.ValueBlock.{ValueBlock}
 use Rattle.vlm_words.specs.declared.steps.Conversion.{Conversion}
 use Rattle.vlm_words.specs.declared.steps.Dequeue.{Dequeue}
-use Rattle.vlm_model.specs.Convert.{ConversionAdmission, conversion_blocks, convert_admission, convert_blocks, convert_change, convert_lkid, convert_request, resource_after_conversion}
+use Rattle.vlm_model.specs.Convert.{ConversionAdmission, conversion_blocks, convert_admission, convert_blocks}
+use Rattle.vlm_model.specs.Convert.{convert_change, convert_lkid, convert_request, resource_after_conversion}
 use Rattle.vlm_model.specs.Dequeue.{deq_change, dequeue_lkid, withdrawal_of, withdrawals_of}
 use Rattle.vlm_words.specs.Flags.{deqall, has_flag}
 use Rattle.vlm_model.specs.Withdrawals.{Withdrawal, processes_after, resource_after_withdrawals, withdrawal_endings, withdrawn_endings}
@@ -20,7 +21,9 @@ use Rattle.vlm_locks.specs.Converting.{IsConverted, admission_on, processes_conv
 use Rattle.vlm_machine.specs.Admissions.{IsAdmittedConversion}
 use Rattle.vlm_machine.specs.Machine.{MachineState, plain_state}
 
-module _ (old : MachineState) (c : Conversion) (f : LocatedLock) (at_once : Bool) (admitted : IsAdmittedConversion old c f at_once) (asked : Request) (asked_is : asked ≡ convert_request (plain_state old) c) where
+module _ (old : MachineState) (c : Conversion) (f : LocatedLock) (at_once : Bool)
+    (admitted : IsAdmittedConversion old c f at_once) (asked : Request)
+    (asked_is : asked ≡ convert_request (plain_state old) c) where
   -- the resource of the lock
   abbrev own : StoredResource
   own = admitted.located.located.resource
@@ -35,11 +38,15 @@ module _ (old : MachineState) (c : Conversion) (f : LocatedLock) (at_once : Bool
   blocks_is =
       ap (λ pid. conversion_blocks admission (processes_after_acceptance pid asked.block f.row.lkid (plain_processes old.records))) admitted.located.owned
       ∙ ap (λ lkid. conversion_blocks admission (processes_after_acceptance c.pid asked.block lkid (plain_processes old.records))) admitted.located.named
-      ∙ ap (λ (q : Request). conversion_blocks admission (processes_after_acceptance c.pid q.block (convert_lkid (plain_state old) c) (plain_processes old.records))) asked_is
+      ∙ ap (λ (q : Request). conversion_blocks admission
+      (processes_after_acceptance c.pid q.block (convert_lkid (plain_state old) c)
+      (plain_processes old.records))) asked_is
 
   -- the resources once the lock is converted
   resources_are : (new : Records) → IsConverted f asked (processes_converting f asked old.records) own old.records new
-      → plain_resources new ≡ map (resource_after_conversion asked admission.at_once c.pid (convert_lkid (plain_state old) c) (convert_blocks (plain_state old) c admission).value_block) (plain_resources old.records)
+      → plain_resources new ≡ map
+      (resource_after_conversion asked admission.at_once c.pid (convert_lkid (plain_state old) c)
+      (convert_blocks (plain_state old) c admission).value_block) (plain_resources old.records)
   resources_are new converted =
       converted.resources
       ∙ ap (λ (b : Blocks). map (resource_after_conversion asked admission.at_once f.row.pid f.row.lkid b.value_block) (plain_resources old.records)) blocks_is
@@ -59,7 +66,9 @@ module _ (old : MachineState) (c : Conversion) (f : LocatedLock) (at_once : Bool
       let converted : IsConverted f asked (processes_converting f asked old.records) own old.records new = rw admitted.located.located.found at converts in
       ap (λ ps. with_parts ps (plain_resources new)) (converted.statuses ∙ ap (λ (b : Blocks). b.processes) blocks_is)
       ∙ ap (λ rs. with_parts (convert_blocks (plain_state old) c admission).processes rs) (resources_are new converted)
-      ∙ ap (convert_change (plain_state old) c) (same_Some admission there (sym (admitted.found ∙ ap (λ q. Some (admission_on f q own)) (sym asked_is)) ∙ found))
+      ∙ ap (convert_change (plain_state old) c)
+      (same_Some admission there (sym (admitted.found ∙ ap (λ q. Some (admission_on f q own)) (sym asked_is))
+      ∙ found))
     where
       with_parts : List Process → List Resource → State
       with_parts ps rs = record (plain_state old) { processes = ps; resources = rs; next_request = old.next_request + 1 }

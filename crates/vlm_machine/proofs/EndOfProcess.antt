@@ -1,11 +1,11 @@
 -- Processes that go from the records go from the plain machine, with all their locks.
 use Rattle.std.proofs.Common.{◌≡◌, ◌<◌, ℕ, Bool, true, List, [], ◌∷◌, length, map, sym, ap, ◌∙◌, subst, arith}
 use Rattle.std.specs.List.{AllByRecursion}
-use Rattle.vlm_words.specs.declared.locks.LockRow.{LockRow}
+use Rattle.vlm_words.specs.declared.locks.LockState.{LockState}
 use Rattle.vlm_model.specs.Rundown.{rundowns, state_after_rundown}
 use Rattle.vlm_words.specs.State.{Node, Process, Resource, State}
 use Rattle.vlm_model.specs.Withdrawals.{resource_after_withdrawals}
-use Rattle.vlm_model.proofs.Apart.{Apart}
+use Rattle.vlm_model.proofs.IdsApart.{Apart}
 use Rattle.vlm_model.proofs.Pairs.{EachPair}
 use Rattle.vlm_collections.specs.Lists.{IsIn}
 use Rattle.vlm_store.specs.Plain.{plain_processes, plain_resource, plain_resources}
@@ -16,14 +16,14 @@ use Rattle.vlm_locks.specs.Rest.{IsAtRest}
 use Rattle.vlm_locks.specs.RunningDown.{AreEnded, CanEndProcesses}
 use Rattle.vlm_locks.specs.declared.touched.Note.{Note}
 use Rattle.vlm_locks.specs.Touched.{AreThere, OnlyTouched, StandBySerial, Touches}
-use Rattle.vlm_locks.proofs.TogetherDown.{rundown_by_rows}
+use Rattle.vlm_locks.proofs.ProcessEndsAlike.{rundown_by_rows}
 use Rattle.vlm_machine.specs.Between.{IsBetweenSteps}
 use Rattle.vlm_machine.specs.Machine.{MachineState, plain_state}
 use Rattle.vlm_machine.specs.Notes.{HasRoomToNote, IsToSweep}
-use Rattle.vlm_machine.proofs.Noting.{as_many_stored}
+use Rattle.vlm_machine.proofs.RoomToNote.{as_many_stored}
 use Rattle.vlm_machine.proofs.Pairing.{pairs_by_recursion}
 use Rattle.vlm_machine.proofs.RunDown.{granted_want_nothing, sublocks_are_own}
-use Rattle.vlm_machine.proofs.Settling.{settled_one}
+use Rattle.vlm_machine.proofs.NothingToSweep.{stable_one}
 
 -- ---- before
 
@@ -32,7 +32,7 @@ pub can_end : (m : MachineState) (touched : Touches) → IsAtRest m.records → 
     → CanEndProcesses touched m.records
 can_end m touched rest paid between notes = record {
   rest = rest;
-  together = sublocks_are_own m.records rest.sound between.identifications.none_is_0 between.parents;
+  together = sublocks_are_own m.records rest.sound between.ids.none_is_0 between.parents;
   granted = granted_want_nothing m.records between.rows_fit;
   paid = paid;
   noted = λ t there. absurd (subst (IsIn t) notes.none there);
@@ -64,7 +64,7 @@ rise_plain (r ∷ rs) pairs = (each_above rs pairs.0, rise_plain rs pairs.1)
     each_above (x ∷ later) all = (all.0, each_above later all.1)
 
 -- and where locks go they stay
-rise_still : (goes : LockRow → Bool) (invalidates : Bool) (rs : List Resource) → EachPair (λ a b. a.serial < b.serial) rs
+rise_still : (goes : LockState → Bool) (invalidates : Bool) (rs : List Resource) → EachPair (λ a b. a.serial < b.serial) rs
     → EachPair (λ a b. a.serial < b.serial) (map (resource_left goes invalidates) rs)
 unfolding resource_left
 rise_still goes invalidates [] pairs = tt
@@ -76,7 +76,7 @@ rise_still goes invalidates (r ∷ rs) pairs = (each_above rs pairs.0, rise_stil
     each_above (x ∷ later) all = (all.0, each_above later all.1)
 
 -- where locks are gone, what is left to sweep is noted
-pub to_sweep_left : (old new : MachineState) (goes : LockRow → Bool) (invalidates : Bool) (after : Touches) → IsBetweenSteps (plain_state old)
+pub to_sweep_left : (old new : MachineState) (goes : LockState → Bool) (invalidates : Bool) (after : Touches) → IsBetweenSteps (plain_state old)
     → plain_resources new.records ≡ map (resource_left goes invalidates) (plain_resources old.records)
     → OnlyTouched after.noted old.records new.records → AreThere after.noted new.records → IsToSweep after new
 to_sweep_left old new goes invalidates after between left only_touched noted = record {
@@ -84,12 +84,15 @@ to_sweep_left old new goes invalidates after between left only_touched noted = r
   rise =
       rise_plain new.records.resources
       (subst (EachPair (λ (a b : Resource). a.serial < b.serial)) (sym left)
-      (rise_still goes invalidates (plain_resources old.records) (pairs_by_recursion (λ (a b : Resource). a.serial < b.serial) (plain_resources old.records) between.serials_rise)));
-  settled = λ r there untouched. settled_one old.records.resources between.settled r (only_touched r there untouched);
+      (rise_still goes invalidates (plain_resources old.records)
+      (pairs_by_recursion (λ (a b : Resource). a.serial < b.serial)
+      (plain_resources old.records) between.serials_rise)));
+  stable = λ r there untouched. stable_one old.records.resources between.stable r (only_touched r there untouched);
 }
 
 -- and so it is where processes have ended
-pub to_sweep : (old new : MachineState) (is_one : ℕ → Bool) (before after : Touches) → IsBetweenSteps (plain_state old) → AreEnded is_one old.records new.records before after
+pub to_sweep : (old new : MachineState) (is_one : ℕ → Bool) (before after : Touches) → IsBetweenSteps (plain_state old)
+    → AreEnded is_one old.records new.records before after
     → CanEndProcesses after new.records → IsToSweep after new
 to_sweep old new is_one before after between ended left =
     to_sweep_left old new (λ row. is_one row.pid) true after between ended.resources ended.only_touched left.noted

@@ -1,7 +1,7 @@
 -- A new request that is admitted, and its lock that has entered: the plain machine's change.
 use Rattle.std.proofs.Common.{◌≡◌, ◌+◌, ℕ, Bool, true, List, [], cond, find, unwrap_or, Option, None, Some, is_some, sym, ap, ◌∙◌, arith}
 use Rattle.vlm_words.specs.declared.locks.Request.{Request}
-use Rattle.vlm_words.specs.declared.locks.LockRow.{LockRow}
+use Rattle.vlm_words.specs.declared.locks.LockState.{LockState}
 use Rattle.vlm_words.specs.declared.resources.Site.{Site}
 use Rattle.vlm_words.specs.declared.steps.NewRequest.{NewRequest}
 use Rattle.vlm_model.specs.Effects.{blocks_after, blocks_with}
@@ -49,18 +49,20 @@ module _ (m : MachineState) (e : NewRequest) (new_lock : NewLock) (is : IsEntry 
       ∙ ap (λ b. resources_after_entry m.next_serial (enq_site s e) (enq_row s e) b s.resources) is.at_once
 
   -- the processes once it is accepted
-  pub processes_are : (u : Records) → plain_processes u ≡ processes_entered new_lock (resource_for new_lock s.resources).value_block s.processes → plain_processes u ≡ enq_processes s e
+  pub processes_are : (u : Records)
+      → plain_processes u ≡ processes_entered new_lock (resource_for new_lock s.resources).value_block s.processes
+      → plain_processes u ≡ enq_processes s e
   processes_are u statuses =
       statuses
       ∙ ap (λ (r : Resource). processes_entered new_lock r.value_block s.processes) found_is
       ∙ ap (λ b. written b (new_row new_lock)) is.at_once
-      ∙ ap (λ (x : LockRow). written (enq_at_once s e) x) is.row
+      ∙ ap (λ (x : LockState). written (enq_at_once s e) x) is.row
     where
-      accepted : Option Request → LockRow → List Process
+      accepted : Option Request → LockState → List Process
       accepted None row = s.processes
       accepted (Some want) row = processes_after_acceptance row.pid want.block row.lkid s.processes
 
-      written : Bool → LockRow → List Process
+      written : Bool → LockState → List Process
       written at_once row =
           (blocks_after (cond at_once (grant_endings true row) []) (blocks_with (enq_resource s e).value_block (accepted row.want row))).processes
 
@@ -79,7 +81,8 @@ module _ (m : MachineState) (e : NewRequest) (new_lock : NewLock) (is : IsEntry 
           ∙ sym (ap (λ b. cond b m.next_serial (m.next_serial + 1)) (sym under ∙ has_none new_lock.site.domain new_lock.site.key is.keyed m.records rest found))
       of_found (Some res) found given =
           ap (λ n. n + 1) given ∙ next
-          ∙ sym (ap (λ b. cond b m.next_serial (m.next_serial + 1)) (sym under ∙ has_one new_lock.site.domain new_lock.site.key is.keyed m.records rest res found))
+          ∙ sym (ap (λ b. cond b m.next_serial (m.next_serial + 1)) (sym under
+          ∙ has_one new_lock.site.domain new_lock.site.key is.keyed m.records rest res found))
 
   -- the whole change
   pub entered_state : (u : Records) (next_lkid next_request next_serial : ℕ)
@@ -89,8 +92,22 @@ module _ (m : MachineState) (e : NewRequest) (new_lock : NewLock) (is : IsEntry 
       → plain_state (record { nodes = m.nodes; records = u; next_lkid = next_lkid; next_request = next_request; next_serial = next_serial }) ≡ enq_change s e
   unfolding enq_change
   entered_state u next_lkid next_request next_serial resources processes lkid request serial =
-      ap (λ x. record s { processes = x; resources = plain_resources u; next_lkid = next_lkid; next_request = next_request; next_serial = next_serial }) processes
-      ∙ ap (λ x. record s { processes = enq_processes s e; resources = x; next_lkid = next_lkid; next_request = next_request; next_serial = next_serial }) resources
+      ap (λ x. record s {
+        processes = x;
+        resources = plain_resources u;
+        next_lkid = next_lkid;
+        next_request =
+            next_request;
+        next_serial = next_serial;
+      }) processes
+      ∙ ap (λ x. record s {
+        processes = enq_processes s e;
+        resources = x;
+        next_lkid = next_lkid;
+        next_request =
+            next_request;
+        next_serial = next_serial;
+      }) resources
       ∙ ap (λ x. record (enq_change s e) { next_lkid = x; next_request = next_request; next_serial = next_serial }) lkid
       ∙ ap (λ x. record (enq_change s e) { next_request = x; next_serial = next_serial }) request
       ∙ ap (λ x. record (enq_change s e) { next_serial = x }) serial

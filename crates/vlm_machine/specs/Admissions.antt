@@ -37,7 +37,7 @@ pub record IsCaller (caller : Caller) (s : Records) : Type 0 where
   pub lives : IsProcess caller.at caller.pid s
   pub there : HasProcess caller.at s
 
--- the flags of a new request and the identification of its parent lock; its name is valid
+-- the flags of a new request and the ID of its parent lock; its name is valid
 pub record IsRequestForm (s : State) (e : NewRequest) (form : RequestForm) : Type 0 where
   pub flags : flag_bits form.flags ≡ e.flags
   pub parent : form.parent ≡ parent_lkid s e
@@ -120,7 +120,7 @@ refusal_alone s d =
     or_else (cancel_refusal s d) (sublocks_refusal s (has_flag d.flags cancel) (dequeue_lkid s d))
 
 -- a dequeue that has passed its first checks: its caller, its flags, which fit its value and tail, and the
--- identification that it names; the later checks decide
+-- ID that it names; the later checks decide
 pub record IsCheckedDequeue (m : MachineState) (d : Dequeue) (c : CheckedDequeue) : Type 0 where
   pub caller : IsCaller c.caller m.records
   pub pid : c.caller.pid ≡ d.pid

@@ -2,7 +2,7 @@
 use Rattle.std.specs.Prelude.{◌≡◌, ◌≤◌, ◌+◌, ℕ, List, [], length, sum_by}
 use Rattle.std.specs.List.{AllByRecursion}
 use Rattle.vlm_words.specs.State.{Resource}
-use Rattle.vlm_locks.specs.Sweeping.{AreSettledBut}
+use Rattle.vlm_locks.specs.Sweeping.{AreStableBut}
 use Rattle.vlm_locks.specs.Touched.{AreThere, StandBySerial, Touches, touched_handles}
 use Rattle.vlm_cycle.specs.declared.scratch.Scratch.{Scratch}
 use Rattle.vlm_cycle.specs.Marking.{HasRoomInBoth}
@@ -25,4 +25,4 @@ HasRoomToMark marks m = AllByRecursion (λ p. HasRoomInBoth marks p.pid) (plain_
 pub record IsToSweep (touched : Touches) (m : MachineState) : Type 0 where
   pub noted : AreThere touched.noted m.records
   pub rise : StandBySerial m.records.resources
-  pub settled : AreSettledBut (touched_handles touched.noted) m.records.resources
+  pub stable : AreStableBut (touched_handles touched.noted) m.records.resources

@@ -41,7 +41,7 @@ impl Machine {
         Ok(())
     }
 
-    /// The caller. DEPARTED if its node has departed, NONEXPR if no living process has the identification.
+    /// The caller. DEPARTED if its node has departed, NONEXPR if no living process has the ID.
     #[tactic(auto, unfolding(vlm_model::specs::Checks::caller_refusal))]
     pub(crate) fn checked_caller(&self, pid: u32) -> Result<Caller, Cond>
         ensures refusal { result_err result ≡ caller_refusal (plain_state self.now) pid }
@@ -54,7 +54,7 @@ impl Machine {
         living(&self.store, pid).ok_or(Cond::Nonexpr)
     }
 
-    /// NOLOCKID if the identifications or the request numbers are used up.
+    /// NOLOCKID if the IDs or the request numbers are used up.
     #[tactic(auto, unfolding(vlm_model::specs::Checks::numbers_refusal))]
     pub(crate) fn check_numbers(&self) -> Result<(), Cond>
         ensures refusal { result_err result ≡ numbers_refusal (plain_state self.now) }
@@ -119,7 +119,7 @@ impl Machine {
         }
     }
 
-    /// The named identification, given directly or by a status block. ACCVIO if the caller has no such block.
+    /// The named ID, given directly or by a status block. ACCVIO if the caller has no such block.
     #[tactic(auto, unfolding(vlm_model::specs::Checks::which_refusal))]
     pub(crate) fn checked_lkid(&self, caller: &Caller, lock: Which) -> Result<u32, Cond>
         requires { IsCaller caller.now self.now.records }
@@ -134,7 +134,7 @@ impl Machine {
         }
     }
 
-    /// The lock of the caller with this identification. IVLOCKID if the caller has no such lock.
+    /// The lock of the caller with this ID. IVLOCKID if the caller has no such lock.
     #[tactic(auto, unfolding(vlm_model::specs::Checks::lock_refusal))]
     // Inlined: each step finds one lock.
     #[inline(always)]

@@ -17,7 +17,7 @@ use crate::flags::checked_request_flags;
 use crate::records::Machine;
 use std::alloc::AllocError;
 use vlm_locks::{LocatedLock, convert, converts_at_once};
-use vlm_store::{LockAt, StoredRow};
+use vlm_store::{LockAt, StoredState};
 use vlm_words::conditions::Cond;
 use vlm_words::flags::EnqFlags;
 use vlm_words::locks::Request;
@@ -159,7 +159,7 @@ impl Machine {
 
 // BADPARAM if QUECVT does not go with a conversion from the held mode.
 #[tactic(auto, unfolding(vlm_model::specs::Convert::pair_refusal))]
-fn check_pair(conversion: &Conversion, flags: EnqFlags, row: &StoredRow) -> Result<(), Cond>
+fn check_pair(conversion: &Conversion, flags: EnqFlags, row: &StoredState) -> Result<(), Cond>
     requires { flag_bits flags ≡ conversion.now.flags }
     ensures { result_err result ≡ pair_refusal conversion.now row.now }
 {

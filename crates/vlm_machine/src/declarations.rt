@@ -86,7 +86,7 @@ impl Machine {
         let pid = self.next_pid(declaration.node);
         let place = usize::from(declaration.node) - 1;
         let node = self.nodes[place].counted();
-        scratch.make_room(pid, self.store.total_processes())?;
+        scratch.make_room(pid, self.store.process_count())?;
         let blocks = self.store.new_status_blocks(declaration.blocks)?;
         self.store.add_process(pid, declaration, blocks)?;
         self.nodes[place] = node;

@@ -33,7 +33,7 @@ use vlm_words::steps::{Answer, Dequeue, Step};
 pub(crate) struct CheckedDequeue {
     caller: Caller,
     flags: DeqFlags,
-    // the identification that it names, or 0 if it names no lock
+    // the ID that it names, or 0 if it names no lock
     lkid: u32,
 }
 

@@ -10,7 +10,7 @@ ghost use Rattle.vlm_model.specs.Enqueue.{enq_change, enq_form_refusal, enq_limi
 ghost use Rattle.vlm_words.specs.Names.{is_name};
 ghost use Rattle.vlm_words.specs.Resources.{is_at, new_resource, IsKeyed};
 ghost use Rattle.vlm_words.specs.Flags.{expedite, flag_bits, has_flag};
-ghost use Rattle.vlm_model.specs.Settled.{IsSettled};
+ghost use Rattle.vlm_model.specs.Stable.{IsStable};
 ghost use Rattle.vlm_model.specs.Stepped.{Outcome};
 ghost use Rattle.vlm_model.specs.Sweeps.{state_after_sweep};
 ghost use Rattle.vlm_store.specs.Index.{hash_key};
@@ -18,7 +18,7 @@ ghost use Rattle.vlm_store.specs.Plain.{plain_resources};
 ghost use Rattle.vlm_store.specs.Records.{FindsResource, HasResource, IsUnchanged};
 ghost use Rattle.vlm_locks.specs.Entering.{HasRoomToEnter};
 ghost use Rattle.vlm_locks.specs.Rest.{IsAtRest, OthersStay};
-ghost use Rattle.vlm_locks.specs.Sweeping.{AreSettledBut};
+ghost use Rattle.vlm_locks.specs.Sweeping.{AreStableBut};
 ghost use Rattle.vlm_machine.specs.Admissions.{IsAdmitted, IsAskedBy, IsChecked};
 ghost use Rattle.vlm_machine.specs.Between.{IsBetweenSteps};
 ghost use Rattle.vlm_machine.specs.Machine.{plain_state};
@@ -44,7 +44,7 @@ use vlm_words::steps::{Answer, NewRequest, Step};
 #[derive(Clone, Copy)]
 pub(crate) struct RequestForm {
     pub(crate) flags: EnqFlags,
-    // the identification of the parent lock, 0 for none
+    // the ID of the parent lock, 0 for none
     pub(crate) parent: u32,
 }
 
@@ -120,7 +120,7 @@ impl Machine {
             Ok(checked) => checked,
             Err(refusal) => return Answer::Plain(*refusal),
         };
-        let Ok(()) = touched.make_room_beyond(self.store.total_locks()) else {
+        let Ok(()) = touched.make_room_beyond(self.store.lock_count()) else {
             return Answer::Plain(Cond::Insfmem);
         };
         let new_lock = self.new_lock(request, checked);
@@ -189,7 +189,7 @@ impl Machine {
         }
     }
 
-    // The new lock, with the next identification and the next request number.
+    // The new lock, with the next ID and the next request number.
     fn new_lock(&self, request: &NewRequest, checked: &CheckedRequest) -> NewLock
         requires between { IsBetweenSteps (plain_state self.now) }
         requires checked { IsChecked self.now request.now checked.now }
@@ -222,10 +222,10 @@ impl Machine {
     // queued there. Only an expedited lock may be granted beside a queue.
     fn sweep_entered(&mut self, new_lock: &NewLock, res: ResAt)
         requires there { HasResource res self.old.records }
-        requires settled { AreSettledBut (res ∷ []) self.old.records.resources }
+        requires stable { AreStableBut (res ∷ []) self.old.records.resources }
         requires at_once { new_lock.now.at_once ≡ true
             → has_flag (flag_bits new_lock.now.asked.flags) expedite ≡ false
-            → AllByRecursion IsSettled (plain_state self.old).resources }
+            → AllByRecursion IsStable (plain_state self.old).resources }
         ensures { plain_state self.new ≡ state_after_sweep (plain_state self.old) }
     {
         if new_lock.at_once && !new_lock.asked.flags.has(EnqFlags::EXPEDITE) {

@@ -5,7 +5,7 @@ ghost use Rattle.vlm_words.specs.State.{start};
 ghost use Rattle.vlm_model.specs.Stepped.{Outcome};
 ghost use Rattle.vlm_model.specs.Sweeps.{state_after_sweep};
 ghost use Rattle.vlm_store.specs.Records.{HasResource};
-ghost use Rattle.vlm_locks.specs.Sweeping.{AreSettledBut};
+ghost use Rattle.vlm_locks.specs.Sweeping.{AreStableBut};
 ghost use Rattle.vlm_machine.specs.Between.{IsBetweenSteps};
 ghost use Rattle.vlm_machine.specs.Machine.{plain_state};
 ghost use Rattle.vlm_machine.specs.Notes.{HasRoomToMark, HasRoomToNote, IsToSweep};
@@ -25,7 +25,7 @@ pub struct Machine {
     // node k is at index k - 1
     pub(crate) nodes: [Node; NODES],
     pub store: Store,
-    // how many identifications, request numbers and serials are used
+    // how many IDs, request numbers and serials are used
     pub(crate) last_lkid: u32,
     pub(crate) last_request: u64,
     pub(crate) last_serial: u32,
@@ -82,7 +82,7 @@ impl Machine {
     /// Ends a step that touched one resource. No other resource needs a sweep.
     pub(crate) fn sweep(&mut self, res: ResAt)
         requires there { HasResource res self.old.records }
-        requires settled { AreSettledBut (res ∷ []) self.old.records.resources }
+        requires stable { AreStableBut (res ∷ []) self.old.records.resources }
         ensures { plain_state self.new ≡ state_after_sweep (plain_state self.old) }
     {
         sweep_resource(&mut self.store, res);

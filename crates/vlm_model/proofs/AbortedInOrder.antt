@@ -1,5 +1,6 @@
--- A dequeue with DEQALL aborts the requests of the locks that it takes, by rising identification.
-use Rattle.std.proofs.Common.{◌≡◌, ◌≤◌, ◌<◌, ◌+◌, ◌-◌, ℕ, Bool, zero, suc, true, false, List, [], ◌∷◌, ◌++◌, map, flat_map, length, cond, Option, None, Some, refl, sym, ap, subst, arith}
+-- A dequeue with DEQALL aborts the requests of the locks that it takes, by rising ID.
+use Rattle.std.proofs.Common.{◌≡◌, ◌≤◌, ◌<◌, ◌+◌, ◌-◌, ℕ, Bool, zero, suc, true, false, List, [], ◌∷◌, ◌++◌, map}
+use Rattle.std.proofs.Common.{flat_map, length, cond, Option, None, Some, refl, sym, ap, subst, arith}
 use Rattle.std.specs.Prelude.{⊤, ◌==◌, All, AllPairs}
 use Rattle.std.specs.List.{AllByRecursion, list_any, range_with_len, sum_by}
 use Rattle.std.proofs.lemmas.Bool.{eqb-true}
@@ -8,7 +9,7 @@ use Rattle.std.proofs.lemmas.List.Elements.{All-from_recursion}
 use Rattle.std.proofs.lemmas.List.Sums.{sum_by-cons}
 use Rattle.vlm_words.specs.declared.conditions.Cond.TheVariants.{Normal}
 use Rattle.vlm_words.specs.declared.locks.Request.{Request}
-use Rattle.vlm_words.specs.declared.locks.LockRow.{LockRow}
+use Rattle.vlm_words.specs.declared.locks.LockState.{LockState}
 use Rattle.vlm_words.specs.declared.steps.Answer.TheVariants.{Plain}
 use Rattle.vlm_words.specs.declared.steps.Dequeue.{Dequeue}
 use Rattle.vlm_words.specs.declared.steps.Step.TheVariants.{Deq}
@@ -22,14 +23,14 @@ use Rattle.vlm_words.specs.Rows.{rows_of}
 use Rattle.vlm_model.specs.Runs.{History, Run}
 use Rattle.vlm_model.specs.Stepped.{stepped}
 use Rattle.vlm_model.specs.Withdrawals.{queue_endings, withdrawal_endings, withdrawn_endings}
-use Rattle.vlm_model.proofs.Apart.{Apart, apart_always, standing, stands}
+use Rattle.vlm_model.proofs.IdsApart.{Apart, apart_always, standing, stands}
 use Rattle.vlm_model.proofs.Each.{each_append, each_map, each_so, each_weaker}
 use Rattle.vlm_model.proofs.Pairs.{AllPairs-from_recursion, EachPair, each_pair_filter}
-use Rattle.vlm_model.proofs.Passed.{flags_go_together}
+use Rattle.vlm_model.proofs.PassedChecks.{flags_go_together}
 use Rattle.vlm_model.proofs.Together.{from_on}
 use Rattle.vlm_model.proofs.Weights.{weigh}
 use Rattle.vlm_model.proofs.Withdrawing.{each_end}
-use Rattle.vlm_model.specs.TakenBelow.{AbortsByRisingIdentification}
+use Rattle.vlm_model.specs.TakenBelow.{AbortsByRisingId}
 use Rattle.vlm_model.proofs.TakenBelow.{is_caller, normal_passes, taken_lkids}
 
 -- ---- the end of one lock's request
@@ -38,7 +39,7 @@ use Rattle.vlm_model.proofs.TakenBelow.{is_caller, normal_passes, taken_lkids}
 abbrev IsAbortOf : ℕ → Ending → Type 0
 IsAbortOf lkid ending = (ending.how ≡ by_abort) × (ending.lkid ≡ lkid)
 
-queue_aborts : (lkid : ℕ) (rows : List LockRow) → AllByRecursion (IsAbortOf lkid) (queue_endings by_abort lkid rows)
+queue_aborts : (lkid : ℕ) (rows : List LockState) → AllByRecursion (IsAbortOf lkid) (queue_endings by_abort lkid rows)
 queue_aborts lkid [] = tt
 queue_aborts lkid (row ∷ rows) = of_test (row.lkid == lkid) refl (queue_aborts lkid rows)
   where
@@ -63,7 +64,7 @@ all_aborts d plain lkid (r ∷ rest) =
     (all_aborts d plain lkid rest)
 
 -- a lock has no more of them than rows
-queue_ends_once : (how : How) (lkid : ℕ) (rows : List LockRow) → length (queue_endings how lkid rows) ≤ sum_by (stands lkid) rows
+queue_ends_once : (how : How) (lkid : ℕ) (rows : List LockState) → length (queue_endings how lkid rows) ≤ sum_by (stands lkid) rows
 queue_ends_once how lkid [] = omega arith
 queue_ends_once how lkid (row ∷ rows) = of_test (row.lkid == lkid) refl (queue_ends_once how lkid rows)
   where
@@ -138,7 +139,8 @@ module _ (s : State) (d : Dequeue) (apart : Apart s) (plain : has_flag d.flags c
   of_each_lock P Q so lkids each =
       each_end P (map (withdrawal_of d) lkids) s.resources
       (each_map Q (λ w. AllByRecursion P (flat_map (withdrawal_endings w) s.resources)) (withdrawal_of d)
-      (λ lkid of. each_weaker (IsAbortOf lkid) P (so lkid of) (flat_map (withdrawal_endings (withdrawal_of d lkid)) s.resources) (all_aborts d plain lkid s.resources))
+      (λ lkid of. each_weaker (IsAbortOf lkid) P (so lkid of)
+      (flat_map (withdrawal_endings (withdrawal_of d lkid)) s.resources) (all_aborts d plain lkid s.resources))
       lkids each)
 
   few_pairs : (endings : List Ending) → length endings ≤ 1 → EachPair IsBefore endings
@@ -158,9 +160,9 @@ module _ (s : State) (d : Dequeue) (apart : Apart s) (plain : has_flag d.flags c
       (of_each_lock (λ b. lkid < b.lkid) (λ n. lkid < n) (λ n above b is. omega (arith, above, is.1)) lkids rises.0))
       (flat_map (withdrawal_endings (withdrawal_of d lkid)) s.resources) (all_aborts d plain lkid s.resources))
 
--- after every run such a dequeue aborts by rising identification
-pub aborts_always : (history : History) (old : State) → Run history old → (d : Dequeue) (choice : Option LockRow) → has_flag d.flags deqall ≡ true
-    → (stepped old (Deq d) choice).answer ≡ Plain Normal → AbortsByRisingIdentification old d choice
+-- after every run such a dequeue aborts by rising ID
+pub aborts_always : (history : History) (old : State) → Run history old → (d : Dequeue) (choice : Option LockState) → has_flag d.flags deqall ≡ true
+    → (stepped old (Deq d) choice).answer ≡ Plain Normal → AbortsByRisingId old d choice
 aborts_always history old run d choice all answered =
     let apart : Apart old = apart_always history old run in
     let plain : has_flag d.flags cancel ≡ false = flags_go_together old d (normal_passes old d choice answered) all in

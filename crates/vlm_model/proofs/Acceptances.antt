@@ -4,7 +4,7 @@ use Rattle.std.specs.List.{AllByRecursion, AllZip}
 use Rattle.std.proofs.lemmas.Bool.{true≢false}
 use Rattle.vlm_words.specs.declared.conditions.Cond.TheVariants.{Normal, Synch}
 use Rattle.vlm_words.specs.declared.locks.Request.{Request}
-use Rattle.vlm_words.specs.declared.locks.LockRow.{LockRow}
+use Rattle.vlm_words.specs.declared.locks.LockState.{LockState}
 use Rattle.vlm_words.specs.declared.steps.Conversion.{Conversion}
 use Rattle.vlm_words.specs.declared.steps.NewRequest.{NewRequest}
 use Rattle.vlm_words.specs.declared.steps.Step.TheVariants.{Convert, Enq}
@@ -34,7 +34,7 @@ abbrev WasQueued : Ending → Type 0
 WasQueued ending = ending.at_once ≡ false
 
 -- the grants of rows from their queues
-each_queued : (rows : List LockRow) (endings : List Ending) → AllZip IsGrantOf rows endings → AllByRecursion WasQueued endings
+each_queued : (rows : List LockState) (endings : List Ending) → AllZip IsGrantOf rows endings → AllByRecursion WasQueued endings
 each_queued [] [] ends = tt
 each_queued [] (ending ∷ endings) ends = absurd ends
 each_queued (row ∷ rows) [] ends = tt
@@ -57,7 +57,7 @@ none_at_once number t =
     (sweep_queued t.resources _ (sweep_endings t.resources) (sweep_in_order t.processes t.resources)))
 
 -- a request that is granted at once, or not, is accepted so
-accepted_with : (flags number : ℕ) (row : LockRow) (request : Request) (t : State) → request.number ≡ number → (at_once : Bool)
+accepted_with : (flags number : ℕ) (row : LockState) (request : Request) (t : State) → request.number ≡ number → (at_once : Bool)
     → IsAcceptedWith flags (IsGrantedAtOnce number (cond at_once (grant_endings true (wanting_row row request)) [] ++ sweep_endings t.resources))
     (acceptance flags at_once)
 accepted_with flags number row request t is at_once = of_flag (has_flag flags syncsts) refl at_once

@@ -1,5 +1,6 @@
 -- What was queued was taken, is pending, or went with its process.
-use Rattle.std.proofs.Common.{◌≡◌, ◌≢◌, ◌++◌, ℕ, Bool, true, false, List, [], ◌∷◌, map, cond, length, length-append, Option, None, Some, inl, inr, append_assoc, refl, sym, subst, ap, ◌∙◌, arith}
+use Rattle.std.proofs.Common.{◌≡◌, ◌≢◌, ◌++◌, ℕ, Bool, true, false, List, [], ◌∷◌, map, cond, length, length-append}
+use Rattle.std.proofs.Common.{Option, None, Some, inl, inr, append_assoc, refl, sym, subst, ap, ◌∙◌, arith}
 use Rattle.std.specs.Prelude.{◌==◌, is_some}
 use Rattle.std.specs.List.{AllByRecursion}
 use Rattle.std.proofs.lemmas.Bool.{eqb-true}
@@ -8,7 +9,7 @@ use Rattle.std.proofs.lemmas.List.Elements.{recursion_from_All}
 use Rattle.vlm_words.specs.declared.asts.Ast.{Ast}
 use Rattle.vlm_words.specs.declared.conditions.Cond.{Cond}
 use Rattle.vlm_words.specs.declared.conditions.Cond.TheVariants.{Insfmem, Normal}
-use Rattle.vlm_words.specs.declared.locks.LockRow.{LockRow}
+use Rattle.vlm_words.specs.declared.locks.LockState.{LockState}
 use Rattle.vlm_words.specs.declared.steps.Answer.TheVariants.{Process as process_answer, Lock, Plain, Taken, Victim}
 use Rattle.vlm_words.specs.declared.steps.Answer.{Answer}
 use Rattle.vlm_words.specs.declared.steps.Declaration.{Declaration}
@@ -29,17 +30,19 @@ use Rattle.vlm_model.specs.Dequeue.{deq_change, deq_endings, withdrawals_of}
 use Rattle.vlm_model.specs.Rundown.{is_ended_by, nodes_after_departure}
 use Rattle.vlm_words.specs.Steps.{is_of_node}
 use Rattle.vlm_model.specs.Taking.{AstsAfter, AstsAfterTake, AstsAreTakenInOrder, AstsLeft, queued_to}
-use Rattle.vlm_model.specs.Stepped.{IsChoice, Outcome, Stepped, conversion_change, end_of_processes, outcome_endings, outcome_queued, refused_or, step_change, step_refusal, stepped, stepped_after_sweep}
+use Rattle.vlm_model.specs.Stepped.{IsChoice, Outcome, Stepped, conversion_change, end_of_processes, outcome_endings}
+use Rattle.vlm_model.specs.Stepped.{outcome_queued, refused_or, step_change, step_refusal, stepped, stepped_after_sweep}
 use Rattle.vlm_model.specs.Runs.{History, Run, begin, history_after, next}
 use Rattle.vlm_model.proofs.Always.{admission_of}
 use Rattle.vlm_model.proofs.Declarations.{IsGiven, given_always}
 use Rattle.vlm_model.proofs.Each.{each_append, each_at, each_weaker}
-use Rattle.vlm_model.proofs.Ended.{swept_living}
+use Rattle.vlm_model.proofs.ProcessEnds.{swept_living}
 use Rattle.vlm_model.proofs.Processes.{kept_converted, kept_ended, kept_entered, kept_set, kept_taken}
-use Rattle.vlm_model.proofs.Queueing.{asts_are, queued_to-append, sweep_queues}
+use Rattle.vlm_model.proofs.AstQueueing.{asts_are, queued_to-append, sweep_queues}
 use Rattle.vlm_model.proofs.WhoseLocks.{owning}
 use Rattle.vlm_model.specs.Accounting.{IsTakenButFor, WhatIsQueuedIsTakenOrPending, taken_by, taken_in}
-use Rattle.vlm_model.proofs.Living.{GivesAnew, lived_before, lives, named, new_has_none, no, no_asts, no_quota, none_given_refused, step_gives, swept_still, who}
+use Rattle.vlm_model.proofs.Living.{GivesAnew, lived_before, lives, named, new_has_none, no, no_asts, no_quota}
+use Rattle.vlm_model.proofs.Living.{none_given_refused, step_gives, swept_still, who}
 use Rattle.vlm_model.proofs.Strangers.{none_withdrawn, NoneOf, none_converted, none_ended, none_owned, none_requested, none_swept}
 use Rattle.vlm_model.specs.Search.{victim_withdrawals, search_change, search_endings}
 
@@ -100,7 +103,8 @@ none_refused pid (Search node) refusal = refl
 none_refused pid (Take process) refusal = refl
 
 -- nor does a take of a process that has none
-none_taken : (pid process : ℕ) (processes : List Process) → asts_of processes pid ≡ [] → taken_in pid (Take process) (Taken (oldest (asts_of processes process))) ≡ []
+none_taken : (pid process : ℕ) (processes : List Process) → asts_of processes pid ≡ []
+    → taken_in pid (Take process) (Taken (oldest (asts_of processes process))) ≡ []
 none_taken pid process processes none = of_test (process == pid) refl
   where
     of_oldest : (o : Option Ast) → (process == pid) ≡ false → taken_in pid (Take process) (Taken o) ≡ []
@@ -120,7 +124,7 @@ change_queues_none pid change none =
     ∙ ap (λ (asts : List Ast). asts ++ queued_to pid (sweep_asts change.state.resources)) none.queued
     ∙ none_swept pid change.state.resources none.locks
 
--- a change that keeps the identifications, and its sweep
+-- a change that keeps the IDs, and its sweep
 swept_for_others : (s : State) (step : Step) (change : Stepped) → map named change.state.processes ≡ map named s.processes
     → ((pid : ℕ) → lives s.processes pid ≡ false → NoneOf pid change.queued change.state.resources)
     → ((pid : ℕ) → lives s.processes pid ≡ false → taken_in pid step change.answer ≡ [])
@@ -133,7 +137,7 @@ swept_for_others s step change same none untaken = record {
 }
 
 -- a declaration
-declared_for_others : (s : State) (d : Declaration) (choice : Option LockRow)
+declared_for_others : (s : State) (d : Declaration) (choice : Option LockState)
     → ((pid : ℕ) → lives s.processes pid ≡ false → owning pid s.resources ≡ 0)
     → IsAccountedForOthers s (stepped_after_sweep (step_change s (Declare d) choice)).state (Declare d) (step_change s (Declare d) choice).answer
     (stepped_after_sweep (step_change s (Declare d) choice)).queued
@@ -176,7 +180,7 @@ ended_for_others s step is_one nodes none untaken = record {
     of_lives pid out false is = is
 
 -- a step that no check refuses
-made_for_others : (s : State) (step : Step) (choice : Option LockRow) → ((pid : ℕ) → lives s.processes pid ≡ false → owning pid s.resources ≡ 0)
+made_for_others : (s : State) (step : Step) (choice : Option LockState) → ((pid : ℕ) → lives s.processes pid ≡ false → owning pid s.resources ≡ 0)
     → step_refusal s step ≡ None
     → IsAccountedForOthers s (stepped_after_sweep (step_change s step choice)).state step (step_change s step choice).answer
     (stepped_after_sweep (step_change s step choice)).queued
@@ -220,7 +224,7 @@ refused_for_others s step refusal = record {
 }
 
 -- a step, with its refusal
-step_for_others : (s : State) (step : Step) (choice : Option LockRow) → ((pid : ℕ) → lives s.processes pid ≡ false → owning pid s.resources ≡ 0)
+step_for_others : (s : State) (step : Step) (choice : Option LockState) → ((pid : ℕ) → lives s.processes pid ≡ false → owning pid s.resources ≡ 0)
     → (refusal : Option Cond) → step_refusal s step ≡ refusal
     → IsAccountedForOthers s (refused_or refusal s (step_change s step choice)).state step (refused_or refusal s (step_change s step choice)).answer
     (refused_or refusal s (step_change s step choice)).queued
@@ -258,11 +262,11 @@ unchanged_accounted s step refusal = record {
 -- that takes answer in the order of queueing, after every run
 abbrev pub TakesInOrder : Type 0
 TakesInOrder =
-    (history : History) (old : State) → Run history old → (step : Step) (choice : Option LockRow)
+    (history : History) (old : State) → Run history old → (step : Step) (choice : Option LockState)
     → IsChoice old step choice → AstsAreTakenInOrder old step choice
 
 -- after every run a step is accounted for, but for the ASTs of those who lived
-others_accounted : (history : History) (old : State) → Run history old → (step : Step) (choice : Option LockRow)
+others_accounted : (history : History) (old : State) → Run history old → (step : Step) (choice : Option LockState)
     → IsAccountedForOthers old (stepped old step choice).state step (stepped old step choice).answer (stepped old step choice).queued
 others_accounted history old run step choice =
     step_for_others old step choice (λ pid out. none_owned history old run pid (no_quota old.processes pid out)) (step_refusal old step) refl
@@ -293,11 +297,11 @@ taken_more pid (x ∷ steps) (a ∷ answers) step answer long =
     ap (λ (asts : List Ast). taken_in pid x a ++ asts) (taken_more pid steps answers step answer (omega (arith, long)))
     ∙ sym (append_assoc (taken_in pid x a) (taken_by pid steps answers) (taken_in pid step answer))
 
--- the answer is of no declaration that gives this identification
+-- the answer is of no declaration that gives this ID
 abbrev IsOfAnother : ℕ → Answer → Type 0
 IsOfAnother pid answer = answer ≢ process_answer pid
 
--- the answer gives no identification but one that is given
+-- the answer gives no ID but one that is given
 abbrev AnswersGiven : List Node → Answer → Type 0
 AnswersGiven nodes answer = (pid : ℕ) → answer ≡ process_answer pid → IsGiven nodes pid
 

@@ -1,8 +1,8 @@
--- From one step to every run.
+-- What every step keeps holds after every run.
 use Rattle.std.proofs.Common.{ℕ, Bool, ◌≡◌, inl, inr, List, [], ◌++◌, Option, None, Some, refl, sym, subst}
 use Rattle.std.proofs.lemmas.List.{append-nil}
 use Rattle.vlm_words.specs.declared.conditions.Cond.{Cond}
-use Rattle.vlm_words.specs.declared.locks.LockRow.{LockRow}
+use Rattle.vlm_words.specs.declared.locks.LockState.{LockState}
 use Rattle.vlm_words.specs.declared.conditions.Cond.TheVariants.{Normal}
 use Rattle.vlm_words.specs.declared.steps.Answer.TheVariants.{Plain}
 use Rattle.vlm_words.specs.declared.steps.Answer.{Answer}
@@ -26,10 +26,11 @@ use Rattle.vlm_model.specs.Deadlocks.{IsVictim}
 use Rattle.vlm_model.specs.Search.{search_change, search_refusal, victim_withdrawals}
 use Rattle.vlm_model.specs.Rundown.{is_ended_by, leave_refusal, nodes_after_departure, rundown_refusal}
 use Rattle.vlm_words.specs.Steps.{is_of_node}
-use Rattle.vlm_model.specs.Stepped.{IsChoice, Outcome, end_of_processes, Stepped, conversion_change, outcome_endings, refused_or, step_change, step_refusal, stepped, stepped_after_sweep}
+use Rattle.vlm_model.specs.Stepped.{IsChoice, Outcome, end_of_processes, Stepped, conversion_change, outcome_endings}
+use Rattle.vlm_model.specs.Stepped.{refused_or, step_change, step_refusal, stepped, stepped_after_sweep}
 use Rattle.vlm_model.specs.Runs.{History, Run, begin, next}
 use Rattle.vlm_model.specs.Asts.{completions_of}
-use Rattle.vlm_model.proofs.Passed.{admission_passes, some_admission}
+use Rattle.vlm_model.proofs.PassedChecks.{admission_passes, some_admission}
 use Rattle.vlm_model.proofs.Victims.{victim_of}
 
 -- what is said of a run: of the requests that have ended, and of the state
@@ -46,7 +47,7 @@ unchanged P endings s held = subst (λ (all : List Ending). P all s) (sym (appen
 
 -- what each made step keeps, each outcome keeps
 kept_by_outcome : (P : Said) (endings : List Ending) (old new : State) (step : Step) (answer : Answer) → P endings old
-    → ((choice : Option LockRow) → IsChoice old step choice → HoldsAfter P endings (stepped old step choice))
+    → ((choice : Option LockState) → IsChoice old step choice → HoldsAfter P endings (stepped old step choice))
     → (outcome : Outcome old step new answer) → P (endings ++ outcome_endings outcome) new
 kept_by_outcome P endings old new step answer held made_so (inl made) =
     subst (P (endings ++ (stepped old step made.choice).endings)) (sym made.state) (made_so made.choice made.chosen)
@@ -55,7 +56,7 @@ kept_by_outcome P endings old new step answer held made_so (inr short) = subst (
 -- what holds at the start and is kept by each step holds after every run
 pub always : (P : Said) → P [] start
     → ((history : History) (s : State) → Run history s → P history.endings s
-    → (step : Step) (choice : Option LockRow) → IsChoice s step choice → HoldsAfter P history.endings (stepped s step choice))
+    → (step : Step) (choice : Option LockState) → IsChoice s step choice → HoldsAfter P history.endings (stepped s step choice))
     → (history : History) (last : State) → Run history last → P history.endings last
 always P at_start kept _ _ begin = at_start
 always P at_start kept _ last (next {history} {old} {new} {step} {answer} run outcome) =
@@ -81,7 +82,7 @@ pub data EndsNow (s : State) : (ℕ → Bool) → List Node → Type 0 where
 -- requests end, with their locks or without: those that a dequeue withdraws, or that of the victim of a search
 pub data WithdrawsNow (s : State) : List Withdrawal → Type 0 where
   gives_up : (d : Dequeue) → deq_refusal s d ≡ None → WithdrawsNow s (withdrawals_of s d)
-  ends_deadlock : (choice : Option LockRow) → IsVictim s choice → WithdrawsNow s (victim_withdrawals choice)
+  ends_deadlock : (choice : Option LockState) → IsVictim s choice → WithdrawsNow s (victim_withdrawals choice)
 
 -- these withdrawals, with what is answered
 abbrev pub withdrawal_of_all : Answer → List Withdrawal → State → Stepped
@@ -103,7 +104,7 @@ pub kept_by_stepped : (P : Said) (endings : List Ending) (s : State) → P endin
     → ((withdrawals : List Withdrawal) → WithdrawsNow s withdrawals
     → HoldsAfter P endings (stepped_after_sweep (withdrawal_of_all (Plain Normal) withdrawals s)))
     → ((is_one : ℕ → Bool) (nodes : List Node) → EndsNow s is_one nodes → HoldsAfter P endings (stepped_after_sweep (end_of_processes is_one nodes s)))
-    → (step : Step) (choice : Option LockRow) → IsChoice s step choice → HoldsAfter P endings (stepped s step choice)
+    → (step : Step) (choice : Option LockState) → IsChoice s step choice → HoldsAfter P endings (stepped s step choice)
 unfolding deq_change search_change
 kept_by_stepped P endings s held declare set take enq convert withdraw end step choice chosen =
     kept_by_refused_or P endings (step_refusal s step) s (step_change s step choice) held (each_kind step chosen)

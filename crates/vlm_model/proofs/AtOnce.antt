@@ -6,7 +6,7 @@ use Rattle.std.proofs.lemmas.List.Elements.{recursion_from_All}
 use Rattle.std.proofs.lemmas.List.Sums.{sum_by-cons}
 use Rattle.vlm_words.specs.declared.conditions.Cond.{Cond}
 use Rattle.vlm_words.specs.declared.locks.Request.{Request}
-use Rattle.vlm_words.specs.declared.locks.LockRow.{LockRow}
+use Rattle.vlm_words.specs.declared.locks.LockState.{LockState}
 use Rattle.vlm_words.specs.declared.steps.Conversion.{Conversion}
 use Rattle.vlm_words.specs.declared.steps.NewRequest.{NewRequest}
 use Rattle.vlm_words.specs.declared.steps.Step.TheVariants.{Convert, Enq}
@@ -22,16 +22,16 @@ use Rattle.vlm_model.specs.Runs.{History, Run}
 use Rattle.vlm_model.specs.Laws.{ConvertsInTurn, EntersInTurn, IsAskedFor, IsFreeFor, IsGrantedAtOnce, Stands}
 use Rattle.vlm_model.proofs.Always.{admission_of}
 use Rattle.vlm_model.proofs.Admissions.{admitted_request}
-use Rattle.vlm_model.proofs.Apart.{Apart, apart_always, standing, stands}
-use Rattle.vlm_model.proofs.WritesAtOnce.{stands_counted}
+use Rattle.vlm_model.proofs.IdsApart.{Apart, apart_always, standing, stands}
+use Rattle.vlm_model.proofs.GrantsAtOnce.{stands_counted}
 use Rattle.vlm_model.proofs.Each.{Any-cases, Any-here, Any-none, Found, found_at}
 use Rattle.vlm_model.proofs.Keys.{Placed, placed_always}
-use Rattle.vlm_model.proofs.Passed.{both_pass, enq_passes}
+use Rattle.vlm_model.proofs.PassedChecks.{both_pass, enq_passes}
 use Rattle.vlm_model.proofs.ReasonsOfConversions.{at_once_by_turn, granted_there, turn_passes}
 use Rattle.vlm_model.proofs.ReasonsOfRequests.{asked_for, free_passes, new_is_free}
 use Rattle.vlm_model.proofs.Refusals.{caller_passes}
 use Rattle.vlm_model.proofs.Weights.{weigh}
-use Rattle.vlm_model.proofs.Writes.{at_once_first, lock_same, made_conversion, refused_answers_no_lock}
+use Rattle.vlm_model.proofs.WritingConversions.{at_once_first, lock_same, made_conversion, refused_answers_no_lock}
 use Rattle.vlm_model.specs.AtOnce.{GrantsAtOnce, IsAcceptedFor, WhatFitsIsGrantedAtOnce}
 
 -- ---- new requests
@@ -95,11 +95,13 @@ converts_now : (s : State) (c : Conversion) (a : ConversionAdmission) → Apart 
 converts_now s c a apart admitted some =
     let lkid : ℕ = convert_lkid s c in
     let there = said_there lkid (ConvertsInTurn c lkid) a.resource s.resources (granted_there s c a apart admitted) (apart.one_row lkid) some in
-    at_once_by_turn s c a admitted ∙ turn_passes c (convert_request s c) lkid a.resource refl refl (stands_counted lkid a.resource.granted there.0.0) there.1 there.0.1
+    at_once_by_turn s c a admitted
+    ∙ turn_passes c (convert_request s c) lkid a.resource refl refl
+    (stands_counted lkid a.resource.granted there.0.0) there.1 there.0.1
 
 -- ---- steps
 
-request_granted : (s : State) → Apart s → Placed s → (e : NewRequest) (choice : Option LockRow) (lkid : ℕ) → IsAcceptedFor lkid s (Enq e) choice
+request_granted : (s : State) → Apart s → Placed s → (e : NewRequest) (choice : Option LockState) (lkid : ℕ) → IsAcceptedFor lkid s (Enq e) choice
     → EntersInTurn s e → GrantsAtOnce s (Enq e) choice
 request_granted s apart placed e choice lkid accepted enters =
     let passed : enq_refusal s e ≡ None = refused_answers_no_lock (enq_refusal s e) s (step_change s (Enq e) choice) accepted.0 lkid accepted.1 in
@@ -110,7 +112,7 @@ request_granted s apart placed e choice lkid accepted enters =
     first_granted : enq_at_once s e ≡ true → IsGrantedAtOnce s.next_request (enq_endings s e ++ sweep_endings (enq_change s e).resources)
     first_granted at_once = rw at_once (Any-here _ _ (sweep_endings (enq_change s e).resources) (tt, refl, refl))
 
-conversion_granted : (s : State) → Apart s → (c : Conversion) (choice : Option LockRow) (lkid : ℕ) → IsAcceptedFor lkid s (Convert c) choice
+conversion_granted : (s : State) → Apart s → (c : Conversion) (choice : Option LockState) (lkid : ℕ) → IsAcceptedFor lkid s (Convert c) choice
     → Any (λ r. Stands lkid r.granted × ConvertsInTurn c lkid r) s.resources → GrantsAtOnce s (Convert c) choice
 unfolding convert_admission
 conversion_granted s apart c choice lkid accepted some =

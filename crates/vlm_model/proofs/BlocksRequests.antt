@@ -7,11 +7,12 @@ use Rattle.std.proofs.lemmas.List.Elements.{All-from_recursion}
 use Rattle.vlm_words.specs.declared.asts.AstKind.TheVariants.{Completion, Blocking}
 use Rattle.vlm_words.specs.declared.conditions.Cond.{Cond}
 use Rattle.vlm_words.specs.declared.locks.Request.{Request}
-use Rattle.vlm_words.specs.declared.locks.LockRow.{LockRow}
+use Rattle.vlm_words.specs.declared.locks.LockState.{LockState}
 use Rattle.vlm_words.specs.declared.resources.ValueBlock.{ValueBlock}
 use Rattle.vlm_words.specs.declared.steps.Step.{Step}
 use Rattle.vlm_words.specs.State.{Process, Resource, State}
-use Rattle.vlm_model.specs.Asts.{Queued, asts_for, blocking_asts, completions_of, blocks_a_request, is_to_warn, resource_after_warning, row_after_warning, row_warnings, warnings}
+use Rattle.vlm_model.specs.Asts.{Queued, asts_for, blocking_asts, completions_of, blocks_a_request, is_to_warn}
+use Rattle.vlm_model.specs.Asts.{resource_after_warning, row_after_warning, row_warnings, warnings}
 use Rattle.vlm_words.specs.Rows.{blocks_request, is_empty}
 use Rattle.vlm_model.specs.Effects.{with_value_block}
 use Rattle.vlm_model.specs.Grants.{service}
@@ -24,7 +25,7 @@ use Rattle.vlm_model.specs.BlocksRequests.{IsInTheWayOf, IsOfLockInTheWay, Warne
 use Rattle.vlm_model.proofs.Completing.{change_queues, each_completion}
 
 -- what is wanted may not be held beside this
-abbrev IsKeptOut : Option Request → LockRow → Type 0
+abbrev IsKeptOut : Option Request → LockState → Type 0
 IsKeptOut held other = AreCompatible other.want held → ⊥
 
 -- the lock stands granted on some resource, in the way of what is queued there
@@ -44,7 +45,7 @@ no_warning resources q is warns = cc
 no : false ≡ true → ⊥
 no e = cc
 
-some_kept_out : (held : Request) (rows : List LockRow) → list_any (λ row. blocks_request held.mode row.want) rows ≡ true → Any (IsKeptOut (Some held)) rows
+some_kept_out : (held : Request) (rows : List LockState) → list_any (λ row. blocks_request held.mode row.want) rows ≡ true → Any (IsKeptOut (Some held)) rows
 some_kept_out held [] any = absurd (no any)
 some_kept_out held (row ∷ rows) any =
     elim (or_cases (blocks_request held.mode row.want) (list_any (λ x. blocks_request held.mode x.want) rows) any) [
@@ -56,7 +57,7 @@ some_kept_out held (row ∷ rows) any =
     of_want None out compatible = no out
     of_want (Some want) out compatible = no (sym (ap not compatible) ∙ out)
 
-some_in_its_way : (held : Option Request) (converting waiting : List LockRow) → blocks_a_request held converting waiting ≡ true
+some_in_its_way : (held : Option Request) (converting waiting : List LockState) → blocks_a_request held converting waiting ≡ true
     → Any (IsKeptOut held) (converting ++ waiting)
 some_in_its_way None converting waiting blocks = absurd (no blocks)
 some_in_its_way (Some held) converting waiting blocks =
@@ -66,7 +67,8 @@ some_in_its_way (Some held) converting waiting blocks =
     ]
 
 -- who is to be warned is in the way
-blocks_some : (converting waiting : List LockRow) (row : LockRow) → is_to_warn converting waiting row ≡ true → Any (IsKeptOut row.held) (converting ++ waiting)
+blocks_some : (converting waiting : List LockState) (row : LockState) → is_to_warn converting waiting row ≡ true
+    → Any (IsKeptOut row.held) (converting ++ waiting)
 unfolding is_to_warn
 blocks_some converting waiting row to_warn =
     some_in_its_way row.held converting waiting (and_parts row.armed (blocks_a_request row.held converting waiting) to_warn).1
@@ -74,7 +76,7 @@ blocks_some converting waiting row to_warn =
 -- ---- warnings
 
 -- a row's warning tells of the row, as it is once it is warned
-row_blocks : (converting waiting : List LockRow) (row : LockRow)
+row_blocks : (converting waiting : List LockState) (row : LockState)
     → AllByRecursion (λ q. IsInTheWayOf (converting ++ waiting) q (row_after_warning converting waiting row)) (row_warnings converting waiting row)
 unfolding row_after_warning row_warnings
 row_blocks converting waiting row = of_test (is_to_warn converting waiting row) refl
@@ -90,18 +92,20 @@ row_blocks converting waiting row = of_test (is_to_warn converting waiting row) 
     of_held (Some held) some = of_routine held.blocking held some
 
     of_test : (b : Bool) → is_to_warn converting waiting row ≡ b
-        → AllByRecursion (λ q. IsInTheWayOf (converting ++ waiting) q (cond b (record row { armed = false }) row)) (cond b (blocking_asts row.held row.lkid row.pid) [])
+        → AllByRecursion (λ q. IsInTheWayOf (converting ++ waiting) q (cond b (record row { armed = false }) row))
+        (cond b (blocking_asts row.held row.lkid row.pid) [])
     of_test false _ = tt
     of_test true to_warn = of_held row.held (blocks_some converting waiting row to_warn)
 
-rows_blocks : (converting waiting rows : List LockRow)
+rows_blocks : (converting waiting rows : List LockState)
     → AllByRecursion (λ q. Any (IsInTheWayOf (converting ++ waiting) q) (map (row_after_warning converting waiting) rows))
     (flat_map (row_warnings converting waiting) rows)
 rows_blocks converting waiting [] = tt
 rows_blocks converting waiting (row ∷ rows) =
-    let after : LockRow = row_after_warning converting waiting row in
-    let others : List LockRow = map (row_after_warning converting waiting) rows in
-    each_append (λ q. Any (IsInTheWayOf (converting ++ waiting) q) (after ∷ others)) (row_warnings converting waiting row) (flat_map (row_warnings converting waiting) rows)
+    let after : LockState = row_after_warning converting waiting row in
+    let others : List LockState = map (row_after_warning converting waiting) rows in
+    each_append (λ q. Any (IsInTheWayOf (converting ++ waiting) q) (after ∷ others))
+    (row_warnings converting waiting row) (flat_map (row_warnings converting waiting) rows)
     (each_weaker (λ q. IsInTheWayOf (converting ++ waiting) q after) (λ q. Any (IsInTheWayOf (converting ++ waiting) q) (after ∷ others))
     (λ q here. Any-here (IsInTheWayOf (converting ++ waiting) q) after others here) (row_warnings converting waiting row) (row_blocks converting waiting row))
     (each_weaker (λ q. Any (IsInTheWayOf (converting ++ waiting) q) others) (λ q. Any (IsInTheWayOf (converting ++ waiting) q) (after ∷ others))
@@ -126,7 +130,9 @@ here_stands r rest q here = of_test (is_vacant r) refl
     of_test false left = Any-here (λ x. StandsHere x q) r rest here
     of_test true vacant =
         absurd (Any-none (IsInTheWayOf (r.converting ++ r.waiting) q) (subst (Any (IsInTheWayOf (r.converting ++ r.waiting) q))
-        (is_empty-true r.granted (and_parts (is_empty r.granted) (is_empty r.converting) (and_parts (is_empty r.granted && is_empty r.converting) (is_empty r.waiting) vacant).0).0)
+        (is_empty-true r.granted
+        (and_parts (is_empty r.granted) (is_empty r.converting)
+        (and_parts (is_empty r.granted && is_empty r.converting) (is_empty r.waiting) vacant).0).0)
         here))
 
 -- and what stands behind it stands there still
@@ -160,7 +166,7 @@ made_blocks None s change queues =
     (sweep_blocks change.state.processes change.state.resources)
 made_blocks (Some refusal) s change queues = tt
 
-pub blocks_always : (s : State) (step : Step) (choice : Option LockRow) → WarnedLocksAreInTheWay (stepped s step choice)
+pub blocks_always : (s : State) (step : Step) (choice : Option LockState) → WarnedLocksAreInTheWay (stepped s step choice)
 blocks_always s step choice =
     All-from_recursion (IsOfLockInTheWay (stepped s step choice).state) (stepped s step choice).queued
     (made_blocks (step_refusal s step) s (step_change s step choice) (change_queues s step choice))

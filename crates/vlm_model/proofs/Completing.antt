@@ -1,4 +1,4 @@
--- The completions that are queued are those of the endings.
+-- Each completion AST that a step queues belongs to a request that ended in it.
 use Rattle.std.proofs.Common.{◌≡◌, ◌++◌, ◌||◌, ℕ, Bool, true, false, List, [], ◌∷◌, cond, Option, None, Some, inl, inr, refl, sym, ap, ◌∙◌}
 use Rattle.std.specs.List.{AllByRecursion, filter, flat_map}
 use Rattle.std.proofs.lemmas.Bool.{cond_both}
@@ -8,14 +8,15 @@ use Rattle.std.proofs.lemmas.Grind.{flat_map-append}
 use Rattle.vlm_words.specs.declared.asts.AstKind.TheVariants.{Completion, Blocking}
 use Rattle.vlm_words.specs.declared.conditions.Cond.{Cond}
 use Rattle.vlm_words.specs.declared.locks.Request.{Request}
-use Rattle.vlm_words.specs.declared.locks.LockRow.{LockRow}
+use Rattle.vlm_words.specs.declared.locks.LockState.{LockState}
 use Rattle.vlm_words.specs.declared.steps.Answer.{Answer}
 use Rattle.vlm_words.specs.declared.steps.Step.TheVariants.{Declare, SetValue, Enq, Convert, Deq, Rundown, Leave, Search, Take}
 use Rattle.vlm_words.specs.declared.steps.Step.{Step}
 use Rattle.vlm_words.specs.State.{Resource, State}
 use Rattle.vlm_model.specs.Endings.{Ending, How, is_told}
 use Rattle.vlm_model.specs.Endings.How.{by_abort, by_cancel, by_deadlock, by_grant, by_rundown}
-use Rattle.vlm_model.specs.Asts.{Queued, asts_for, blocking_asts, completion_asts, completions, completions_of, is_synchronous, is_to_warn, row_warnings, warnings}
+use Rattle.vlm_model.specs.Asts.{Queued, asts_for, blocking_asts, completion_asts, completions, completions_of}
+use Rattle.vlm_model.specs.Asts.{is_synchronous, is_to_warn, row_warnings, warnings}
 use Rattle.vlm_model.specs.Grants.{service}
 use Rattle.vlm_model.specs.Sweeps.{service_asts, sweep_asts, sweep_endings}
 use Rattle.vlm_model.specs.Convert.{ConversionAdmission, convert_admission}
@@ -100,13 +101,13 @@ held_warns (Some request) lkid pid = of_routine request.blocking
     of_routine (Some routine) = refl
 
 -- no warning is a completion
-row_warns : (converting waiting : List LockRow) (row : LockRow) → filter is_completion (row_warnings converting waiting row) ≡ []
+row_warns : (converting waiting : List LockState) (row : LockState) → filter is_completion (row_warnings converting waiting row) ≡ []
 unfolding row_warnings
 row_warns converting waiting row =
     cond_both (is_to_warn converting waiting row) (blocking_asts row.held row.lkid row.pid) [] (λ asts. filter is_completion asts ≡ [])
     (λ _. held_warns row.held row.lkid row.pid) (λ _. refl)
 
-rows_warn : (converting waiting rows : List LockRow) → filter is_completion (flat_map (row_warnings converting waiting) rows) ≡ []
+rows_warn : (converting waiting rows : List LockState) → filter is_completion (flat_map (row_warnings converting waiting) rows) ≡ []
 rows_warn converting waiting [] = refl
 rows_warn converting waiting (row ∷ rows) =
     filter-append is_completion (row_warnings converting waiting row) (flat_map (row_warnings converting waiting) rows)
@@ -138,7 +139,7 @@ sweep_matches (r ∷ rest) =
 -- ---- the steps
 
 -- what a change queues are the completions of its endings
-pub change_queues : (s : State) (step : Step) (choice : Option LockRow)
+pub change_queues : (s : State) (step : Step) (choice : Option LockState)
     → (step_change s step choice).queued ≡ completions_of (step_change s step choice).endings
 change_queues s (Declare d) choice = refl
 change_queues s (SetValue v) choice = refl

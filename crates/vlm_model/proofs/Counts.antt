@@ -1,4 +1,4 @@
--- Each accepted request is wanted once or has ended once: by counting both.
+-- Counting wanted and ended requests: each accepted request is one of them.
 use Rattle.std.proofs.Common.{◌≡◌, ◌≤◌, ◌+◌, ℕ, Bool, true, false, not, List, [], ◌∷◌, ◌++◌, map, cond, Option, None, Some, refl, ap, arith}
 use Rattle.std.specs.Prelude.{◌==◌}
 use Rattle.std.specs.List.{AllByRecursion, flat_map, sum_by}
@@ -7,7 +7,7 @@ use Rattle.std.proofs.lemmas.List.{map-id}
 use Rattle.std.proofs.lemmas.List.Filters.{sum_by-filter_both}
 use Rattle.std.proofs.lemmas.List.Sums.{sum_by-append, sum_by-cons, sum_by_push}
 use Rattle.vlm_words.specs.declared.locks.Request.{Request}
-use Rattle.vlm_words.specs.declared.locks.LockRow.{LockRow}
+use Rattle.vlm_words.specs.declared.locks.LockState.{LockState}
 use Rattle.vlm_words.specs.declared.resources.ValueBlock.{ValueBlock}
 use Rattle.vlm_words.specs.State.{Process, Resource}
 use Rattle.vlm_model.specs.Endings.{Ending, How, row_endings, wanted_endings}
@@ -17,21 +17,24 @@ use Rattle.vlm_model.specs.Grants.{grant_act, grant_endings, resource_after_gran
 use Rattle.vlm_words.specs.Rows.{granted_row, is_lock_of, rows_of, rows_without, wanting_row}
 use Rattle.vlm_model.specs.Sweeps.{resources_after_sweep, sweep_endings}
 use Rattle.vlm_model.specs.Convert.{resource_after_conversion_of, resource_without_granted}
-use Rattle.vlm_model.specs.Withdrawals.{resource_after_going, withdrawn_endings, Withdrawal, is_held_by_writer, queue_endings, resource_after_cancel, resource_after_withdrawals, resource_without, row_after_cancel, value_block_after_writer, withdrawal_endings}
+use Rattle.vlm_model.specs.Withdrawals.{resource_after_going, withdrawn_endings, Withdrawal, is_held_by_writer}
+use Rattle.vlm_model.specs.Withdrawals.{queue_endings, resource_after_cancel, resource_after_withdrawals}
+use Rattle.vlm_model.specs.Withdrawals.{resource_without, row_after_cancel, value_block_after_writer}
+use Rattle.vlm_model.specs.Withdrawals.{withdrawal_endings}
 use Rattle.vlm_model.specs.Laws.{IsHeld, times_ended, wanting_on, wants_number}
 use Rattle.vlm_model.proofs.Each.{Found, each_filter, each_map, each_weaker}
 use Rattle.vlm_model.proofs.RowsFit.{Fit, same_fit, withdrawn_fit}
 use Rattle.vlm_model.proofs.Together.{OfOneEach, all_one_after_another, others_end_same}
 use Rattle.vlm_model.proofs.Sums.{found-le-sum, sum_changed, sum_of_one, sum_of_zeros}
 use Rattle.vlm_model.proofs.Weights.{GrantKeeps, swept_weighs}
-use Rattle.vlm_model.proofs.Apart.{stands}
+use Rattle.vlm_model.proofs.IdsApart.{stands}
 
 -- 1 where the request of this number is wanted
 abbrev pub hits : ℕ → Option Request → ℕ
 hits number want = cond (wants_number number want) 1 0
 
 -- 1 for a row that wants the request of this number
-abbrev pub wants : ℕ → LockRow → ℕ
+abbrev pub wants : ℕ → LockState → ℕ
 wants number row = hits number row.want
 
 -- 1 for an ending of the request of this number
@@ -46,7 +49,7 @@ ended_counts number how at_once lkid pid (Some request) =
     sum_of_one (ends number) (record { lkid = lkid; pid = pid; request = request; how = how; at_once = at_once })
 
 -- the same for what a row wants
-row_ends : (number : ℕ) (how : How) (at_once : Bool) (row : LockRow) → times_ended number (row_endings how at_once row) ≡ wants number row
+row_ends : (number : ℕ) (how : How) (at_once : Bool) (row : LockState) → times_ended number (row_endings how at_once row) ≡ wants number row
 row_ends number how at_once row = ended_counts number how at_once row.lkid row.pid row.want
 
 -- a grant keeps what is wanted and what has ended together
@@ -54,7 +57,7 @@ pub wants_kept : (number : ℕ) → GrantKeeps (wants number) (ends number)
 wants_kept number at_once row = omega (arith, row_ends number (by_grant (grant_act row.held row.want)) at_once row)
 
 -- the requests of some rows end, each once
-rows_end : (number : ℕ) (how : How) (rows : List LockRow)
+rows_end : (number : ℕ) (how : How) (rows : List LockState)
     → times_ended number (flat_map (row_endings how false) rows) ≡ sum_by (wants number) rows
 rows_end number how [] = refl
 rows_end number how (row ∷ rows) =
@@ -67,7 +70,7 @@ rows_end number how (row ∷ rows) =
     )
 
 -- the rows that go from a queue end their requests
-queue_ends : (number : ℕ) (how : How) (lkid : ℕ) (rows : List LockRow)
+queue_ends : (number : ℕ) (how : How) (lkid : ℕ) (rows : List LockState)
     → sum_by (wants number) (rows_without lkid rows) + times_ended number (queue_endings how lkid rows) ≡ sum_by (wants number) rows
 queue_ends number how lkid rows =
     omega (
@@ -76,14 +79,14 @@ queue_ends number how lkid rows =
       sum_by-filter_both (λ row. row.lkid == lkid) (λ row. not (row.lkid == lkid)) (λ _. refl) (wants number) rows,
     )
 
--- settled rows want nothing
-settled_want_nothing : (number : ℕ) (rows : List LockRow) → AllByRecursion IsHeld rows → sum_by (wants number) rows ≡ 0
-settled_want_nothing number rows settled =
+-- stable rows want nothing
+stable_want_nothing : (number : ℕ) (rows : List LockState) → AllByRecursion IsHeld rows → sum_by (wants number) rows ≡ 0
+stable_want_nothing number rows stable =
     sum_of_zeros (wants number) rows
-    (each_weaker IsHeld (λ row. wants number row ≡ 0) (λ row is. ap (hits number) is.1) rows settled)
+    (each_weaker IsHeld (λ row. wants number row ≡ 0) (λ row is. ap (hits number) is.1) rows stable)
 
--- rows that are settled want nothing
-settling_wants_nothing : (number : ℕ) (rows : List LockRow) → sum_by (wants number) (map row_after_cancel rows) ≡ 0
+-- rows that are stable want nothing
+settling_wants_nothing : (number : ℕ) (rows : List LockState) → sum_by (wants number) (map row_after_cancel rows) ≡ 0
 settling_wants_nothing number [] = refl
 settling_wants_nothing number (row ∷ rows) =
     omega (arith, settling_wants_nothing number rows, sum_by-cons (wants number) (row_after_cancel row) (map row_after_cancel rows))
@@ -95,8 +98,8 @@ unfolding resource_without
 without_counts number w r fit =
     omega (
       arith,
-      settled_want_nothing number r.granted fit.granted,
-      settled_want_nothing number (rows_without w.lkid r.granted) (each_filter IsHeld _ r.granted fit.granted),
+      stable_want_nothing number r.granted fit.granted,
+      stable_want_nothing number (rows_without w.lkid r.granted) (each_filter IsHeld _ r.granted fit.granted),
       queue_ends number w.converting w.lkid r.converting,
       queue_ends number w.waiting w.lkid r.waiting,
       sum_by-append (ends number) (queue_endings w.converting w.lkid r.converting) (queue_endings w.waiting w.lkid r.waiting),
@@ -174,20 +177,20 @@ all_withdrawn_count number withdrawals apart processes resources fit =
     )
 
 -- a lock that is found has a row
-pub found_stands : (pid lkid : ℕ) (rows : List LockRow) (row : LockRow) → Found (is_lock_of pid lkid) rows row → 1 ≤ sum_by (stands lkid) rows
+pub found_stands : (pid lkid : ℕ) (rows : List LockState) (row : LockState) → Found (is_lock_of pid lkid) rows row → 1 ≤ sum_by (stands lkid) rows
 found_stands pid lkid rows row at =
     let named : stands lkid row ≡ 1 = ap (λ (b : Bool). cond b 1 0) (and_parts (row.lkid == lkid) (row.pid == pid) at.passes).0 in
     omega (arith, found-le-sum (stands lkid) (is_lock_of pid lkid) rows row at)
 
 -- a conversion is wanted or ends, and nothing else does
-pub converted_row_counts : (number : ℕ) (request : Request) (at_once : Bool) (lkid : ℕ) (block : ValueBlock) (r : Resource) (row : LockRow) → Fit r
+pub converted_row_counts : (number : ℕ) (request : Request) (at_once : Bool) (lkid : ℕ) (block : ValueBlock) (r : Resource) (row : LockState) → Fit r
     → wanting_on number (resource_after_conversion_of request at_once lkid block r (Some row))
     + times_ended number (cond at_once (grant_endings true (wanting_row row request)) [])
     ≡ wanting_on number r + hits number (Some request)
 converted_row_counts number request at_once lkid block r row fit =
-    let before : sum_by (wants number) r.granted ≡ 0 = settled_want_nothing number r.granted fit.granted in
+    let before : sum_by (wants number) r.granted ≡ 0 = stable_want_nothing number r.granted fit.granted in
     let after : sum_by (wants number) (rows_without lkid r.granted) ≡ 0 =
-    settled_want_nothing number (rows_without lkid r.granted) (each_filter IsHeld _ r.granted fit.granted) in
+    stable_want_nothing number (rows_without lkid r.granted) (each_filter IsHeld _ r.granted fit.granted) in
     elim at_once as (λ b.
     wanting_on number
     (cond b (with_value_block block (resource_after_grant (resource_without_granted lkid r) (wanting_row row request)))

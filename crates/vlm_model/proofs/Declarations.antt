@@ -1,6 +1,8 @@
--- After every run each living process has an identification that its node has given, and so a declaration gives
+-- After every run each living process has an ID that its node has given, and so a declaration gives
 -- a new one, above those of its node.
-use Rattle.std.proofs.Common.{◌≡◌, ◌≢◌, ◌≤◌, ◌<◌, ◌+◌, ◌-◌, ◌*◌, ◌/◌, ◌%◌, ℕ, zero, suc, Bool, true, false, not, cond, List, [], ◌∷◌, ◌++◌, map, length, get_or, set, Option, None, Some, refl, sym, ap, subst, ◌∙◌, arith}
+use Rattle.std.proofs.Common.{◌≡◌, ◌≢◌, ◌≤◌, ◌<◌, ◌+◌, ◌-◌, ◌*◌, ◌/◌, ◌%◌, ℕ, zero, suc, Bool, true, false, not, cond}
+use Rattle.std.proofs.Common.{List, [], ◌∷◌, ◌++◌, map, length, get_or, set, Option, None, Some, refl, sym, ap, subst}
+use Rattle.std.proofs.Common.{◌∙◌, arith}
 use Rattle.std.specs.Prelude.{nat_le, nat_lt, All}
 use Rattle.std.specs.List.{AllByRecursion}
 use Rattle.std.proofs.lemmas.Bool.{and_parts, leb-true, cond_both}
@@ -24,7 +26,7 @@ use Rattle.vlm_model.specs.Enqueue.{enq_change}
 use Rattle.vlm_model.specs.Convert.{convert_change}
 use Rattle.vlm_model.specs.Stepped.{refused_or, step_change}
 use Rattle.vlm_model.specs.Runs.{History, Run}
-use Rattle.vlm_model.specs.Laws.{DeclarationsGiveNewIdentifications}
+use Rattle.vlm_model.specs.Laws.{DeclarationsGiveNewIds}
 use Rattle.vlm_model.specs.Pending.{ProcessesRise}
 use Rattle.vlm_model.proofs.Each.{each_append, each_weaker}
 use Rattle.vlm_model.proofs.Pairs.{AllPairs-from_recursion, EachPair}
@@ -33,15 +35,15 @@ use Rattle.vlm_model.proofs.Always.{always, kept_by_stepped, EndsNow, departs, r
 use Rattle.vlm_model.specs.Rundown.{processes_but, state_after_rundown}
 use Rattle.vlm_model.specs.Withdrawals.{state_after_withdrawals, withdrawn_endings}
 
--- the identifications of living processes
+-- the IDs of living processes
 abbrev pub pids : List Process → List ℕ
 pids processes = map (λ p. p.pid) processes
 
--- the identification is one that its node has given: its ordinal is not past the node's last
+-- the ID is one that its node has given: its ordinal is not past the node's last
 abbrev pub IsGiven : List Node → ℕ → Type 0
 IsGiven nodes pid = pid % 65536 ≤ (node_at nodes (pid / 65536)).declared
 
--- there are eight nodes, and each living process has an identification that its node has given
+-- there are eight nodes, and each living process has an ID that its node has given
 pub record AllGiven (s : State) : Type 0 where
   pub eight : length s.nodes ≡ 8
   pub living : AllByRecursion (IsGiven s.nodes) (pids s.processes)
@@ -51,7 +53,7 @@ pub pids_added : (processes : List Process) (p : Process) → pids (processes ++
 pids_added [] p = refl
 pids_added (q ∷ rest) p = ap (λ (others : List ℕ). q.pid ∷ others) (pids_added rest p)
 
--- what was given stays given where no node and no identification changes
+-- what was given stays given where no node and no ID changes
 same_given : (s t : State) → t.nodes ≡ s.nodes → pids t.processes ≡ pids s.processes → AllGiven s → AllGiven t
 same_given s t nodes processes given = record {
   eight = ap (λ (all : List Node). length all) nodes ∙ given.eight;
@@ -107,7 +109,7 @@ next_is_new nodes node pid left given is =
     ap (λ (number : ℕ). (node_at nodes number).declared) upper in
     omega arith
 
--- after a declaration the new identification is given too
+-- after a declaration the new ID is given too
 pub declared_given : (s : State) (d : Declaration) → HasOrdinal s d → AllGiven s → AllGiven (declare_change s d)
 unfolding declare_change
 declared_given s d has given =
@@ -165,7 +167,7 @@ ended_given s is_one nodes same given = record {
       (each_weaker (IsGiven s.nodes) (IsGiven nodes) (λ pid is. omega (arith, is, same.each (pid / 65536))) (pids s.processes) given.living);
 }
 
--- after every run each living process has an identification that its node has given
+-- after every run each living process has an ID that its node has given
 pub given_always : (history : History) (last : State)
     → Run history last → AllGiven last
 unfolding set_change take_change enq_change convert_change
@@ -174,17 +176,20 @@ given_always =
     (λ history s _ given.
     kept_by_stepped (λ _ t. AllGiven t) history.endings s given
     (λ d passed. swept_given (declare_change s d) (declared_given s d (ordinal_left s d passed) given))
-    (λ v _. swept_given (set_change s v) (same_given s (set_change s v) refl (kept_set (λ p. p.pid) (λ _ _. refl) v.pid v.block v.value v.tail s.processes) given))
+    (λ v _. swept_given (set_change s v)
+    (same_given s (set_change s v) refl
+    (kept_set (λ p. p.pid) (λ _ _. refl) v.pid v.block v.value v.tail s.processes) given))
     (λ taker _. swept_given (take_change s taker) (same_given s (take_change s taker) refl (kept_taken (λ p. p.pid) (λ _ _. refl) taker s.processes) given))
     (λ e _. swept_given (enq_change s e) (same_given s (enq_change s e) refl (kept_entered (λ p. p.pid) (λ _ _ _. refl) s e) given))
     (λ c a _ _. swept_given (convert_change s c a) (same_given s (convert_change s c a) refl (kept_converted (λ p. p.pid) (λ _ _ _. refl) s c a) given))
     (λ withdrawals _.
     let after : State = state_after_withdrawals withdrawals s in
     swept_given after
-    (same_given s after refl (kept_ended (λ p. p.pid) (λ _ _ _. refl) (withdrawn_endings withdrawals s.resources) (blocks_with new_value_block s.processes)) given))
+    (same_given s after refl (kept_ended (λ p. p.pid) (λ _ _ _. refl) (withdrawn_endings withdrawals s.resources)
+    (blocks_with new_value_block s.processes)) given))
     (λ is_one nodes ends. swept_given (state_after_rundown is_one nodes s) (ended_given s is_one nodes (declare_as_many s is_one nodes ends) given)))
 
--- no living process has the next identification of a node
+-- no living process has the next ID of a node
 each_new : (nodes : List Node) (node pid : ℕ) → node * 65536 + ((node_at nodes node).declared + 1) ≡ pid
     → (node_at nodes node).declared < 65535 → (processes : List Process) → AllByRecursion (IsGiven nodes) (pids processes)
     → AllByRecursion (λ p. p.pid ≢ pid) processes
@@ -194,9 +199,9 @@ each_new nodes node pid next left (p ∷ rest) given = (
   each_new nodes node pid next left rest given.1,
 )
 
--- after every run a declaration gives a new identification
+-- after every run a declaration gives a new ID
 pub declarations_always : (history : History) (last : State)
-    → Run history last → DeclarationsGiveNewIdentifications last
+    → Run history last → DeclarationsGiveNewIds last
 declarations_always history last run d choice pid chosen answered = of_refusal (declare_refusal last d) refl answered
   where
     given : AllGiven last
@@ -212,21 +217,21 @@ declarations_always history last run d choice pid chosen answered = of_refusal (
 
 -- ---- they rise
 
--- the identification is one of the eight nodes'
+-- the ID is one of the eight nodes'
 abbrev pub IsOfNode : ℕ → Type 0
 IsOfNode pid = is_node (pid / 65536) ≡ true
 
--- of two processes of one node the one that was declared later has the greater identification
+-- of two processes of one node the one that was declared later has the greater ID
 abbrev pub Rises : ℕ → ℕ → Type 0
 Rises a b = a / 65536 ≡ b / 65536 → a < b
 
--- each living process has an identification that its node has given, and those of a node rise
+-- each living process has an ID that its node has given, and those of a node rise
 pub record AllRise (s : State) : Type 0 where
   pub given : AllGiven s
   pub named : AllByRecursion IsOfNode (pids s.processes)
   pub rising : EachPair Rises (pids s.processes)
 
--- they do where no node and no identification changes
+-- they do where no node and no ID changes
 same_rise : (s t : State) → t.nodes ≡ s.nodes → pids t.processes ≡ pids s.processes → AllRise s → AllRise t
 same_rise s t nodes processes rise = record {
   given = same_given s t nodes processes rise.given;
@@ -267,7 +272,8 @@ declared_rise s d of_node has rise =
           (each_append IsOfNode (pids s.processes) (next_pid s d.node ∷ []) rise.named (ap is_node upper ∙ of_node, tt));
       rising = subst (λ (all : List ℕ). EachPair Rises all) added
           (rises_at_end (pids s.processes) (next_pid s d.node)
-          (each_weaker (IsGiven s.nodes) (λ pid. Rises pid (next_pid s d.node)) (λ pid. next_is_above s.nodes d.node pid has.left) (pids s.processes) rise.given.living) rise.rising);
+          (each_weaker (IsGiven s.nodes) (λ pid. Rises pid (next_pid s d.node))
+          (λ pid. next_is_above s.nodes d.node pid has.left) (pids s.processes) rise.given.living) rise.rising);
     }
 
 -- where the checks of a declaration pass, it names one of the eight nodes
@@ -309,10 +315,11 @@ rise_always =
     (λ withdrawals _.
     let after : State = state_after_withdrawals withdrawals s in
     swept_rise after
-    (same_rise s after refl (kept_ended (λ p. p.pid) (λ _ _ _. refl) (withdrawn_endings withdrawals s.resources) (blocks_with new_value_block s.processes)) rise))
+    (same_rise s after refl (kept_ended (λ p. p.pid) (λ _ _ _. refl) (withdrawn_endings withdrawals s.resources)
+    (blocks_with new_value_block s.processes)) rise))
     (λ is_one nodes ends. swept_rise (state_after_rundown is_one nodes s) (ended_rise s is_one nodes (declare_as_many s is_one nodes ends) rise)))
 
--- what holds of identifications, of the processes that have them
+-- what holds of IDs, of the processes that have them
 of_processes : (processes : List Process) → AllByRecursion IsOfNode (pids processes) → AllByRecursion (λ p. IsOfNode p.pid) processes
 of_processes [] named = tt
 of_processes (p ∷ rest) named = (named.0, of_processes rest named.1)

@@ -1,5 +1,7 @@
 -- What a departed node is told, and that none of its processes lives.
-use Rattle.std.proofs.Common.{◌≡◌, ◌≢◌, ◌≤◌, ◌<◌, ◌+◌, ◌-◌, ◌/◌, ◌⊎◌, ℕ, zero, suc, Bool, true, false, not, cond, List, [], ◌∷◌, length, get_or, set, Option, None, Some, inl, inr, refl, sym, ap, subst, ◌∙◌, arith}
+use Rattle.std.proofs.Common.{◌≡◌, ◌≢◌, ◌≤◌, ◌<◌, ◌+◌, ◌-◌, ◌/◌, ◌⊎◌, ℕ, zero, suc, Bool, true, false, not, cond, List}
+use Rattle.std.proofs.Common.{[], ◌∷◌, length, get_or, set, Option, None, Some, inl, inr, refl, sym, ap, subst, ◌∙◌}
+use Rattle.std.proofs.Common.{arith}
 use Rattle.std.specs.Prelude.{◌==◌, is_some, replicate}
 use Rattle.std.specs.List.{AllByRecursion}
 use Rattle.std.proofs.lemmas.Bool.{eqb-false, eqb-true, true≢false}
@@ -8,7 +10,7 @@ use Rattle.std.proofs.lemmas.List.{get_or-set_other, get_or-set_same}
 use Rattle.std.proofs.lemmas.List.Elements.{All-from_recursion}
 use Rattle.vlm_words.specs.declared.conditions.Cond.TheVariants.{Badparam, Departed, Insfmem, Nonexpr, Normal}
 use Rattle.vlm_words.specs.declared.conditions.Cond.{Cond}
-use Rattle.vlm_words.specs.declared.locks.LockRow.{LockRow}
+use Rattle.vlm_words.specs.declared.locks.LockState.{LockState}
 use Rattle.vlm_words.specs.declared.steps.Answer.TheVariants.{Plain}
 use Rattle.vlm_words.specs.declared.steps.Answer.{Answer}
 use Rattle.vlm_words.specs.declared.steps.Declaration.{Declaration}
@@ -35,9 +37,9 @@ use Rattle.vlm_model.proofs.Each.{each_append, each_weaker}
 use Rattle.vlm_model.proofs.Processes.{kept_converted, kept_ended, kept_entered, kept_set, kept_swept, kept_taken}
 use Rattle.vlm_model.proofs.Reasons.{declaration_keeps, reasons_always}
 use Rattle.vlm_model.proofs.Refusals.{node_departed}
-use Rattle.vlm_model.proofs.Written.{departure_not_normal}
+use Rattle.vlm_model.proofs.WrittenBlocks.{departure_not_normal}
 use Rattle.vlm_model.specs.Departing.{DepartedNodesAreToldSo, HasLeft, IsDeparture, IsStepOf, NoneLivesOnDepartedNodes}
-use Rattle.vlm_model.proofs.Happened.{all_answered, happened_before, happened_either, happened_now, refused_outcome}
+use Rattle.vlm_model.proofs.LongerRuns.{all_answered, happened_before, happened_either, happened_now, refused_outcome}
 use Rattle.vlm_model.specs.Withdrawals.{state_after_withdrawals, withdrawn_endings}
 use Rattle.vlm_model.specs.Search.{search_change}
 
@@ -131,20 +133,22 @@ departure_departs s node eight of_node =
     of_test other false same is = inl (departed_before s.nodes node other of_node (eqb-false other node same) is)
 
 -- a step that no check refuses
-made_departs : (s : State) (step : Step) (choice : Option LockRow) → length s.nodes ≡ 8 → step_refusal s step ≡ None
+made_departs : (s : State) (step : Step) (choice : Option LockState) → length s.nodes ≡ 8 → step_refusal s step ≡ None
     → Departs s.nodes (stepped_after_sweep (step_change s step choice)).state.nodes step (step_change s step choice).answer
 unfolding declare_change set_change take_change enq_change convert_change deq_change search_change state_after_rundown
 made_departs s (Declare d) choice eight passed =
     let same : (node : ℕ) → (node_at (declare_change s d).nodes node).departed ≡ (node_at s.nodes node).departed =
     λ node. same_departed s.nodes (d.node - 1) (node - 1) ((node_at s.nodes d.node).declared + 1) in
-    none_departs s.nodes (declare_change s d).nodes (Declare d) _ (λ node is. (is.0, sym (same node) ∙ is.1)) (λ node is. (is.0, same node ∙ is.1)) (λ node is. cc)
+    none_departs s.nodes (declare_change s d).nodes (Declare d) _ (λ node is. (is.0, sym (same node) ∙ is.1))
+    (λ node is. (is.0, same node ∙ is.1)) (λ node is. cc)
 made_departs s (SetValue v) choice eight passed =
     none_departs s.nodes s.nodes (SetValue v) _ (λ node is. is) (λ node is. is) (λ node is. cc)
 made_departs s (Enq e) choice eight passed =
     none_departs s.nodes s.nodes (Enq e) _ (λ node is. is) (λ node is. is) (λ node is. cc)
 made_departs s (Convert c) choice eight passed =
     let admitted = admission_of s c passed in
-    subst (λ (a : Option ConversionAdmission). Departs s.nodes (stepped_after_sweep (conversion_change s c a)).state.nodes (Convert c) (conversion_change s c a).answer)
+    subst (λ (a : Option ConversionAdmission). Departs s.nodes
+    (stepped_after_sweep (conversion_change s c a)).state.nodes (Convert c) (conversion_change s c a).answer)
     (sym admitted.1) (none_departs s.nodes s.nodes (Convert c) _ (λ node is. is) (λ node is. is) (λ node is. cc))
 made_departs s (Deq d) choice eight passed =
     none_departs s.nodes s.nodes (Deq d) _ (λ node is. is) (λ node is. is) (λ node is. cc)
@@ -167,7 +171,7 @@ refused_departs s step refusal is =
     same_refusal a b same = cc
 
 -- a step, with its refusal
-step_departs : (s : State) (step : Step) (choice : Option LockRow) → length s.nodes ≡ 8 → (refusal : Option Cond) → step_refusal s step ≡ refusal
+step_departs : (s : State) (step : Step) (choice : Option LockState) → length s.nodes ≡ 8 → (refusal : Option Cond) → step_refusal s step ≡ refusal
     → Departs s.nodes (refused_or refusal s (step_change s step choice)).state.nodes step (refused_or refusal s (step_change s step choice)).answer
 step_departs s step choice eight None passed = made_departs s step choice eight passed
 step_departs s step choice eight (Some refusal) is = refused_departs s step refusal is
@@ -176,7 +180,8 @@ step_departs s step choice eight (Some refusal) is = refused_departs s step refu
 outcome_departs : (s t : State) (step : Step) (answer : Answer) → length s.nodes ≡ 8 → Outcome s step t answer → Departs s.nodes t.nodes step answer
 outcome_departs s t step answer eight (inl made) =
     subst (λ (after : State). Departs s.nodes after.nodes step answer) (sym made.state)
-    (subst (Departs s.nodes (stepped s step made.choice).state.nodes step) (sym made.answered) (step_departs s step made.choice eight (step_refusal s step) refl))
+    (subst (Departs s.nodes (stepped s step made.choice).state.nodes step) (sym made.answered)
+    (step_departs s step made.choice eight (step_refusal s step) refl))
 outcome_departs s t step answer eight (inr short) =
     subst (λ (after : State). Departs s.nodes after.nodes step answer) (sym short.state)
     (subst (Departs s.nodes s.nodes step) (sym short.answered)
@@ -309,7 +314,9 @@ told_is_gone history last run step new (inr short) = let answered = short.answer
 told_is_gone history last run step new (inl made) =
     elim (reasons_always history last run step made.choice made.chosen) [
       | inl accepted ↦ absurd (accepted_otherwise step _ (subst (IsAcceptance step _) (sym made.answered) accepted.answered))
-      | inr refusal ↦ broken_by last step (subst (Breaks last step) (same_refusal refusal.told Departed (sym refusal.answered ∙ sym made.answered)) refusal.breaks)
+      | inr refusal ↦ broken_by last step
+          (subst (Breaks last step) (same_refusal refusal.told Departed (sym refusal.answered
+          ∙ sym made.answered)) refusal.breaks)
     ]
   where
     same_refusal : (a b : Cond) → Plain a ≡ Plain b → a ≡ b
@@ -339,7 +346,7 @@ Stays nodes pid = HasGone nodes (pid / 65536) → ⊥
 abbrev AllStay : State → Type 0
 AllStay s = AllByRecursion (Stays s.nodes) (pids s.processes)
 
--- where no node and no identification changes
+-- where no node and no ID changes
 same_stay : (s t : State) → t.nodes ≡ s.nodes → pids t.processes ≡ pids s.processes → AllStay s → AllStay t
 same_stay s t nodes processes stay =
     subst (λ (all : List ℕ). AllByRecursion (Stays t.nodes) all) (sym processes)
@@ -399,7 +406,8 @@ stay_always =
     (λ withdrawals _.
     let after : State = state_after_withdrawals withdrawals s in
     swept_stay after
-    (same_stay s after refl (kept_ended (λ p. p.pid) (λ _ _ _. refl) (withdrawn_endings withdrawals s.resources) (blocks_with new_value_block s.processes)) stay))
+    (same_stay s after refl (kept_ended (λ p. p.pid) (λ _ _ _. refl) (withdrawn_endings withdrawals s.resources)
+    (blocks_with new_value_block s.processes)) stay))
     (λ is_one nodes ends. swept_stay (state_after_rundown is_one nodes s) (ended_stay s is_one nodes ends stay)))
 
 -- so none is of this one

@@ -1,5 +1,6 @@
 -- What holds of each element of a list, by recursion on the list.
-use Rattle.std.proofs.Common.{◌≡◌, ◌∙◌, ◌<◌, ◌⊎◌, inl, inr, ap, subst, sym, refl, ℕ, zero, suc, Bool, true, false, not, List, Some, [], ◌∷◌, ◌++◌, map, length, drop, get_or, arith}
+use Rattle.std.proofs.Common.{◌≡◌, ◌∙◌, ◌<◌, ◌⊎◌, inl, inr, ap, subst, sym, refl, ℕ, zero, suc, Bool, true, false, not}
+use Rattle.std.proofs.Common.{List, Some, [], ◌∷◌, ◌++◌, map, length, drop, get_or, arith}
 use Rattle.std.specs.Prelude.{Any}
 use Rattle.std.specs.List.{AllByRecursion, filter, find, list_all}
 use Rattle.std.proofs.lemmas.Bool.{cond_both, cond-false, and_parts}

@@ -4,7 +4,7 @@ use Rattle.std.specs.Prelude.{find, unwrap_or}
 use Rattle.std.proofs.lemmas.Bool.{cond_both}
 use Rattle.std.specs.List.{AllByRecursion}
 use Rattle.vlm_words.specs.declared.locks.Request.{Request}
-use Rattle.vlm_words.specs.declared.locks.LockRow.{LockRow}
+use Rattle.vlm_words.specs.declared.locks.LockState.{LockState}
 use Rattle.vlm_words.specs.declared.resources.Site.{Site}
 use Rattle.vlm_words.specs.declared.resources.ValueBlock.{ValueBlock}
 use Rattle.vlm_words.specs.declared.steps.NewRequest.{NewRequest}
@@ -39,7 +39,7 @@ each_swept P Q serving processes resources each =
     each_filter Q (λ r. not (is_vacant r)) (resources_after_service processes resources) (each_served P Q serving processes resources each)
 
 -- what the resource that a lock enters has then, and each had before, each has after the entry
-pub each_entered_on : (P : Resource → Type 0) (serial : ℕ) (site : Site) (row : LockRow) (at_once : Bool) (resources : List Resource)
+pub each_entered_on : (P : Resource → Type 0) (serial : ℕ) (site : Site) (row : LockState) (at_once : Bool) (resources : List Resource)
     → P (resource_after_entry row at_once (unwrap_or (find (is_at site.key) resources) (new_resource serial site)))
     → AllByRecursion P resources → AllByRecursion P (resources_after_entry serial site row at_once resources)
 each_entered_on P serial site row at_once [] entered each = (entered, each)
@@ -61,7 +61,7 @@ found_has P serial site fresh (r ∷ rest) each =
     ]
 
 -- what a new resource has and an entry keeps, where the lock enters, each resource has after an entry
-pub each_entered_at : (P : Resource → Type 0) (serial : ℕ) (site : Site) (row : LockRow) (at_once : Bool)
+pub each_entered_at : (P : Resource → Type 0) (serial : ℕ) (site : Site) (row : LockState) (at_once : Bool)
     → P (resource_after_entry row at_once (new_resource serial site))
     → (resources : List Resource) → AllByRecursion (λ r. is_at site.key r ≡ true → P (resource_after_entry row at_once r)) resources
     → AllByRecursion P resources → AllByRecursion P (resources_after_entry serial site row at_once resources)
@@ -71,7 +71,7 @@ each_entered_at P serial site row at_once fresh (r ∷ rest) entry each =
     (λ here. (entry.0 here, each.1)) (λ _. (each.0, each_entered_at P serial site row at_once fresh rest entry.1 each.1))
 
 -- what a new resource has and an entry keeps, each resource has after an entry
-pub each_entered_among : (P : Resource → Type 0) (serial : ℕ) (site : Site) (row : LockRow) (at_once : Bool)
+pub each_entered_among : (P : Resource → Type 0) (serial : ℕ) (site : Site) (row : LockState) (at_once : Bool)
     → P (new_resource serial site) → ((r : Resource) → P r → P (resource_after_entry row at_once r))
     → (resources : List Resource) → AllByRecursion P resources → AllByRecursion P (resources_after_entry serial site row at_once resources)
 each_entered_among P serial site row at_once fresh entry resources each =
@@ -81,8 +81,10 @@ each_entered_among P serial site row at_once fresh entry resources each =
 -- the changes of the steps keep P of each resource
 pub record KeptByChanges (P : Resource → Type 0) : Type 0 where
   pub fresh : (serial : ℕ) (site : Site) → P (new_resource serial site)
-  pub entry : (s : State) (e : NewRequest) → enq_refusal s e ≡ None → P (enq_resource s e) → P (resource_after_entry (enq_row s e) (enq_at_once s e) (enq_resource s e))
-  pub conversion : (request : Request) (at_once : Bool) (pid lkid : ℕ) (block : ValueBlock) (r : Resource) → P r → P (resource_after_conversion request at_once pid lkid block r)
+  pub entry : (s : State) (e : NewRequest) → enq_refusal s e ≡ None → P (enq_resource s e)
+      → P (resource_after_entry (enq_row s e) (enq_at_once s e) (enq_resource s e))
+  pub conversion : (request : Request) (at_once : Bool) (pid lkid : ℕ) (block : ValueBlock) (r : Resource) → P r
+      → P (resource_after_conversion request at_once pid lkid block r)
   pub leaving : (w : Withdrawal) (r : Resource) → P r → P (resource_after_writer w r)
   pub going : (w : Withdrawal) (r : Resource) → P r → P (resource_after_going w r)
 

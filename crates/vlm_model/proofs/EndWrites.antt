@@ -1,4 +1,4 @@
--- How writes, and the ends of requests one after another, change the status blocks of all processes.
+-- The ends of requests, one after another, and the status blocks that they write.
 use Rattle.std.proofs.Common.{◌≡◌, ◌<◌, ◌+◌, ◌-◌, ℕ, Bool, true, false, List, [], ◌∷◌, ◌++◌, length, set, get_or, cond, Some, refl, sym, subst, ap, ◌∙◌, arith}
 use Rattle.std.specs.Prelude.{◌==◌, ◌&&◌, nat_lt}
 use Rattle.std.specs.List.{AllByRecursion}
@@ -11,7 +11,9 @@ use Rattle.vlm_words.specs.declared.modes.Act.TheVariants.{Nothing, Return, Writ
 use Rattle.vlm_words.specs.declared.resources.ValueBlock.{ValueBlock}
 use Rattle.vlm_words.specs.Conditions.{condition_number}
 use Rattle.vlm_words.specs.State.{Process, Resource, process_of}
-use Rattle.vlm_model.specs.StatusBlocks.{block_after_return, process_after_write, processes_after_return, processes_after_status, processes_after_write, status_block_of, status_blocks_of}
+use Rattle.vlm_model.specs.StatusBlocks.{block_after_return, process_after_write, processes_after_return}
+use Rattle.vlm_model.specs.StatusBlocks.{processes_after_status, processes_after_write, status_block_of}
+use Rattle.vlm_model.specs.StatusBlocks.{status_blocks_of}
 use Rattle.vlm_words.specs.Processes.{new_status_block, process_with_block, with_block}
 use Rattle.vlm_model.specs.Endings.{Ending, How, is_told}
 use Rattle.vlm_model.specs.Endings.How.{by_abort, by_cancel, by_deadlock, by_grant, by_rundown}
@@ -24,7 +26,7 @@ use Rattle.vlm_model.proofs.Processes.{blocks_queued}
 
 -- ---- one write
 
--- a status block of the process of this identification, the first at 0
+-- a status block of the process of this ID, the first at 0
 abbrev pub block_at : List Process → ℕ → ℕ → Block
 block_at processes pid k = get_or (status_blocks_of processes pid) k new_status_block
 
@@ -43,14 +45,19 @@ blocks_written : (owner number pid : ℕ) (block : Block) (processes : List Proc
     → status_blocks_of (processes_after_write owner number block processes) pid
     ≡ cond (owner == pid) (with_block number block (status_blocks_of processes pid)) (status_blocks_of processes pid)
 unfolding process_after_write
-blocks_written owner number pid block [] = cond_both (owner == pid) (with_block number block []) [] (λ blocks. [] ≡ blocks) (λ _. cond_both (nat_lt 0 number) (set [] (number - 1) block) [] (λ blocks. [] ≡ blocks) (λ _. refl) (λ _. refl)) (λ _. refl)
+blocks_written owner number pid block [] =
+    cond_both (owner == pid) (with_block number block []) [] (λ blocks. [] ≡ blocks)
+    (λ _. cond_both (nat_lt 0 number) (set [] (number - 1) block) [] (λ blocks. [] ≡ blocks) (λ _. refl) (λ _. refl))
+    (λ _. refl)
 blocks_written owner number pid block (p ∷ rest) =
     of_tests (p.pid == owner) refl (p.pid == pid) refl (blocks_written owner number pid block rest)
   where
     of_tests : (mine : Bool) → (p.pid == owner) ≡ mine → (found : Bool) → (p.pid == pid) ≡ found
         → status_blocks_of (processes_after_write owner number block rest) pid
         ≡ cond (owner == pid) (with_block number block (status_blocks_of rest pid)) (status_blocks_of rest pid)
-        → option_map_or (λ q. q.blocks) (cond ((as_written number block p mine).pid == pid) (Some (as_written number block p mine)) (process_of (processes_after_write owner number block rest) pid)) []
+        → option_map_or (λ q. q.blocks)
+        (cond ((as_written number block p mine).pid == pid) (Some (as_written number block p mine))
+        (process_of (processes_after_write owner number block rest) pid)) []
         ≡ cond (owner == pid) (with_block number block (option_map_or (λ q. q.blocks) (cond found (Some p) (process_of rest pid)) []))
         (option_map_or (λ q. q.blocks) (cond found (Some p) (process_of rest pid)) [])
     of_tests true is true at behind =
@@ -105,7 +112,9 @@ block_written owner number made processes pid k within =
     of_tests first false is this at = refl
 
     -- number 0 names no block
-    of_none : (mine : Bool) → get_or (cond mine blocks blocks) k new_status_block ≡ cond (mine && false) (made (block_at processes pid k)) (block_at processes pid k)
+    of_none : (mine : Bool)
+        → get_or (cond mine blocks blocks) k new_status_block ≡ cond (mine && false) (made (block_at processes pid k))
+        (block_at processes pid k)
     of_none true = refl
     of_none false = refl
 
@@ -168,14 +177,17 @@ module _ (Leaves : ℕ → ℕ → List Ending → Block → Block → Type 0) w
   left_with_asts queued endings before after left = record {
     many = λ pid. ap (λ (blocks : List Block). length blocks) (blocks_queued queued after pid) ∙ left.many pid;
     each = λ pid k within.
-        subst (λ (blocks : List Block). Leaves pid (k + 1) endings (block_at before pid k) (get_or blocks k new_status_block)) (sym (blocks_queued queued after pid))
+        subst (λ (blocks : List Block). Leaves pid (k + 1) endings (block_at before pid k)
+        (get_or blocks k new_status_block)) (sym (blocks_queued queued after pid))
         (left.each pid k within);
   }
 
   -- where one request ends
   pub left_by_one : (ending : Ending) (b : Blocks)
       → ((pid number : ℕ) (block : Block)
-      → Leaves pid number (ending ∷ []) block (cond (is_end_for pid number ending) (block_after_how ending.how (is_wide ending.request) b.value_block block) block))
+      → Leaves pid number (ending ∷ []) block
+      (cond (is_end_for pid number ending)
+      (block_after_how ending.how (is_wide ending.request) b.value_block block) block))
       → AreLeft (ending ∷ []) b.processes (blocks_after_ending ending b).processes
   left_by_one ending b one = of_how ending.how refl
     where
@@ -187,11 +199,13 @@ module _ (Leaves : ℕ → ℕ → List Ending → Block → Block → Type 0) w
             many = λ pid. many_written ending.pid ending.request.block pid _ b.processes;
             each = λ pid k within.
                 subst (λ (after : Block). Leaves pid (k + 1) (ending ∷ []) (block_at b.processes pid k) after)
-                (sym (block_written ending.pid ending.request.block (block_after_how ending.how (is_wide ending.request) b.value_block) b.processes pid k within))
+                (sym (block_written ending.pid ending.request.block
+                (block_after_how ending.how (is_wide ending.request) b.value_block) b.processes pid k within))
                 (one pid (k + 1) (block_at b.processes pid k));
           }))
 
-      same : ending.how ≡ by_rundown → (block : Block) (named : Bool) → cond named (block_after_how ending.how (is_wide ending.request) b.value_block block) block ≡ block
+      same : ending.how ≡ by_rundown → (block : Block) (named : Bool)
+          → cond named (block_after_how ending.how (is_wide ending.request) b.value_block block) block ≡ block
       same is block true = ap (λ (how : How). block_after_how how (is_wide ending.request) b.value_block block) is
       same is block false = refl
 
@@ -243,4 +257,5 @@ module _ (Leaves : ℕ → ℕ → List Ending → Block → Block → Type 0) w
       → (endings : List Ending) (before changed : List Process) (resources : List Resource) → AreLeft endings before changed
       → AllByRecursion ServiceLeaves resources → AreLeft (endings ++ sweep_endings resources) before (processes_after_service changed resources)
   left_swept none both endings before changed resources left serves =
-      left_by_both both endings (sweep_endings resources) before changed (processes_after_service changed resources) left (left_by_sweep none both changed resources serves)
+      left_by_both both endings (sweep_endings resources) before changed
+      (processes_after_service changed resources) left (left_by_sweep none both changed resources serves)

@@ -1,4 +1,4 @@
--- What an ended process is told, and that none lives under its identification.
+-- What an ended process is told, and that none lives under its ID.
 use Rattle.std.proofs.Common.{◌≡◌, ◌≢◌, ◌/◌, ◌⊎◌, ℕ, Bool, true, false, cond, List, [], ◌∷◌, All, Option, None, Some, inl, inr, refl, sym, ap, subst, ◌∙◌}
 use Rattle.std.specs.Prelude.{◌==◌, is_some}
 use Rattle.std.specs.List.{AllByRecursion}
@@ -22,15 +22,15 @@ use Rattle.vlm_model.specs.Rundown.{is_ended_by, processes_but, state_after_rund
 use Rattle.vlm_model.specs.Stepped.{Outcome, end_of_processes, outcome_queued, refused_or, step_refusal}
 use Rattle.vlm_model.specs.Runs.{History, Run, begin, next}
 use Rattle.vlm_model.proofs.Declarations.{AllGiven, IsGiven, given_always, pids}
-use Rattle.vlm_model.proofs.Ended.{is_left, swept_living}
+use Rattle.vlm_model.proofs.ProcessEnds.{is_left, swept_living}
 use Rattle.vlm_model.proofs.Refusals.{IsCaller, caller_passes, nobody}
-use Rattle.vlm_model.proofs.Written.{end_not_normal}
+use Rattle.vlm_model.proofs.WrittenBlocks.{end_not_normal}
 use Rattle.vlm_model.specs.Accounting.{WhatIsQueuedIsTakenOrPending}
 use Rattle.vlm_model.specs.Departing.{IsDeparture}
 use Rattle.vlm_model.specs.EndedProcesses.{EndedProcessesAreToldNoMore, HasEnded, IsEndOf, IsStepOfProcess}
 use Rattle.vlm_model.specs.Happened.{HasHappened, IsRefusal}
 use Rattle.vlm_model.proofs.Departing.{none_lives_always}
-use Rattle.vlm_model.proofs.Happened.{all_answered, happened_either, happened_so, refused_outcome}
+use Rattle.vlm_model.proofs.LongerRuns.{all_answered, happened_either, happened_so, refused_outcome}
 use Rattle.vlm_model.proofs.Living.{GivesAnew, lives, no, outcome_gives}
 
 -- ---- who was run down
@@ -39,7 +39,7 @@ use Rattle.vlm_model.proofs.Living.{GivesAnew, lives, no, outcome_gives}
 abbrev IsRundownOf : ℕ → Step → Answer → Type 0
 IsRundownOf pid step answer = (step ≡ Rundown pid) × (answer ≡ Plain Normal)
 
--- nobody has the identification, which its node has given, so that nobody gets it any more
+-- nobody has the ID, which its node has given, so that nobody gets it any more
 record IsOver (s : State) (pid : ℕ) : Type 0 where
   out : lives s.processes pid ≡ false
   given : IsGiven s.nodes pid
@@ -55,7 +55,7 @@ still_over old new answer gives pid over = record {
     of_test true is = absurd ((gives.new pid over.out is).1 over.given)
     of_test false is = refl
 
--- who lives has an identification that its node has given
+-- who lives has an ID that its node has given
 given_to : (nodes : List Node) (processes : List Process) (pid : ℕ) → AllByRecursion (IsGiven nodes) (pids processes)
     → lives processes pid ≡ true → IsGiven nodes pid
 given_to nodes [] pid given is = no (sym is)
@@ -124,13 +124,13 @@ ends_so : (pid : ℕ) (step : Step) (answer : Answer) → IsEndOf pid step answe
 ends_so pid step answer (inl rundown, normal) = inl (rundown, normal)
 ends_so pid step answer (inr departure, normal) = inr (departure, normal)
 
--- who is of no such node has no such identification
+-- who is of no such node has no such ID
 each_of_another : (pid : ℕ) (processes : List Process) → AllByRecursion (λ p. p.pid / 65536 ≢ pid / 65536) processes
     → AllByRecursion (λ p. p.pid ≢ pid) processes
 each_of_another pid [] each = tt
 each_of_another pid (p ∷ rest) each = (λ same. each.0 (ap (λ (n : ℕ). n / 65536) same), each_of_another pid rest each.1)
 
--- after every run nobody has the identification of a process that has ended
+-- after every run nobody has the ID of a process that has ended
 gone_always : (history : History) (last : State) → Run history last → (pid : ℕ) → HasEnded pid history.steps history.answers
     → All (λ p. p.pid ≢ pid) last.processes
 gone_always history last run pid ended =

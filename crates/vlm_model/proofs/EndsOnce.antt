@@ -1,11 +1,12 @@
 -- After every run each accepted request is wanted once or has ended once.
-use Rattle.std.proofs.Common.{◌≡◌, ◌≤◌, ◌<◌, ◌+◌, ◌⊎◌, ℕ, Bool, zero, suc, true, List, [], ◌∷◌, ◌++◌, map, cond, Option, None, Some, inl, inr, refl, sym, subst, ap, arith}
+use Rattle.std.proofs.Common.{◌≡◌, ◌≤◌, ◌<◌, ◌+◌, ◌⊎◌, ℕ, Bool, zero, suc, true, List, [], ◌∷◌, ◌++◌, map, cond, Option}
+use Rattle.std.proofs.Common.{None, Some, inl, inr, refl, sym, subst, ap, arith}
 use Rattle.std.specs.Prelude.{◌==◌}
 use Rattle.std.specs.List.{AllByRecursion, find, sum_by}
 use Rattle.std.proofs.lemmas.Bool.Decides.{nat_tests}
 use Rattle.std.proofs.lemmas.List.Sums.{sum_by-append, sum_by-cons}
 use Rattle.vlm_words.specs.declared.locks.Request.{Request}
-use Rattle.vlm_words.specs.declared.locks.LockRow.{LockRow}
+use Rattle.vlm_words.specs.declared.locks.LockState.{LockState}
 use Rattle.vlm_words.specs.declared.resources.ValueBlock.{ValueBlock}
 use Rattle.vlm_words.specs.declared.steps.Conversion.{Conversion}
 use Rattle.vlm_words.specs.declared.steps.NewRequest.{NewRequest}
@@ -19,7 +20,9 @@ use Rattle.vlm_model.specs.SetValue.{set_change}
 use Rattle.vlm_model.specs.Take.{take_change}
 use Rattle.vlm_model.specs.Trees.{enq_site}
 use Rattle.vlm_model.specs.Enqueue.{enq_at_once, enq_change, enq_endings, enq_resource, enq_row}
-use Rattle.vlm_model.specs.Convert.{ConversionAdmission, admission_among, admission_or, conversion_endings, convert_admission, convert_blocks, convert_change, convert_lkid, convert_request, converts_at_once, resource_after_conversion, resource_after_conversion_of}
+use Rattle.vlm_model.specs.Convert.{ConversionAdmission, admission_among, admission_or, conversion_endings}
+use Rattle.vlm_model.specs.Convert.{convert_admission, convert_blocks, convert_change, convert_lkid, convert_request}
+use Rattle.vlm_model.specs.Convert.{converts_at_once, resource_after_conversion, resource_after_conversion_of}
 use Rattle.vlm_model.specs.Rundown.{processes_but, rundown_endings, rundowns, state_after_rundown}
 use Rattle.vlm_model.specs.Runs.{History, Run}
 use Rattle.vlm_model.specs.Laws.{EachRequestEndsOnce, times_ended, wanting, wanting_on}
@@ -29,13 +32,14 @@ use Rattle.vlm_model.proofs.Admissions.{admitted_request, some_same}
 use Rattle.vlm_model.proofs.Each.{Found, found_at}
 use Rattle.vlm_model.proofs.RowsFit.{Fit, fit_always}
 use Rattle.vlm_model.proofs.Weights.{weigh, swept_weighs, entered_among_weighs}
-use Rattle.vlm_model.proofs.Apart.{Apart, apart_always, stands, standing}
+use Rattle.vlm_model.proofs.IdsApart.{Apart, apart_always, stands, standing}
 use Rattle.vlm_model.proofs.Together.{dequeues_apart, rundowns_apart, OfOneEach}
 use Rattle.vlm_model.proofs.Counts.{hits, wants, ends, wants_kept, found_stands, converted_row_counts, all_withdrawn_count}
 use Rattle.vlm_model.specs.Withdrawals.{state_after_withdrawals, Withdrawal, withdrawn_endings}
 
 -- a lock that has no row is not found
-absent_same : (request : Request) (at_once : Bool) (pid lkid : ℕ) (block : ValueBlock) (r : Resource) (found : Option LockRow) → find (is_lock_of pid lkid) r.granted ≡ found
+absent_same : (request : Request) (at_once : Bool) (pid lkid : ℕ) (block : ValueBlock) (r : Resource)
+    (found : Option LockState) → find (is_lock_of pid lkid) r.granted ≡ found
     → weigh (stands lkid) r ≡ 0 → resource_after_conversion_of request at_once lkid block r found ≡ r
 absent_same request at_once pid lkid block r None is absent = refl
 absent_same request at_once pid lkid block r (Some row) is absent =
@@ -50,12 +54,13 @@ absent_unchanged request at_once pid lkid block (r ∷ rest) absent =
     let both : standing lkid (r ∷ rest) ≡ weigh (stands lkid) r + standing lkid rest = sum_by-cons (weigh (stands lkid)) r rest in
     let here : resource_after_conversion request at_once pid lkid block r ≡ r =
     absent_same request at_once pid lkid block r (find (is_lock_of pid lkid) r.granted) refl (omega arith) in
-    let behind : map (resource_after_conversion request at_once pid lkid block) rest ≡ rest = absent_unchanged request at_once pid lkid block rest (omega arith) in
+    let behind : map (resource_after_conversion request at_once pid lkid block) rest ≡ rest =
+    absent_unchanged request at_once pid lkid block rest (omega arith) in
     cc
 
 -- where a lock has one row, its conversion is counted once: on its resource, or on those behind it
 here_or_behind : (number : ℕ) (request : Request) (pid lkid : ℕ) (block : ValueBlock) (r : Resource) (rest : List Resource)
-    (a : ConversionAdmission) (found : Option LockRow)
+    (a : ConversionAdmission) (found : Option LockState)
     → find (is_lock_of pid lkid) r.granted ≡ found → Fit r → standing lkid (r ∷ rest) ≤ 1
     → (admission_among request pid lkid rest ≡ Some a
     → sum_by (wanting_on number) (map (resource_after_conversion request a.at_once pid lkid block) rest) + times_ended number (conversion_endings a)

@@ -1,11 +1,12 @@
 -- After every run each lock that holds a request was granted it.
-use Rattle.std.proofs.Common.{◌≡◌, ℕ, Bool, true, false, List, [], ◌∷◌, ◌++◌, map, drop, cond, Option, None, Some, refl, sym, subst, ap, inl, inr, ◌∙◌, append_assoc}
+use Rattle.std.proofs.Common.{◌≡◌, ℕ, Bool, true, false, List, [], ◌∷◌, ◌++◌, map, drop, cond, Option, None, Some, refl}
+use Rattle.std.proofs.Common.{sym, subst, ap, inl, inr, ◌∙◌, append_assoc}
 use Rattle.std.specs.Prelude.{◌==◌, All, Any}
 use Rattle.std.specs.List.{AllByRecursion, AllZip, find}
 use Rattle.std.proofs.lemmas.Bool.{and_parts, cond_both, eqb-true}
 use Rattle.std.proofs.lemmas.List.Elements.{All-from_recursion}
 use Rattle.vlm_words.specs.declared.locks.Request.{Request}
-use Rattle.vlm_words.specs.declared.locks.LockRow.{LockRow}
+use Rattle.vlm_words.specs.declared.locks.LockState.{LockState}
 use Rattle.vlm_words.specs.declared.resources.ValueBlock.{ValueBlock}
 use Rattle.vlm_words.specs.declared.steps.Conversion.{Conversion}
 use Rattle.vlm_words.specs.declared.steps.NewRequest.{NewRequest}
@@ -20,16 +21,22 @@ use Rattle.vlm_model.specs.SetValue.{set_change}
 use Rattle.vlm_model.specs.Take.{take_change}
 use Rattle.vlm_model.specs.Trees.{enq_site}
 use Rattle.vlm_model.specs.Enqueue.{enq_at_once, enq_change, enq_endings, enq_resource, enq_row, resource_after_entry}
-use Rattle.vlm_model.specs.Convert.{ConversionAdmission, admission_among, admission_or, conversion_endings, convert_admission, convert_blocks, convert_change, convert_lkid, convert_request, resource_after_conversion, resource_after_conversion_of, resource_without_granted}
-use Rattle.vlm_model.specs.Withdrawals.{Withdrawal, is_held_by_writer, resource_after_cancel, resource_after_going, resource_after_withdrawals, resource_after_writer, resource_without, row_after_cancel, value_block_after_writer, state_after_withdrawals, withdrawn_endings}
+use Rattle.vlm_model.specs.Convert.{ConversionAdmission, admission_among, admission_or, conversion_endings}
+use Rattle.vlm_model.specs.Convert.{convert_admission, convert_blocks, convert_change, convert_lkid, convert_request}
+use Rattle.vlm_model.specs.Convert.{resource_after_conversion, resource_after_conversion_of, resource_without_granted}
+use Rattle.vlm_model.specs.Withdrawals.{Withdrawal, is_held_by_writer, resource_after_cancel, resource_after_going}
+use Rattle.vlm_model.specs.Withdrawals.{resource_after_withdrawals, resource_after_writer, resource_without}
+use Rattle.vlm_model.specs.Withdrawals.{row_after_cancel, value_block_after_writer, state_after_withdrawals}
+use Rattle.vlm_model.specs.Withdrawals.{withdrawn_endings}
 use Rattle.vlm_model.specs.Rundown.{processes_but, rundown_endings, rundowns, state_after_rundown}
 use Rattle.vlm_model.specs.Runs.{History, Run}
 use Rattle.vlm_model.specs.Laws.{GrantsFirst, IsGranted, IsGrantOf, IsSameButArmed, SweptInOrder, first_rows, goes, none, stays}
 use Rattle.vlm_model.specs.Granted.{IsGrantTo, NoGrantIsHidden, WasGranted}
 use Rattle.vlm_model.proofs.Always.{always, kept_by_stepped}
-use Rattle.vlm_model.proofs.WritesAtOnce.{admitted_stands}
+use Rattle.vlm_model.proofs.GrantsAtOnce.{admitted_stands}
 use Rattle.vlm_model.proofs.Admissions.{some_same}
-use Rattle.vlm_model.proofs.Each.{Any-behind, Any-cases, Any-here, Any-there, Found, any_left, each_append, each_at, each_drop, each_filter, each_map, each_weaker, found_at}
+use Rattle.vlm_model.proofs.Each.{Any-behind, Any-cases, Any-here, Any-there, Found, any_left, each_append, each_at}
+use Rattle.vlm_model.proofs.Each.{each_drop, each_filter, each_map, each_weaker, found_at}
 use Rattle.vlm_model.proofs.EachResource.{each_entered_on, found_has}
 use Rattle.vlm_model.proofs.InOrder.{sweep_in_order}
 use Rattle.vlm_model.proofs.Withdrawing.{kept_withdrawn}
@@ -46,11 +53,11 @@ any_within P (x ∷ xs) ys zs any =
     ]
 
 -- what the row holds was granted to its lock
-abbrev Has : List Ending → LockRow → Type 0
+abbrev Has : List Ending → LockState → Type 0
 Has endings row = WasGranted endings row.lkid row.pid row.held
 
 has_more : (endings more : List Ending) → ((held : Request) (lkid pid : ℕ) → Any (IsGrantTo lkid pid held) endings → Any (IsGrantTo lkid pid held) more)
-    → (row : LockRow) → Has endings row → Has more row
+    → (row : LockState) → Has endings row → Has more row
 has_more endings more kept row has = of_held row.held has
   where
     of_held : (held : Option Request) → WasGranted endings row.lkid row.pid held → WasGranted more row.lkid row.pid held
@@ -58,13 +65,13 @@ has_more endings more kept row has = of_held row.held has
     of_held (Some held) has = kept held row.lkid row.pid has
 
 -- each row of a resource has it
-pub record EachRow (P : LockRow → Type 0) (r : Resource) : Type 0 where
+pub record EachRow (P : LockState → Type 0) (r : Resource) : Type 0 where
   pub granted : AllByRecursion P r.granted
   pub converting : AllByRecursion P r.converting
   pub waiting : AllByRecursion P r.waiting
 
 -- what follows from it holds of each row too
-pub each_row_weaker : (P Q : LockRow → Type 0) → ((row : LockRow) → P row → Q row) → (r : Resource) → EachRow P r → EachRow Q r
+pub each_row_weaker : (P Q : LockState → Type 0) → ((row : LockState) → P row → Q row) → (r : Resource) → EachRow P r → EachRow Q r
 each_row_weaker P Q weaker r each = record {
   granted = each_weaker P Q weaker r.granted each.granted;
   converting = each_weaker P Q weaker r.converting each.converting;
@@ -76,23 +83,28 @@ all_left : (endings more : List Ending) (resources : List Resource) → AllByRec
     → AllByRecursion (EachRow (Has (endings ++ more))) resources
 all_left endings more resources each =
     each_weaker (EachRow (Has endings)) (EachRow (Has (endings ++ more)))
-    (λ r. each_row_weaker (Has endings) (Has (endings ++ more)) (has_more endings (endings ++ more) (λ held lkid pid. any_left (IsGrantTo lkid pid held) endings more)) r) resources each
+    (λ r. each_row_weaker (Has endings) (Has (endings ++ more))
+    (has_more endings (endings ++ more)
+    (λ held lkid pid. any_left (IsGrantTo lkid pid held) endings more)) r) resources each
 
 -- ---- the sweep
 
 -- rows that are the same but for what arms them hold what they held
-same_has : (endings : List Ending) (before after : List LockRow) → AllZip IsSameButArmed before after → AllByRecursion (Has endings) before → AllByRecursion (Has endings) after
+same_has : (endings : List Ending) (before after : List LockState) → AllZip IsSameButArmed before after
+    → AllByRecursion (Has endings) before → AllByRecursion (Has endings) after
 same_has endings [] [] same each = tt
 same_has endings [] (row ∷ rows) same each = absurd same
 same_has endings (row ∷ rows) [] same each = absurd same
 same_has endings (row ∷ rows) (left ∷ others) same each = (
   subst (λ held. WasGranted endings left.lkid left.pid held) (sym same.0.held)
-      (subst (λ pid. WasGranted endings left.lkid pid row.held) (sym same.0.pid) (subst (λ lkid. WasGranted endings lkid row.pid row.held) (sym same.0.lkid) each.0)),
+      (subst (λ pid. WasGranted endings left.lkid pid row.held) (sym same.0.pid)
+      (subst (λ lkid. WasGranted endings lkid row.pid row.held) (sym same.0.lkid) each.0)),
   same_has endings rows others same.1 each.1,
 )
 
 -- rows that are granted hold what is granted to them
-given_has : (rows given : List LockRow) (endings : List Ending) → AllZip IsGranted rows given → AllZip IsGrantOf rows endings → AllByRecursion (Has endings) given
+given_has : (rows given : List LockState) (endings : List Ending) → AllZip IsGranted rows given
+    → AllZip IsGrantOf rows endings → AllByRecursion (Has endings) given
 given_has [] [] endings granted ends = tt
 given_has [] (row ∷ given) endings granted ends = absurd granted
 given_has (row ∷ rows) [] endings granted ends = absurd granted
@@ -125,10 +137,12 @@ first_has all before after endings first each =
           (given_has (first_rows first.conversions first.new_requests before) first.given endings first.rows first.ends)));
       converting =
           subst (AllByRecursion (Has (all ++ endings))) (sym first.converting)
-          (each_weaker (Has all) (Has (all ++ endings)) more (drop first.conversions before.converting) (each_drop (Has all) first.conversions before.converting each.converting));
+          (each_weaker (Has all) (Has (all ++ endings)) more (drop first.conversions before.converting)
+          (each_drop (Has all) first.conversions before.converting each.converting));
       waiting =
           subst (AllByRecursion (Has (all ++ endings))) (sym first.waiting)
-          (each_weaker (Has all) (Has (all ++ endings)) more (drop first.new_requests before.waiting) (each_drop (Has all) first.new_requests before.waiting each.waiting));
+          (each_weaker (Has all) (Has (all ++ endings)) more (drop first.new_requests before.waiting)
+          (each_drop (Has all) first.new_requests before.waiting each.waiting));
     }
 
 -- a sweep hides no grant
@@ -138,7 +152,8 @@ swept_has all _ _ _ none each = tt
 swept_has all _ _ _ (stays {before} {after} {rest} {left} {endings} {more} first behind) each = (
   each_row_weaker (Has (all ++ endings)) (Has (all ++ (endings ++ more)))
       (has_more (all ++ endings) (all ++ (endings ++ more))
-      (λ held lkid pid any. subst (Any (IsGrantTo lkid pid held)) (append_assoc all endings more) (any_left (IsGrantTo lkid pid held) (all ++ endings) more any)))
+      (λ held lkid pid any. subst (Any (IsGrantTo lkid pid held)) (append_assoc all endings more)
+      (any_left (IsGrantTo lkid pid held) (all ++ endings) more any)))
       after (first_has all before after endings first each.0),
   each_weaker (EachRow (Has (all ++ more))) (EachRow (Has (all ++ (endings ++ more))))
       (each_row_weaker (Has (all ++ more)) (Has (all ++ (endings ++ more)))
@@ -167,12 +182,13 @@ entered_has : (s : State) (e : NewRequest) (endings : List Ending) → EachRow (
 unfolding resource_after_entry
 entered_has s e endings each = of_at_once (enq_at_once s e) each
   where
-    row : LockRow
+    row : LockState
     row = enq_row s e
 
     of_at_once : (b : Bool) → EachRow (Has (endings ++ cond b (grant_endings true (enq_row s e)) [])) (enq_resource s e)
         → EachRow (Has (endings ++ cond b (grant_endings true (enq_row s e)) []))
-        (cond b (resource_after_grant (enq_resource s e) (enq_row s e)) (record (enq_resource s e) { waiting = (enq_resource s e).waiting ++ enq_row s e ∷ [] }))
+        (cond b (resource_after_grant (enq_resource s e) (enq_row s e))
+        (record (enq_resource s e) { waiting = (enq_resource s e).waiting ++ enq_row s e ∷ [] }))
     of_at_once true each = record {
       granted =
           each_append (Has (endings ++ grant_endings true (enq_row s e))) (enq_resource s e).granted (granted_row (enq_row s e) ∷ []) each.granted
@@ -199,7 +215,8 @@ gone_has endings w r each =
     (λ _. record {
       granted =
           each_append (Has endings) r.granted (map row_after_cancel (rows_of w.lkid r.converting)) each.granted
-          (each_map (Has endings) (Has endings) row_after_cancel (λ row has. has) (rows_of w.lkid r.converting) (each_filter (Has endings) _ r.converting each.converting));
+          (each_map (Has endings) (Has endings) row_after_cancel (λ row has. has) (rows_of w.lkid r.converting)
+          (each_filter (Has endings) _ r.converting each.converting));
       converting = each_filter (Has endings) _ r.converting each.converting;
       waiting = each_filter (Has endings) _ r.waiting each.waiting;
     })
@@ -216,7 +233,7 @@ admitted_owned request pid lkid a [] admitted = cc
 admitted_owned request pid lkid a (r ∷ rest) admitted =
     of_found (find (is_lock_of pid lkid) r.granted) refl (admission_among request pid lkid rest) (admitted_owned request pid lkid a rest) admitted
   where
-    of_found : (found : Option LockRow) → find (is_lock_of pid lkid) r.granted ≡ found → (later : Option ConversionAdmission)
+    of_found : (found : Option LockState) → find (is_lock_of pid lkid) r.granted ≡ found → (later : Option ConversionAdmission)
         → (later ≡ Some a → a.row.pid ≡ pid) → admission_or request r found later ≡ Some a → a.row.pid ≡ pid
     of_found None is later behind at = behind at
     of_found (Some row) is later behind at =
@@ -237,7 +254,7 @@ module _ (pid lkid : ℕ) (a : ConversionAdmission) (named : a.row.lkid ≡ lkid
       (subst (λ b. Any (IsGrantTo lkid pid a.request) (cond b (grant_endings true (wanting_row a.row a.request)) [])) (sym now)
       (Any-here (IsGrantTo lkid pid a.request) _ [] (record { lock = named; process = owned; whole = refl; grants = tt })))
 
-  converted_row_has : (block : ValueBlock) (r : Resource) (found : Option LockRow) → find (is_lock_of pid lkid) r.granted ≡ found
+  converted_row_has : (block : ValueBlock) (r : Resource) (found : Option LockState) → find (is_lock_of pid lkid) r.granted ≡ found
       → EachRow (Has all) r → EachRow (Has all) (resource_after_conversion_of a.request a.at_once lkid block r found)
   converted_row_has block r None is each = each
   converted_row_has block r (Some row) is each =
@@ -265,7 +282,9 @@ module _ (pid lkid : ℕ) (a : ConversionAdmission) (named : a.row.lkid ≡ lkid
       })
 
   converted_has : (block : ValueBlock) (resources : List Resource)
-      → AllByRecursion (EachRow (Has all)) resources → AllByRecursion (EachRow (Has all)) (map (resource_after_conversion a.request a.at_once pid lkid block) resources)
+      → AllByRecursion (EachRow (Has all)) resources
+      → AllByRecursion (EachRow (Has all))
+      (map (resource_after_conversion a.request a.at_once pid lkid block) resources)
   unfolding resource_after_conversion
   converted_has block [] each = tt
   converted_has block (r ∷ rest) each =
@@ -298,7 +317,8 @@ has_always =
     changed_has endings (enq_endings s e) (enq_change s e).processes (enq_change s e).resources
     (each_entered_on (EachRow (Has (endings ++ enq_endings s e))) s.next_serial (enq_site s e) (enq_row s e) (enq_at_once s e) s.resources
     (entered_has s e endings
-    (found_has (EachRow (Has (endings ++ enq_endings s e))) s.next_serial (enq_site s e) (record { granted = tt; converting = tt; waiting = tt }) s.resources more)) more))
+    (found_has (EachRow (Has (endings ++ enq_endings s e))) s.next_serial (enq_site s e)
+    (record { granted = tt; converting = tt; waiting = tt }) s.resources more)) more))
     (λ c a _ admitted.
     changed_has endings (conversion_endings a) (convert_change s c a).processes (convert_change s c a).resources
     (conversion_hides_none endings s c a admitted each))
@@ -318,7 +338,7 @@ has_always =
 -- after every run no grant is hidden
 pub granted_always : (history : History) (last : State) → Run history last → NoGrantIsHidden history.endings last
 granted_always history last run =
-    let Held : LockRow → Type 0 = λ row. WasGranted history.endings row.lkid row.pid row.held in
+    let Held : LockState → Type 0 = λ row. WasGranted history.endings row.lkid row.pid row.held in
     All-from_recursion (λ r. All Held (r.granted ++ r.converting ++ r.waiting)) last.resources
     (each_weaker (EachRow (Has history.endings)) (λ r. All Held (r.granted ++ r.converting ++ r.waiting))
     (λ r each. All-from_recursion Held (r.granted ++ r.converting ++ r.waiting)

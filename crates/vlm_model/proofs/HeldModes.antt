@@ -5,7 +5,7 @@ use Rattle.std.specs.List.{AllByRecursion, find, list_all}
 use Rattle.std.proofs.lemmas.Bool.{cond_both, and_parts, or_cases}
 use Rattle.std.proofs.lemmas.List.Elements.{All-from_recursion, filter-append}
 use Rattle.vlm_words.specs.declared.locks.Request.{Request}
-use Rattle.vlm_words.specs.declared.locks.LockRow.{LockRow}
+use Rattle.vlm_words.specs.declared.locks.LockState.{LockState}
 use Rattle.vlm_words.specs.declared.modes.Mode.TheVariants.{Nl, Cr, Cw, Pr, Pw, Ex}
 use Rattle.vlm_words.specs.declared.modes.Mode.{Mode}
 use Rattle.vlm_words.specs.declared.resources.ValueBlock.{ValueBlock}
@@ -16,25 +16,32 @@ use Rattle.vlm_words.specs.Flags.{expedite, has_flag}
 use Rattle.vlm_words.specs.State.{Process, Resource, State}
 use Rattle.vlm_model.specs.Effects.{with_value_block}
 use Rattle.vlm_words.specs.Rows.{fits, granted_row, is_beside, is_empty, is_lock_of, rows_without, wanting_row}
-use Rattle.vlm_model.specs.Grants.{no_service, resource_after_grant, service, service_after_grant, service_of_conversions, service_of_new_requests, service_of_waiting, wanted_fits}
+use Rattle.vlm_model.specs.Grants.{no_service, resource_after_grant, service, service_after_grant}
+use Rattle.vlm_model.specs.Grants.{service_of_conversions, service_of_new_requests, service_of_waiting, wanted_fits}
 use Rattle.vlm_model.specs.Sweeps.{resources_after_sweep}
 use Rattle.vlm_model.specs.Declare.{declare_change}
 use Rattle.vlm_model.specs.SetValue.{set_change}
 use Rattle.vlm_model.specs.Take.{take_change}
 use Rattle.vlm_model.specs.Trees.{enq_site}
 use Rattle.vlm_model.specs.Enqueue.{enq_at_once, enq_change, enq_refusal, enq_request, enq_resource, enq_row, is_at_once, is_free_for, resource_after_entry}
-use Rattle.vlm_model.specs.Convert.{ConversionAdmission, convert_admission, convert_blocks, convert_change, convert_lkid, convert_request, converts_at_once, resource_after_conversion, resource_after_conversion_of, resource_without_granted}
+use Rattle.vlm_model.specs.Convert.{ConversionAdmission, convert_admission, convert_blocks, convert_change}
+use Rattle.vlm_model.specs.Convert.{convert_lkid, convert_request, converts_at_once, resource_after_conversion}
+use Rattle.vlm_model.specs.Convert.{resource_after_conversion_of, resource_without_granted}
 use Rattle.vlm_model.specs.Rundown.{processes_but, rundowns, state_after_rundown}
-use Rattle.vlm_model.specs.Withdrawals.{Withdrawal, is_held_by_writer, resource_after_cancel, resource_after_withdrawals, resource_after_writer, resource_without, row_after_cancel, value_block_after_writer, resource_after_going, state_after_withdrawals}
+use Rattle.vlm_model.specs.Withdrawals.{Withdrawal, is_held_by_writer, resource_after_cancel}
+use Rattle.vlm_model.specs.Withdrawals.{resource_after_withdrawals, resource_after_writer, resource_without}
+use Rattle.vlm_model.specs.Withdrawals.{row_after_cancel, value_block_after_writer, resource_after_going}
+use Rattle.vlm_model.specs.Withdrawals.{state_after_withdrawals}
 use Rattle.vlm_model.specs.Runs.{History, Run}
 use Rattle.vlm_model.specs.Laws.{AreCompatible, HeldModesAreCompatible, Stands}
 use Rattle.vlm_model.proofs.Each.{Any-behind, Any-here, Found, found_at, each_append, each_map, each_passes, each_weaker}
-use Rattle.vlm_model.proofs.Pairs.{EachPair, AllPairs-from_recursion, each_pair_filter, each_pair_filter_left, each_pair_found, each_pair_insert, each_pair_move, each_pair_push, each_pair_remove}
-use Rattle.vlm_model.proofs.Passed.{expedited_is_null}
+use Rattle.vlm_model.proofs.Pairs.{EachPair, AllPairs-from_recursion, each_pair_filter, each_pair_filter_left}
+use Rattle.vlm_model.proofs.Pairs.{each_pair_found, each_pair_insert, each_pair_move, each_pair_push, each_pair_remove}
+use Rattle.vlm_model.proofs.PassedChecks.{expedited_is_null}
 use Rattle.vlm_model.proofs.Admissions.{admitted_request, found_lkid}
 use Rattle.vlm_model.proofs.Always.{always, kept_by_stepped}
-use Rattle.vlm_model.proofs.Apart.{Apart, apart_always}
-use Rattle.vlm_model.proofs.WritesAtOnce.{admitted_at_once, admitted_stands, only_there}
+use Rattle.vlm_model.proofs.IdsApart.{Apart, apart_always}
+use Rattle.vlm_model.proofs.GrantsAtOnce.{admitted_at_once, admitted_stands, only_there}
 use Rattle.vlm_words.proofs.Compatible.{is_compatible-comm}
 use Rattle.vlm_model.proofs.EachResource.{each_entered_on, each_swept, found_has}
 use Rattle.vlm_model.proofs.Withdrawing.{kept_withdrawn}
@@ -42,7 +49,7 @@ use Rattle.vlm_model.specs.Asts.{resource_after_warning, row_after_warning}
 use Rattle.vlm_model.proofs.Warned.{blind_warned}
 
 -- two rows hold compatible modes
-abbrev pub HoldCompatible : LockRow → LockRow → Type 0
+abbrev pub HoldCompatible : LockState → LockState → Type 0
 HoldCompatible a b = AreCompatible a.held b.held
 
 -- being compatible has no order
@@ -53,7 +60,7 @@ are_compatible-comm (Some a) None compatible = tt
 are_compatible-comm (Some a) (Some b) compatible = is_compatible-comm b.mode a.mode ∙ compatible
 
 -- holding compatible modes has no order
-pub hold_compatible-comm : (a b : LockRow) → HoldCompatible a b → HoldCompatible b a
+pub hold_compatible-comm : (a b : LockState) → HoldCompatible a b → HoldCompatible b a
 hold_compatible-comm a b compatible = are_compatible-comm a.held b.held compatible
 
 -- a mode that may be held beside what a row holds is compatible with it
@@ -62,7 +69,7 @@ compatible_beside request None beside = tt
 compatible_beside request (Some held) beside = beside
 
 -- a mode that fits is compatible with what each row holds
-compatible_if_fits : (request : Request) (granted converting : List LockRow) → fits request.mode granted converting ≡ true
+compatible_if_fits : (request : Request) (granted converting : List LockState) → fits request.mode granted converting ≡ true
     → AllByRecursion (λ row. AreCompatible (Some request) row.held) (granted ++ converting)
 unfolding fits
 compatible_if_fits request granted converting fitting =
@@ -71,20 +78,20 @@ compatible_if_fits request granted converting fitting =
     parts : (list_all (λ row. is_beside request.mode row.held) granted ≡ true) × (list_all (λ row. is_beside request.mode row.held) converting ≡ true)
     parts = and_parts _ _ fitting
 
-    each_of : (rows : List LockRow) → list_all (λ row. is_beside request.mode row.held) rows ≡ true
+    each_of : (rows : List LockState) → list_all (λ row. is_beside request.mode row.held) rows ≡ true
         → AllByRecursion (λ row. AreCompatible (Some request) row.held) rows
     each_of rows passed =
         each_weaker (λ row. is_beside request.mode row.held ≡ true) (λ row. AreCompatible (Some request) row.held)
         (λ row beside. compatible_beside request row.held beside) rows (each_passes (λ row. is_beside request.mode row.held) rows passed)
 
 -- what a row wants, where it fits, is compatible with what each other row holds
-compatible_if_wanted_fits : (want : Option Request) (granted converting : List LockRow) → wanted_fits want granted converting ≡ true
+compatible_if_wanted_fits : (want : Option Request) (granted converting : List LockState) → wanted_fits want granted converting ≡ true
     → AllByRecursion (λ row. AreCompatible want row.held) (granted ++ converting)
 compatible_if_wanted_fits None granted converting fitting = cc
 compatible_if_wanted_fits (Some request) granted converting fitting = compatible_if_fits request granted converting fitting
 
 -- the held modes of the two queues are compatible
-abbrev pub QueuesAgree : List LockRow → List LockRow → Type 0
+abbrev pub QueuesAgree : List LockState → List LockState → Type 0
 QueuesAgree granted converting = EachPair HoldCompatible (granted ++ converting)
 
 -- the held modes of the resource are compatible
@@ -92,7 +99,7 @@ abbrev pub HoldersAgree : Resource → Type 0
 HoldersAgree r = QueuesAgree r.granted r.converting
 
 -- a row whose request fits may be granted
-agree_after_grant : (row : LockRow) (granted converting : List LockRow)
+agree_after_grant : (row : LockState) (granted converting : List LockState)
     → AllByRecursion (λ other. AreCompatible row.want other.held) (granted ++ converting) → QueuesAgree granted converting
     → QueuesAgree (granted ++ granted_row row ∷ []) converting
 agree_after_grant row granted converting compatible agree =
@@ -100,7 +107,7 @@ agree_after_grant row granted converting compatible agree =
     (each_pair_insert HoldCompatible hold_compatible-comm granted (granted_row row) converting compatible agree)
 
 -- serving the conversions keeps the held modes compatible
-serve_converting_agrees : (r : Resource) (rows : List LockRow) → r.converting ≡ rows → HoldersAgree r → HoldersAgree (service_of_conversions r rows).resource
+serve_converting_agrees : (r : Resource) (rows : List LockState) → r.converting ≡ rows → HoldersAgree r → HoldersAgree (service_of_conversions r rows).resource
 serve_converting_agrees r [] is agree = agree
 serve_converting_agrees r (row ∷ rows) is agree =
     cond_both (wanted_fits row.want r.granted rows)
@@ -113,7 +120,7 @@ serve_converting_agrees r (row ∷ rows) is agree =
     (λ _. agree)
 
 -- serving the waiting queue keeps the held modes compatible
-serve_waiting_agrees : (r : Resource) (rows : List LockRow) → HoldersAgree r → HoldersAgree (service_of_waiting r rows).resource
+serve_waiting_agrees : (r : Resource) (rows : List LockState) → HoldersAgree r → HoldersAgree (service_of_waiting r rows).resource
 serve_waiting_agrees r [] agree = agree
 serve_waiting_agrees r (row ∷ rows) agree =
     cond_both (wanted_fits row.want r.granted r.converting)
@@ -150,7 +157,7 @@ null_is_beside request None null = tt
 null_is_beside request (Some held) null = subst (λ mode. is_compatible mode held.mode ≡ true) (sym null) (null_is_compatible held.mode)
 
 -- a request for NL is compatible with what each row holds
-null_beside_each : (request : Request) → request.mode ≡ Nl → (rows : List LockRow) → AllByRecursion (λ row. AreCompatible (Some request) row.held) rows
+null_beside_each : (request : Request) → request.mode ≡ Nl → (rows : List LockState) → AllByRecursion (λ row. AreCompatible (Some request) row.held) rows
 null_beside_each request null [] = tt
 null_beside_each request null (row ∷ rows) = (null_is_beside request row.held null, null_beside_each request null rows)
 
@@ -173,7 +180,7 @@ entered_agrees s e passed agree =
     (λ at_once. agree_after_grant (enq_row s e) r.granted r.converting (compatible_at_once s e passed r at_once) agree) (λ _. agree)
 
 -- a conversion that is granted at once keeps the held modes compatible
-converted_at_once_agrees : (request : Request) (lkid : ℕ) (r : Resource) (row : LockRow) → converts_at_once request lkid r ≡ true → HoldersAgree r
+converted_at_once_agrees : (request : Request) (lkid : ℕ) (r : Resource) (row : LockState) → converts_at_once request lkid r ≡ true → HoldersAgree r
     → HoldersAgree (resource_after_grant (resource_without_granted lkid r) (wanting_row row request))
 unfolding converts_at_once
 converted_at_once_agrees request lkid r row at_once agree =
@@ -182,7 +189,7 @@ converted_at_once_agrees request lkid r row at_once agree =
     (each_pair_filter_left HoldCompatible _ r.granted r.converting agree)
 
 -- a conversion that queues holds what it held
-queued_agrees : (request : Request) (pid lkid : ℕ) (granted converting : List LockRow) (row : LockRow)
+queued_agrees : (request : Request) (pid lkid : ℕ) (granted converting : List LockState) (row : LockState)
     → Found (is_lock_of pid lkid) granted row → QueuesAgree granted converting
     → QueuesAgree (rows_without lkid granted) (converting ++ wanting_row row request ∷ [])
 queued_agrees request pid lkid granted converting row at agree =
@@ -193,14 +200,14 @@ queued_agrees request pid lkid granted converting row at agree =
     (each_pair_filter_left HoldCompatible _ granted converting agree))
 
 -- a lock that is found stands there
-found_there : (pid lkid : ℕ) (rows : List LockRow) (row : LockRow) → Found (is_lock_of pid lkid) rows row → Stands lkid rows
+found_there : (pid lkid : ℕ) (rows : List LockState) (row : LockState) → Found (is_lock_of pid lkid) rows row → Stands lkid rows
 found_there pid lkid rows row at =
     subst (Stands lkid) (sym at.split)
-    (Any-behind (λ (x : LockRow). x.lkid ≡ lkid) at.before (row ∷ at.after)
-    (Any-here (λ (x : LockRow). x.lkid ≡ lkid) row at.after (found_lkid pid lkid row at.passes)))
+    (Any-behind (λ (x : LockState). x.lkid ≡ lkid) at.before (row ∷ at.after)
+    (Any-here (λ (x : LockState). x.lkid ≡ lkid) row at.after (found_lkid pid lkid row at.passes)))
 
 -- a conversion keeps the held modes compatible, whichever row is found, where one at once fits on its resource
-converted_row_agrees : (request : Request) (at_once : Bool) (pid lkid : ℕ) (block : ValueBlock) (r : Resource) (found : Option LockRow)
+converted_row_agrees : (request : Request) (at_once : Bool) (pid lkid : ℕ) (block : ValueBlock) (r : Resource) (found : Option LockState)
     → find (is_lock_of pid lkid) r.granted ≡ found → (Stands lkid r.granted → at_once ≡ converts_at_once request lkid r) → HoldersAgree r
     → HoldersAgree (resource_after_conversion_of request at_once lkid block r found)
 converted_row_agrees request at_once pid lkid block r None is fits agree = agree
@@ -268,28 +275,28 @@ warned_agrees : (r : Resource) → HoldersAgree r → HoldersAgree (resource_aft
 unfolding resource_after_warning
 warned_agrees r agree = of_rows r.granted agree
   where
-    warned : LockRow → LockRow
+    warned : LockState → LockState
     warned = row_after_warning r.converting r.waiting
 
-    compatible : (a row : LockRow) → AreCompatible a.held row.held → AreCompatible (warned a).held (warned row).held
+    compatible : (a row : LockState) → AreCompatible a.held row.held → AreCompatible (warned a).held (warned row).held
     compatible a row so =
         subst (λ (held : Option Request). AreCompatible held (warned row).held)
         (sym (blind_warned (λ x. x.held) (λ x armed. refl) r.converting r.waiting a))
         (subst (AreCompatible a.held) (sym (blind_warned (λ x. x.held) (λ x armed. refl) r.converting r.waiting row)) so)
 
     -- those that convert are not warned
-    others : (a : LockRow) (rows : List LockRow) → AllByRecursion (HoldCompatible a) rows → AllByRecursion (HoldCompatible (warned a)) rows
+    others : (a : LockState) (rows : List LockState) → AllByRecursion (HoldCompatible a) rows → AllByRecursion (HoldCompatible (warned a)) rows
     others a rows each =
         each_weaker (HoldCompatible a) (HoldCompatible (warned a))
         (λ row so. subst (λ (held : Option Request). AreCompatible held row.held)
         (sym (blind_warned (λ x. x.held) (λ x armed. refl) r.converting r.waiting a)) so) rows each
 
-    first : (a : LockRow) (rows : List LockRow) → AllByRecursion (HoldCompatible a) (rows ++ r.converting)
+    first : (a : LockState) (rows : List LockState) → AllByRecursion (HoldCompatible a) (rows ++ r.converting)
         → AllByRecursion (HoldCompatible (warned a)) (map warned rows ++ r.converting)
     first a [] each = others a r.converting each
     first a (row ∷ rows) each = (compatible a row each.0, first a rows each.1)
 
-    of_rows : (rows : List LockRow) → EachPair HoldCompatible (rows ++ r.converting) → EachPair HoldCompatible (map warned rows ++ r.converting)
+    of_rows : (rows : List LockState) → EachPair HoldCompatible (rows ++ r.converting) → EachPair HoldCompatible (map warned rows ++ r.converting)
     of_rows [] pairs = pairs
     of_rows (row ∷ rows) pairs = (first row rows pairs.0, of_rows rows pairs.1)
 
@@ -317,12 +324,16 @@ holders_agree_always =
     s.resources each))
     (λ is_one nodes _.
     swept_agree (processes_but is_one s.processes) (state_after_rundown is_one nodes s).resources
-    (each_map HoldersAgree HoldersAgree (resource_after_withdrawals (rundowns is_one s)) (kept_withdrawn HoldersAgree left_agrees gone_agrees (rundowns is_one s))
+    (each_map HoldersAgree HoldersAgree (resource_after_withdrawals (rundowns is_one s))
+    (kept_withdrawn HoldersAgree left_agrees gone_agrees (rundowns is_one s))
     s.resources each)))
   where
     swept_agree : (processes : List Process) (resources : List Resource) → AllByRecursion HoldersAgree resources
         → AllByRecursion HoldersAgree (resources_after_sweep processes resources)
-    swept_agree processes resources each = each_swept HoldersAgree HoldersAgree (λ block r agree. warned_agrees (with_value_block block (service r).resource) (served_agrees r agree)) processes resources each
+    swept_agree processes resources each =
+        each_swept HoldersAgree HoldersAgree
+        (λ block r agree. warned_agrees (with_value_block block (service r).resource)
+        (served_agrees r agree)) processes resources each
 
 -- after every run the held modes are compatible
 pub held_modes_always : (history : History) (last : State)

@@ -1,11 +1,11 @@
--- On which resource a lock stands.
+-- Each lock is on one resource.
 use Rattle.std.proofs.Common.{◌≡◌, ◌≤◌, ◌||◌, ℕ, Bool, true, false, List, [], ◌∷◌, ◌++◌, cond, Some, refl, sym, ap, inl, inr, ◌∙◌, arith}
 use Rattle.std.specs.Prelude.{◌==◌, Any}
 use Rattle.std.specs.List.{find, list_any, sum_by}
 use Rattle.std.proofs.lemmas.Bool.{and_parts, eq-eqb, or_cases}
 use Rattle.std.proofs.lemmas.List.Folds.{list_any-append, list_any-from_Any}
 use Rattle.std.proofs.lemmas.List.Sums.{sum_by-cons}
-use Rattle.vlm_words.specs.declared.locks.LockRow.{LockRow}
+use Rattle.vlm_words.specs.declared.locks.LockState.{LockState}
 use Rattle.vlm_words.specs.State.{Resource}
 use Rattle.vlm_words.specs.Rows.{is_lock_of}
 use Rattle.vlm_model.specs.Checks.{holds_lock}
@@ -13,14 +13,14 @@ use Rattle.vlm_model.specs.Laws.{StandsOn}
 use Rattle.vlm_model.proofs.Each.{Any-cases, Any-none, Any-weaker}
 use Rattle.vlm_model.proofs.Sums.{any_counts}
 use Rattle.vlm_model.proofs.Weights.{weigh}
-use Rattle.vlm_model.proofs.Apart.{standing, stands}
+use Rattle.vlm_model.proofs.IdsApart.{standing, stands}
 
--- a row with this identification of this process passes the test
-pub is_lock : (pid lkid : ℕ) (row : LockRow) → (row.lkid ≡ lkid) × (row.pid ≡ pid) → is_lock_of pid lkid row ≡ true
+-- a row with this ID of this process passes the test
+pub is_lock : (pid lkid : ℕ) (row : LockState) → (row.lkid ≡ lkid) × (row.pid ≡ pid) → is_lock_of pid lkid row ≡ true
 is_lock pid lkid row same = rw (eq-eqb row.lkid lkid same.0) (eq-eqb row.pid pid same.1)
 
 -- a lock that is found among rows is counted
-pub found_counts : (pid lkid : ℕ) (rows : List LockRow) → list_any (is_lock_of pid lkid) rows ≡ true → 1 ≤ sum_by (stands lkid) rows
+pub found_counts : (pid lkid : ℕ) (rows : List LockState) → list_any (is_lock_of pid lkid) rows ≡ true → 1 ≤ sum_by (stands lkid) rows
 found_counts pid lkid =
     any_counts (is_lock_of pid lkid) (stands lkid) (λ row here. ap (λ (b : Bool). cond b 1 0) (and_parts (row.lkid == lkid) (row.pid == pid) here).0)
 
@@ -41,7 +41,7 @@ stands_held pid lkid r there =
     let test = is_lock_of pid lkid in
     let all : list_any test (r.granted ++ r.converting ++ r.waiting) ≡ true =
     list_any-from_Any test (r.granted ++ r.converting ++ r.waiting)
-    (Any-weaker (λ (row : LockRow). (row.lkid ≡ lkid) × (row.pid ≡ pid)) (λ row. test row ≡ true) (is_lock pid lkid)
+    (Any-weaker (λ (row : LockState). (row.lkid ≡ lkid) × (row.pid ≡ pid)) (λ row. test row ≡ true) (is_lock pid lkid)
     (r.granted ++ r.converting ++ r.waiting) there) in
     sym (list_any-append test (r.granted ++ r.converting) r.waiting
     ∙ ap (λ (b : Bool). b || list_any test r.waiting) (list_any-append test r.granted r.converting)) ∙ all

@@ -1,6 +1,6 @@
--- How many locks of an identification and a process hold a mode on a resource: no step takes one away, but for the
--- removal of the lock.
-use Rattle.std.proofs.Common.{◌≡◌, ◌≤◌, ◌+◌, ℕ, zero, suc, Bool, true, false, not, ◌&&◌, List, [], ◌∷◌, ◌++◌, map, drop, cond, Option, None, Some, refl, sym, ap, inl, inr, subst, arith}
+-- Who holds which mode: only the end of a lock or its conversion takes a held mode away.
+use Rattle.std.proofs.Common.{◌≡◌, ◌≤◌, ◌+◌, ℕ, zero, suc, Bool, true, false, not, ◌&&◌, List, [], ◌∷◌, ◌++◌, map, drop}
+use Rattle.std.proofs.Common.{cond, Option, None, Some, refl, sym, ap, inl, inr, subst, arith}
 use Rattle.std.specs.Prelude.{◌==◌}
 use Rattle.std.specs.List.{filter, find, list_any, sum_by}
 use Rattle.std.proofs.lemmas.Bool.{and_parts, cond_both}
@@ -8,7 +8,7 @@ use Rattle.std.proofs.lemmas.Bool.Decides.{eqb_tells, nat_tests}
 use Rattle.std.proofs.lemmas.List.Filters.{sum_by-filter_both}
 use Rattle.std.proofs.lemmas.List.Sums.{sum_by-append, sum_by-cons, sum_by-le-sum_by, sum_by_push}
 use Rattle.vlm_words.specs.declared.locks.Request.{Request}
-use Rattle.vlm_words.specs.declared.locks.LockRow.{LockRow}
+use Rattle.vlm_words.specs.declared.locks.LockState.{LockState}
 use Rattle.vlm_words.specs.declared.resources.ValueBlock.{ValueBlock}
 use Rattle.vlm_words.specs.State.{Resource}
 use Rattle.vlm_model.specs.Effects.{with_value_block}
@@ -16,20 +16,22 @@ use Rattle.vlm_words.specs.Rows.{granted_row, is_arming, is_lock_of, rows_of, ro
 use Rattle.vlm_model.specs.Grants.{resource_after_grant, service}
 use Rattle.vlm_model.specs.Enqueue.{resource_after_entry}
 use Rattle.vlm_model.specs.Convert.{resource_after_conversion, resource_after_conversion_of, resource_without_granted}
-use Rattle.vlm_model.specs.Withdrawals.{Withdrawal, is_held_by_writer, resource_after_cancel, resource_after_withdrawals, resource_after_writer, resource_without, row_after_cancel, value_block_after_writer}
+use Rattle.vlm_model.specs.Withdrawals.{Withdrawal, is_held_by_writer, resource_after_cancel}
+use Rattle.vlm_model.specs.Withdrawals.{resource_after_withdrawals, resource_after_writer, resource_without}
+use Rattle.vlm_model.specs.Withdrawals.{row_after_cancel, value_block_after_writer}
 use Rattle.vlm_model.specs.Laws.{GrantsFirst}
 use Rattle.vlm_model.proofs.Each.{Found, found_at}
 use Rattle.vlm_model.proofs.Sums.{any_counts, sum_of_zero, sum_same}
 use Rattle.vlm_model.proofs.Weights.{served_weighs, weigh}
-use Rattle.vlm_model.proofs.Moves.{IsByName, grant_keeps}
-use Rattle.vlm_model.proofs.Apart.{stands}
+use Rattle.vlm_model.proofs.LastingSums.{IsByName, grant_keeps}
+use Rattle.vlm_model.proofs.IdsApart.{stands}
 use Rattle.vlm_model.proofs.InOrder.{service_in_order}
 use Rattle.vlm_model.specs.Asts.{resource_after_warning}
 use Rattle.vlm_model.proofs.Warned.{sum_warned}
 use Rattle.vlm_model.specs.Sweeps.{served_with}
 
 -- 1 for a row of this lock of this process
-abbrev pub locks : ℕ → ℕ → LockRow → ℕ
+abbrev pub locks : ℕ → ℕ → LockState → ℕ
 locks pid lkid row = cond (is_lock_of pid lkid row) 1 0
 
 -- how many rows of the lock hold a mode on the resource
@@ -40,11 +42,11 @@ pub locks_named : (pid lkid : ℕ) → IsByName (locks pid lkid)
 locks_named pid lkid row held want armed = refl
 
 -- a lock of the process that is found among rows is counted there
-pub locks_counted : (pid lkid : ℕ) (rows : List LockRow) → list_any (is_lock_of pid lkid) rows ≡ true → 1 ≤ sum_by (locks pid lkid) rows
+pub locks_counted : (pid lkid : ℕ) (rows : List LockState) → list_any (is_lock_of pid lkid) rows ≡ true → 1 ≤ sum_by (locks pid lkid) rows
 locks_counted pid lkid = any_counts (is_lock_of pid lkid) (locks pid lkid) (λ row here. ap (λ (b : Bool). cond b 1 0) here)
 
--- a row of the lock is one of its identification
-pub locks-le-stands : (pid lkid : ℕ) (row : LockRow) → locks pid lkid row ≤ stands lkid row
+-- a row of the lock is one of its ID
+pub locks-le-stands : (pid lkid : ℕ) (row : LockState) → locks pid lkid row ≤ stands lkid row
 locks-le-stands pid lkid row = of_tests (row.lkid == lkid) (row.pid == pid)
   where
     of_tests : (a b : Bool) → cond (a && b) 1 0 ≤ cond a 1 0
@@ -52,12 +54,12 @@ locks-le-stands pid lkid row = of_tests (row.lkid == lkid) (row.pid == pid)
     of_tests true false = omega arith
     of_tests false b = omega arith
 
--- no row of another identification is of the lock
-locks_elsewhere : (pid lkid other : ℕ) → (lkid == other) ≡ false → (row : LockRow) → (row.lkid == other) ≡ true → locks pid lkid row ≡ 0
+-- no row of another ID is of the lock
+locks_elsewhere : (pid lkid other : ℕ) → (lkid == other) ≡ false → (row : LockState) → (row.lkid == other) ≡ true → locks pid lkid row ≡ 0
 locks_elsewhere pid lkid other differs row is = grind (arith, nat_tests, differs, is)
 
 -- a filter that drops rows of no weight keeps the sum
-sum_kept : (f : LockRow → ℕ) (keep : LockRow → Bool) → ((row : LockRow) → keep row ≡ false → f row ≡ 0) → (rows : List LockRow)
+sum_kept : (f : LockState → ℕ) (keep : LockState → Bool) → ((row : LockState) → keep row ≡ false → f row ≡ 0) → (rows : List LockState)
     → sum_by f (filter keep rows) ≡ sum_by f rows
 sum_kept f keep light [] = refl
 sum_kept f keep light (row ∷ rows) =
@@ -68,10 +70,11 @@ sum_kept f keep light (row ∷ rows) =
     ] refl
 
 -- rows of another lock go, and those of this one stay
-pub others_go : (pid lkid other : ℕ) → (lkid == other) ≡ false → (rows : List LockRow)
+pub others_go : (pid lkid other : ℕ) → (lkid == other) ≡ false → (rows : List LockState)
     → sum_by (locks pid lkid) (rows_without other rows) ≡ sum_by (locks pid lkid) rows
 others_go pid lkid other differs rows =
-    sum_kept (locks pid lkid) (λ row. not (row.lkid == other)) (λ row dropped. locks_elsewhere pid lkid other differs row (not_not (row.lkid == other) dropped)) rows
+    sum_kept (locks pid lkid) (λ row. not (row.lkid == other))
+    (λ row dropped. locks_elsewhere pid lkid other differs row (not_not (row.lkid == other) dropped)) rows
   where
     not_not : (b : Bool) → not b ≡ false → b ≡ true
     not_not true is = refl
@@ -95,23 +98,24 @@ served_held pid lkid block r =
       fewer_left first.new_requests r.waiting,
     )
   where
-    fewer_left : (n : ℕ) (rows : List LockRow) → sum_by (locks pid lkid) (drop n rows) ≤ sum_by (locks pid lkid) rows
+    fewer_left : (n : ℕ) (rows : List LockState) → sum_by (locks pid lkid) (drop n rows) ≤ sum_by (locks pid lkid) rows
     fewer_left zero rows = omega arith
     fewer_left (suc n) [] = omega arith
     fewer_left (suc n) (row ∷ rows) = omega (arith, fewer_left n rows, sum_by-cons (locks pid lkid) row rows)
 
 -- the entry of a lock takes none away
-pub entered_held : (pid lkid : ℕ) (row : LockRow) (at_once : Bool) (r : Resource) → held_by pid lkid r ≤ held_by pid lkid (resource_after_entry row at_once r)
+pub entered_held : (pid lkid : ℕ) (row : LockState) (at_once : Bool) (r : Resource) → held_by pid lkid r ≤ held_by pid lkid (resource_after_entry row at_once r)
 unfolding resource_after_entry
 entered_held pid lkid row at_once r =
     cond_both at_once (resource_after_grant r row) (record r { waiting = r.waiting ++ row ∷ [] }) (λ after. held_by pid lkid r ≤ held_by pid lkid after)
     (λ _. omega (arith, sum_by_push (locks pid lkid) r.granted (granted_row row))) (λ _. omega arith)
 
--- where a lock has one row on the resource, all that is held of an identification is held by the row that is found
-only_row : (pid lkid : ℕ) (rows : List LockRow) (row : LockRow) (test : LockRow → Bool) → sum_by (stands lkid) rows ≤ 1 → stands lkid row ≡ 1 → Found test rows row
+-- where a lock has one row on the resource, all that is held of an ID is held by the row that is found
+only_row : (pid lkid : ℕ) (rows : List LockState) (row : LockState) (test : LockState → Bool)
+    → sum_by (stands lkid) rows ≤ 1 → stands lkid row ≡ 1 → Found test rows row
     → sum_by (locks pid lkid) rows ≡ locks pid lkid row
 only_row pid lkid rows row test one is at =
-    let less : (xs : List LockRow) → sum_by (locks pid lkid) xs ≤ sum_by (stands lkid) xs =
+    let less : (xs : List LockState) → sum_by (locks pid lkid) xs ≤ sum_by (stands lkid) xs =
     λ xs. sum_by-le-sum_by (locks pid lkid) (stands lkid) xs (locks-le-stands pid lkid) in
     omega (
       arith,
@@ -128,7 +132,8 @@ only_row pid lkid rows row test one is at =
     )
 
 -- a conversion takes none away, where its lock has one row on the resource
-converted_row_held : (pid lkid owner other : ℕ) (request : Request) (at_once : Bool) (block : ValueBlock) (r : Resource) → weigh (stands other) r ≤ 1 → (found : Option LockRow)
+converted_row_held : (pid lkid owner other : ℕ) (request : Request) (at_once : Bool) (block : ValueBlock) (r : Resource)
+    → weigh (stands other) r ≤ 1 → (found : Option LockState)
     → find (is_lock_of owner other) r.granted ≡ found → held_by pid lkid r ≤ held_by pid lkid (resource_after_conversion_of request at_once other block r found)
 converted_row_held pid lkid owner other request at_once block r one None is = omega arith
 converted_row_held pid lkid owner other request at_once block r one (Some row) is =

@@ -1,39 +1,43 @@
--- Service grants from the heads of the queues, resource by resource.
-use Rattle.std.proofs.Common.{◌≡◌, ◌<◌, ℕ, suc, true, false, not, ◌&&◌, List, [], ◌∷◌, ◌++◌, take, drop, cond, Option, None, Some, append_assoc, refl, sym, subst, ap, ◌∙◌, arith, map}
+-- Grants come from the heads of the queues, resource by resource.
+use Rattle.std.proofs.Common.{◌≡◌, ◌<◌, ℕ, suc, true, false, not, ◌&&◌, List, [], ◌∷◌, ◌++◌, take, drop, cond, Option}
+use Rattle.std.proofs.Common.{None, Some, append_assoc, refl, sym, subst, ap, ◌∙◌, arith, map}
 use Rattle.std.specs.Prelude.{IsSome}
 use Rattle.std.specs.List.{AllZip, AllByRecursion}
 use Rattle.std.proofs.lemmas.Bool.{and_parts, cond_both}
 use Rattle.std.proofs.lemmas.List.{append-nil, map-append}
 use Rattle.vlm_words.specs.declared.locks.Request.{Request}
-use Rattle.vlm_words.specs.declared.locks.LockRow.{LockRow}
+use Rattle.vlm_words.specs.declared.locks.LockState.{LockState}
 use Rattle.vlm_words.specs.declared.resources.ValueBlock.{ValueBlock}
 use Rattle.vlm_words.specs.State.{Process, Resource}
 use Rattle.vlm_model.specs.Endings.{Ending, wanted_endings}
 use Rattle.vlm_model.specs.Endings.How.{by_grant}
 use Rattle.vlm_model.specs.Effects.{with_value_block}
-use Rattle.vlm_model.specs.Grants.{Service, grant_act, grant_endings, no_service, resource_after_grant, service, service_after_grant, service_of_conversions, service_of_new_requests, service_of_waiting, wanted_fits}
+use Rattle.vlm_model.specs.Grants.{Service, grant_act, grant_endings, no_service, resource_after_grant, service}
+use Rattle.vlm_model.specs.Grants.{service_after_grant, service_of_conversions, service_of_new_requests}
+use Rattle.vlm_model.specs.Grants.{service_of_waiting, wanted_fits}
 use Rattle.vlm_words.specs.Rows.{granted_row, is_empty}
 use Rattle.vlm_model.specs.Sweeps.{blocks_after_service, is_vacant, resource_after_service, resources_after_sweep, sweep_endings}
-use Rattle.vlm_model.specs.Laws.{GrantsFirst, IsGrantOf, IsGranted, IsSameButArmed, IsSameResource, IsVacant, SweptInOrder, goes, none, stays, first_rows, IsGrant}
+use Rattle.vlm_model.specs.Laws.{GrantsFirst, IsGrantOf, IsGranted, IsSameButArmed, IsSameResource, IsVacant}
+use Rattle.vlm_model.specs.Laws.{SweptInOrder, goes, none, stays, first_rows, IsGrant}
 use Rattle.vlm_model.proofs.NothingLeft.{is_empty-true}
 use Rattle.vlm_model.specs.Asts.{resource_after_warning, row_after_warning}
 use Rattle.vlm_model.proofs.Warned.{blind_warned, stay_warned}
 
 -- of the rows in a queue the first are granted in their order, and these are left
-record Serves (rows before after left : List LockRow) (endings : List Ending) : Type 0 where
+record Serves (rows before after left : List LockState) (endings : List Ending) : Type 0 where
   served_rows : ℕ
-  given : List LockRow
+  given : List LockState
   rest : left ≡ drop served_rows rows
   granted : after ≡ before ++ given
   each_granted : AllZip IsGranted (take served_rows rows) given
   each_ends : AllZip IsGrantOf (take served_rows rows) endings
 
 -- what the service of a queue does
-abbrev ServesFrom : List LockRow → Resource → (Resource → List LockRow) → Service → Type 0
+abbrev ServesFrom : List LockState → Resource → (Resource → List LockState) → Service → Type 0
 ServesFrom rows r queue s = Serves rows r.granted s.resource.granted (queue s.resource) s.endings
 
 -- no row is granted
-serves_none : (rows before left : List LockRow) → left ≡ rows → Serves rows before before left []
+serves_none : (rows before left : List LockState) → left ≡ rows → Serves rows before before left []
 serves_none rows before left is = record {
   served_rows = 0;
   given = [];
@@ -44,12 +48,12 @@ serves_none rows before left is = record {
 }
 
 -- what fits is wanted
-some_fits : (want : Option Request) (granted converting : List LockRow) → wanted_fits want granted converting ≡ true → IsSome want
+some_fits : (want : Option Request) (granted converting : List LockState) → wanted_fits want granted converting ≡ true → IsSome want
 some_fits None granted converting fitting = cc
 some_fits (Some request) granted converting fitting = refl
 
 -- the grant of a row ends what it wanted
-ends_zip : (row : LockRow) (rows : List LockRow) (endings : List Ending) (want : Option Request) → row.want ≡ want → IsSome want
+ends_zip : (row : LockState) (rows : List LockState) (endings : List Ending) (want : Option Request) → row.want ≡ want → IsSome want
     → AllZip IsGrantOf rows endings → AllZip IsGrantOf (row ∷ rows) (grant_endings false row ++ endings)
 ends_zip row rows endings None is some each = cc
 ends_zip row rows endings (Some request) is some each =
@@ -58,7 +62,7 @@ ends_zip row rows endings (Some request) is some each =
     (record { lkid = refl; pid = refl; request = sym is; how = tt; queued = refl }, each)
 
 -- the first row is granted, and then more
-serves_one_more : (row : LockRow) (rows before after left : List LockRow) (endings : List Ending) → IsSome row.want
+serves_one_more : (row : LockState) (rows before after left : List LockState) (endings : List Ending) → IsSome row.want
     → Serves rows (before ++ granted_row row ∷ []) after left endings → Serves (row ∷ rows) before after left (grant_endings false row ++ endings)
 serves_one_more row rows before after left endings some serves = record {
   served_rows = suc serves.served_rows;
@@ -70,7 +74,7 @@ serves_one_more row rows before after left endings some serves = record {
 }
 
 -- conversions are granted from the head of their queue
-conversions_served : (r : Resource) (rows : List LockRow) → r.converting ≡ rows → ServesFrom rows r (λ t. t.converting) (service_of_conversions r rows)
+conversions_served : (r : Resource) (rows : List LockState) → r.converting ≡ rows → ServesFrom rows r (λ t. t.converting) (service_of_conversions r rows)
 conversions_served r [] is = serves_none [] r.granted r.converting is
 conversions_served r (row ∷ rows) is =
     let granted : Resource = record (resource_after_grant r row) { converting = rows } in
@@ -82,7 +86,7 @@ conversions_served r (row ∷ rows) is =
     (λ _. serves_none (row ∷ rows) r.granted r.converting is)
 
 -- new requests are granted from the head of their queue
-waiting_served : (r : Resource) (rows : List LockRow) → r.waiting ≡ rows → ServesFrom rows r (λ t. t.waiting) (service_of_waiting r rows)
+waiting_served : (r : Resource) (rows : List LockState) → r.waiting ≡ rows → ServesFrom rows r (λ t. t.waiting) (service_of_waiting r rows)
 waiting_served r [] is = serves_none [] r.granted r.waiting is
 waiting_served r (row ∷ rows) is =
     let granted : Resource = record (resource_after_grant r row) { waiting = rows } in
@@ -108,7 +112,7 @@ pub same_resource : (r : Resource) → IsSameResource r r
 same_resource r = record { serial = refl; parent = refl; domain = refl; name = refl; level = refl }
 
 -- serving the conversions leaves the waiting queue
-pub conversions_leave_waiting : (r : Resource) (rows : List LockRow) → SameWaiting r (service_of_conversions r rows).resource
+pub conversions_leave_waiting : (r : Resource) (rows : List LockState) → SameWaiting r (service_of_conversions r rows).resource
 conversions_leave_waiting r [] = record { same = same_resource r; waiting = refl }
 conversions_leave_waiting r (row ∷ rows) =
     let granted : Resource = record (resource_after_grant r row) { converting = rows } in
@@ -116,13 +120,20 @@ conversions_leave_waiting r (row ∷ rows) =
     cond_both (wanted_fits row.want r.granted rows) (service_after_grant row (service_of_conversions granted rows)) (no_service r)
     (λ s. SameWaiting r s.resource)
     (λ _. record {
-      same = record { serial = further.same.serial; parent = further.same.parent; domain = further.same.domain; name = further.same.name; level = further.same.level };
+      same = record {
+        serial = further.same.serial;
+        parent = further.same.parent;
+        domain = further.same.domain;
+        name =
+            further.same.name;
+        level = further.same.level;
+      };
       waiting = further.waiting;
     })
     (λ _. record { same = same_resource r; waiting = refl })
 
 -- serving the waiting queue leaves the conversions
-waiting_leaves_conversions : (r : Resource) (rows : List LockRow) → SameConverting r (service_of_waiting r rows).resource
+waiting_leaves_conversions : (r : Resource) (rows : List LockState) → SameConverting r (service_of_waiting r rows).resource
 waiting_leaves_conversions r [] = record { same = same_resource r; converting = refl }
 waiting_leaves_conversions r (row ∷ rows) =
     let granted : Resource = record (resource_after_grant r row) { waiting = rows } in
@@ -130,7 +141,14 @@ waiting_leaves_conversions r (row ∷ rows) =
     cond_both (wanted_fits row.want r.granted r.converting) (service_after_grant row (service_of_waiting granted rows)) (no_service r)
     (λ s. SameConverting r s.resource)
     (λ _. record {
-      same = record { serial = further.same.serial; parent = further.same.parent; domain = further.same.domain; name = further.same.name; level = further.same.level };
+      same = record {
+        serial = further.same.serial;
+        parent = further.same.parent;
+        domain = further.same.domain;
+        name =
+            further.same.name;
+        level = further.same.level;
+      };
       converting = further.converting;
     })
     (λ _. record { same = same_resource r; converting = refl })
@@ -154,7 +172,7 @@ same_then a b c first second = record {
 }
 
 -- rows that stay are the same
-same_each : (rows : List LockRow) → AllZip IsSameButArmed rows rows
+same_each : (rows : List LockState) → AllZip IsSameButArmed rows rows
 same_each [] = tt
 same_each (row ∷ rows) = (record { lkid = refl; pid = refl; parent = refl; held = refl; want = refl }, same_each rows)
 
@@ -177,15 +195,15 @@ then_new_requests r left endings first same =
       same = same_then r left further.resource same.same leaves.same;
       converting = leaves.converting ∙ first.rest;
       waiting = second.rest ∙ ap (drop second.served_rows) same.waiting;
-      granted = second.granted ∙ ap (λ (rows : List LockRow). rows ++ second.given) first.granted ∙ append_assoc r.granted first.given second.given;
+      granted = second.granted ∙ ap (λ (rows : List LockState). rows ++ second.given) first.granted ∙ append_assoc r.granted first.given second.given;
       rows =
           zip_append IsGranted (take first.served_rows r.converting) first.given (take second.served_rows r.waiting) second.given
           first.each_granted
-          (subst (λ (rows : List LockRow). AllZip IsGranted (take second.served_rows rows) second.given) same.waiting second.each_granted);
+          (subst (λ (rows : List LockState). AllZip IsGranted (take second.served_rows rows) second.given) same.waiting second.each_granted);
       ends =
           zip_append IsGrantOf (take first.served_rows r.converting) endings (take second.served_rows r.waiting) further.endings
           first.each_ends
-          (subst (λ (rows : List LockRow). AllZip IsGrantOf (take second.served_rows rows) further.endings) same.waiting second.each_ends);
+          (subst (λ (rows : List LockState). AllZip IsGrantOf (take second.served_rows rows) further.endings) same.waiting second.each_ends);
       conversions_before = λ _. leaves.converting ∙ is_empty-true left.converting none;
     })
     (λ _. record {
@@ -198,7 +216,7 @@ then_new_requests r left endings first same =
       converting = first.rest;
       waiting = same.waiting;
       granted = first.granted;
-      rows = subst (λ (rows : List LockRow). AllZip IsGranted rows first.given) (sym (append-nil (take first.served_rows r.converting))) first.each_granted;
+      rows = subst (λ (rows : List LockState). AllZip IsGranted rows first.given) (sym (append-nil (take first.served_rows r.converting))) first.each_granted;
       ends =
           zip_append IsGrantOf (take first.served_rows r.converting) endings [] [] first.each_ends tt;
       conversions_before = λ (some : 0 < 0). absurd (omega arith);
@@ -230,7 +248,7 @@ with_any_value_block block before after endings first = record {
 }
 
 -- granted rows that are warned are granted ones still
-given_warned : (converting waiting rows given : List LockRow) → AllZip IsGranted rows given
+given_warned : (converting waiting rows given : List LockState) → AllZip IsGranted rows given
     → AllZip IsGranted rows (map (row_after_warning converting waiting) given)
 given_warned converting waiting [] [] granted = tt
 given_warned converting waiting [] (row ∷ given) granted = absurd granted
@@ -260,7 +278,8 @@ with_warnings before after endings first = record {
   same = record { serial = first.same.serial; parent = first.same.parent; domain = first.same.domain; name = first.same.name; level = first.same.level };
   converting = first.converting;
   waiting = first.waiting;
-  granted = ap (map (row_after_warning after.converting after.waiting)) first.granted ∙ map-append (row_after_warning after.converting after.waiting) first.kept first.given;
+  granted = ap (map (row_after_warning after.converting after.waiting)) first.granted
+      ∙ map-append (row_after_warning after.converting after.waiting) first.kept first.given;
   rows = given_warned after.converting after.waiting (first_rows first.conversions first.new_requests before) first.given first.rows;
   ends = first.ends;
   conversions_before = first.conversions_before;
@@ -297,7 +316,7 @@ sweep_in_order processes (r ∷ rest) =
     ] refl
 
 -- what is granted from queues ends by grants
-pub granted_ends : (rows : List LockRow) (endings : List Ending) → AllZip IsGrantOf rows endings → AllByRecursion (λ ending. IsGrant ending.how) endings
+pub granted_ends : (rows : List LockState) (endings : List Ending) → AllZip IsGrantOf rows endings → AllByRecursion (λ ending. IsGrant ending.how) endings
 granted_ends [] [] ends = tt
 granted_ends [] (ending ∷ endings) ends = absurd ends
 granted_ends (row ∷ rows) [] ends = absurd ends

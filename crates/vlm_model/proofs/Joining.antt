@@ -1,5 +1,6 @@
--- Whoever joins a queue stands behind it.
-use Rattle.std.proofs.Common.{◌≡◌, ◌≤◌, ◌+◌, ℕ, Bool, true, false, not, List, [], ◌∷◌, ◌++◌, map, length, cond, Option, None, Some, refl, sym, subst, ap, ◌∙◌, arith}
+-- A request that joins a queue goes to its end.
+use Rattle.std.proofs.Common.{◌≡◌, ◌≤◌, ◌+◌, ℕ, Bool, true, false, not, List, [], ◌∷◌, ◌++◌, map, length, cond, Option}
+use Rattle.std.proofs.Common.{None, Some, refl, sym, subst, ap, ◌∙◌, arith}
 use Rattle.std.specs.Prelude.{◌==◌, ◌-◌}
 use Rattle.std.specs.List.{AllByRecursion, AllZip, find, sum_by, filter, range_with_len}
 use Rattle.std.proofs.lemmas.Bool.{and_parts, cond_both, eq-eqb, eqb-true}
@@ -7,7 +8,7 @@ use Rattle.std.proofs.lemmas.List.{append-nil}
 use Rattle.std.proofs.lemmas.List.Elements.{All-from_recursion}
 use Rattle.std.proofs.lemmas.List.Sums.{sum_by-cons}
 use Rattle.vlm_words.specs.declared.locks.Request.{Request}
-use Rattle.vlm_words.specs.declared.locks.LockRow.{LockRow}
+use Rattle.vlm_words.specs.declared.locks.LockState.{LockState}
 use Rattle.vlm_words.specs.declared.resources.Site.{Site}
 use Rattle.vlm_words.specs.declared.resources.ValueBlock.{ValueBlock}
 use Rattle.vlm_words.specs.declared.steps.Step.TheVariants.{Declare, SetValue, Enq, Convert, Deq, Rundown, Leave, Search, Take}
@@ -22,14 +23,18 @@ use Rattle.vlm_model.specs.SetValue.{set_change}
 use Rattle.vlm_model.specs.Take.{take_change}
 use Rattle.vlm_model.specs.Trees.{enq_site}
 use Rattle.vlm_model.specs.Enqueue.{enq_at_once, enq_change, enq_row, resource_after_entry, resources_after_entry}
-use Rattle.vlm_model.specs.Convert.{ConversionAdmission, convert_blocks, convert_change, convert_lkid, resource_after_conversion, resource_after_conversion_of, resource_without_granted}
-use Rattle.vlm_model.specs.Withdrawals.{Withdrawal, is_held_by_writer, resource_after_cancel, resource_after_going, resource_after_withdrawals, resource_without, row_after_cancel, value_block_after_writer, resource_after_each, resource_after_writer}
+use Rattle.vlm_model.specs.Convert.{ConversionAdmission, convert_blocks, convert_change, convert_lkid}
+use Rattle.vlm_model.specs.Convert.{resource_after_conversion, resource_after_conversion_of, resource_without_granted}
+use Rattle.vlm_model.specs.Withdrawals.{Withdrawal, is_held_by_writer, resource_after_cancel, resource_after_going}
+use Rattle.vlm_model.specs.Withdrawals.{resource_after_withdrawals, resource_without, row_after_cancel}
+use Rattle.vlm_model.specs.Withdrawals.{value_block_after_writer, resource_after_each, resource_after_writer}
 use Rattle.vlm_model.specs.Dequeue.{deq_change, dequeue_lkid, withdrawal_of, withdrawals_of, is_dequeued}
 use Rattle.vlm_model.specs.Runs.{History, Run}
 use Rattle.vlm_model.specs.Stepped.{IsChoice, conversion_change, step_change, step_refusal}
-use Rattle.vlm_model.specs.Joining.{ChangesKeepOrder, HasOwnAlone, JoinsBehind, KeepsOrder, is_own_lock, nobody_joins, one_joins, row_leaves, row_stays, is_lock_of_one}
+use Rattle.vlm_model.specs.Joining.{ChangesKeepOrder, HasOwnAlone, JoinsBehind, KeepsOrder, is_own_lock, nobody_joins}
+use Rattle.vlm_model.specs.Joining.{one_joins, row_leaves, row_stays, is_lock_of_one}
 use Rattle.vlm_model.proofs.Always.{admission_of}
-use Rattle.vlm_model.proofs.Apart.{Apart, apart_always, standing, stands}
+use Rattle.vlm_model.proofs.IdsApart.{Apart, apart_always, standing, stands}
 use Rattle.vlm_model.proofs.Each.{Found, found_at, each_filter, each_map, each_so}
 use Rattle.vlm_model.proofs.InOrder.{same_resource}
 use Rattle.vlm_model.proofs.Keys.{entry_keeps_place}
@@ -40,24 +45,25 @@ use Rattle.vlm_words.specs.Flags.{cancel, deqall, has_flag}
 use Rattle.vlm_model.specs.OwnLocks.{own_lkids}
 use Rattle.vlm_words.specs.declared.steps.Dequeue.{Dequeue}
 use Rattle.vlm_model.proofs.WhoseLocks.{each_passing}
-use Rattle.vlm_model.proofs.Passed.{flags_go_together}
+use Rattle.vlm_model.proofs.PassedChecks.{flags_go_together}
 use Rattle.vlm_model.specs.Search.{victim_withdrawals, search_change, deadlock_of}
 
 -- ---- one queue
 
 module _ (own : ℕ → Bool) where
   -- a queue that is left alone
-  alone : (rows : List LockRow) → JoinsBehind own rows rows
+  alone : (rows : List LockState) → JoinsBehind own rows rows
   alone [] = nobody_joins
   alone (row ∷ rows) = row_stays (alone rows)
 
   -- an own lock joins
-  joined : (row : LockRow) → own row.lkid ≡ true → (rows : List LockRow) → JoinsBehind own rows (rows ++ row ∷ [])
+  joined : (row : LockState) → own row.lkid ≡ true → (rows : List LockState) → JoinsBehind own rows (rows ++ row ∷ [])
   joined row is [] = one_joins is
   joined row is (first ∷ rows) = row_stays (joined row is rows)
 
   -- what stands behind a queue whose own locks leave
-  left : (lkid : ℕ) → own lkid ≡ true → (behind : List LockRow) → JoinsBehind own [] behind → (rows : List LockRow) → JoinsBehind own rows (rows_without lkid rows ++ behind)
+  left : (lkid : ℕ) → own lkid ≡ true → (behind : List LockState) → JoinsBehind own [] behind → (rows : List LockState)
+      → JoinsBehind own rows (rows_without lkid rows ++ behind)
   left lkid is behind joins [] = joins
   left lkid is behind joins (row ∷ rows) = of_test (row.lkid == lkid) refl (left lkid is behind joins rows)
     where
@@ -67,11 +73,11 @@ module _ (own : ℕ → Bool) where
       of_test false other further = row_stays further
 
   -- own locks leave
-  gone : (lkid : ℕ) → own lkid ≡ true → (rows : List LockRow) → JoinsBehind own rows (rows_without lkid rows)
+  gone : (lkid : ℕ) → own lkid ≡ true → (rows : List LockState) → JoinsBehind own rows (rows_without lkid rows)
   gone lkid is rows = subst (JoinsBehind own rows) (append-nil (rows_without lkid rows)) (left lkid is [] nobody_joins rows)
 
   -- one more behind
-  behind_all : (behind : List LockRow) → JoinsBehind own [] behind → (rows : List LockRow) → JoinsBehind own rows (rows ++ behind)
+  behind_all : (behind : List LockState) → JoinsBehind own [] behind → (rows : List LockState) → JoinsBehind own rows (rows ++ behind)
   behind_all behind joins [] = joins
   behind_all behind joins (row ∷ rows) = row_stays (behind_all behind joins rows)
 
@@ -92,7 +98,7 @@ module _ (own : ℕ → Bool) where
 -- ---- the changes
 
 -- a new lock enters a queue behind all
-entered : (own : ℕ → Bool) (row : LockRow) → own row.lkid ≡ true → (at_once : Bool) (r : Resource) → KeepsOrder own r (resource_after_entry row at_once r)
+entered : (own : ℕ → Bool) (row : LockState) → own row.lkid ≡ true → (at_once : Bool) (r : Resource) → KeepsOrder own r (resource_after_entry row at_once r)
 unfolding resource_after_entry
 entered own row is at_once r =
     let same = entry_keeps_place row at_once r in
@@ -120,7 +126,7 @@ record Entered (own : ℕ → Bool) (before after : List Resource) : Type 0 wher
   alone : AllByRecursion (HasOwnAlone own) made
   at_most_one : length made ≤ 1
 
-all_entered : (own : ℕ → Bool) (serial : ℕ) (site : Site) (row : LockRow) → own row.lkid ≡ true → (at_once : Bool) (resources : List Resource)
+all_entered : (own : ℕ → Bool) (serial : ℕ) (site : Site) (row : LockState) → own row.lkid ≡ true → (at_once : Bool) (resources : List Resource)
     → Entered own resources (resources_after_entry serial site row at_once resources)
 all_entered own serial site row is at_once [] =
     let first = entered own row is at_once (new_resource serial site) in
@@ -133,7 +139,9 @@ all_entered own serial site row is at_once [] =
       at_most_one = omega arith;
     }
 all_entered own serial site row is at_once (r ∷ rest) =
-    elim (is_at site.key r) as (λ b. Entered own (r ∷ rest) (cond b (resource_after_entry row at_once r ∷ rest) (r ∷ resources_after_entry serial site row at_once rest))) [
+    elim (is_at site.key r) as
+    (λ b. Entered own (r ∷ rest)
+    (cond b (resource_after_entry row at_once r ∷ rest) (r ∷ resources_after_entry serial site row at_once rest))) [
       | true ↦ record {
         kept = resource_after_entry row at_once r ∷ rest;
         made = [];
@@ -155,7 +163,8 @@ all_entered own serial site row is at_once (r ∷ rest) =
     ]
 
 -- a lock that converts leaves the granted queue, and joins behind one queue
-converted : (own : ℕ → Bool) (request : Request) (at_once : Bool) (pid lkid : ℕ) → own lkid ≡ true → (block : ValueBlock) (r : Resource) (found : Option LockRow)
+converted : (own : ℕ → Bool) (request : Request) (at_once : Bool) (pid lkid : ℕ) → own lkid ≡ true
+    → (block : ValueBlock) (r : Resource) (found : Option LockState)
     → find (is_lock_of pid lkid) r.granted ≡ found → KeepsOrder own r (resource_after_conversion_of request at_once lkid block r found)
 converted own request at_once pid lkid is block r None at = kept own r
 converted own request at_once pid lkid is block r (Some row) at =
@@ -184,7 +193,7 @@ all_converted own request at_once pid lkid is block (r ∷ rest) =
     (converted own request at_once pid lkid is block r (find (is_lock_of pid lkid) r.granted) refl, all_converted own request at_once pid lkid is block rest)
 
 -- a lock that has no row is not found
-none_of : (lkid : ℕ) (rows : List LockRow) → sum_by (stands lkid) rows ≡ 0 → rows_of lkid rows ≡ []
+none_of : (lkid : ℕ) (rows : List LockState) → sum_by (stands lkid) rows ≡ 0 → rows_of lkid rows ≡ []
 none_of lkid [] nothing = refl
 none_of lkid (x ∷ xs) nothing =
     of_test (x.lkid == lkid) refl (none_of lkid xs (omega (arith, nothing, sum_by-cons (stands lkid) x xs)))
@@ -196,7 +205,7 @@ none_of lkid (x ∷ xs) nothing =
     of_test false other behind = behind
 
 -- of a lock that has at most one row, at most one goes back behind the granted queue
-back_again : (own : ℕ → Bool) (lkid : ℕ) → own lkid ≡ true → (rows : List LockRow) → sum_by (stands lkid) rows ≤ 1
+back_again : (own : ℕ → Bool) (lkid : ℕ) → own lkid ≡ true → (rows : List LockState) → sum_by (stands lkid) rows ≤ 1
     → JoinsBehind own [] (map row_after_cancel (rows_of lkid rows))
 back_again own lkid is [] one = nobody_joins
 back_again own lkid is (row ∷ rows) one =
@@ -206,13 +215,14 @@ back_again own lkid is (row ∷ rows) one =
         → JoinsBehind own [] (map row_after_cancel (cond b (row ∷ rows_of lkid rows) (rows_of lkid rows)))
     of_test true here later =
         let counted : stands lkid row ≡ 1 = ap (λ (b : Bool). cond b 1 0) here in
-        subst (λ (behind : List LockRow). JoinsBehind own [] (row_after_cancel row ∷ map row_after_cancel behind))
+        subst (λ (behind : List LockState). JoinsBehind own [] (row_after_cancel row ∷ map row_after_cancel behind))
         (sym (none_of lkid rows (omega (arith, one, counted, sum_by-cons (stands lkid) row rows))))
         (one_joins (ap own (eqb-true row.lkid lkid here) ∙ is))
     of_test false other later = later (omega (arith, one, sum_by-cons (stands lkid) row rows))
 
 -- a lock that goes leaves its queue, and one that stays joins the granted queue again
-gone_in_order : (own : ℕ → Bool) (w : Withdrawal) → own w.lkid ≡ true → (r : Resource) → weigh (stands w.lkid) r ≤ 1 → KeepsOrder own r (resource_after_going w r)
+gone_in_order : (own : ℕ → Bool) (w : Withdrawal) → own w.lkid ≡ true → (r : Resource) → weigh (stands w.lkid) r ≤ 1
+    → KeepsOrder own r (resource_after_going w r)
 unfolding resource_after_cancel resource_without
 gone_in_order own w is r one =
     cond_both w.stays (resource_after_cancel w.lkid r) (resource_without w.lkid r) (KeepsOrder own r)
@@ -237,7 +247,14 @@ withdrawn own w is r one =
     let further : KeepsOrder own written (resource_after_going w written) = gone_in_order own w is written one in
     cond_both (is_held_by_writer w.lkid r) written r (λ left. KeepsOrder own r (resource_after_going w left))
     (λ _. record {
-      same = record { serial = further.same.serial; parent = further.same.parent; domain = further.same.domain; name = further.same.name; level = further.same.level };
+      same = record {
+        serial = further.same.serial;
+        parent = further.same.parent;
+        domain = further.same.domain;
+        name =
+            further.same.name;
+        level = further.same.level;
+      };
       granted = further.granted;
       converting = further.converting;
       waiting = further.waiting;
@@ -254,7 +271,7 @@ all_withdrawn own w is (r ∷ rest) one =
 -- ---- several withdrawals
 
 -- own locks that are gone have left
-gone_after : (own : ℕ → Bool) (lkid : ℕ) → own lkid ≡ true → (before after : List LockRow) → JoinsBehind own before after
+gone_after : (own : ℕ → Bool) (lkid : ℕ) → own lkid ≡ true → (before after : List LockState) → JoinsBehind own before after
     → JoinsBehind own before (rows_without lkid after)
 gone_after own lkid is _ _ nobody_joins = nobody_joins
 gone_after own lkid is _ _ (one_joins {row} its) =
@@ -345,20 +362,22 @@ dequeued_in_order s apart d together = of_flag (has_flag d.flags deqall) refl
         (each_passing (own true) (range_with_len 1 (s.next_lkid - 1))))) s.resources)
     of_flag false is =
         subst at (sym is)
-        (all_withdrawn (own false) (withdrawal_of d (dequeue_lkid s d)) (eq-eqb (dequeue_lkid s d) (dequeue_lkid s d) refl) s.resources (apart.one_row (dequeue_lkid s d)))
+        (all_withdrawn (own false) (withdrawal_of d (dequeue_lkid s d))
+        (eq-eqb (dequeue_lkid s d) (dequeue_lkid s d) refl) s.resources (apart.one_row (dequeue_lkid s d)))
 
 -- the victim of a search
-victim_in_order : (s : State) → Apart s → (node : ℕ) (choice : Option LockRow)
+victim_in_order : (s : State) → Apart s → (node : ℕ) (choice : Option LockState)
     → AllByRecursion (λ r. KeepsOrder (is_own_lock s (Search node) choice) r (resource_after_withdrawals (victim_withdrawals choice) r)) s.resources
 victim_in_order s apart node None =
     each_so (λ r. KeepsOrder (is_own_lock s (Search node) None) r r) (kept (is_own_lock s (Search node) None)) s.resources
 victim_in_order s apart node (Some victim) =
-    all_withdrawn (is_own_lock s (Search node) (Some victim)) (deadlock_of victim.lkid) (eq-eqb victim.lkid victim.lkid refl) s.resources (apart.one_row victim.lkid)
+    all_withdrawn (is_own_lock s (Search node) (Some victim)) (deadlock_of victim.lkid)
+    (eq-eqb victim.lkid victim.lkid refl) s.resources (apart.one_row victim.lkid)
 
 -- ---- the steps
 
 -- a change that leaves the resources
-unchanged : (s : State) (step : Step) (choice : Option LockRow) → (step_change s step choice).state.resources ≡ s.resources → ChangesKeepOrder s step choice
+unchanged : (s : State) (step : Step) (choice : Option LockState) → (step_change s step choice).state.resources ≡ s.resources → ChangesKeepOrder s step choice
 unchanged s step choice same = record {
   kept = s.resources;
   made = [];
@@ -369,7 +388,8 @@ unchanged s step choice same = record {
 }
 
 -- a change of each resource
-changed : (s : State) (step : Step) (choice : Option LockRow) (change : Resource → Resource) → (step_change s step choice).state.resources ≡ map change s.resources
+changed : (s : State) (step : Step) (choice : Option LockState) (change : Resource → Resource)
+    → (step_change s step choice).state.resources ≡ map change s.resources
     → AllByRecursion (λ r. KeepsOrder (is_own_lock s step choice) r (change r)) s.resources → ChangesKeepOrder s step choice
 changed s step choice change is each = record {
   kept = map change s.resources;
@@ -380,7 +400,7 @@ changed s step choice change is each = record {
   at_most_one = omega arith;
 }
 
-changes_keep_order : (s : State) → Apart s → (step : Step) (choice : Option LockRow) → step_refusal s step ≡ None → ChangesKeepOrder s step choice
+changes_keep_order : (s : State) → Apart s → (step : Step) (choice : Option LockState) → step_refusal s step ≡ None → ChangesKeepOrder s step choice
 unfolding declare_change set_change take_change enq_change convert_change deq_change search_change state_after_rundown
 changes_keep_order s apart (Declare d) choice passed = unchanged s (Declare d) choice refl
 changes_keep_order s apart (SetValue v) choice passed = unchanged s (SetValue v) choice refl
@@ -415,6 +435,6 @@ changes_keep_order s apart (Search node) choice passed =
 changes_keep_order s apart (Take pid) choice passed = unchanged s (Take pid) choice refl
 
 -- after every run
-pub order_kept_always : (history : History) (old : State) → Run history old → (step : Step) (choice : Option LockRow) → IsChoice old step choice
+pub order_kept_always : (history : History) (old : State) → Run history old → (step : Step) (choice : Option LockState) → IsChoice old step choice
     → step_refusal old step ≡ None → ChangesKeepOrder old step choice
 order_kept_always history old run step choice chosen = changes_keep_order old (apart_always history old run) step choice

@@ -1,13 +1,14 @@
--- After every run serials rise from one resource to the next, no more of them than identifications were given,
+-- After every run serials rise from one resource to the next, no more of them than IDs were given,
 -- and no two resources have one key.
-use Rattle.std.proofs.Common.{◌≡◌, ◌<◌, ◌≤◌, ◌+◌, ◌||◌, ◌&&◌, ℕ, Bool, true, false, not, List, [], ◌∷◌, ◌++◌, map, cond, Option, None, Some, refl, sym, subst, ap, ◌∙◌, arith}
+use Rattle.std.proofs.Common.{◌≡◌, ◌<◌, ◌≤◌, ◌+◌, ◌||◌, ◌&&◌, ℕ, Bool, true, false, not, List, [], ◌∷◌, ◌++◌, map, cond}
+use Rattle.std.proofs.Common.{Option, None, Some, refl, sym, subst, ap, ◌∙◌, arith}
 use Rattle.std.specs.Prelude.{◌==◌}
 use Rattle.std.specs.Cmp.Lexicographic.{pointwise, bytes_decides}
 use Rattle.std.specs.List.{AllByRecursion, find}
 use Rattle.std.proofs.lemmas.Bool.{and_parts, cond_both, eqb-true, eq-eqb}
 use Rattle.std.proofs.lemmas.List.Elements.{All-from_recursion}
 use Rattle.vlm_words.specs.declared.locks.Request.{Request}
-use Rattle.vlm_words.specs.declared.locks.LockRow.{LockRow}
+use Rattle.vlm_words.specs.declared.locks.LockState.{LockState}
 use Rattle.vlm_words.specs.declared.resources.Domain.TheVariants.{Group, System}
 use Rattle.vlm_words.specs.declared.resources.Domain.{Domain}
 use Rattle.vlm_words.specs.declared.resources.Key.TheVariants.{Root, Below}
@@ -18,7 +19,8 @@ use Rattle.vlm_words.specs.declared.steps.NewRequest.{NewRequest}
 use Rattle.vlm_words.specs.State.{Process, Resource, State}
 use Rattle.vlm_model.specs.Effects.{with_value_block}
 use Rattle.vlm_model.specs.Grants.{resource_after_grant, service}
-use Rattle.vlm_model.specs.Sweeps.{blocks_after_service, is_vacant, resource_after_service, resources_after_service, resources_after_sweep, state_after_sweep, served_with}
+use Rattle.vlm_model.specs.Sweeps.{blocks_after_service, is_vacant, resource_after_service, resources_after_service}
+use Rattle.vlm_model.specs.Sweeps.{resources_after_sweep, state_after_sweep, served_with}
 use Rattle.vlm_words.specs.Rows.{is_lock_of, wanting_row}
 use Rattle.vlm_words.specs.Resources.{IsKeyed, is_at, is_domain, key_name, key_parent, new_resource}
 use Rattle.vlm_model.specs.Checks.{holds_lock}
@@ -27,9 +29,12 @@ use Rattle.vlm_model.specs.Declare.{declare_change}
 use Rattle.vlm_model.specs.SetValue.{set_change}
 use Rattle.vlm_model.specs.Take.{take_change}
 use Rattle.vlm_model.specs.Enqueue.{enq_at_once, enq_change, enq_key, enq_row, has_resource, resource_after_entry, resources_after_entry}
-use Rattle.vlm_model.specs.Convert.{convert_blocks, convert_change, convert_lkid, resource_after_conversion, resource_after_conversion_of, resource_without_granted}
+use Rattle.vlm_model.specs.Convert.{convert_blocks, convert_change, convert_lkid, resource_after_conversion}
+use Rattle.vlm_model.specs.Convert.{resource_after_conversion_of, resource_without_granted}
 use Rattle.vlm_model.specs.Rundown.{rundowns, state_after_rundown}
-use Rattle.vlm_model.specs.Withdrawals.{Withdrawal, is_held_by_writer, resource_after_cancel, resource_after_withdrawals, resource_after_writer, resource_without, value_block_after_writer, resource_after_going, state_after_withdrawals}
+use Rattle.vlm_model.specs.Withdrawals.{Withdrawal, is_held_by_writer, resource_after_cancel}
+use Rattle.vlm_model.specs.Withdrawals.{resource_after_withdrawals, resource_after_writer, resource_without}
+use Rattle.vlm_model.specs.Withdrawals.{value_block_after_writer, resource_after_going, state_after_withdrawals}
 use Rattle.vlm_model.specs.Runs.{History, Run}
 use Rattle.vlm_model.specs.Laws.{HaveOneKey, IsSameResource, KeysAreApart, SerialsRise}
 use Rattle.vlm_model.proofs.Each.{Found, each_at, each_filter, each_map, each_weaker, found_at}
@@ -49,7 +54,7 @@ abbrev pub KeepsPlace : (Resource → Resource) → Type 0
 KeepsPlace f = (r : Resource) → IsSameResource r (f r)
 
 -- a lock's entry
-pub entry_keeps_place : (row : LockRow) (at_once : Bool) → KeepsPlace (resource_after_entry row at_once)
+pub entry_keeps_place : (row : LockState) (at_once : Bool) → KeepsPlace (resource_after_entry row at_once)
 unfolding resource_after_entry
 entry_keeps_place row at_once r =
     cond_both at_once (resource_after_grant r row) (record r { waiting = r.waiting ++ row ∷ [] }) (IsSameResource r)
@@ -57,11 +62,12 @@ entry_keeps_place row at_once r =
     (λ _. record { serial = refl; parent = refl; domain = refl; name = refl; level = refl })
 
 -- a conversion
-pub conversion_keeps_place : (request : Request) (at_once : Bool) (pid lkid : ℕ) (block : ValueBlock) → KeepsPlace (resource_after_conversion request at_once pid lkid block)
+pub conversion_keeps_place : (request : Request) (at_once : Bool) (pid lkid : ℕ) (block : ValueBlock)
+    → KeepsPlace (resource_after_conversion request at_once pid lkid block)
 unfolding resource_after_conversion
 conversion_keeps_place request at_once pid lkid block r = of_found (find (is_lock_of pid lkid) r.granted)
   where
-    of_found : (found : Option LockRow) → IsSameResource r (resource_after_conversion_of request at_once lkid block r found)
+    of_found : (found : Option LockState) → IsSameResource r (resource_after_conversion_of request at_once lkid block r found)
     of_found None = same_resource r
     of_found (Some row) =
         cond_both at_once
@@ -128,7 +134,7 @@ pairs_after_sweep R stands processes resources pairs =
     each_pair_filter R (λ r. not (is_vacant r)) (resources_after_service processes resources) (pairs_after_service R stands processes resources pairs)
 
 -- a lock's entry keeps the pairs, where those before a new resource have the relation to it
-pairs_after_entry : (R : Resource → Resource → Type 0) → StandsOnPlaces R → (serial : ℕ) (site : Site) (row : LockRow)
+pairs_after_entry : (R : Resource → Resource → Type 0) → StandsOnPlaces R → (serial : ℕ) (site : Site) (row : LockState)
     (at_once : Bool) (resources : List Resource)
     → AllByRecursion (λ r. is_at site.key r ≡ false → R r (new_resource serial site)) resources
     → EachPair R resources → EachPair R (resources_after_entry serial site row at_once resources)
@@ -218,7 +224,7 @@ one_key domain key a b keyed first second =
 abbrev pub WasGiven : ℕ → Resource → Type 0
 WasGiven next r = (0 < r.serial) × (r.serial < next)
 
--- serials rise, were given, no more of them than identifications, and no two resources have one key
+-- serials rise, were given, no more of them than IDs, and no two resources have one key
 pub record Placed (s : State) : Type 0 where
   pub rising : EachPair Rises s.resources
   pub given : AllByRecursion (WasGiven s.next_serial) s.resources
@@ -231,7 +237,7 @@ still_given : (next later : ℕ) (before after : Resource) → next ≤ later �
 still_given next later before after more same given = (omega (arith, same.serial, given.0), omega (arith, same.serial, given.1))
 
 -- the serials after a lock's entry are below the one that comes then
-given_after_entry : (n : ℕ) (site : Site) (row : LockRow) (at_once : Bool) (resources : List Resource) → 0 < n
+given_after_entry : (n : ℕ) (site : Site) (row : LockState) (at_once : Bool) (resources : List Resource) → 0 < n
     → AllByRecursion (WasGiven n) resources
     → AllByRecursion (WasGiven (cond (has_resource site.key resources) n (n + 1))) (resources_after_entry n site row at_once resources)
 given_after_entry n site row at_once [] first given =
@@ -251,7 +257,7 @@ given_after_entry n site row at_once (r ∷ rest) first given =
     no_less true = omega arith
     no_less false = omega arith
 
--- an entry makes a resource at most, and takes one identification
+-- an entry makes a resource at most, and takes one ID
 few_after_entry : (b : Bool) (serial lkid : ℕ) → serial ≤ lkid → cond b serial (serial + 1) ≤ lkid + 1
 few_after_entry true serial lkid few = omega arith
 few_after_entry false serial lkid few = omega arith
@@ -308,7 +314,9 @@ enq_keyed s e placed = below (parent_lkid s e == 0)
     of_parent None is = refl
     of_parent (Some parent) is = (of_found (WasGiven s.next_serial) (holds_lock e.pid (parent_lkid s e)) s.resources parent placed.given is).0
 
-    below : (none : Bool) → IsKeyed (site_below (root_domain s e.pid e.flags) e.name (cond none None (find (holds_lock e.pid (parent_lkid s e)) s.resources))).domain
+    below : (none : Bool)
+        → IsKeyed (site_below (root_domain s e.pid e.flags) e.name
+        (cond none None (find (holds_lock e.pid (parent_lkid s e)) s.resources))).domain
         (site_below (root_domain s e.pid e.flags) e.name (cond none None (find (holds_lock e.pid (parent_lkid s e)) s.resources))).key
     below true = refl
     below false = of_parent (find (holds_lock e.pid (parent_lkid s e)) s.resources) refl
@@ -371,7 +379,8 @@ placed_always =
     (mapped_placed s after (resource_after_withdrawals withdrawals) (withdrawals_keep_place withdrawals) refl refl refl placed))
     (λ is_one nodes _.
     swept_placed (state_after_rundown is_one nodes s)
-    (mapped_placed s (state_after_rundown is_one nodes s) (resource_after_withdrawals (rundowns is_one s)) (withdrawals_keep_place (rundowns is_one s)) refl refl refl placed)))
+    (mapped_placed s (state_after_rundown is_one nodes s) (resource_after_withdrawals (rundowns is_one s))
+    (withdrawals_keep_place (rundowns is_one s)) refl refl refl placed)))
 
 -- after every run serials rise
 pub serials_always : (history : History) (last : State)

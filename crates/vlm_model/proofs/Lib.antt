@@ -1,7 +1,7 @@
 pub mod Each
 pub mod Pairs
 pub mod Warned
-pub mod Passed
+pub mod PassedChecks
 pub mod Always
 pub mod EachResource
 pub mod Withdrawing
@@ -12,19 +12,19 @@ pub mod HeldModes
 pub mod RowsFit
 pub mod Sums
 pub mod Weights
-pub mod Moves
-pub mod Apart
+pub mod LastingSums
+pub mod IdsApart
 pub mod Holders
 pub mod Admissions
 pub mod Counts
 pub mod EndsOnce
 pub mod InOrder
 pub mod Keys
-pub mod WritesAtOnce
+pub mod GrantsAtOnce
 pub mod Granted
 pub mod Joining
-pub mod Writes
-pub mod Settled
+pub mod WritingConversions
+pub mod Stable
 mod NothingToWarn
 pub mod Processes
 pub mod Declarations
@@ -33,8 +33,8 @@ pub mod Totals
 pub mod Holdings
 pub mod Rooted
 pub mod NewlyRooted
-pub mod Below
-pub mod Closed
+pub mod LocksBelow
+pub mod GivenUpTrees
 pub mod Trees
 pub mod WhoseLocks
 pub mod Numbers
@@ -48,26 +48,26 @@ pub mod Waiting
 pub mod Queued
 pub mod QueueOrder
 pub mod EndWrites
-pub mod Writing
-pub mod Ended
-pub mod Leaving
-pub mod LeftValues
-pub mod Written
-pub mod Queueing
+pub mod StatusBlockWrites
+pub mod ProcessEnds
+pub mod EndedLocks
+pub mod ReleasedValues
+pub mod WrittenBlocks
+pub mod AstQueueing
 mod Taking
 pub mod Standing
 pub mod SweptValues
 pub mod Writers
 pub mod Returning
 pub mod Returned
-mod Circles
+mod Cycles
 pub mod Completing
 pub mod Strangers
 pub mod Living
 pub mod Accounting
 pub mod ConvertsOnce
-pub mod Falling
-pub mod Raising
+pub mod DueAstsFall
+pub mod DueAstsRise
 pub mod Warning
 pub mod WarnedOnce
 pub mod BlocksRequests
@@ -75,10 +75,10 @@ pub mod TakenBelow
 pub mod AbortedInOrder
 pub mod Departing
 pub mod EndedProcesses
-pub mod Happened
+pub mod LongerRuns
 pub mod Privileges
 pub mod Owners
-pub mod NoNewCircles
+pub mod NoNewCycles
 pub mod TailMarks
 pub mod AtOnce
 pub mod WarnedSince
@@ -86,3 +86,6 @@ pub mod TakenAlone
 pub mod ShortHistories
 pub mod OneLock
 pub mod TwoDeadlocked
+pub mod Others
+pub mod Foreign
+pub mod Reuse

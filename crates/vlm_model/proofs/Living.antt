@@ -1,5 +1,6 @@
--- Who lives, and that nobody lives twice: a declaration gives an identification that was never given before.
-use Rattle.std.proofs.Common.{◌≡◌, ◌≢◌, ◌++◌, ◌+◌, ◌-◌, ◌/◌, ℕ, Bool, true, false, List, [], ◌∷◌, map, cond, Option, None, Some, inl, inr, refl, sym, subst, ap, ◌∙◌, arith}
+-- Who lives, and that nobody lives twice: a declaration gives an ID that was never given before.
+use Rattle.std.proofs.Common.{◌≡◌, ◌≢◌, ◌++◌, ◌+◌, ◌-◌, ◌/◌, ℕ, Bool, true, false, List, [], ◌∷◌, map, cond, Option}
+use Rattle.std.proofs.Common.{None, Some, inl, inr, refl, sym, subst, ap, ◌∙◌, arith}
 use Rattle.std.specs.Prelude.{◌==◌, is_some}
 use Rattle.std.specs.List.{AllByRecursion}
 use Rattle.std.specs.Option.{option_map_or}
@@ -7,7 +8,7 @@ use Rattle.std.proofs.lemmas.Bool.{eqb-true}
 use Rattle.std.proofs.lemmas.List.Elements.{All-from_recursion}
 use Rattle.vlm_words.specs.declared.conditions.Cond.{Cond}
 use Rattle.vlm_words.specs.declared.conditions.Cond.TheVariants.{Insfmem, Normal}
-use Rattle.vlm_words.specs.declared.locks.LockRow.{LockRow}
+use Rattle.vlm_words.specs.declared.locks.LockState.{LockState}
 use Rattle.vlm_words.specs.declared.steps.Answer.TheVariants.{Process as process_answer, Plain}
 use Rattle.vlm_words.specs.declared.steps.Answer.{Answer}
 use Rattle.vlm_words.specs.declared.steps.Declaration.{Declaration}
@@ -31,18 +32,19 @@ use Rattle.vlm_model.specs.Runs.{History, Run, begin, next}
 use Rattle.vlm_model.proofs.Each.{each_append, each_weaker}
 use Rattle.vlm_model.specs.Anew.{GivesNoneTwice}
 use Rattle.vlm_model.proofs.Always.{admission_of}
-use Rattle.vlm_model.proofs.Declarations.{AllGiven, HasOrdinal, IsGiven, declared_given, given_always, next_is_new, none_less, ordinal_left, pids, same_declared}
-use Rattle.vlm_model.proofs.Ended.{found_still, is_left, same_living, swept_living}
+use Rattle.vlm_model.proofs.Declarations.{AllGiven, HasOrdinal, IsGiven, declared_given, given_always, next_is_new}
+use Rattle.vlm_model.proofs.Declarations.{none_less, ordinal_left, pids, same_declared}
+use Rattle.vlm_model.proofs.ProcessEnds.{found_still, is_left, same_living, swept_living}
 use Rattle.vlm_model.proofs.Processes.{kept_converted, kept_ended, kept_entered, kept_set, kept_taken}
 use Rattle.vlm_model.specs.Search.{search_change, search_endings}
 
 -- ---- who lives
 
--- the identification of a process
+-- the ID of a process
 abbrev pub named : Process → ℕ
 named p = p.pid
 
--- a process of this identification lives
+-- a process of this ID lives
 abbrev pub lives : List Process → ℕ → Bool
 lives processes pid = is_some (process_of processes pid)
 
@@ -65,7 +67,7 @@ no_asts processes pid out = ap (λ (o : Option Process). option_map_or (λ p. p.
 pub no_quota : (processes : List Process) (pid : ℕ) → lives processes pid ≡ false → quota_of processes pid ≡ 0
 no_quota processes pid out = ap (λ (o : Option Process). option_map_or (λ p. p.quota) o 0) (nobody (process_of processes pid) out)
 
--- a sweep leaves who lives, and where the change before it kept the identifications, those before it live
+-- a sweep leaves who lives, and where the change before it kept the IDs, those before it live
 pub swept_still : (s : State) (change : Stepped) → map named change.state.processes ≡ map named s.processes → (pid : ℕ)
     → lives (stepped_after_sweep change).state.processes pid ≡ lives s.processes pid
 swept_still s change same pid =
@@ -110,10 +112,10 @@ lived_before is_one nodes s pid is =
     let there : lives left pid ≡ true = sym (swept_living left (state_after_rundown is_one nodes s).resources pid) ∙ is in
     sym (ap (λ (o : Option Process). is_some o) (found_still is_one pid (is_left is_one pid s.processes there) s.processes)) ∙ there
 
--- ---- no identification is given twice
+-- ---- no ID is given twice
 
--- what a step answers as an identification is given once it is done, and what was given stays so; who lives once it
--- is done and did not before has the identification that it answers, which was not given before
+-- what a step answers as an ID is given once it is done, and what was given stays so; who lives once it
+-- is done and did not before has the ID that it answers, which was not given before
 pub record GivesAnew (s t : State) (answer : Answer) : Type 0 where
   pub kept : (pid : ℕ) → IsGiven s.nodes pid → IsGiven t.nodes pid
   pub given : (pid : ℕ) → answer ≡ process_answer pid → IsGiven t.nodes pid
@@ -121,7 +123,7 @@ pub record GivesAnew (s t : State) (answer : Answer) : Type 0 where
   pub new : (pid : ℕ) → lives s.processes pid ≡ false → lives t.processes pid ≡ true
       → (answer ≡ process_answer pid) × (IsGiven s.nodes pid → ⊥)
 
--- a change that keeps the nodes and the identifications, and answers none, and its sweep
+-- a change that keeps the nodes and the IDs, and answers none, and its sweep
 none_given : (s : State) (change : Stepped) → change.state.nodes ≡ s.nodes → map named change.state.processes ≡ map named s.processes
     → ((pid : ℕ) → change.answer ≡ process_answer pid → ⊥) → GivesAnew s (stepped_after_sweep change).state change.answer
 none_given s change nodes same other = record {
@@ -147,7 +149,7 @@ last_given nodes [] p given = given.0
 last_given nodes (q ∷ rest) p given = last_given nodes rest p given.1
 
 -- a declaration
-declaration_gives : (s : State) (d : Declaration) (choice : Option LockRow) → AllGiven s → HasOrdinal s d
+declaration_gives : (s : State) (d : Declaration) (choice : Option LockState) → AllGiven s → HasOrdinal s d
     → GivesAnew s (stepped_after_sweep (step_change s (Declare d) choice)).state (step_change s (Declare d) choice).answer
 unfolding declare_change
 declaration_gives s d choice given has = record {
@@ -182,7 +184,7 @@ end_gives s is_one nodes kept = record {
 }
 
 -- a step that no check refuses
-made_gives : (s : State) (step : Step) (choice : Option LockRow) → AllGiven s → step_refusal s step ≡ None
+made_gives : (s : State) (step : Step) (choice : Option LockState) → AllGiven s → step_refusal s step ≡ None
     → GivesAnew s (stepped_after_sweep (step_change s step choice)).state (step_change s step choice).answer
 unfolding set_change take_change enq_change convert_change deq_change search_change
 made_gives s (Declare d) choice given passed = declaration_gives s d choice given (ordinal_left s d passed)
@@ -192,7 +194,8 @@ made_gives s (Enq e) choice given passed =
     none_given s (step_change s (Enq e) choice) refl (kept_entered named (λ _ _ _. refl) s e) (λ pid is. cc)
 made_gives s (Convert c) choice given passed =
     let admitted = admission_of s c passed in
-    subst (λ (a : Option ConversionAdmission). GivesAnew s (stepped_after_sweep (conversion_change s c a)).state (conversion_change s c a).answer) (sym admitted.1)
+    subst (λ (a : Option ConversionAdmission). GivesAnew s (stepped_after_sweep (conversion_change s c a)).state
+    (conversion_change s c a).answer) (sym admitted.1)
     (none_given s (conversion_change s c (Some admitted.0)) refl (kept_converted named (λ _ _ _. refl) s c admitted.0) (λ pid is. cc))
 made_gives s (Deq d) choice given passed =
     none_given s (step_change s (Deq d) choice) refl
@@ -208,7 +211,7 @@ made_gives s (Take process) choice given passed =
     none_given s (step_change s (Take process) choice) refl (kept_taken named (λ _ _. refl) process s.processes) (λ pid is. cc)
 
 -- a step, with its refusal
-pub step_gives : (s : State) (step : Step) (choice : Option LockRow) → AllGiven s → (refusal : Option Cond) → step_refusal s step ≡ refusal
+pub step_gives : (s : State) (step : Step) (choice : Option LockState) → AllGiven s → (refusal : Option Cond) → step_refusal s step ≡ refusal
     → GivesAnew s (refused_or refusal s (step_change s step choice)).state (refused_or refusal s (step_change s step choice)).answer
 step_gives s step choice given None passed = made_gives s step choice given passed
 step_gives s step choice given (Some refusal) is = none_given_refused s refusal
@@ -222,7 +225,7 @@ outcome_gives s t step answer given (inr short) =
     subst (λ (after : State). GivesAnew s after answer) (sym short.state)
     (subst (GivesAnew s s) (sym short.answered) (none_given_refused s Insfmem))
 
--- what was answered as an identification is given after every run
+-- what was answered as an ID is given after every run
 answers_given : (history : History) (last : State) → Run history last
     → AllByRecursion (λ answer. (pid : ℕ) → answer ≡ process_answer pid → IsGiven last.nodes pid) history.answers
 answers_given _ _ begin = tt

@@ -1,11 +1,12 @@
--- A new request has its parent where it enters.
-use Rattle.std.proofs.Common.{◌≡◌, ◌<◌, ◌+◌, ◌⊎◌, inl, inr, ℕ, Bool, true, false, not, ◌&&◌, ◌||◌, List, [], ◌∷◌, cond, Option, None, Some, refl, sym, ap, subst, ◌∙◌, arith}
+-- A new lock enters with its parent lock.
+use Rattle.std.proofs.Common.{◌≡◌, ◌<◌, ◌+◌, ◌⊎◌, inl, inr, ℕ, Bool, true, false, not, ◌&&◌, ◌||◌, List, [], ◌∷◌, cond}
+use Rattle.std.proofs.Common.{Option, None, Some, refl, sym, ap, subst, ◌∙◌, arith}
 use Rattle.std.specs.Prelude.{◌==◌, nat_lt}
 use Rattle.std.specs.List.{AllByRecursion, find, list_any, sum_by}
 use Rattle.std.proofs.lemmas.Bool.{and_parts, cond_both, eq-eqb, eqb-true, or_cases, or_right}
 use Rattle.std.proofs.lemmas.Bool.Decides.{nat_tests}
 use Rattle.std.proofs.lemmas.List.Sums.{sum_by-cons}
-use Rattle.vlm_words.specs.declared.locks.LockRow.{LockRow}
+use Rattle.vlm_words.specs.declared.locks.LockState.{LockState}
 use Rattle.vlm_words.specs.declared.conditions.Cond.TheVariants.{Exdepth, Ivlockid, Parnotgrant}
 use Rattle.vlm_words.specs.declared.resources.Site.{Site}
 use Rattle.vlm_words.specs.declared.steps.NewRequest.{NewRequest}
@@ -14,13 +15,14 @@ use Rattle.vlm_words.specs.Rows.{is_empty, is_lock_of}
 use Rattle.vlm_model.specs.Sweeps.{is_vacant}
 use Rattle.vlm_words.specs.Resources.{is_at, is_domain, key_parent, new_resource}
 use Rattle.vlm_model.specs.Checks.{holds_lock, lock_refusal, or_else}
-use Rattle.vlm_model.specs.Trees.{depth_refusal, enq_site, parent_lkid, parent_refusal, parent_resource, privilege_refusal, root_domain, site_below, site_refusal, waiting_refusal}
+use Rattle.vlm_model.specs.Trees.{depth_refusal, enq_site, parent_lkid, parent_refusal, parent_resource}
+use Rattle.vlm_model.specs.Trees.{privilege_refusal, root_domain, site_below, site_refusal, waiting_refusal}
 use Rattle.vlm_model.specs.Enqueue.{enq_key, enq_refusal, enq_row, resource_after_entry, resources_after_entry}
 use Rattle.vlm_model.proofs.Each.{each_weaker, found_at}
 use Rattle.vlm_model.proofs.Pairs.{EachPair}
-use Rattle.vlm_model.proofs.Passed.{both_pass, enq_passes, three_pass, test_fails, test_passes}
+use Rattle.vlm_model.proofs.PassedChecks.{both_pass, enq_passes, three_pass, test_fails, test_passes}
 use Rattle.vlm_model.proofs.Keys.{Placed, Rises, WasGiven, enq_keyed, entry_keeps_place, is_domain_refl, key_at, of_found}
-use Rattle.vlm_model.proofs.Apart.{stands}
+use Rattle.vlm_model.proofs.IdsApart.{stands}
 use Rattle.vlm_model.proofs.Holdings.{entered_held, held_by, locks_counted}
 use Rattle.vlm_model.proofs.Rooted.{Position, position, is_parent, is_up, is_rooted, loose, AllRooted, still_up}
 
@@ -59,7 +61,8 @@ picked P test (x ∷ xs) each any =
 holds_mode : (pid lkid : ℕ) (r : Resource) → holds_lock pid lkid r ≡ true → list_any (is_lock_of pid lkid) r.waiting ≡ false
     → nat_lt 0 (held_by pid lkid r) ≡ true
 holds_mode pid lkid r stands waits =
-    elim (or_cases (list_any (is_lock_of pid lkid) r.granted || list_any (is_lock_of pid lkid) r.converting) (list_any (is_lock_of pid lkid) r.waiting) stands) [
+    elim (or_cases (list_any (is_lock_of pid lkid) r.granted || list_any (is_lock_of pid lkid) r.converting)
+    (list_any (is_lock_of pid lkid) r.waiting) stands) [
       | inl holds ↦ elim (or_cases (list_any (is_lock_of pid lkid) r.granted) (list_any (is_lock_of pid lkid) r.converting) holds) [
         | inl granted ↦ grind (arith, nat_tests, locks_counted pid lkid r.granted granted)
         | inr converting ↦ grind (arith, nat_tests, locks_counted pid lkid r.converting converting)
@@ -96,7 +99,8 @@ parent_of s e passed = of_test (parent_lkid s e == 0) refl
         three_pass (lock_refusal s e.pid (parent_lkid s e)) (waiting_refusal e.pid (parent_lkid s e) (parent_resource s e.pid (parent_lkid s e)))
         (depth_refusal (parent_resource s e.pid (parent_lkid s e)))
         (subst (λ (b : Bool). cond b None (or_else (lock_refusal s e.pid (parent_lkid s e))
-        (or_else (waiting_refusal e.pid (parent_lkid s e) (parent_resource s e.pid (parent_lkid s e))) (depth_refusal (parent_resource s e.pid (parent_lkid s e))))) ≡ None) named passes)
+        (or_else (waiting_refusal e.pid (parent_lkid s e) (parent_resource s e.pid (parent_lkid s e)))
+        (depth_refusal (parent_resource s e.pid (parent_lkid s e))))) ≡ None) named passes)
 
     of_test : (b : Bool) → (parent_lkid s e == 0) ≡ b → IsSited s e
     of_test true is = inl (eqb-true (parent_lkid s e) 0 is, rw is refl)
@@ -104,7 +108,8 @@ parent_of s e passed = of_test (parent_lkid s e == 0) refl
         let any : list_any (holds_lock e.pid (parent_lkid s e)) s.resources ≡ true =
         test_passes (list_any (holds_lock e.pid (parent_lkid s e)) s.resources) Ivlockid (each_passes is).0 in
         let there = any_found (holds_lock e.pid (parent_lkid s e)) s.resources any in
-        let parent : parent_resource s e.pid (parent_lkid s e) ≡ Some there.0 = ap (λ (b : Bool). cond b None (find (holds_lock e.pid (parent_lkid s e)) s.resources)) is ∙ there.1 in
+        let parent : parent_resource s e.pid (parent_lkid s e) ≡ Some there.0 =
+        ap (λ (b : Bool). cond b None (find (holds_lock e.pid (parent_lkid s e)) s.resources)) is ∙ there.1 in
         let waits : list_any (is_lock_of e.pid (parent_lkid s e)) there.0.waiting ≡ false =
         test_fails (list_any (is_lock_of e.pid (parent_lkid s e)) there.0.waiting) Parnotgrant
         (subst (λ (up : Option Resource). waiting_refusal e.pid (parent_lkid s e) up ≡ None) parent (each_passes is).1) in
@@ -122,14 +127,15 @@ parent_of s e passed = of_test (parent_lkid s e == 0) refl
         )
 
 -- the parent stays as a lock enters
-pub up_entered : (p : Position) (pid lkid serial : ℕ) (site : Site) (row : LockRow) (at_once : Bool) (resources : List Resource)
+pub up_entered : (p : Position) (pid lkid serial : ℕ) (site : Site) (row : LockState) (at_once : Bool) (resources : List Resource)
     → list_any (is_up p pid lkid) resources ≡ true → list_any (is_up p pid lkid) (resources_after_entry serial site row at_once resources) ≡ true
 up_entered p pid lkid serial site row at_once [] up = cc
 up_entered p pid lkid serial site row at_once (r ∷ rest) up =
     cond_both (is_at site.key r) (resource_after_entry row at_once r ∷ rest) (r ∷ resources_after_entry serial site row at_once rest)
     (λ after. list_any (is_up p pid lkid) after ≡ true)
     (λ _. elim (or_cases (is_up p pid lkid r) (list_any (is_up p pid lkid) rest) up) [
-      | inl here ↦ rw (still_up p pid lkid r (resource_after_entry row at_once r) (entry_keeps_place row at_once r) (entered_held pid lkid row at_once r) here) refl
+      | inl here ↦ rw (still_up p pid lkid r (resource_after_entry row at_once r) (entry_keeps_place row at_once r)
+          (entered_held pid lkid row at_once r) here) refl
       | inr later ↦ or_right (is_up p pid lkid (resource_after_entry row at_once r)) (list_any (is_up p pid lkid) rest) later
     ])
     (λ _. elim (or_cases (is_up p pid lkid r) (list_any (is_up p pid lkid) rest) up) [
@@ -139,16 +145,16 @@ up_entered p pid lkid serial site row at_once (r ∷ rest) up =
     ])
 
 -- among rows that all have their parents, where there is one, is one that has
-some_rooted : (f : LockRow → ℕ) (granted converting waiting : List LockRow)
+some_rooted : (f : LockState → ℕ) (granted converting waiting : List LockState)
     → (is_empty granted && is_empty converting && is_empty waiting) ≡ false → sum_by f granted + sum_by f converting + sum_by f waiting ≡ 0
-    → (row : LockRow) × (f row ≡ 0)
+    → (row : LockState) × (f row ≡ 0)
 some_rooted f (row ∷ rows) converting waiting some none = (row, omega (arith, none, sum_by-cons f row rows))
 some_rooted f [] (row ∷ rows) waiting some none = (row, omega (arith, none, sum_by-cons f row rows))
 some_rooted f [] [] (row ∷ rows) some none = (row, omega (arith, none, sum_by-cons f row rows))
 some_rooted f [] [] [] some none = cc
 
 -- a row that is not loose has its parent
-pub rooted_row : (all : List Resource) (p : Position) (row : LockRow) → loose all p row ≡ 0 → is_rooted all p row ≡ true
+pub rooted_row : (all : List Resource) (p : Position) (row : LockState) → loose all p row ≡ 0 → is_rooted all p row ≡ true
 rooted_row all p row none = of_test (is_rooted all p row) none
   where
     of_test : (b : Bool) → cond {A = ℕ} b 0 1 ≡ 0 → b ≡ true
@@ -164,7 +170,7 @@ stands_well all r occupied rooted =
     (not (r.parent == 0) && not (some.0.parent == 0) && list_any (is_up (position r) some.0.pid some.0.parent) all)
     (rooted_row all (position r) some.0 some.1))
   where
-    of_row : (row : LockRow) → (((r.parent == 0) && (row.parent == 0) && (r.level == 0)) ≡ true)
+    of_row : (row : LockState) → (((r.parent == 0) && (row.parent == 0) && (r.level == 0)) ≡ true)
         ⊎ ((not (r.parent == 0) && not (row.parent == 0) && list_any (is_up (position r) row.pid row.parent) all) ≡ true)
         → ((r.parent ≡ 0) × (r.level ≡ 0)) ⊎ (((r.parent == 0) ≡ false) × (list_any (is_parent (position r)) all ≡ true))
     of_row row (inl root) =
@@ -239,7 +245,9 @@ own_rooted s e passed placed occupied rooted new stays = (made_rooted (parent_of
         let one = picked (λ (x : Resource). x.serial ≡ up.serial → x ≡ up) (is_parent (position r)) s.resources
         (only_of_serial (holds_lock e.pid (parent_lkid s e)) up s.resources placed.rising has.found) any in
         let first = and_parts ((one.0.serial == r.parent) && is_domain one.0.domain r.domain) (r.level == one.0.level + 1) one.1.1 in
-        let serial : one.0.serial ≡ r.parent = eqb-true one.0.serial r.parent (and_parts (one.0.serial == r.parent) (is_domain one.0.domain r.domain) first.0).0 in
+        let serial : one.0.serial ≡ r.parent =
+        eqb-true one.0.serial r.parent
+        (and_parts (one.0.serial == r.parent) (is_domain one.0.domain r.domain) first.0).0 in
         subst (λ (x : Resource). is_parent (position r) x ≡ true) (one.1.0 (serial ∙ parent)) one.1.1
 
     made_rooted : IsSited s e → is_rooted new (position (new_resource s.next_serial (enq_site s e))) (enq_row s e) ≡ true

@@ -7,11 +7,12 @@ use Rattle.std.proofs.lemmas.Bool.{cond_both}
 use Rattle.std.proofs.lemmas.List.Folds.{list_all-append}
 use Rattle.std.proofs.lemmas.List.Elements.{All-from_recursion}
 use Rattle.vlm_words.specs.declared.locks.Request.{Request}
-use Rattle.vlm_words.specs.declared.locks.LockRow.{LockRow}
+use Rattle.vlm_words.specs.declared.locks.LockState.{LockState}
 use Rattle.vlm_words.specs.declared.modes.Mode.{Mode}
 use Rattle.vlm_words.specs.State.{Resource, State}
 use Rattle.vlm_words.specs.Rows.{fits, is_beside, is_empty}
-use Rattle.vlm_model.specs.Grants.{no_service, resource_after_grant, service, service_after_grant, service_of_conversions, service_of_new_requests, service_of_waiting, wanted_fits}
+use Rattle.vlm_model.specs.Grants.{no_service, resource_after_grant, service, service_after_grant}
+use Rattle.vlm_model.specs.Grants.{service_of_conversions, service_of_new_requests, service_of_waiting, wanted_fits}
 use Rattle.vlm_model.specs.Runs.{History, Run}
 use Rattle.vlm_model.specs.Laws.{Conflicts, HeadsDoNotFit, IsBeside, NothingIsLeftToGrant}
 use Rattle.vlm_model.proofs.Each.{each_weaker, Any-here, Any-there}
@@ -21,12 +22,12 @@ use Rattle.vlm_model.specs.Effects.{with_value_block}
 use Rattle.vlm_model.proofs.Warned.{fits_warned}
 
 -- the first conversion, if there is one, does not fit
-abbrev pub FirstConversionWaits : List LockRow → List LockRow → Type 0
+abbrev pub FirstConversionWaits : List LockState → List LockState → Type 0
 FirstConversionWaits granted [] = ⊤
 FirstConversionWaits granted (row ∷ rows) = wanted_fits row.want granted rows ≡ false
 
 -- after the conversions are served, the first that is left does not fit
-pub serve_converting_stops : (r : Resource) (rows : List LockRow) → r.converting ≡ rows
+pub serve_converting_stops : (r : Resource) (rows : List LockState) → r.converting ≡ rows
     → FirstConversionWaits (service_of_conversions r rows).resource.granted (service_of_conversions r rows).resource.converting
 serve_converting_stops r [] is = subst (FirstConversionWaits r.granted) (sym is) tt
 serve_converting_stops r (row ∷ rows) is =
@@ -37,7 +38,7 @@ serve_converting_stops r (row ∷ rows) is =
     (λ waits. subst (FirstConversionWaits r.granted) (sym is) waits)
 
 -- the first conversion does not fit; where there is none, the first new request does not
-abbrev pub HeadsWait : List LockRow → List LockRow → List LockRow → Type 0
+abbrev pub HeadsWait : List LockState → List LockState → List LockState → Type 0
 HeadsWait granted [] [] = ⊤
 HeadsWait granted [] (row ∷ rows) = wanted_fits row.want granted [] ≡ false
 HeadsWait granted (row ∷ rows) waiting = wanted_fits row.want granted rows ≡ false
@@ -47,7 +48,7 @@ abbrev pub NothingFits : Resource → Type 0
 NothingFits r = HeadsWait r.granted r.converting r.waiting
 
 -- with no conversion queued, after the waiting queue is served, the first that is left does not fit
-pub serve_waiting_stops : (r : Resource) (rows : List LockRow) → r.converting ≡ [] → r.waiting ≡ rows → NothingFits (service_of_waiting r rows).resource
+pub serve_waiting_stops : (r : Resource) (rows : List LockState) → r.converting ≡ [] → r.waiting ≡ rows → NothingFits (service_of_waiting r rows).resource
 serve_waiting_stops r [] none is =
     subst (λ converting. HeadsWait r.granted converting r.waiting) (sym none) (subst (HeadsWait r.granted []) (sym is) tt)
 serve_waiting_stops r (row ∷ rows) none is =
@@ -61,12 +62,12 @@ serve_waiting_stops r (row ∷ rows) none is =
     (subst (λ converting. wanted_fits row.want r.granted converting ≡ false) none waits)))
 
 -- an empty queue is the empty list
-pub is_empty-true : (rows : List LockRow) → is_empty rows ≡ true → rows ≡ []
+pub is_empty-true : (rows : List LockState) → is_empty rows ≡ true → rows ≡ []
 is_empty-true [] empty = refl
 is_empty-true (row ∷ rows) empty = cc
 
 -- a conversion that waits keeps the waiting queue from being served
-waiting_behind : (granted converting waiting : List LockRow) → is_empty converting ≡ false → FirstConversionWaits granted converting
+waiting_behind : (granted converting waiting : List LockState) → is_empty converting ≡ false → FirstConversionWaits granted converting
     → HeadsWait granted converting waiting
 waiting_behind granted [] waiting some waits = cc
 waiting_behind granted (row ∷ rows) waiting some waits = waits
@@ -87,20 +88,20 @@ pub warned_stops : (r : Resource) → NothingFits r → NothingFits (resource_af
 unfolding resource_after_warning
 warned_stops r waits = of_queues r.converting r.waiting waits
   where
-    warned : List LockRow
+    warned : List LockState
     warned = map (row_after_warning r.converting r.waiting) r.granted
 
-    wanted : (want : Option Request) (others : List LockRow) → wanted_fits want warned others ≡ wanted_fits want r.granted others
+    wanted : (want : Option Request) (others : List LockState) → wanted_fits want warned others ≡ wanted_fits want r.granted others
     wanted None others = refl
     wanted (Some request) others = fits_warned request.mode r.converting r.waiting r.granted others
 
-    of_queues : (converting waiting : List LockRow) → HeadsWait r.granted converting waiting → HeadsWait warned converting waiting
+    of_queues : (converting waiting : List LockState) → HeadsWait r.granted converting waiting → HeadsWait warned converting waiting
     of_queues [] [] waits = tt
     of_queues [] (row ∷ rows) waits = wanted row.want [] ∙ waits
     of_queues (row ∷ rows) waiting waits = wanted row.want rows ∙ waits
 
 -- a test that not all rows pass, some row does not pass
-some_fails : (test : LockRow → Bool) (P : LockRow → Type 0) → ((row : LockRow) → test row ≡ false → P row) → (rows : List LockRow)
+some_fails : (test : LockState → Bool) (P : LockState → Type 0) → ((row : LockState) → test row ≡ false → P row) → (rows : List LockState)
     → list_all test rows ≡ false → Any P rows
 some_fails test P fails [] failed = cc
 some_fails test P fails (row ∷ rows) failed =
@@ -110,7 +111,7 @@ some_fails test P fails (row ∷ rows) failed =
     ] refl failed
 
 -- a mode that may not be held beside what a row holds
-not_beside : (mode : Mode) (row : LockRow) → is_beside mode row.held ≡ false → IsBeside mode row.held → ⊥
+not_beside : (mode : Mode) (row : LockState) → is_beside mode row.held ≡ false → IsBeside mode row.held → ⊥
 not_beside mode row fails = conflict row.held fails
   where
     conflict : (held : Option Request) → is_beside mode held ≡ false → IsBeside mode held → ⊥
@@ -118,7 +119,7 @@ not_beside mode row fails = conflict row.held fails
     conflict (Some held) fails beside = cc
 
 -- what does not fit conflicts with what some row holds
-conflicts : (want : Option Request) (granted converting : List LockRow) → wanted_fits want granted converting ≡ false
+conflicts : (want : Option Request) (granted converting : List LockState) → wanted_fits want granted converting ≡ false
     → Conflicts want (granted ++ converting)
 unfolding fits
 conflicts None granted converting waits = tt
@@ -130,7 +131,7 @@ conflicts (Some request) granted converting waits =
 heads_conflict : (r : Resource) → NothingFits r → HeadsDoNotFit r.granted r.converting r.waiting
 heads_conflict r = heads r.granted r.converting r.waiting
   where
-    heads : (granted converting waiting : List LockRow) → HeadsWait granted converting waiting → HeadsDoNotFit granted converting waiting
+    heads : (granted converting waiting : List LockState) → HeadsWait granted converting waiting → HeadsDoNotFit granted converting waiting
     heads granted [] [] waits = tt
     heads granted [] (row ∷ rows) waits = subst (Conflicts row.want) (append-nil granted) (conflicts row.want granted [] waits)
     heads granted (row ∷ rows) waiting waits = conflicts row.want granted rows waits
@@ -149,7 +150,9 @@ kept_by_all = record {
 pub nothing_fits_always : (history : History) (last : State)
     → Run history last → AllByRecursion NothingFits last.resources
 nothing_fits_always history last run =
-    each_always (λ _. ⊤) NothingFits (λ _ _. tt) (λ block r _. warned_stops (with_value_block block (service r).resource) (served_stops r)) kept_by_all history last run
+    each_always (λ _. ⊤) NothingFits (λ _ _. tt)
+    (λ block r _. warned_stops (with_value_block block (service r).resource)
+    (served_stops r)) kept_by_all history last run
 
 -- after every run nothing is left to grant
 pub nothing_left_always : (history : History) (last : State)

@@ -5,7 +5,7 @@ use Rattle.std.specs.List.{AllByRecursion, list_any}
 use Rattle.std.proofs.lemmas.Bool.{or_parts}
 use Rattle.std.proofs.lemmas.List.Elements.{All-from_recursion}
 use Rattle.vlm_words.specs.declared.locks.Request.{Request}
-use Rattle.vlm_words.specs.declared.locks.LockRow.{LockRow}
+use Rattle.vlm_words.specs.declared.locks.LockState.{LockState}
 use Rattle.vlm_words.specs.Modes.{is_compatible}
 use Rattle.vlm_words.specs.State.{Resource, State}
 use Rattle.vlm_model.specs.Asts.{has_to_warn, blocks_a_request, is_to_warn}
@@ -13,14 +13,14 @@ use Rattle.vlm_words.specs.Rows.{blocks_request}
 use Rattle.vlm_model.specs.Runs.{History, Run}
 use Rattle.vlm_model.specs.Laws.{AreCompatible, IsInNobodysWay, NothingIsLeftToWarn}
 use Rattle.vlm_model.proofs.Each.{each_append, each_weaker}
-use Rattle.vlm_model.proofs.Settled.{unwarned_always}
+use Rattle.vlm_model.proofs.Stable.{unwarned_always}
 
 not_not : (b : Bool) → not b ≡ false → b ≡ true
 not_not true is = refl
 not_not false is = cc
 
 -- what keeps no request out is compatible with each
-none_kept_out : (held : Request) (rows : List LockRow) → list_any (λ row. blocks_request held.mode row.want) rows ≡ false
+none_kept_out : (held : Request) (rows : List LockState) → list_any (λ row. blocks_request held.mode row.want) rows ≡ false
     → AllByRecursion (λ row. AreCompatible row.want (Some held)) rows
 none_kept_out held [] none = tt
 none_kept_out held (row ∷ rows) none =
@@ -32,7 +32,7 @@ none_kept_out held (row ∷ rows) none =
     of_want (Some want) out = not_not (is_compatible want.mode held.mode) out
 
 -- a row that holds nothing is in nobody's way
-nothing_held : (rows : List LockRow) → AllByRecursion (λ row. AreCompatible row.want None) rows
+nothing_held : (rows : List LockState) → AllByRecursion (λ row. AreCompatible row.want None) rows
 nothing_held [] = tt
 nothing_held (row ∷ rows) = (of_want row.want, nothing_held rows)
   where
@@ -41,7 +41,8 @@ nothing_held (row ∷ rows) = (of_want row.want, nothing_held rows)
     of_want (Some want) = tt
 
 -- an armed row that is not to be warned is in nobody's way
-in_nobodys_way : (converting waiting : List LockRow) (row : LockRow) → is_to_warn converting waiting row ≡ false → IsInNobodysWay (converting ++ waiting) row
+in_nobodys_way : (converting waiting : List LockState) (row : LockState) → is_to_warn converting waiting row ≡ false
+    → IsInNobodysWay (converting ++ waiting) row
 unfolding is_to_warn
 in_nobodys_way converting waiting row none armed =
     All-from_recursion (λ other. AreCompatible other.want row.held) (converting ++ waiting)
@@ -52,14 +53,16 @@ in_nobodys_way converting waiting row none armed =
     of_held None out = nothing_held (converting ++ waiting)
     of_held (Some held) out =
         let parts = or_parts (list_any (λ x. blocks_request held.mode x.want) converting) (list_any (λ x. blocks_request held.mode x.want) waiting) out in
-        each_append (λ other. AreCompatible other.want (Some held)) converting waiting (none_kept_out held converting parts.0) (none_kept_out held waiting parts.1)
+        each_append (λ other. AreCompatible other.want (Some held)) converting waiting
+        (none_kept_out held converting parts.0) (none_kept_out held waiting parts.1)
 
 -- each granted row of a resource on which nobody is to be warned
 all_in_nobodys_way : (r : Resource) → has_to_warn r ≡ false → All (IsInNobodysWay (r.converting ++ r.waiting)) r.granted
 unfolding has_to_warn
 all_in_nobodys_way r none = All-from_recursion (IsInNobodysWay (r.converting ++ r.waiting)) r.granted (each r.granted none)
   where
-    each : (rows : List LockRow) → list_any (is_to_warn r.converting r.waiting) rows ≡ false → AllByRecursion (IsInNobodysWay (r.converting ++ r.waiting)) rows
+    each : (rows : List LockState) → list_any (is_to_warn r.converting r.waiting) rows ≡ false
+        → AllByRecursion (IsInNobodysWay (r.converting ++ r.waiting)) rows
     each [] out = tt
     each (row ∷ rows) out =
         let parts = or_parts (is_to_warn r.converting r.waiting row) (list_any (is_to_warn r.converting r.waiting) rows) out in

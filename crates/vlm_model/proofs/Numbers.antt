@@ -1,12 +1,13 @@
 -- After every run a step takes the numbers of what it makes, and no other.
-use Rattle.std.proofs.Common.{◌≡◌, ◌<◌, ◌&&◌, ◌||◌, ℕ, Bool, true, false, not, cond, List, [], ◌∷◌, filter, Option, None, Some, inl, inr, refl, sym, subst, arith}
+use Rattle.std.proofs.Common.{◌≡◌, ◌<◌, ◌&&◌, ◌||◌, ℕ, Bool, true, false, not, cond, List, [], ◌∷◌, filter, Option}
+use Rattle.std.proofs.Common.{None, Some, inl, inr, refl, sym, subst, arith}
 use Rattle.std.specs.Prelude.{◌==◌, nat_lt}
 use Rattle.std.specs.List.{list_any}
 use Rattle.std.proofs.lemmas.Bool.{and_parts, cond_both, eq-eqb, eqb-true, or_cases, or_right}
 use Rattle.std.proofs.lemmas.Bool.Decides.{nat_tests}
 use Rattle.std.proofs.lemmas.List.Folds.{Any-from_list_any}
 use Rattle.vlm_words.specs.declared.conditions.Cond.{Cond}
-use Rattle.vlm_words.specs.declared.locks.LockRow.{LockRow}
+use Rattle.vlm_words.specs.declared.locks.LockState.{LockState}
 use Rattle.vlm_words.specs.declared.resources.Site.{Site}
 use Rattle.vlm_words.specs.declared.resources.ValueBlock.{ValueBlock}
 use Rattle.vlm_words.specs.declared.steps.Answer.TheVariants.{Plain}
@@ -14,7 +15,8 @@ use Rattle.vlm_words.specs.declared.steps.NewRequest.{NewRequest}
 use Rattle.vlm_words.specs.declared.steps.Step.TheVariants.{Declare, SetValue, Enq, Convert, Deq, Rundown, Leave, Search, Take}
 use Rattle.vlm_words.specs.declared.steps.Step.{Step}
 use Rattle.vlm_words.specs.State.{Process, Resource, State}
-use Rattle.vlm_model.specs.Sweeps.{blocks_after_service, is_vacant, resource_after_service, resources_after_service, resources_after_sweep, state_after_sweep, served_with}
+use Rattle.vlm_model.specs.Sweeps.{blocks_after_service, is_vacant, resource_after_service, resources_after_service}
+use Rattle.vlm_model.specs.Sweeps.{resources_after_sweep, state_after_sweep, served_with}
 use Rattle.vlm_model.specs.Effects.{with_value_block}
 use Rattle.vlm_model.specs.Grants.{grant_endings, service}
 use Rattle.vlm_words.specs.Resources.{is_at, new_resource}
@@ -32,15 +34,15 @@ use Rattle.vlm_model.proofs.Each.{each_weaker, no_Any}
 use Rattle.vlm_model.proofs.Always.{admission_of}
 use Rattle.vlm_model.proofs.Sums.{sum_of_zero}
 use Rattle.vlm_model.proofs.Weights.{entered_weighs, served_weighs, vacant_weighs_nothing, weigh, warned_weighs}
-use Rattle.vlm_model.proofs.Moves.{IsByName, entered_named, grant_keeps}
-use Rattle.vlm_model.proofs.Apart.{Apart, apart_always, stands}
+use Rattle.vlm_model.proofs.LastingSums.{IsByName, entered_named, grant_keeps}
+use Rattle.vlm_model.proofs.IdsApart.{Apart, apart_always, stands}
 use Rattle.vlm_model.proofs.Keys.{Placed, WasGiven, entry_keeps_place, placed_always, service_keeps_place}
 use Rattle.vlm_model.specs.Rundown.{is_ended_by, nodes_after_departure, state_after_rundown}
 use Rattle.vlm_words.specs.Steps.{is_of_node}
 use Rattle.vlm_model.specs.Search.{search_change}
 
 -- a row counts one
-abbrev one : LockRow → ℕ
+abbrev one : LockState → ℕ
 one row = 1
 
 -- whatever it holds and wants
@@ -96,7 +98,7 @@ kept_swept serial processes (r ∷ rest) kept =
         (λ _. or_right (is_kept serial after) (list_any (is_kept serial) others) there) (λ _. there)
 
 -- where no resource stands under the key, the entry makes one, which has the serial
-made_kept : (serial : ℕ) (site : Site) (row : LockRow) (at_once : Bool) (resources : List Resource) → has_resource site.key resources ≡ false
+made_kept : (serial : ℕ) (site : Site) (row : LockState) (at_once : Bool) (resources : List Resource) → has_resource site.key resources ≡ false
     → list_any (is_kept serial) (resources_after_entry serial site row at_once resources) ≡ true
 made_kept serial site row at_once [] none =
     let fresh : Resource = new_resource serial site in
@@ -165,7 +167,7 @@ record Taken (s : State) (step : Step) (made : Stepped) : Type 0 where
   serials : TakesSerial s made.state
 
 -- an accepted step takes the numbers of what it makes
-accepted_takes : (s : State) → Apart s → (step : Step) (choice : Option LockRow) → step_refusal s step ≡ None
+accepted_takes : (s : State) → Apart s → (step : Step) (choice : Option LockState) → step_refusal s step ≡ None
     → Placed (stepped_after_sweep (step_change s step choice)).state → Taken s step (stepped_after_sweep (step_change s step choice))
 unfolding declare_change set_change take_change enq_change convert_change deq_change search_change state_after_rundown
 accepted_takes s apart (Declare d) choice passed placed = record {
@@ -187,7 +189,8 @@ accepted_takes s apart (Enq e) choice passed placed = record {
 }
 accepted_takes s apart (Convert c) choice passed placed =
     let admitted = admission_of s c passed in
-    subst (λ (a : Option ConversionAdmission). Placed (stepped_after_sweep (conversion_change s c a)).state → Taken s (Convert c) (stepped_after_sweep (conversion_change s c a)))
+    subst (λ (a : Option ConversionAdmission). Placed (stepped_after_sweep (conversion_change s c a)).state
+    → Taken s (Convert c) (stepped_after_sweep (conversion_change s c a)))
     (sym admitted.1)
     (λ there. record {
       requests = record { answered = refl; next_lkid = refl; next_request = refl };
@@ -216,14 +219,14 @@ accepted_takes s apart (Take pid) choice passed placed = record {
 }
 
 -- and so does each step
-step_takes : (s : State) → Apart s → (step : Step) (choice : Option LockRow) (refusal : Option Cond) → step_refusal s step ≡ refusal
+step_takes : (s : State) → Apart s → (step : Step) (choice : Option LockState) (refusal : Option Cond) → step_refusal s step ≡ refusal
     → Placed (refused_or refusal s (step_change s step choice)).state → Taken s step (refused_or refusal s (step_change s step choice))
 step_takes s apart step choice None passed placed = accepted_takes s apart step choice passed placed
 step_takes s apart step choice (Some refusal) is placed = record { requests = refusal_takes_none s step refusal; serials = none_made s s placed refl }
 
 -- after every run a step takes the numbers of what it makes
 pub numbers_always : (history : History) (old : State) → Run history old
-    → (step : Step) (choice : Option LockRow) → IsChoice old step choice → NumbersAreGivenOnce old step choice
+    → (step : Step) (choice : Option LockState) → IsChoice old step choice → NumbersAreGivenOnce old step choice
 numbers_always history old run step choice chosen =
     let placed : Placed (stepped old step choice).state =
     placed_always _ (stepped old step choice).state

@@ -11,7 +11,7 @@ use Rattle.vlm_words.specs.declared.conditions.Cond.TheVariants.{Ivlockid}
 use Rattle.vlm_words.specs.declared.conditions.Cond.{Cond}
 use Rattle.vlm_words.specs.Flags.{deqall, has_flag}
 use Rattle.vlm_words.specs.declared.locks.Request.{Request}
-use Rattle.vlm_words.specs.declared.locks.LockRow.{LockRow}
+use Rattle.vlm_words.specs.declared.locks.LockState.{LockState}
 use Rattle.vlm_words.specs.declared.steps.Dequeue.{Dequeue}
 use Rattle.vlm_words.specs.declared.steps.Step.TheVariants.{Declare, SetValue, Enq, Convert, Deq, Rundown, Leave, Search, Take}
 use Rattle.vlm_words.specs.declared.steps.Step.{Step}
@@ -21,8 +21,12 @@ use Rattle.vlm_model.specs.Sweeps.{resources_after_sweep, sweep_endings}
 use Rattle.vlm_words.specs.Rows.{is_lock_of, rows_of, wanting_row}
 use Rattle.vlm_model.specs.OwnLocks.{own_lkids}
 use Rattle.vlm_model.specs.Checks.{caller_refusal, holds_lock, lock_refusal, or_else, which_refusal}
-use Rattle.vlm_model.specs.Withdrawals.{Withdrawal, is_held_by_writer, resource_after_cancel, resource_after_going, resource_after_withdrawals, resource_without, row_after_cancel, value_block_after_writer}
-use Rattle.vlm_model.specs.Dequeue.{cancel_refusal, deq_change, deq_endings, deq_flags_refusal, deq_refusal, dequeue_lkid, dequeued_lkids, dequeued_lock_refusal, is_dequeued, is_for_all, leaves_none, sublocks_refusal, withdrawal_of, withdrawals_of}
+use Rattle.vlm_model.specs.Withdrawals.{Withdrawal, is_held_by_writer, resource_after_cancel, resource_after_going}
+use Rattle.vlm_model.specs.Withdrawals.{resource_after_withdrawals, resource_without, row_after_cancel}
+use Rattle.vlm_model.specs.Withdrawals.{value_block_after_writer}
+use Rattle.vlm_model.specs.Dequeue.{cancel_refusal, deq_change, deq_endings, deq_flags_refusal, deq_refusal}
+use Rattle.vlm_model.specs.Dequeue.{dequeue_lkid, dequeued_lkids, dequeued_lock_refusal, is_dequeued, is_for_all}
+use Rattle.vlm_model.specs.Dequeue.{leaves_none, sublocks_refusal, withdrawal_of, withdrawals_of}
 use Rattle.vlm_model.specs.Rundown.{is_ended_by, rundown_endings, rundowns, state_after_rundown}
 use Rattle.vlm_words.specs.Steps.{is_of_node}
 use Rattle.vlm_model.specs.Laws.{IsGrant, SweptInOrder, first_rows, goes, none, stays}
@@ -35,21 +39,24 @@ use Rattle.vlm_model.specs.SetValue.{set_change}
 use Rattle.vlm_model.specs.Take.{take_change}
 use Rattle.vlm_model.specs.Trees.{enq_site}
 use Rattle.vlm_model.specs.Enqueue.{enq_at_once, enq_change, enq_endings, enq_resource, enq_row}
-use Rattle.vlm_model.specs.Convert.{ConversionAdmission, conversion_endings, convert_blocks, convert_change, convert_lkid, resource_after_conversion, resource_after_conversion_of, resource_without_granted}
+use Rattle.vlm_model.specs.Convert.{ConversionAdmission, conversion_endings, convert_blocks, convert_change}
+use Rattle.vlm_model.specs.Convert.{convert_lkid, resource_after_conversion, resource_after_conversion_of}
+use Rattle.vlm_model.specs.Convert.{resource_without_granted}
 use Rattle.vlm_model.specs.Runs.{History, Run}
 use Rattle.vlm_model.specs.Stepped.{IsChoice, Stepped, conversion_change, refused_or, step_change, step_refusal, stepped_after_sweep}
 use Rattle.vlm_model.specs.Owners.{IsConcerned, OthersAreLeftAlone}
 use Rattle.vlm_model.proofs.Always.{admission_of}
-use Rattle.vlm_model.proofs.Apart.{Apart, apart_always, standing, stands}
+use Rattle.vlm_model.proofs.IdsApart.{Apart, apart_always, standing, stands}
 use Rattle.vlm_model.proofs.Each.{each_append, each_filter, each_map, each_weaker}
 use Rattle.vlm_model.proofs.Holdings.{converted_held, locks, locks_named, others_go}
 use Rattle.vlm_model.proofs.InOrder.{granted_ends, sweep_in_order}
-use Rattle.vlm_model.proofs.Moves.{IsByName, grant_keeps, swept_named, withdrawn_named}
-use Rattle.vlm_model.proofs.Passed.{test_passes}
+use Rattle.vlm_model.proofs.LastingSums.{IsByName, grant_keeps, swept_named, withdrawn_named}
+use Rattle.vlm_model.proofs.PassedChecks.{test_passes}
 use Rattle.vlm_model.proofs.Sums.{sum_changed-le, sum_of_zero}
 use Rattle.vlm_model.proofs.Weights.{entered_among_weighs, weigh}
 use Rattle.vlm_model.proofs.Together.{OfOneEach, all_one_after_another, dequeues_apart, rundowns_apart}
-use Rattle.vlm_model.proofs.WhoseLocks.{IsTheirs, NoStrangers, none_strange, own_are_theirs, rundown_ends_are_theirs, rundowns_are_theirs, strangers, withdrawn_are_theirs, all_anothers}
+use Rattle.vlm_model.proofs.WhoseLocks.{IsTheirs, NoStrangers, none_strange, own_are_theirs, rundown_ends_are_theirs}
+use Rattle.vlm_model.proofs.WhoseLocks.{rundowns_are_theirs, strangers, withdrawn_are_theirs, all_anothers}
 use Rattle.vlm_model.specs.Search.{victim_withdrawals, search_change, search_endings, search_refusal}
 use Rattle.vlm_model.specs.Deadlocks.{IsVictim}
 use Rattle.vlm_model.proofs.Victims.{victim_of, victims_apart, deadlocked_stands, is_owner}
@@ -68,7 +75,7 @@ fourth_passes (Some refusal) b c d e passed = cc
 abbrev is_caller : Dequeue → ℕ → Bool
 is_caller d pid = pid == d.pid
 
--- the lock that a dequeue without DEQALL names is of its caller, and no other row has its identification
+-- the lock that a dequeue without DEQALL names is of its caller, and no other row has its ID
 named_is_theirs : (s : State) (d : Dequeue) → Apart s → deq_refusal s d ≡ None → has_flag d.flags deqall ≡ false
     → NoStrangers (is_caller d) s.resources (dequeue_lkid s d)
 unfolding deq_refusal dequeued_lock_refusal lock_refusal
@@ -114,16 +121,21 @@ converted_keeps : (pid lkid owner other : ℕ) (request : Request) (at_once : Bo
     → weigh (locks pid lkid) r ≤ weigh (locks pid lkid) (resource_after_conversion request at_once owner other block r)
 unfolding resource_after_conversion
 converted_keeps pid lkid owner other request at_once block r one =
-    omega (arith, converted_held pid lkid owner other request at_once block r one, ap (sum_by (locks pid lkid)) (same_waiting (find (is_lock_of owner other) r.granted)))
+    omega (
+      arith,
+      converted_held pid lkid owner other request at_once block r one,
+      ap (sum_by (locks pid lkid)) (same_waiting (find (is_lock_of owner other) r.granted)),
+    )
   where
-    same_waiting : (found : Option LockRow) → (resource_after_conversion_of request at_once other block r found).waiting ≡ r.waiting
+    same_waiting : (found : Option LockState) → (resource_after_conversion_of request at_once other block r found).waiting ≡ r.waiting
     same_waiting None = refl
     same_waiting (Some row) =
         cond_both at_once (with_value_block block (resource_after_grant (resource_without_granted other r) (wanting_row row request)))
         (record (resource_without_granted other r) { converting = r.converting ++ wanting_row row request ∷ [] }) (λ after. after.waiting ≡ r.waiting)
         (λ _. refl) (λ _. refl)
 
-all_converted_keep : (pid lkid owner other : ℕ) (request : Request) (at_once : Bool) (block : ValueBlock) (resources : List Resource) → standing other resources ≤ 1
+all_converted_keep : (pid lkid owner other : ℕ) (request : Request) (at_once : Bool) (block : ValueBlock)
+    (resources : List Resource) → standing other resources ≤ 1
     → sum_by (weigh (locks pid lkid)) resources ≤ sum_by (weigh (locks pid lkid)) (map (resource_after_conversion request at_once owner other block) resources)
 all_converted_keep pid lkid owner other request at_once block [] one = omega arith
 all_converted_keep pid lkid owner other request at_once block (r ∷ rest) one =
@@ -133,10 +145,11 @@ all_converted_keep pid lkid owner other request at_once block (r ∷ rest) one =
       converted_keeps pid lkid owner other request at_once block r (omega (arith, one, both)),
       all_converted_keep pid lkid owner other request at_once block rest (omega (arith, one, both)),
       sum_by-cons (weigh (locks pid lkid)) r rest,
-      sum_by-cons (weigh (locks pid lkid)) (resource_after_conversion request at_once owner other block r) (map (resource_after_conversion request at_once owner other block) rest),
+      sum_by-cons (weigh (locks pid lkid)) (resource_after_conversion request at_once owner other block r)
+          (map (resource_after_conversion request at_once owner other block) rest),
     )
 
--- a withdrawal takes no row of another identification away
+-- a withdrawal takes no row of another ID away
 gone_keeps : (pid lkid : ℕ) (w : Withdrawal) → (lkid == w.lkid) ≡ false → (r : Resource)
     → weigh (locks pid lkid) r ≤ weigh (locks pid lkid) (resource_after_going w r)
 unfolding resource_after_cancel resource_without
@@ -175,7 +188,12 @@ all_withdrawn_keep is_one pid lkid w differs (r ∷ rest) nothing =
         elim (eqb_tells lkid w.lkid) [
           | inl same ↦
               (let of_lock : weigh (locks pid lkid) r ≤ weigh (strangers is_one lkid) r =
-              omega (arith, all_anothers is_one pid lkid differs r.granted, all_anothers is_one pid lkid differs r.converting, all_anothers is_one pid lkid differs r.waiting) in
+              omega (
+                arith,
+                all_anothers is_one pid lkid differs r.granted,
+                all_anothers is_one pid lkid differs r.converting,
+                all_anothers is_one pid lkid differs r.waiting,
+              ) in
               omega (arith, of_lock, none_here, ap (λ (n : ℕ). weigh (strangers is_one n) r) same.1))
           | inr other ↦ withdrawn_keeps pid lkid w other.0 r
         ]
@@ -215,31 +233,34 @@ withdrawals_keep is_one pid lkid differs (w ∷ withdrawals) apart resources not
 -- ---- the steps
 
 -- of endings that are all grants there is nothing to say
-grants_alone : (step : Step) (choice : Option LockRow) (endings : List Ending) → AllByRecursion (λ ending. IsGrant ending.how) endings
+grants_alone : (step : Step) (choice : Option LockState) (endings : List Ending) → AllByRecursion (λ ending. IsGrant ending.how) endings
     → AllByRecursion (λ ending. (IsGrant ending.how → ⊥) → IsConcerned step choice ending.pid) endings
 grants_alone step choice endings each =
     each_weaker (λ ending. IsGrant ending.how) (λ ending. (IsGrant ending.how → ⊥) → IsConcerned step choice ending.pid)
     (λ ending grants no. absurd (no grants)) endings each
 
 -- the grant at once of a row, if it is granted at once
-at_once_alone : (step : Step) (b : Bool) (row : LockRow) → AllByRecursion (λ ending. IsGrant ending.how) (cond b (grant_endings true row) [])
+at_once_alone : (step : Step) (b : Bool) (row : LockState) → AllByRecursion (λ ending. IsGrant ending.how) (cond b (grant_endings true row) [])
 at_once_alone step true row = of_want row.want
   where
-    of_want : (want : Option Request) → AllByRecursion (λ ending. IsGrant ending.how) (wanted_endings (by_grant (grant_act row.held row.want)) true row.lkid row.pid want)
+    of_want : (want : Option Request)
+        → AllByRecursion (λ ending. IsGrant ending.how)
+        (wanted_endings (by_grant (grant_act row.held row.want)) true row.lkid row.pid want)
     of_want None = tt
     of_want (Some request) = (tt, tt)
 at_once_alone step false row = tt
 
 -- what is so of a step that is made is so of the step
-abbrev IsLeftAlone : State → Step → Option LockRow → Stepped → Type 0
+abbrev IsLeftAlone : State → Step → Option LockState → Stepped → Type 0
 IsLeftAlone s step choice made =
     AllByRecursion (λ ending. (IsGrant ending.how → ⊥) → IsConcerned step choice ending.pid) made.endings
     × ((pid lkid : ℕ) → (IsConcerned step choice pid → ⊥) → sum_by (weigh (locks pid lkid)) s.resources ≤ sum_by (weigh (locks pid lkid)) made.state.resources)
 
 -- a change whose endings and locks are left alone, once it is swept
-swept_alone : (s : State) (step : Step) (choice : Option LockRow) (change : Stepped)
+swept_alone : (s : State) (step : Step) (choice : Option LockState) (change : Stepped)
     → AllByRecursion (λ ending. (IsGrant ending.how → ⊥) → IsConcerned step choice ending.pid) change.endings
-    → ((pid lkid : ℕ) → (IsConcerned step choice pid → ⊥) → sum_by (weigh (locks pid lkid)) s.resources ≤ sum_by (weigh (locks pid lkid)) change.state.resources)
+    → ((pid lkid : ℕ) → (IsConcerned step choice pid → ⊥)
+    → sum_by (weigh (locks pid lkid)) s.resources ≤ sum_by (weigh (locks pid lkid)) change.state.resources)
     → IsLeftAlone s step choice (stepped_after_sweep change)
 swept_alone s step choice change ends kept = (
   each_append (λ ending. (IsGrant ending.how → ⊥) → IsConcerned step choice ending.pid) change.endings (sweep_endings change.state.resources) ends
@@ -258,7 +279,7 @@ no_caller a b differs = elim (eqb_tells a b) [
 ]
 
 -- a search ends the request of its victim alone, and takes at most its lock away
-searched_alone : (s : State) → Apart s → (node : ℕ) (choice : Option LockRow) → IsVictim s choice
+searched_alone : (s : State) → Apart s → (node : ℕ) (choice : Option LockState) → IsVictim s choice
     → IsLeftAlone s (Search node) choice (stepped_after_sweep (step_change s (Search node) choice))
 unfolding search_change
 searched_alone s apart node None nobody =
@@ -273,29 +294,37 @@ searched_alone s apart node (Some victim) deadlocked =
     (search_endings s (Some victim)) (withdrawn_are_theirs is_its withdrawals s.resources (its, tt)))
     (λ pid lkid stranger. withdrawals_keep is_its pid lkid (no_caller pid victim.pid stranger) withdrawals (victims_apart (Some victim)) s.resources (its, tt))
 
-left_alone : (s : State) → Apart s → (step : Step) (choice : Option LockRow) → IsChoice s step choice → step_refusal s step ≡ None
+left_alone : (s : State) → Apart s → (step : Step) (choice : Option LockState) → IsChoice s step choice → step_refusal s step ≡ None
     → IsLeftAlone s step choice (stepped_after_sweep (step_change s step choice))
 unfolding declare_change set_change take_change enq_change enq_resource convert_change deq_change state_after_rundown
 left_alone s apart (Declare d) choice chosen passed = swept_alone s (Declare d) choice (step_change s (Declare d) choice) tt (λ pid lkid stranger. omega arith)
-left_alone s apart (SetValue v) choice chosen passed = swept_alone s (SetValue v) choice (step_change s (SetValue v) choice) tt (λ pid lkid stranger. omega arith)
+left_alone s apart (SetValue v) choice chosen passed =
+    swept_alone s (SetValue v) choice (step_change s (SetValue v) choice) tt (λ pid lkid stranger. omega arith)
 left_alone s apart (Enq e) choice chosen passed =
-    swept_alone s (Enq e) choice (step_change s (Enq e) choice) (grants_alone (Enq e) choice (enq_endings s e) (at_once_alone (Enq e) (enq_at_once s e) (enq_row s e)))
+    swept_alone s (Enq e) choice (step_change s (Enq e) choice)
+    (grants_alone (Enq e) choice (enq_endings s e) (at_once_alone (Enq e) (enq_at_once s e) (enq_row s e)))
     (λ pid lkid stranger.
     omega (
       arith,
-      entered_among_weighs (locks pid lkid) (λ ending. 0) (grant_keeps (locks pid lkid) (locks_named pid lkid)) s.next_serial (enq_site s e) (enq_row s e) (enq_at_once s e) s.resources,
+      entered_among_weighs (locks pid lkid) (λ ending. 0)
+          (grant_keeps (locks pid lkid) (locks_named pid lkid)) s.next_serial (enq_site s e) (enq_row s e)
+          (enq_at_once s e) s.resources,
       sum_of_zero {X = Ending} (enq_endings s e),
     ))
 left_alone s apart (Convert c) choice chosen passed =
     let admitted = admission_of s c passed in
     let a : ConversionAdmission = admitted.0 in
     subst (λ (there : Option ConversionAdmission). IsLeftAlone s (Convert c) choice (stepped_after_sweep (conversion_change s c there))) (sym admitted.1)
-    (swept_alone s (Convert c) choice (conversion_change s c (Some a)) (grants_alone (Convert c) choice (conversion_endings a) (at_once_alone (Convert c) a.at_once (wanting_row a.row a.request)))
-    (λ pid lkid stranger. all_converted_keep pid lkid c.pid (convert_lkid s c) a.request a.at_once (convert_blocks s c a).value_block s.resources (apart.one_row (convert_lkid s c))))
+    (swept_alone s (Convert c) choice (conversion_change s c (Some a))
+    (grants_alone (Convert c) choice (conversion_endings a)
+    (at_once_alone (Convert c) a.at_once (wanting_row a.row a.request)))
+    (λ pid lkid stranger. all_converted_keep pid lkid c.pid (convert_lkid s c) a.request a.at_once
+    (convert_blocks s c a).value_block s.resources (apart.one_row (convert_lkid s c))))
 left_alone s apart (Deq d) choice chosen passed =
     let theirs = dequeued_are_theirs s d apart passed in
     swept_alone s (Deq d) choice (step_change s (Deq d) choice)
-    (each_weaker (IsTheirs (is_caller d)) (λ ending. (IsGrant ending.how → ⊥) → ending.pid ≡ d.pid) (λ ending is _. eqb-true ending.pid d.pid is) (deq_endings s d)
+    (each_weaker (IsTheirs (is_caller d)) (λ ending. (IsGrant ending.how → ⊥)
+    → ending.pid ≡ d.pid) (λ ending is _. eqb-true ending.pid d.pid is) (deq_endings s d)
     (withdrawn_are_theirs (is_caller d) (withdrawals_of s d) s.resources theirs))
     (λ pid lkid stranger. withdrawals_keep (is_caller d) pid lkid (no_caller pid d.pid stranger) (withdrawals_of s d) (dequeues_apart s d) s.resources theirs)
 left_alone s apart (Rundown pid) choice chosen passed =
@@ -316,7 +345,8 @@ left_alone s apart (Search node) choice chosen passed =
 left_alone s apart (Take pid) choice chosen passed = swept_alone s (Take pid) choice (step_change s (Take pid) choice) tt (λ process lkid stranger. omega arith)
 
 -- after every run
-pub left_alone_always : (history : History) (old : State) → Run history old → (step : Step) (choice : Option LockRow) → IsChoice old step choice → OthersAreLeftAlone old step choice
+pub left_alone_always : (history : History) (old : State) → Run history old → (step : Step) (choice : Option LockState)
+    → IsChoice old step choice → OthersAreLeftAlone old step choice
 left_alone_always history old run step choice chosen =
     let so = of_refusal (step_refusal old step) (λ passed. left_alone old (apart_always history old run) step choice chosen passed) in
     record { endings = so.0; locks = so.1 }
@@ -329,4 +359,7 @@ left_alone_always history old run step choice chosen =
         × ((pid lkid : ℕ) → (IsConcerned step choice pid → ⊥) → sum_by (weigh (locks pid lkid)) old.resources
         ≤ sum_by (weigh (locks pid lkid)) (refused_or refusal old (step_change old step choice)).state.resources)
     of_refusal None so = (told (stepped_after_sweep (step_change old step choice)) (so refl), (so refl).1)
-    of_refusal (Some refusal) so = (All-from_recursion (λ ending. (IsGrant ending.how → ⊥) → IsConcerned step choice ending.pid) [] tt, λ pid lkid stranger. omega arith)
+    of_refusal (Some refusal) so = (
+      All-from_recursion (λ ending. (IsGrant ending.how → ⊥) → IsConcerned step choice ending.pid) [] tt,
+      λ pid lkid stranger. omega arith,
+    )

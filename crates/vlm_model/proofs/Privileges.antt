@@ -1,12 +1,13 @@
 -- After every run a step makes a root in the system's domain only for a caller with the privilege.
-use Rattle.std.proofs.Common.{◌≡◌, ◌⊎◌, ◌&&◌, Bool, true, false, not, cond, List, [], ◌∷◌, map, Option, None, Some, inl, inr, refl, sym, ap, subst, ◌∙◌, arith, ℕ}
+use Rattle.std.proofs.Common.{◌≡◌, ◌⊎◌, ◌&&◌, Bool, true, false, not, cond, List, [], ◌∷◌, map, Option, None, Some, inl}
+use Rattle.std.proofs.Common.{inr, refl, sym, ap, subst, ◌∙◌, arith, ℕ}
 use Rattle.std.specs.Prelude.{◌==◌, Any}
 use Rattle.std.specs.List.{AllByRecursion}
 use Rattle.std.proofs.lemmas.Bool.{and_from, eq-eqb, not-false}
 use Rattle.std.proofs.lemmas.List.Elements.{All-from_recursion}
 use Rattle.vlm_words.specs.declared.conditions.Cond.TheVariants.{Nosyslck}
 use Rattle.vlm_words.specs.declared.conditions.Cond.{Cond}
-use Rattle.vlm_words.specs.declared.locks.LockRow.{LockRow}
+use Rattle.vlm_words.specs.declared.locks.LockState.{LockState}
 use Rattle.vlm_words.specs.declared.resources.Domain.TheVariants.{Group, System}
 use Rattle.vlm_words.specs.declared.steps.NewRequest.{NewRequest}
 use Rattle.vlm_words.specs.declared.steps.Step.TheVariants.{Declare, SetValue, Enq, Convert, Deq, Rundown, Leave, Search, Take}
@@ -15,7 +16,8 @@ use Rattle.vlm_words.specs.Flags.{has_flag, system}
 use Rattle.vlm_words.specs.State.{Resource, State, Node}
 use Rattle.vlm_words.specs.Resources.{new_resource}
 use Rattle.vlm_model.specs.Sweeps.{state_after_sweep}
-use Rattle.vlm_model.specs.Trees.{caller_group, enq_site, has_syslck, parent_lkid, parent_refusal, parent_resource, privilege_refusal, root_domain, site_below, site_refusal}
+use Rattle.vlm_model.specs.Trees.{caller_group, enq_site, has_syslck, parent_lkid, parent_refusal, parent_resource}
+use Rattle.vlm_model.specs.Trees.{privilege_refusal, root_domain, site_below, site_refusal}
 use Rattle.vlm_model.specs.Declare.{declare_change}
 use Rattle.vlm_model.specs.SetValue.{set_change}
 use Rattle.vlm_model.specs.Take.{take_change}
@@ -28,10 +30,11 @@ use Rattle.vlm_model.specs.Runs.{History, Run}
 use Rattle.vlm_model.specs.Laws.{IsSameResource}
 use Rattle.vlm_model.specs.Privileges.{IsPrivileged, IsPrivilegedStep, IsSystemRoot, SystemRootsArePrivileged, WasSystemRoot}
 use Rattle.vlm_model.proofs.Each.{Any-here, Any-there, Any-weaker, each_map, each_weaker}
-use Rattle.vlm_model.proofs.Passed.{both_pass, enq_passes, second_fails, test_fails}
+use Rattle.vlm_model.proofs.PassedChecks.{both_pass, enq_passes, second_fails, test_fails}
 use Rattle.vlm_model.proofs.Always.{admission_of}
 use Rattle.vlm_model.proofs.EachResource.{each_entered_among, each_swept}
-use Rattle.vlm_model.proofs.Keys.{KeepsPlace, Placed, WasGiven, conversion_keeps_place, entry_keeps_place, of_found, placed_always, service_keeps_place, withdrawals_keep_place}
+use Rattle.vlm_model.proofs.Keys.{KeepsPlace, Placed, WasGiven, conversion_keeps_place, entry_keeps_place, of_found}
+use Rattle.vlm_model.proofs.Keys.{placed_always, service_keeps_place, withdrawals_keep_place}
 use Rattle.vlm_model.proofs.Refusals.{IsCaller, caller_passes}
 use Rattle.vlm_model.proofs.NewlyRooted.{HasParent, parent_of}
 use Rattle.vlm_model.specs.Rundown.{is_ended_by, nodes_after_departure, rundowns, state_after_rundown}
@@ -135,7 +138,7 @@ rightly_ended s is_one nodes =
     (rightly_changed s ⊥ (resource_after_withdrawals (rundowns is_one s)) (withdrawals_keep_place (rundowns is_one s)))
 
 -- after an accepted step each root in the system's domain is there rightly
-accepted_rightly : (s : State) → Placed s → (step : Step) (choice : Option LockRow) → step_refusal s step ≡ None
+accepted_rightly : (s : State) → Placed s → (step : Step) (choice : Option LockState) → step_refusal s step ≡ None
     → AllByRecursion (IsRightly s (IsPrivilegedStep s step)) (stepped_after_sweep (step_change s step choice)).state.resources
 unfolding declare_change set_change take_change convert_change deq_change search_change
 accepted_rightly s placed (Declare d) choice passed = rightly_swept s (declare_change s d) ⊥ (each_was s ⊥)
@@ -161,7 +164,7 @@ accepted_rightly s placed (Take pid) choice passed = rightly_swept s (take_chang
 
 -- after every run a step makes a root in the system's domain only for a caller with the privilege
 pub privileges_always : (history : History) (old : State) → Run history old
-    → (step : Step) (choice : Option LockRow) → IsChoice old step choice → SystemRootsArePrivileged old step choice
+    → (step : Step) (choice : Option LockState) → IsChoice old step choice → SystemRootsArePrivileged old step choice
 privileges_always history old run step choice chosen =
     All-from_recursion (IsRightly old (IsPrivilegedStep old step)) (stepped old step choice).state.resources
     (of_refusal (step_refusal old step) refl)

@@ -9,9 +9,12 @@ use Rattle.vlm_words.specs.declared.steps.NewRequest.{NewRequest}
 use Rattle.vlm_words.specs.declared.steps.Conversion.{Conversion}
 use Rattle.vlm_words.specs.declared.asts.Ast.{Ast}
 use Rattle.vlm_words.specs.Processes.{later, with_ast, process_with_block}
-use Rattle.vlm_model.specs.Asts.{process_after_take, processes_after_take, process_after_queueing, processes_after_queueing, Queued, processes_after_asts, completions, warnings}
+use Rattle.vlm_model.specs.Asts.{process_after_take, processes_after_take, process_after_queueing}
+use Rattle.vlm_model.specs.Asts.{processes_after_queueing, Queued, processes_after_asts, completions, warnings}
 use Rattle.vlm_words.specs.State.{Process, Resource, State, process_of}
-use Rattle.vlm_model.specs.StatusBlocks.{process_after_write, processes_after_acceptance, processes_after_return, processes_after_setting, processes_after_status, processes_after_write, status_blocks_of}
+use Rattle.vlm_model.specs.StatusBlocks.{process_after_write, processes_after_acceptance, processes_after_return}
+use Rattle.vlm_model.specs.StatusBlocks.{processes_after_setting, processes_after_status, processes_after_write}
+use Rattle.vlm_model.specs.StatusBlocks.{status_blocks_of}
 use Rattle.vlm_words.specs.declared.resources.ValueBlock.{ValueBlock}
 use Rattle.vlm_model.specs.Endings.{Ending, How}
 use Rattle.vlm_model.specs.Endings.How.{by_grant, by_abort, by_cancel, by_deadlock, by_rundown}

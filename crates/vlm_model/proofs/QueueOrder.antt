@@ -4,7 +4,7 @@ use Rattle.std.specs.List.{AllByRecursion, filter, find}
 use Rattle.std.proofs.lemmas.Bool.{cond_both}
 use Rattle.std.proofs.lemmas.List.Elements.{All-from_recursion}
 use Rattle.vlm_words.specs.declared.locks.Request.{Request}
-use Rattle.vlm_words.specs.declared.locks.LockRow.{LockRow}
+use Rattle.vlm_words.specs.declared.locks.LockState.{LockState}
 use Rattle.vlm_words.specs.declared.resources.ValueBlock.{ValueBlock}
 use Rattle.vlm_words.specs.declared.steps.Conversion.{Conversion}
 use Rattle.vlm_words.specs.declared.steps.NewRequest.{NewRequest}
@@ -19,8 +19,12 @@ use Rattle.vlm_model.specs.Declare.{declare_change}
 use Rattle.vlm_model.specs.SetValue.{set_change}
 use Rattle.vlm_model.specs.Take.{take_change}
 use Rattle.vlm_model.specs.Enqueue.{enq_at_once, enq_change, enq_row, resource_after_entry}
-use Rattle.vlm_model.specs.Convert.{ConversionAdmission, convert_admission, convert_blocks, convert_change, convert_lkid, convert_request, resource_after_conversion, resource_after_conversion_of, resource_without_granted}
-use Rattle.vlm_model.specs.Withdrawals.{Withdrawal, is_held_by_writer, resource_after_cancel, resource_after_going, resource_after_withdrawals, resource_after_writer, resource_without, state_after_withdrawals, value_block_after_writer}
+use Rattle.vlm_model.specs.Convert.{ConversionAdmission, convert_admission, convert_blocks, convert_change}
+use Rattle.vlm_model.specs.Convert.{convert_lkid, convert_request, resource_after_conversion}
+use Rattle.vlm_model.specs.Convert.{resource_after_conversion_of, resource_without_granted}
+use Rattle.vlm_model.specs.Withdrawals.{Withdrawal, is_held_by_writer, resource_after_cancel, resource_after_going}
+use Rattle.vlm_model.specs.Withdrawals.{resource_after_withdrawals, resource_after_writer, resource_without}
+use Rattle.vlm_model.specs.Withdrawals.{state_after_withdrawals, value_block_after_writer}
 use Rattle.vlm_model.specs.Rundown.{rundowns, state_after_rundown}
 use Rattle.vlm_model.specs.Runs.{History, Run}
 use Rattle.vlm_model.specs.Asts.{resource_after_warning}
@@ -35,15 +39,15 @@ use Rattle.vlm_model.proofs.Withdrawing.{kept_withdrawn}
 use Rattle.vlm_model.proofs.InOrder.{service_in_order}
 
 -- the request of the first row has the lower number
-abbrev IsOlder : LockRow → LockRow → Type 0
+abbrev IsOlder : LockState → LockState → Type 0
 IsOlder a b = wanted_number a < wanted_number b
 
 -- the row's request has a number below this one
-abbrev IsBelow : ℕ → LockRow → Type 0
+abbrev IsBelow : ℕ → LockState → Type 0
 IsBelow next row = wanted_number row < next
 
 -- the numbers rise along the rows, by recursion
-record Rises (next : ℕ) (rows : List LockRow) : Type 0 where
+record Rises (next : ℕ) (rows : List LockState) : Type 0 where
   pairs : EachPair IsOlder rows
   given : AllByRecursion (IsBelow next) rows
 
@@ -55,29 +59,29 @@ record Ordered (next : ℕ) (r : Resource) : Type 0 where
 -- ---- one queue
 
 -- pairs behind the first rows
-pairs_drop : (n : ℕ) (rows : List LockRow) → EachPair IsOlder rows → EachPair IsOlder (drop n rows)
+pairs_drop : (n : ℕ) (rows : List LockState) → EachPair IsOlder rows → EachPair IsOlder (drop n rows)
 pairs_drop zero rows pairs = pairs
 pairs_drop (suc n) [] pairs = tt
 pairs_drop (suc n) (row ∷ rows) pairs = pairs_drop n rows pairs.1
 
 -- the rows behind the first ones
-rises_drop : (next n : ℕ) (rows : List LockRow) → Rises next rows → Rises next (drop n rows)
+rises_drop : (next n : ℕ) (rows : List LockState) → Rises next rows → Rises next (drop n rows)
 rises_drop next n rows rises = record { pairs = pairs_drop n rows rises.pairs; given = each_drop (IsBelow next) n rows rises.given }
 
 -- the rows that a filter keeps
-rises_filter : (next : ℕ) (test : LockRow → Bool) (rows : List LockRow) → Rises next rows → Rises next (filter test rows)
+rises_filter : (next : ℕ) (test : LockState → Bool) (rows : List LockState) → Rises next rows → Rises next (filter test rows)
 rises_filter next test rows rises = record { pairs = each_pair_filter IsOlder test rows rises.pairs; given = each_filter (IsBelow next) test rows rises.given }
 
 -- below the number after the next
-given_more : (next : ℕ) (rows : List LockRow) → AllByRecursion (IsBelow next) rows → AllByRecursion (IsBelow (next + 1)) rows
+given_more : (next : ℕ) (rows : List LockState) → AllByRecursion (IsBelow next) rows → AllByRecursion (IsBelow (next + 1)) rows
 given_more next rows given = each_weaker (IsBelow next) (IsBelow (next + 1)) (λ row below. omega (arith, below)) rows given
 
 -- as the next number is given
-rises_more : (next : ℕ) (rows : List LockRow) → Rises next rows → Rises (next + 1) rows
+rises_more : (next : ℕ) (rows : List LockState) → Rises next rows → Rises (next + 1) rows
 rises_more next rows rises = record { pairs = rises.pairs; given = given_more next rows rises.given }
 
 -- with the request of the next number at the end
-pairs_push : (next : ℕ) (rows : List LockRow) (last : LockRow) → wanted_number last ≡ next → AllByRecursion (IsBelow next) rows → EachPair IsOlder rows
+pairs_push : (next : ℕ) (rows : List LockState) (last : LockState) → wanted_number last ≡ next → AllByRecursion (IsBelow next) rows → EachPair IsOlder rows
     → EachPair IsOlder (rows ++ last ∷ [])
 pairs_push next [] last is given pairs = (tt, tt)
 pairs_push next (row ∷ rows) last is given pairs = (
@@ -85,7 +89,7 @@ pairs_push next (row ∷ rows) last is given pairs = (
   pairs_push next rows last is given.1 pairs.1,
 )
 
-rises_push : (next : ℕ) (rows : List LockRow) (last : LockRow) → wanted_number last ≡ next → Rises next rows → Rises (next + 1) (rows ++ last ∷ [])
+rises_push : (next : ℕ) (rows : List LockState) (last : LockState) → wanted_number last ≡ next → Rises next rows → Rises (next + 1) (rows ++ last ∷ [])
 rises_push next rows last is rises = record {
   pairs = pairs_push next rows last is rises.given rises.pairs;
   given =
@@ -106,7 +110,7 @@ served_ordered next block r ordered =
     }
 
 -- a lock enters
-entered_ordered : (next : ℕ) (row : LockRow) → wanted_number row ≡ next → (at_once : Bool) (r : Resource) → Ordered next r
+entered_ordered : (next : ℕ) (row : LockState) → wanted_number row ≡ next → (at_once : Bool) (r : Resource) → Ordered next r
     → Ordered (next + 1) (resource_after_entry row at_once r)
 unfolding resource_after_entry
 entered_ordered next row is at_once r ordered =
@@ -115,7 +119,8 @@ entered_ordered next row is at_once r ordered =
     (λ _. record { converting = rises_more next r.converting ordered.converting; waiting = rises_push next r.waiting row is ordered.waiting })
 
 -- a lock converts
-found_ordered : (next : ℕ) (request : Request) → request.number ≡ next → (at_once : Bool) (lkid : ℕ) (block : ValueBlock) (r : Resource) (found : Option LockRow)
+found_ordered : (next : ℕ) (request : Request) → request.number ≡ next
+    → (at_once : Bool) (lkid : ℕ) (block : ValueBlock) (r : Resource) (found : Option LockState)
     → Ordered next r → Ordered (next + 1) (resource_after_conversion_of request at_once lkid block r found)
 found_ordered next request is at_once lkid block r None ordered =
     record { converting = rises_more next r.converting ordered.converting; waiting = rises_more next r.waiting ordered.waiting }
@@ -212,7 +217,7 @@ ordered_always =
     (withdrawn_ordered s.next_request (rundowns is_one s)) s.resources each)))
 
 -- rows that rise by recursion rise by places
-rise : (next : ℕ) (rows : List LockRow) → Rises next rows → NumbersRise next rows
+rise : (next : ℕ) (rows : List LockState) → Rises next rows → NumbersRise next rows
 rise next rows rises = record {
   rising = AllPairs-from_recursion IsOlder rows rises.pairs;
   given = All-from_recursion (IsBelow next) rows rises.given;

@@ -5,7 +5,7 @@ use Rattle.std.specs.List.{AllByRecursion}
 use Rattle.std.proofs.lemmas.List.Elements.{All-from_recursion}
 use Rattle.vlm_words.specs.declared.conditions.Cond.TheVariants.{Notqueued}
 use Rattle.vlm_words.specs.declared.locks.Request.{Request}
-use Rattle.vlm_words.specs.declared.locks.LockRow.{LockRow}
+use Rattle.vlm_words.specs.declared.locks.LockState.{LockState}
 use Rattle.vlm_words.specs.declared.steps.Conversion.{Conversion}
 use Rattle.vlm_words.specs.declared.steps.NewRequest.{NewRequest}
 use Rattle.vlm_words.specs.Flags.{has_flag, noqueue}
@@ -17,12 +17,12 @@ use Rattle.vlm_model.specs.Convert.{ConversionAdmission, admission_refusal, conv
 use Rattle.vlm_model.specs.Runs.{History, Run}
 use Rattle.vlm_model.specs.Queued.{MayWait, NoqueueIsKept}
 use Rattle.vlm_model.proofs.Each.{each_append, each_weaker}
-use Rattle.vlm_model.proofs.Passed.{admission_passes, both_pass, enq_passes, first_fails, test_fails}
+use Rattle.vlm_model.proofs.PassedChecks.{admission_passes, both_pass, enq_passes, first_fails, test_fails}
 use Rattle.vlm_model.proofs.Admissions.{admitted_request}
 use Rattle.vlm_model.proofs.Waiting.{EachConverting, Queued, queued_always}
 
 -- the row wants nothing that may not be waited for
-abbrev Waits : LockRow → Type 0
+abbrev Waits : LockState → Type 0
 Waits row = MayWait row.want
 
 -- an accepted request that is not granted at once may wait
@@ -61,4 +61,5 @@ noqueue_always history last run =
     (each_weaker (Queued Waits) (λ r. All (λ row. MayWait row.want) (r.converting ++ r.waiting))
     (λ r queued. All-from_recursion Waits (r.converting ++ r.waiting) (each_append Waits r.converting r.waiting queued.converting queued.waiting))
     last.resources
-    (queued_always Waits (λ _ s _ e passed. request_may_wait s e passed) (λ _ s _ c a passed is waits. rows_may_wait s c a passed is waits s.resources) history last run))
+    (queued_always Waits (λ _ s _ e passed. request_may_wait s e passed)
+    (λ _ s _ c a passed is waits. rows_may_wait s c a passed is waits s.resources) history last run))

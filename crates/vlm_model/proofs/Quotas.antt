@@ -22,18 +22,18 @@ use Rattle.vlm_model.specs.Withdrawals.{resource_after_withdrawals, state_after_
 use Rattle.vlm_model.specs.Runs.{History, Run}
 use Rattle.vlm_model.specs.Laws.{QuotasAreKept, locks_on}
 use Rattle.vlm_model.proofs.Always.{always, kept_by_stepped}
-use Rattle.vlm_model.proofs.Passed.{both_pass, enq_passes, test_passes}
+use Rattle.vlm_model.proofs.PassedChecks.{both_pass, enq_passes, test_passes}
 use Rattle.vlm_model.proofs.Processes.{kept_converted, kept_ended, kept_entered, kept_set, kept_swept, kept_taken}
 use Rattle.vlm_model.proofs.Weights.{weigh}
-use Rattle.vlm_model.proofs.Moves.{changed_named, converted_named, withdrawn_named, entered_named, swept_named}
+use Rattle.vlm_model.proofs.LastingSums.{changed_named, converted_named, withdrawn_named, entered_named, swept_named}
 use Rattle.vlm_model.proofs.WhoseLocks.{owned, owned_named, owning}
-use Rattle.vlm_model.proofs.Leaving.{no_lock_left}
-use Rattle.vlm_model.proofs.Ended.{found_still}
-use Rattle.vlm_model.proofs.Apart.{Apart, apart_always}
+use Rattle.vlm_model.proofs.EndedLocks.{no_lock_left}
+use Rattle.vlm_model.proofs.ProcessEnds.{found_still}
+use Rattle.vlm_model.proofs.IdsApart.{Apart, apart_always}
 use Rattle.vlm_model.proofs.Sums.{sum_changed-le}
 use Rattle.vlm_model.specs.Rundown.{processes_but, rundowns, state_after_rundown}
 
--- the identification of a process, and its quota
+-- the ID of a process, and its quota
 abbrev allowance : Process → ℕ × ℕ
 allowance p = (p.pid, p.quota)
 
@@ -128,7 +128,8 @@ ended_within s is_one nodes apart within pid = of_test (is_one pid) refl
     swept = omega (arith, swept_named (owned pid) (owned_named pid) left changed)
 
     fewer : owning pid changed ≤ owning pid s.resources
-    fewer = sum_changed-le (weigh (owned pid)) (resource_after_withdrawals (rundowns is_one s)) (withdrawn_named (owned pid) (owned_named pid) (rundowns is_one s)) s.resources
+    fewer = sum_changed-le (weigh (owned pid)) (resource_after_withdrawals (rundowns is_one s))
+        (withdrawn_named (owned pid) (owned_named pid) (rundowns is_one s)) s.resources
 
     quota : quota_of (processes_after_service left changed) pid ≡ quota_of left pid
     quota =

@@ -7,7 +7,7 @@ use Rattle.std.proofs.lemmas.Bool.Decides.{nat_tests}
 use Rattle.std.proofs.lemmas.List.Folds.{Any-from_list_any, list_any-from_Any}
 use Rattle.vlm_words.specs.declared.conditions.Cond.TheVariants.{Cancelgrant, Sublocks, Ivlockid, Badparam, Accvio, Nonexpr, Departed}
 use Rattle.vlm_words.specs.declared.conditions.Cond.{Cond}
-use Rattle.vlm_words.specs.declared.locks.LockRow.{LockRow}
+use Rattle.vlm_words.specs.declared.locks.LockState.{LockState}
 use Rattle.vlm_words.specs.declared.steps.Declaration.{Declaration}
 use Rattle.vlm_words.specs.declared.steps.Dequeue.{Dequeue}
 use Rattle.vlm_words.specs.declared.steps.Step.TheVariants.{Declare, SetValue, Enq, Convert, Deq, Rundown, Leave, Search, Take}
@@ -18,21 +18,25 @@ use Rattle.vlm_words.specs.State.{Resource, State, node_at}
 use Rattle.vlm_model.specs.Checks.{caller_refusal, has_departed, lock_refusal, status_block_refusal, which_refusal}
 use Rattle.vlm_model.specs.Declare.{declare_refusal, is_node}
 use Rattle.vlm_model.specs.SetValue.{set_refusal}
-use Rattle.vlm_model.specs.Dequeue.{cancel_refusal, deq_flags_refusal, deq_refusal, dequeue_lkid, has_sublock_on, is_granted, sublocks_refusal, dequeued_lock_refusal, is_mixed, leaves_none}
+use Rattle.vlm_model.specs.Dequeue.{cancel_refusal, deq_flags_refusal, deq_refusal, dequeue_lkid, has_sublock_on}
+use Rattle.vlm_model.specs.Dequeue.{is_granted, sublocks_refusal, dequeued_lock_refusal, is_mixed, leaves_none}
 use Rattle.vlm_model.specs.Convert.{ConversionAdmission}
 use Rattle.vlm_model.specs.Stepped.{IsChoice, Stepped, conversion_change, refused_or, step_change, step_refusal, stepped, stepped_after_sweep}
 use Rattle.vlm_model.specs.Runs.{History, Run}
 use Rattle.vlm_model.specs.Reasons.{Breaks, CallerBreaks, DeclarationBreaks, DequeueBreaks, RefusalHasItsReason, SettingBreaks, DepartureBreaks}
 use Rattle.vlm_model.proofs.Each.{Any-weaker}
 use Rattle.vlm_model.proofs.Always.{admission_of}
-use Rattle.vlm_model.proofs.Apart.{Apart, apart_always}
+use Rattle.vlm_model.proofs.IdsApart.{Apart, apart_always}
 use Rattle.vlm_model.proofs.Keys.{Placed, placed_always}
 use Rattle.vlm_model.proofs.ReasonsOfConversions.{conversion_breaks, conversion_keeps}
 use Rattle.vlm_model.proofs.ReasonsOfRequests.{request_breaks, request_keeps}
-use Rattle.vlm_model.proofs.Passed.{both_pass, second_fails, test_fails, test_passes, given_none}
+use Rattle.vlm_model.proofs.PassedChecks.{both_pass, second_fails, test_fails, test_passes, given_none}
 use Rattle.vlm_model.proofs.Acceptances.{IsAnswered, conversion_answers, request_answers}
 use Rattle.vlm_model.proofs.FlagBits.{dequeue_known, dequeue_unknown}
-use Rattle.vlm_model.proofs.Refusals.{IsCaller, Says, any_resource, block_passes, caller_passes, granted_nowhere, granted_somewhere, is_somebody, lock_passes, no_resource, node_departed, over_queues, says_block, says_caller, says_departed, says_either, says_lock, says_some, says_unless, says_where, says_which, which_passes, says_none}
+use Rattle.vlm_model.proofs.Refusals.{IsCaller, Says, any_resource, block_passes, caller_passes, granted_nowhere}
+use Rattle.vlm_model.proofs.Refusals.{granted_somewhere, is_somebody, lock_passes, no_resource, node_departed}
+use Rattle.vlm_model.proofs.Refusals.{over_queues, says_block, says_caller, says_departed, says_either, says_lock}
+use Rattle.vlm_model.proofs.Refusals.{says_some, says_unless, says_where, says_which, which_passes, says_none}
 use Rattle.vlm_model.specs.Rundown.{leave_refusal}
 
 -- ---- what every caller breaks
@@ -66,7 +70,9 @@ declaration_breaks s d = of_node (is_node d.node) refl
     left : ℕ
     left = (node_at s.nodes d.node).declared
 
-    rest : Says (DeclarationBreaks s d) (cond (has_departed s.nodes d.node) (Some Departed) (cond (nat_lt (node_at s.nodes d.node).declared 65535) None (Some Badparam)))
+    rest : Says (DeclarationBreaks s d)
+        (cond (has_departed s.nodes d.node) (Some Departed)
+        (cond (nat_lt (node_at s.nodes d.node).declared 65535) None (Some Badparam)))
     rest =
         says_departed (DeclarationBreaks s d) s d.node (λ departed. departed)
         (cond (nat_lt (node_at s.nodes d.node).declared 65535) None (Some Badparam))
@@ -75,7 +81,9 @@ declaration_breaks s d = of_node (is_node d.node) refl
 
     of_node : (b : Bool) → is_node d.node ≡ b
         → Says (DeclarationBreaks s d)
-        (cond (not b) (Some Badparam) (cond (has_departed s.nodes d.node) (Some Departed) (cond (nat_lt (node_at s.nodes d.node).declared 65535) None (Some Badparam))))
+        (cond (not b) (Some Badparam)
+        (cond (has_departed s.nodes d.node) (Some Departed)
+        (cond (nat_lt (node_at s.nodes d.node).declared 65535) None (Some Badparam))))
     of_node true is = rest
     of_node false is = says_some (DeclarationBreaks s d) Badparam (elim (no_node d.node is) [ inl none ↦ inl none | inr past ↦ inr (inl past) ])
 
@@ -127,18 +135,18 @@ setting_keeps s v passed =
 -- the test of a sublock on a resource, and what it says
 sublock_on : (lkid : ℕ) (r : Resource) → has_sublock_on lkid r ≡ true → Any (λ row. row.parent ≡ lkid) (r.granted ++ r.converting ++ r.waiting)
 sublock_on lkid r is =
-    let test : LockRow → Bool = λ row. row.parent == lkid in
-    Any-weaker (λ (row : LockRow). (row.parent == lkid) ≡ true) (λ row. row.parent ≡ lkid) (λ row here. eqb-true row.parent lkid here)
+    let test : LockState → Bool = λ row. row.parent == lkid in
+    Any-weaker (λ (row : LockState). (row.parent == lkid) ≡ true) (λ row. row.parent ≡ lkid) (λ row here. eqb-true row.parent lkid here)
     (r.granted ++ r.converting ++ r.waiting)
     (Any-from_list_any test (r.granted ++ r.converting ++ r.waiting) (over_queues test r ∙ is))
 
 -- and it passes where there is one
 on_sublock : (lkid : ℕ) (r : Resource) → Any (λ row. row.parent ≡ lkid) (r.granted ++ r.converting ++ r.waiting) → has_sublock_on lkid r ≡ true
 on_sublock lkid r there =
-    let test : LockRow → Bool = λ row. row.parent == lkid in
+    let test : LockState → Bool = λ row. row.parent == lkid in
     sym (over_queues test r)
     ∙ list_any-from_Any test (r.granted ++ r.converting ++ r.waiting)
-    (Any-weaker (λ (row : LockRow). row.parent ≡ lkid) (λ row. (row.parent == lkid) ≡ true) (λ row here. eq-eqb row.parent lkid here)
+    (Any-weaker (λ (row : LockState). row.parent ≡ lkid) (λ row. (row.parent == lkid) ≡ true) (λ row here. eq-eqb row.parent lkid here)
     (r.granted ++ r.converting ++ r.waiting) there)
 
 -- what of a dequeue's flags is refused: an unknown bit, or what does not go together
@@ -338,7 +346,8 @@ step_keeps s apart placed (Search node) passed = departure_keeps s node passed
 step_keeps s apart placed (Take pid) passed = caller_keeps s pid (caller_passes s pid passed)
 
 -- an accepted step answers so
-step_answers : (s : State) (step : Step) (choice : Option LockRow) → step_refusal s step ≡ None → IsAnswered s step (stepped_after_sweep (step_change s step choice))
+step_answers : (s : State) (step : Step) (choice : Option LockState) → step_refusal s step ≡ None
+    → IsAnswered s step (stepped_after_sweep (step_change s step choice))
 step_answers s (Declare d) choice passed = tt
 step_answers s (SetValue v) choice passed = tt
 step_answers s (Enq e) choice passed = request_answers s e
@@ -354,7 +363,7 @@ step_answers s (Take pid) choice passed = tt
 
 -- after every run a step breaks no rule and is accepted, or is refused for one that it breaks
 pub reasons_always : (history : History) (old : State) → Run history old
-    → (step : Step) (choice : Option LockRow) → IsChoice old step choice → RefusalHasItsReason old step choice
+    → (step : Step) (choice : Option LockState) → IsChoice old step choice → RefusalHasItsReason old step choice
 reasons_always history old run step choice chosen = of_refusal (step_refusal old step) refl
   where
     apart : Apart old

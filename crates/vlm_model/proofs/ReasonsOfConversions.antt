@@ -1,5 +1,6 @@
 -- What a conversion that is refused breaks, and that one that is accepted breaks nothing.
-use Rattle.std.proofs.Common.{◌≡◌, ◌≢◌, ◌≤◌, ◌+◌, ◌^◌, ◌⊎◌, ◌&&◌, ◌||◌, ℕ, Bool, true, false, not, cond, List, [], ◌∷◌, ◌++◌, Option, None, Some, inl, inr, refl, sym, ap, subst, ◌∙◌, arith}
+use Rattle.std.proofs.Common.{◌≡◌, ◌≢◌, ◌≤◌, ◌+◌, ◌^◌, ◌⊎◌, ◌&&◌, ◌||◌, ℕ, Bool, true, false, not, cond, List, [], ◌∷◌}
+use Rattle.std.proofs.Common.{◌++◌, Option, None, Some, inl, inr, refl, sym, ap, subst, ◌∙◌, arith}
 use Rattle.std.specs.Prelude.{◌==◌, Any, nat_lt}
 use Rattle.std.specs.List.{AllByRecursion, find, list_all, list_any, sum_by}
 use Rattle.std.proofs.lemmas.Bool.{and_from, and_parts, eq-eqb, not-false, not-true, true≢false}
@@ -9,26 +10,31 @@ use Rattle.std.proofs.lemmas.List.Sums.{sum_by-cons}
 use Rattle.vlm_words.specs.declared.conditions.Cond.TheVariants.{Accvio, Badparam, Cvtungrant, Departed, Ivlockid, Nolockid, Nonexpr, Notqueued}
 use Rattle.vlm_words.specs.declared.conditions.Cond.{Cond}
 use Rattle.vlm_words.specs.declared.locks.Request.{Request}
-use Rattle.vlm_words.specs.declared.locks.LockRow.{LockRow}
+use Rattle.vlm_words.specs.declared.locks.LockState.{LockState}
 use Rattle.vlm_words.specs.declared.modes.Mode.{Mode}
 use Rattle.vlm_words.specs.declared.steps.Conversion.{Conversion}
 use Rattle.vlm_words.specs.Flags.{enq_bits, flag_bits, has_flag, is_known, noqueue, quecvt}
 use Rattle.vlm_words.specs.State.{Resource, State}
 use Rattle.vlm_words.specs.Rows.{fits, is_beside, is_empty, is_lock_of, rows_without}
-use Rattle.vlm_model.specs.Checks.{caller_refusal, lock_refusal, queue_refusal, request_flags_refusal, request_numbers_refusal, status_block_refusal, which_refusal}
-use Rattle.vlm_model.specs.Convert.{ConversionAdmission, admission_among, admission_or, admission_refusal, convert_admission, convert_lkid, convert_refusal, convert_request, converts_at_once, is_queued_legally_from, pair_refusal}
+use Rattle.vlm_model.specs.Checks.{caller_refusal, lock_refusal, queue_refusal, request_flags_refusal}
+use Rattle.vlm_model.specs.Checks.{request_numbers_refusal, status_block_refusal, which_refusal}
+use Rattle.vlm_model.specs.Convert.{ConversionAdmission, admission_among, admission_or, admission_refusal}
+use Rattle.vlm_model.specs.Convert.{convert_admission, convert_lkid, convert_refusal, convert_request, converts_at_once}
+use Rattle.vlm_model.specs.Convert.{is_queued_legally_from, pair_refusal}
 use Rattle.vlm_model.specs.Laws.{ConvertsInTurn, IsBeside, Stands}
 use Rattle.vlm_model.specs.Reasons.{ConversionBreaks, HasLock, IsAmong, IsGrantedSomewhere, IsNotQueuedFrom, IsNotQueuedLegally}
 use Rattle.vlm_model.proofs.Each.{Any-cases, Any-here, Any-none, Any-there, Any-weaker, found_at}
-use Rattle.vlm_model.proofs.Passed.{both_pass, second_fails, test_fails, test_passes}
+use Rattle.vlm_model.proofs.PassedChecks.{both_pass, second_fails, test_fails, test_passes}
 use Rattle.vlm_model.proofs.Admissions.{some_same}
 use Rattle.vlm_model.proofs.Holders.{is_lock}
 use Rattle.vlm_model.proofs.Weights.{weigh}
-use Rattle.vlm_model.proofs.Apart.{Apart, standing, stands}
+use Rattle.vlm_model.proofs.IdsApart.{Apart, standing, stands}
 use Rattle.vlm_model.proofs.Counts.{found_stands}
-use Rattle.vlm_model.proofs.WritesAtOnce.{admitted_at_once, admitted_stands, converts_in_turn, only_there, stands_counted}
+use Rattle.vlm_model.proofs.GrantsAtOnce.{admitted_at_once, admitted_stands, converts_in_turn, only_there, stands_counted}
 use Rattle.vlm_model.proofs.FlagBits.{request_flag_unknown, request_flags_known}
-use Rattle.vlm_model.proofs.Refusals.{Any_found, IsCaller, Says, among_found, block_passes, caller_passes, is_somebody, lock_is, lock_passes, none_found, says_block, says_caller, says_either, says_lock, says_some, says_unless, says_where, says_which, which_passes}
+use Rattle.vlm_model.proofs.Refusals.{Any_found, IsCaller, Says, among_found, block_passes, caller_passes, is_somebody}
+use Rattle.vlm_model.proofs.Refusals.{lock_is, lock_passes, none_found, says_block, says_caller, says_either, says_lock}
+use Rattle.vlm_model.proofs.Refusals.{says_some, says_unless, says_where, says_which, which_passes}
 
 -- ---- the lock that is granted
 
@@ -45,7 +51,7 @@ is_admitted request pid lkid a [] is = cc
 is_admitted request pid lkid a (r ∷ rest) is =
     of_found (find (is_lock_of pid lkid) r.granted) refl (admission_among request pid lkid rest) (is_admitted request pid lkid a rest) is
   where
-    of_found : (found : Option LockRow) → find (is_lock_of pid lkid) r.granted ≡ found → (later : Option ConversionAdmission)
+    of_found : (found : Option LockState) → find (is_lock_of pid lkid) r.granted ≡ found → (later : Option ConversionAdmission)
         → (later ≡ Some a → IsAdmitted pid lkid a rest) → admission_or request r found later ≡ Some a → IsAdmitted pid lkid a (r ∷ rest)
     of_found None at later behind is =
         let admitted : IsAdmitted pid lkid a rest = behind is in
@@ -69,11 +75,12 @@ none_admitted request pid lkid [] is any = Any-none (λ r. IsAmong lkid pid r.gr
 none_admitted request pid lkid (r ∷ rest) is any =
     of_found (find (is_lock_of pid lkid) r.granted) refl is (none_admitted request pid lkid rest)
   where
-    none_passes : (rows : List LockRow) → AllByRecursion (λ row. is_lock_of pid lkid row ≡ false) rows → list_any (is_lock_of pid lkid) rows ≡ false
+    none_passes : (rows : List LockState) → AllByRecursion (λ row. is_lock_of pid lkid row ≡ false) rows → list_any (is_lock_of pid lkid) rows ≡ false
     none_passes [] each = refl
     none_passes (row ∷ rows) each = rw each.0 (none_passes rows each.1)
 
-    of_found : (found : Option LockRow) → find (is_lock_of pid lkid) r.granted ≡ found → admission_or request r found (admission_among request pid lkid rest) ≡ None
+    of_found : (found : Option LockState) → find (is_lock_of pid lkid) r.granted ≡ found
+        → admission_or request r found (admission_among request pid lkid rest) ≡ None
         → (admission_among request pid lkid rest ≡ None → Any (λ x. IsAmong lkid pid x.granted) rest → ⊥) → ⊥
     of_found None at is behind =
         elim (Any-cases (λ x. IsAmong lkid pid x.granted) r rest any) [
@@ -83,7 +90,7 @@ none_admitted request pid lkid (r ∷ rest) is any =
     of_found (Some row) at is behind = cc
 
 -- where a lock has one row, that is the one that is found
-one_row : (pid lkid : ℕ) (P : LockRow → Type 0) (rows : List LockRow) (row : LockRow) → sum_by (stands lkid) rows ≤ 1
+one_row : (pid lkid : ℕ) (P : LockState → Type 0) (rows : List LockState) (row : LockState) → sum_by (stands lkid) rows ≤ 1
     → find (is_lock_of pid lkid) rows ≡ Some row → Any (λ x. ((x.lkid ≡ lkid) × (x.pid ≡ pid)) × P x) rows → P row
 one_row pid lkid P [] row one is any = cc
 one_row pid lkid P (x ∷ xs) row one is any =
@@ -113,7 +120,7 @@ beside_passes mode None so = refl
 beside_passes mode (Some held) so = so
 
 -- beside the other rows it passes
-others_pass : (mode : Mode) (lkid : ℕ) (rows : List LockRow) → AllByRecursion (λ row. row.lkid ≢ lkid → IsBeside mode row.held) rows
+others_pass : (mode : Mode) (lkid : ℕ) (rows : List LockState) → AllByRecursion (λ row. row.lkid ≢ lkid → IsBeside mode row.held) rows
     → list_all (λ row. is_beside mode row.held) (rows_without lkid rows) ≡ true
 others_pass mode lkid [] each = refl
 others_pass mode lkid (row ∷ rows) each = of_test (row.lkid == lkid) refl (others_pass mode lkid rows each.1)
@@ -126,7 +133,7 @@ others_pass mode lkid (row ∷ rows) each = of_test (row.lkid == lkid) refl (oth
         (beside_passes mode row.held (each.0 (λ same. true≢false (sym (eq-eqb row.lkid lkid same) ∙ is)))) behind
 
 -- where the lock has no row, all rows are others
-absent_pass : (mode : Mode) (lkid : ℕ) (rows : List LockRow) → sum_by (stands lkid) rows ≡ 0
+absent_pass : (mode : Mode) (lkid : ℕ) (rows : List LockState) → sum_by (stands lkid) rows ≡ 0
     → AllByRecursion (λ row. row.lkid ≢ lkid → IsBeside mode row.held) rows → list_all (λ row. is_beside mode row.held) rows ≡ true
 absent_pass mode lkid [] none each = refl
 absent_pass mode lkid (row ∷ rows) none each =
@@ -137,7 +144,7 @@ absent_pass mode lkid (row ∷ rows) none each =
     (absent_pass mode lkid rows (omega (arith, all, none)) each.1)
 
 -- an empty queue
-nothing_queued : (rows : List LockRow) → rows ≡ [] → is_empty rows ≡ true
+nothing_queued : (rows : List LockState) → rows ≡ [] → is_empty rows ≡ true
 nothing_queued rows none = rw none refl
 
 -- a conversion of a granted lock that has one row is granted at once in its turn
@@ -153,7 +160,7 @@ turn_passes c request lkid r mode flags granted one turn =
     (omega (arith, one, granted)) (each_right r.granted r.converting each)))
     (overtakes (has_flag (flag_bits request.flags) quecvt) refl)
   where
-    Beside : LockRow → Type 0
+    Beside : LockState → Type 0
     Beside x = x.lkid ≢ lkid → IsBeside request.mode x.held
 
     each : AllByRecursion Beside (r.granted ++ r.converting)
@@ -161,11 +168,11 @@ turn_passes c request lkid r mode flags granted one turn =
         subst (λ (m : Mode). AllByRecursion (λ x. x.lkid ≢ lkid → IsBeside m x.held) (r.granted ++ r.converting)) (sym mode)
         (recursion_from_All (λ x. x.lkid ≢ lkid → IsBeside c.mode x.held) (r.granted ++ r.converting) turn.beside)
 
-    each_left : (xs ys : List LockRow) → AllByRecursion Beside (xs ++ ys) → AllByRecursion Beside xs
+    each_left : (xs ys : List LockState) → AllByRecursion Beside (xs ++ ys) → AllByRecursion Beside xs
     each_left [] ys all = tt
     each_left (x ∷ xs) ys all = (all.0, each_left xs ys all.1)
 
-    each_right : (xs ys : List LockRow) → AllByRecursion Beside (xs ++ ys) → AllByRecursion Beside ys
+    each_right : (xs ys : List LockState) → AllByRecursion Beside (xs ++ ys) → AllByRecursion Beside ys
     each_right [] ys all = all
     each_right (x ∷ xs) ys all = each_right xs ys all.1
 

@@ -1,15 +1,18 @@
 -- What a new request that is refused breaks, and that one that is accepted breaks nothing.
-use Rattle.std.proofs.Common.{◌≡◌, ◌≢◌, ◌≤◌, ◌<◌, ◌^◌, ◌&&◌, ◌||◌, ℕ, zero, suc, Bool, true, false, not, cond, List, [], ◌∷◌, length, Option, None, Some, inl, inr, refl, sym, ap, subst, ◌∙◌, arith}
+use Rattle.std.proofs.Common.{◌≡◌, ◌≢◌, ◌≤◌, ◌<◌, ◌^◌, ◌&&◌, ◌||◌, ℕ, zero, suc, Bool, true, false, not, cond, List, []}
+use Rattle.std.proofs.Common.{◌∷◌, length, Option, None, Some, inl, inr, refl, sym, ap, subst, ◌∙◌, arith}
 use Rattle.std.specs.Prelude.{◌==◌, Any, nat_le, nat_lt, unwrap_or, Ok, Err}
 use Rattle.std.specs.List.{AllByRecursion, find, list_all, list_any}
 use Rattle.std.specs.Result.{result_err}
 use Rattle.std.proofs.lemmas.Bool.{and_cases, and_from, and_parts, cond-false, eq-eqb, eqb-true, ne_eqb, not-false, not-true, or_parts, or_right, true≢false}
 use Rattle.std.proofs.lemmas.Bool.Decides.{nat_tests}
 use Rattle.std.proofs.lemmas.List.Elements.{recursion_from_All}
-use Rattle.vlm_words.specs.declared.conditions.Cond.TheVariants.{Accvio, Badparam, Departed, Exdepth, Exenqlm, Ivbuflen, Ivlockid, Nolockid, Nonexpr, Nosyslck, Notqueued, Parnotgrant, Unsupported}
+use Rattle.vlm_words.specs.declared.conditions.Cond.TheVariants.{Accvio, Badparam, Departed, Exdepth, Exenqlm, Ivbuflen}
+use Rattle.vlm_words.specs.declared.conditions.Cond.TheVariants.{Ivlockid, Nolockid, Nonexpr, Nosyslck, Notqueued}
+use Rattle.vlm_words.specs.declared.conditions.Cond.TheVariants.{Parnotgrant, Unsupported}
 use Rattle.vlm_words.specs.declared.conditions.Cond.{Cond}
 use Rattle.vlm_words.specs.declared.locks.Request.{Request}
-use Rattle.vlm_words.specs.declared.locks.LockRow.{LockRow}
+use Rattle.vlm_words.specs.declared.locks.LockState.{LockState}
 use Rattle.vlm_words.specs.declared.modes.Mode.{Mode}
 use Rattle.vlm_words.specs.declared.resources.Domain.{Domain}
 use Rattle.vlm_words.specs.declared.resources.Domain.TheVariants.{Group, System}
@@ -20,23 +23,30 @@ use Rattle.vlm_words.specs.Flags.{enq_bits, expedite, has_flag, is_known, noqueu
 use Rattle.vlm_words.specs.State.{Process, Resource, State, process_of}
 use Rattle.vlm_words.specs.Rows.{fits, is_beside, is_lock_of}
 use Rattle.vlm_words.specs.Resources.{is_at, key_name, key_parent, new_resource}
-use Rattle.vlm_model.specs.Checks.{caller_refusal, holds_lock, lock_refusal, numbers_refusal, or_else, queue_refusal, request_flags_refusal, status_block_refusal, which_refusal}
+use Rattle.vlm_model.specs.Checks.{caller_refusal, holds_lock, lock_refusal, numbers_refusal, or_else, queue_refusal}
+use Rattle.vlm_model.specs.Checks.{request_flags_refusal, status_block_refusal, which_refusal}
 use Rattle.vlm_model.specs.Quotas.{locks_of, quota_of, quota_refusal}
-use Rattle.vlm_model.specs.Trees.{caller_group, depth_refusal, enq_site, has_syslck, parent_lkid, parent_refusal, parent_resource, privilege_refusal, root_domain, site_below, site_refusal, waiting_refusal}
-use Rattle.vlm_model.specs.Enqueue.{enq_at_once, enq_form_refusal, enq_key, enq_limit_refusal, enq_refusal, enq_request, enq_resource, expedite_refusal, is_at_once, is_free_for, name_refusal}
+use Rattle.vlm_model.specs.Trees.{caller_group, depth_refusal, enq_site, has_syslck, parent_lkid, parent_refusal}
+use Rattle.vlm_model.specs.Trees.{parent_resource, privilege_refusal, root_domain, site_below, site_refusal}
+use Rattle.vlm_model.specs.Trees.{waiting_refusal}
+use Rattle.vlm_model.specs.Enqueue.{enq_at_once, enq_form_refusal, enq_key, enq_limit_refusal, enq_refusal, enq_request}
+use Rattle.vlm_model.specs.Enqueue.{enq_resource, expedite_refusal, is_at_once, is_free_for, name_refusal}
 use Rattle.vlm_model.specs.Laws.{IsAskedFor, IsBeside, IsFreeFor, IsRootDomain, StandsAsAskedFor, StandsOn}
 use Rattle.vlm_model.specs.Reasons.{HasLock, IsAmong, RequestBreaks}
 use Rattle.vlm_model.proofs.Each.{Any-weaker, found_at}
-use Rattle.vlm_model.proofs.Passed.{both_pass, enq_passes, expedited_is_null, second_fails, test_fails, test_passes, three_pass}
-use Rattle.vlm_model.proofs.Apart.{Apart}
+use Rattle.vlm_model.proofs.PassedChecks.{both_pass, enq_passes, expedited_is_null, second_fails, test_fails, test_passes, three_pass}
+use Rattle.vlm_model.proofs.IdsApart.{Apart}
 use Rattle.vlm_model.proofs.Holders.{IsHolder, only_holder}
 use Rattle.vlm_model.proofs.Keys.{Placed, enq_keyed, key_at}
-use Rattle.vlm_model.proofs.WritesAtOnce.{enters_in_turn, found_pid, no_zero, parent_by_lkid}
+use Rattle.vlm_model.proofs.GrantsAtOnce.{enters_in_turn, found_pid, no_zero, parent_by_lkid}
 use Rattle.vlm_model.proofs.Quotas.{all_counted, room_left}
 use Rattle.vlm_model.proofs.NewlyRooted.{any_found}
 use Rattle.vlm_model.proofs.FlagBits.{request_flag_unknown, request_flags_known}
 use Rattle.vlm_model.proofs.ReasonsOfConversions.{beside_passes}
-use Rattle.vlm_model.proofs.Refusals.{Any_found, IsCaller, Says, all_or_any, among, among_found, block_passes, caller_passes, held_stands, is_somebody, lock_passes, says_block, says_caller, says_either, says_lock, says_none, says_some, says_unless, says_where, says_which, which_passes}
+use Rattle.vlm_model.proofs.Refusals.{Any_found, IsCaller, Says, all_or_any, among, among_found, block_passes}
+use Rattle.vlm_model.proofs.Refusals.{caller_passes, held_stands, is_somebody, lock_passes, says_block, says_caller}
+use Rattle.vlm_model.proofs.Refusals.{says_either, says_lock, says_none, says_some, says_unless, says_where, says_which}
+use Rattle.vlm_model.proofs.Refusals.{which_passes}
 
 -- ---- the parent lock
 
@@ -86,12 +96,14 @@ parent_breaks s e = of_test (parent_lkid s e == 0) refl
 
     of_test : (b : Bool) → (parent_lkid s e == 0) ≡ b
         → Says B (cond b None (or_else (lock_refusal s e.pid (parent_lkid s e))
-        (or_else (waiting_refusal e.pid (parent_lkid s e) (parent_resource s e.pid (parent_lkid s e))) (depth_refusal (parent_resource s e.pid (parent_lkid s e))))))
+        (or_else (waiting_refusal e.pid (parent_lkid s e) (parent_resource s e.pid (parent_lkid s e)))
+        (depth_refusal (parent_resource s e.pid (parent_lkid s e))))))
     of_test true is = says_none B
     of_test false is =
         says_either B (lock_refusal s e.pid (parent_lkid s e)) _
         (says_lock B s e.pid (parent_lkid s e) (λ none. (not_zero (parent_lkid s e) is, none)))
-        (λ _. says_either B (waiting_refusal e.pid (parent_lkid s e) (parent_resource s e.pid (parent_lkid s e))) (depth_refusal (parent_resource s e.pid (parent_lkid s e)))
+        (λ _. says_either B (waiting_refusal e.pid (parent_lkid s e) (parent_resource s e.pid (parent_lkid s e)))
+        (depth_refusal (parent_resource s e.pid (parent_lkid s e)))
         (says_waiting B s e.pid (parent_lkid s e) is (λ waits. (not_zero (parent_lkid s e) is, waits)))
         (λ _. says_depth B s e.pid (parent_lkid s e) is (λ low. (not_zero (parent_lkid s e) is, low))))
 
@@ -115,7 +127,8 @@ parent_passes s pid lkid apart passed named =
       waits = λ any.
           let up : IsHolder pid lkid (λ r. IsAmong lkid pid r.waiting) s.resources =
           only_holder pid lkid (λ r. IsAmong lkid pid r.waiting) s.resources (apart.one_row lkid)
-          (Any-weaker (λ r. IsAmong lkid pid r.waiting) (λ r. StandsOn lkid pid r × IsAmong lkid pid r.waiting) (λ r so. (waits_on r so, so)) s.resources any) in
+          (Any-weaker (λ r. IsAmong lkid pid r.waiting) (λ r. StandsOn lkid pid r
+          × IsAmong lkid pid r.waiting) (λ r so. (waits_on r so, so)) s.resources any) in
           true≢false (sym (among_found pid lkid up.holder.waiting up.so)
           ∙ test_fails (list_any (is_lock_of pid lkid) up.holder.waiting) Parnotgrant
           (subst (λ (parent : Option Resource). waiting_refusal pid lkid parent ≡ None) (named_resource s pid lkid named ∙ up.found) each.1));
@@ -175,7 +188,7 @@ asked_for s e r caller apart placed passed at =
         )
 
 -- a mode that may be held beside each row passes
-all_beside : (mode : Mode) (rows : List LockRow) → AllByRecursion (λ row. IsBeside mode row.held) rows → list_all (λ row. is_beside mode row.held) rows ≡ true
+all_beside : (mode : Mode) (rows : List LockState) → AllByRecursion (λ row. IsBeside mode row.held) rows → list_all (λ row. is_beside mode row.held) rows ≡ true
 all_beside mode [] each = refl
 all_beside mode (row ∷ rows) each =
     and_from (is_beside mode row.held) (list_all (λ x. is_beside mode x.held) rows) (beside_passes mode row.held each.0) (all_beside mode rows each.1)

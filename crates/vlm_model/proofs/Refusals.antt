@@ -1,5 +1,6 @@
 -- What each check that refuses says of the rule of its condition.
-use Rattle.std.proofs.Common.{◌≡◌, ◌≢◌, ◌<◌, ◌/◌, ◌&&◌, ◌||◌, ℕ, Bool, true, false, cond, List, [], ◌∷◌, ◌++◌, length, Option, None, Some, inl, inr, refl, sym, ap, subst, ◌∙◌, arith}
+use Rattle.std.proofs.Common.{◌≡◌, ◌≢◌, ◌<◌, ◌/◌, ◌&&◌, ◌||◌, ℕ, Bool, true, false, cond, List, [], ◌∷◌, ◌++◌, length}
+use Rattle.std.proofs.Common.{Option, None, Some, inl, inr, refl, sym, ap, subst, ◌∙◌, arith}
 use Rattle.std.specs.Prelude.{◌==◌, All, Any, is_some, nat_le, nat_lt}
 use Rattle.std.specs.List.{AllByRecursion, find, list_any}
 use Rattle.std.proofs.lemmas.Bool.{and_cases, and_parts, eq-eqb, eqb-true, true≢false}
@@ -8,7 +9,7 @@ use Rattle.std.proofs.lemmas.List.Elements.{All-from_recursion, recursion_from_A
 use Rattle.std.proofs.lemmas.List.Folds.{Any-from_list_any, list_any-append, list_any-from_Any}
 use Rattle.vlm_words.specs.declared.conditions.Cond.TheVariants.{Accvio, Departed, Ivlockid, Nonexpr}
 use Rattle.vlm_words.specs.declared.conditions.Cond.{Cond}
-use Rattle.vlm_words.specs.declared.locks.LockRow.{LockRow}
+use Rattle.vlm_words.specs.declared.locks.LockState.{LockState}
 use Rattle.vlm_words.specs.declared.steps.Which.TheVariants.{Id, Block}
 use Rattle.vlm_words.specs.declared.steps.Which.{Which}
 use Rattle.vlm_words.specs.State.{Process, Resource, State, node_at, process_of}
@@ -18,7 +19,7 @@ use Rattle.vlm_model.specs.Checks.{caller_refusal, has_departed, holds_lock, loc
 use Rattle.vlm_model.specs.Laws.{StandsOn}
 use Rattle.vlm_model.specs.Reasons.{HasDeparted, HasLock, HasNoBlock, IsAmong, IsGrantedSomewhere, IsNamedByNoBlock, IsNobody}
 use Rattle.vlm_model.proofs.Each.{Any-here, Any-there, Any-weaker}
-use Rattle.vlm_model.proofs.Passed.{test_passes}
+use Rattle.vlm_model.proofs.PassedChecks.{test_passes}
 use Rattle.vlm_model.proofs.Holders.{is_lock, stands_held}
 
 -- ---- a check and its rule
@@ -215,24 +216,24 @@ which_passes s pid (Block number) passed broken = block_passes s pid number pass
 -- ---- locks
 
 -- a lock stands where the law says, if the test says so
-pub lock_is : (pid lkid : ℕ) (row : LockRow) → is_lock_of pid lkid row ≡ true → (row.lkid ≡ lkid) × (row.pid ≡ pid)
+pub lock_is : (pid lkid : ℕ) (row : LockState) → is_lock_of pid lkid row ≡ true → (row.lkid ≡ lkid) × (row.pid ≡ pid)
 lock_is pid lkid row is =
     let parts = and_parts (row.lkid == lkid) (row.pid == pid) is in (eqb-true row.lkid lkid parts.0, eqb-true row.pid pid parts.1)
 
 -- a lock is among the rows, if the test says so
-pub among : (pid lkid : ℕ) (rows : List LockRow) → list_any (is_lock_of pid lkid) rows ≡ true → IsAmong lkid pid rows
+pub among : (pid lkid : ℕ) (rows : List LockState) → list_any (is_lock_of pid lkid) rows ≡ true → IsAmong lkid pid rows
 among pid lkid rows there =
-    Any-weaker (λ (row : LockRow). is_lock_of pid lkid row ≡ true) (λ row. (row.lkid ≡ lkid) × (row.pid ≡ pid)) (lock_is pid lkid) rows
+    Any-weaker (λ (row : LockState). is_lock_of pid lkid row ≡ true) (λ row. (row.lkid ≡ lkid) × (row.pid ≡ pid)) (lock_is pid lkid) rows
     (Any-from_list_any (is_lock_of pid lkid) rows there)
 
 -- and the test says so where it is
-pub among_found : (pid lkid : ℕ) (rows : List LockRow) → IsAmong lkid pid rows → list_any (is_lock_of pid lkid) rows ≡ true
+pub among_found : (pid lkid : ℕ) (rows : List LockState) → IsAmong lkid pid rows → list_any (is_lock_of pid lkid) rows ≡ true
 among_found pid lkid rows there =
     list_any-from_Any (is_lock_of pid lkid) rows
-    (Any-weaker (λ (row : LockRow). (row.lkid ≡ lkid) × (row.pid ≡ pid)) (λ row. is_lock_of pid lkid row ≡ true) (is_lock pid lkid) rows there)
+    (Any-weaker (λ (row : LockState). (row.lkid ≡ lkid) × (row.pid ≡ pid)) (λ row. is_lock_of pid lkid row ≡ true) (is_lock pid lkid) rows there)
 
 -- a test of the rows of all three queues
-pub over_queues : (test : LockRow → Bool) (r : Resource)
+pub over_queues : (test : LockState → Bool) (r : Resource)
     → list_any test (r.granted ++ r.converting ++ r.waiting) ≡ (list_any test r.granted || list_any test r.converting || list_any test r.waiting)
 over_queues test r =
     list_any-append test (r.granted ++ r.converting) r.waiting

@@ -1,5 +1,6 @@
--- Grants do with value blocks what is asked for, and return them as they stand.
-use Rattle.std.proofs.Common.{◌≡◌, ◌<◌, ◌+◌, ℕ, Bool, true, false, not, List, [], ◌∷◌, ◌++◌, map, filter, flat_map, length, get_or, cond, Option, None, Some, refl, sym, subst, ap, inl, inr, ◌∙◌}
+-- A grant reads or writes the value block as the request asks.
+use Rattle.std.proofs.Common.{◌≡◌, ◌<◌, ◌+◌, ℕ, Bool, true, false, not, List, [], ◌∷◌, ◌++◌, map, filter, flat_map}
+use Rattle.std.proofs.Common.{length, get_or, cond, Option, None, Some, refl, sym, subst, ap, inl, inr, ◌∙◌}
 use Rattle.std.specs.Prelude.{Any}
 use Rattle.std.specs.List.{AllByRecursion, AllZip, find}
 use Rattle.std.proofs.lemmas.Bool.{cond_both}
@@ -7,7 +8,7 @@ use Rattle.std.proofs.lemmas.List.Elements.{All-from_recursion}
 use Rattle.vlm_words.specs.declared.blocks.Block.{Block}
 use Rattle.vlm_words.specs.declared.conditions.Cond.{Cond}
 use Rattle.vlm_words.specs.declared.locks.Request.{Request}
-use Rattle.vlm_words.specs.declared.locks.LockRow.{LockRow}
+use Rattle.vlm_words.specs.declared.locks.LockState.{LockState}
 use Rattle.vlm_words.specs.declared.modes.Act.TheVariants.{Nothing, Return, Write}
 use Rattle.vlm_words.specs.declared.modes.Act.{Act}
 use Rattle.vlm_words.specs.declared.modes.Mode.TheVariants.{Nl, Cr, Cw, Pr, Pw, Ex}
@@ -34,32 +35,38 @@ use Rattle.vlm_model.specs.SetValue.{set_change}
 use Rattle.vlm_model.specs.Take.{take_change}
 use Rattle.vlm_model.specs.Trees.{enq_site}
 use Rattle.vlm_model.specs.Enqueue.{enq_at_once, enq_change, enq_refusal, enq_request, enq_resource, enq_row, resource_after_entry}
-use Rattle.vlm_model.specs.Convert.{ConversionAdmission, convert_admission, convert_blocks, convert_change, convert_lkid, convert_refusal, convert_request, resource_after_conversion, resource_after_conversion_of, resource_without_granted}
+use Rattle.vlm_model.specs.Convert.{ConversionAdmission, convert_admission, convert_blocks, convert_change}
+use Rattle.vlm_model.specs.Convert.{convert_lkid, convert_refusal, convert_request, resource_after_conversion}
+use Rattle.vlm_model.specs.Convert.{resource_after_conversion_of, resource_without_granted}
 use Rattle.vlm_model.specs.Withdrawals.{Withdrawal, queue_endings, withdrawal_endings, withdrawn_endings}
 use Rattle.vlm_model.specs.Dequeue.{deq_change, withdrawals_of}
 use Rattle.vlm_model.specs.Runs.{History, Run}
 use Rattle.vlm_model.specs.Stepped.{IsChoice, Stepped, conversion_change, refused_or, step_change, step_refusal, stepped, stepped_after_sweep, end_of_processes}
 use Rattle.vlm_model.specs.Laws.{IsGrant, IsGrantOf, IsGranted}
-use Rattle.vlm_model.specs.Returned.{ActsAsAskedFor, GrantsReturnValues, HeldBefore, HoldsGranted, IsItsValue, TellsMark, TellsTail, TellsValue, act_asked_for, conversion_act, last_return, last_wide_return}
+use Rattle.vlm_model.specs.Returned.{ActsAsAskedFor, GrantsReturnValues, HeldBefore, HoldsGranted, IsItsValue}
+use Rattle.vlm_model.specs.Returned.{TellsMark, TellsTail, TellsValue, act_asked_for, conversion_act, last_return}
+use Rattle.vlm_model.specs.Returned.{last_wide_return}
 use Rattle.vlm_model.specs.Written.{last_end}
 use Rattle.vlm_model.proofs.Always.{admission_of, withdrawal_of_all}
-use Rattle.vlm_model.proofs.Apart.{Apart, apart_always}
+use Rattle.vlm_model.proofs.IdsApart.{Apart, apart_always}
 use Rattle.vlm_model.proofs.Each.{Any-behind, Any-cases, Any-here, Any-none, Any-there, Any-weaker, any_left, each_append, each_weaker, each_member}
 use Rattle.vlm_model.proofs.HeldModes.{HoldersAgree, holders_agree_always}
 use Rattle.vlm_model.proofs.InOrder.{service_in_order}
 use Rattle.vlm_model.proofs.Refusals.{Any_found}
 use Rattle.vlm_model.proofs.Returning.{AreReturned, Its, Serves, StatusBy, TailBy, ValueBy, none_returned, one_returned, all_returned, returned_swept}
 use Rattle.vlm_model.proofs.Standing.{admitted_there, any_entered, any_map, granted_stays}
-use Rattle.vlm_model.proofs.SweptValues.{IsHarmless, WritesNothing, conversion_is_harmless, harmless_always, new_is_harmless, service_each, service_harmless, served, served_leaves, swept_alone}
+use Rattle.vlm_model.proofs.SweptValues.{IsHarmless, WritesNothing, conversion_is_harmless, harmless_always}
+use Rattle.vlm_model.proofs.SweptValues.{new_is_harmless, service_each, service_harmless, served, served_leaves}
+use Rattle.vlm_model.proofs.SweptValues.{swept_alone}
 use Rattle.vlm_model.proofs.Waiting.{EachConverting, Queued, conversion_queued, request_queued, rundown_queued, withdrawn_queued}
 use Rattle.vlm_model.proofs.Withdrawing.{GrantsNothing, dequeues_grant_nothing, each_end, rundowns_grant_nothing}
 use Rattle.vlm_model.proofs.Writers.{kept_value}
-use Rattle.vlm_model.proofs.Written.{blocks_are}
+use Rattle.vlm_model.proofs.WrittenBlocks.{blocks_are}
 use Rattle.vlm_model.proofs.Warned.{holds_warned}
 use Rattle.vlm_model.specs.Asts.{resource_after_warning, row_after_warning}
 use Rattle.vlm_model.specs.Rundown.{is_ended_by, nodes_after_departure, processes_but, rundown_endings, rundowns, state_after_rundown}
 use Rattle.vlm_words.specs.Steps.{is_of_node}
-use Rattle.vlm_model.proofs.Ended.{rundowns_write_nothing}
+use Rattle.vlm_model.proofs.ProcessEnds.{rundowns_write_nothing}
 use Rattle.vlm_model.specs.Search.{victim_withdrawals, search_change, victim_lkid}
 use Rattle.vlm_model.proofs.Victims.{victims_grant_nothing}
 use Rattle.vlm_words.specs.declared.steps.Answer.TheVariants.{Plain, Victim}
@@ -91,11 +98,11 @@ abbrev Acts : State → Ending → Type 0
 Acts s ending = IsGrant ending.how → ActsAsAskedFor s ending
 
 -- what a lock of this row holds, it held before the step
-abbrev HeldSo : State → LockRow → Type 0
+abbrev HeldSo : State → LockState → Type 0
 HeldSo s row = HeldBefore s row.lkid row.held
 
 -- the grant of such a row
-row_acts : (s : State) (at_once : Bool) (row : LockRow) → HeldSo s row → AllByRecursion (Acts s) (grant_endings at_once row)
+row_acts : (s : State) (at_once : Bool) (row : LockState) → HeldSo s row → AllByRecursion (Acts s) (grant_endings at_once row)
 row_acts s at_once row before = of_want row.want refl
   where
     of_want : (want : Option Request) → row.want ≡ want
@@ -111,14 +118,15 @@ row_acts s at_once row before = of_want row.want refl
     )
 
 -- what a row of a resource that is there holds, its lock held before the step
-held_there : (s : State) (r : Resource) (row : LockRow) → Any (λ x. r ≡ x) s.resources
+held_there : (s : State) (r : Resource) (row : LockState) → Any (λ x. r ≡ x) s.resources
     → Any (λ y. row ≡ y) (r.granted ++ r.converting ++ r.waiting) → HeldSo s row
 held_there s r row there among =
     inr (Any-weaker (λ x. r ≡ x) (λ x. Any (λ y. (y.lkid ≡ row.lkid) × (y.held ≡ row.held)) (x.granted ++ x.converting ++ x.waiting))
     (λ x same.
     subst (λ (t : Resource). Any (λ y. (y.lkid ≡ row.lkid) × (y.held ≡ row.held)) (t.granted ++ t.converting ++ t.waiting)) same
     (Any-weaker (λ y. row ≡ y) (λ y. (y.lkid ≡ row.lkid) × (y.held ≡ row.held))
-    (λ y is. (ap (λ (z : LockRow). z.lkid) (sym is), ap (λ (z : LockRow). z.held) (sym is))) (r.granted ++ r.converting ++ r.waiting) among)) s.resources there)
+    (λ y is. (ap (λ (z : LockState). z.lkid) (sym is), ap (λ (z : LockState). z.held) (sym is)))
+    (r.granted ++ r.converting ++ r.waiting) among)) s.resources there)
 
 -- so it is with each queued row before the step
 queued_held : (s : State) → AllByRecursion (Queued (HeldSo s)) s.resources
@@ -127,7 +135,9 @@ queued_held s =
     (λ r there. record {
       converting =
           each_weaker (λ row. Any (λ y. row ≡ y) r.converting) (HeldSo s)
-          (λ row among. held_there s r row there (any_left (λ y. row ≡ y) (r.granted ++ r.converting) r.waiting (Any-behind (λ y. row ≡ y) r.granted r.converting among)))
+          (λ row among. held_there s r row there
+          (any_left (λ y. row ≡ y) (r.granted ++ r.converting) r.waiting
+          (Any-behind (λ y. row ≡ y) r.granted r.converting among)))
           r.converting (each_member r.converting);
       waiting =
           each_weaker (λ row. Any (λ y. row ≡ y) r.waiting) (HeldSo s)
@@ -135,7 +145,8 @@ queued_held s =
     }) s.resources (each_member s.resources)
 
 -- and with a granted one
-granted_held : (s : State) (pid lkid : ℕ) (r : Resource) (row : LockRow) → Any (λ x. r ≡ x) s.resources → find (is_lock_of pid lkid) r.granted ≡ Some row → HeldSo s row
+granted_held : (s : State) (pid lkid : ℕ) (r : Resource) (row : LockState) → Any (λ x. r ≡ x) s.resources
+    → find (is_lock_of pid lkid) r.granted ≡ Some row → HeldSo s row
 granted_held s pid lkid r row there is =
     held_there s r row there
     (any_left (λ y. row ≡ y) (r.granted ++ r.converting) r.waiting
@@ -144,7 +155,7 @@ granted_held s pid lkid r row there is =
 -- ---- where a granted lock stands after the sweep
 
 -- the row is that of the granted lock
-abbrev IsOf : Ending → LockRow → Type 0
+abbrev IsOf : Ending → LockState → Type 0
 IsOf ending row = (row.lkid ≡ ending.lkid) × (row.pid ≡ ending.pid) × (row.held ≡ Some ending.request)
 
 -- the lock is granted on the resource, whose value block is this one
@@ -152,7 +163,7 @@ abbrev IsHeldOn : Ending → ValueBlock → Resource → Type 0
 IsHeldOn ending block r = HoldsGranted ending r × (block ≡ r.value_block)
 
 -- the locks of rows that are granted
-given_hold : (rows given : List LockRow) (endings : List Ending) → AllZip IsGranted rows given → AllZip IsGrantOf rows endings
+given_hold : (rows given : List LockState) (endings : List Ending) → AllZip IsGranted rows given → AllZip IsGrantOf rows endings
     → AllByRecursion (λ ending. Any (IsOf ending) given) endings
 given_hold [] [] [] granted ends = tt
 given_hold [] [] (ending ∷ endings) granted ends = absurd ends
@@ -193,7 +204,7 @@ any_filter P test keeps (x ∷ xs) some =
 occupied : (ending : Ending) (block : ValueBlock) (r : Resource) → IsHeldOn ending block r → not (is_vacant r) ≡ true
 occupied ending block r held = rw (some r.granted held.0) refl
   where
-    some : (rows : List LockRow) → Any (IsOf ending) rows → is_empty rows ≡ false
+    some : (rows : List LockState) → Any (IsOf ending) rows → is_empty rows ≡ false
     some [] any = absurd (Any-none (IsOf ending) any)
     some (row ∷ rows) any = refl
 
@@ -212,7 +223,8 @@ held_stays ending block processes resources harmless any =
     (any_map (IsHeldOn ending block) (IsHeldOn ending block) served
     (λ r held. (
       held_warned ending (service r).resource
-          (granted_stays (IsOf ending) (λ x y same is. (same.lkid ∙ is.0, same.pid ∙ is.1, same.held ∙ is.2)) r (service r).resource (service r).endings (service_in_order r) held.0),
+          (granted_stays (IsOf ending) (λ x y same is. (same.lkid ∙ is.0, same.pid ∙ is.1, same.held ∙ is.2)) r
+          (service r).resource (service r).endings (service_in_order r) held.0),
       held.1 ∙ sym (served_leaves r),
     )) resources any)
 
@@ -230,7 +242,8 @@ sweep_serves change harmless =
     at_each change.state.resources harmless (each_member change.state.resources)
   where
     at_each : (resources : List Resource) → AllByRecursion (Queued IsHarmless) resources
-        → AllByRecursion (λ r. Any (λ x. r ≡ x) change.state.resources) resources → AllByRecursion (Serves (IsItsValue (stepped_after_sweep change).state)) resources
+        → AllByRecursion (λ r. Any (λ x. r ≡ x) change.state.resources) resources
+        → AllByRecursion (Serves (IsItsValue (stepped_after_sweep change).state)) resources
     at_each [] nothing there = tt
     at_each (r ∷ rest) nothing there = (
       record {
@@ -240,7 +253,8 @@ sweep_serves change harmless =
             (λ ending held _.
             held_swept ending r.value_block change.state.processes change.state.resources harmless
             (any_map (λ x. r ≡ x) (IsHeldOn ending r.value_block) served
-            (λ x same. subst (λ (t : Resource). IsHeldOn ending r.value_block (served t)) same (held_warned ending (service r).resource held, sym (served_leaves r)))
+            (λ x same. subst (λ (t : Resource). IsHeldOn ending r.value_block (served t)) same
+            (held_warned ending (service r).resource held, sym (served_leaves r)))
             change.state.resources there.0)) (service r).endings (service_holds r);
       },
       at_each rest nothing.1 there.1,
@@ -259,7 +273,8 @@ swept_returning s change base harmless held acts blocks = record {
       (sweep_serves change harmless);
 }
   where
-    all_act : (resources : List Resource) → AllByRecursion (Queued (HeldSo s)) resources → AllByRecursion (Acts s) (flat_map (λ r. (service r).endings) resources)
+    all_act : (resources : List Resource) → AllByRecursion (Queued (HeldSo s)) resources
+        → AllByRecursion (Acts s) (flat_map (λ r. (service r).endings) resources)
     all_act [] each = tt
     all_act (r ∷ rest) each =
         each_append (Acts s) (service r).endings (flat_map (λ x. (service x).endings) rest)
@@ -269,10 +284,13 @@ swept_returning s change base harmless held acts blocks = record {
 
 -- a step that ends nothing itself and moves no lock
 idle_returning : (s : State) (change : Stepped) → change.endings ≡ []
-    → AllByRecursion (Queued IsHarmless) change.state.resources → AllByRecursion (Queued (HeldSo s)) change.state.resources → IsReturning s (stepped_after_sweep change)
+    → AllByRecursion (Queued IsHarmless) change.state.resources
+    → AllByRecursion (Queued (HeldSo s)) change.state.resources → IsReturning s (stepped_after_sweep change)
 idle_returning s change none harmless held =
     swept_returning s change change.state.processes harmless held (subst (AllByRecursion (Acts s)) (sym none) tt)
-    (subst (λ (endings : List Ending). AreReturned (IsItsValue (stepped_after_sweep change).state) endings change.state.processes change.state.processes) (sym none)
+    (subst (λ (endings : List Ending). AreReturned
+    (IsItsValue (stepped_after_sweep change).state) endings change.state.processes change.state.processes)
+    (sym none)
     (none_returned (IsItsValue (stepped_after_sweep change).state) change.state.processes))
 
 -- the end of a request that is granted at once, if it is
@@ -282,16 +300,24 @@ at_once_returned : (P : Ending → ValueBlock → Type 0) (b : Bool) (ending : E
 at_once_returned P true ending block processes its = one_returned P ending (blocks_with block processes) (its refl)
 at_once_returned P false ending block processes its = none_returned P processes
 
-at_once_acts : (s : State) (b : Bool) (row : LockRow) → HeldSo s row → AllByRecursion (Acts s) (cond b (grant_endings true row) [])
+at_once_acts : (s : State) (b : Bool) (row : LockState) → HeldSo s row → AllByRecursion (Acts s) (cond b (grant_endings true row) [])
 at_once_acts s true row before = row_acts s true row before
 at_once_acts s false row before = tt
 
 -- the grant of a new request
 abbrev request_grant : State → NewRequest → Ending
-request_grant s e = record { lkid = s.next_lkid; pid = e.pid; request = enq_request s e; how = by_grant (grant_act None (Some (enq_request s e))); at_once = true }
+request_grant s e = record {
+  lkid = s.next_lkid;
+  pid = e.pid;
+  request = enq_request s e;
+  how =
+      by_grant (grant_act None (Some (enq_request s e)));
+  at_once = true;
+}
 
 -- its lock is granted where it enters
-request_held : (s : State) (e : NewRequest) → enq_at_once s e ≡ true → Any (IsHeldOn (request_grant s e) (enq_resource s e).value_block) (enq_change s e).resources
+request_held : (s : State) (e : NewRequest) → enq_at_once s e ≡ true
+    → Any (IsHeldOn (request_grant s e) (enq_resource s e).value_block) (enq_change s e).resources
 unfolding enq_change enq_resource resource_after_entry
 request_held s e now =
     any_entered (IsHeldOn (request_grant s e) (enq_resource s e).value_block) s.next_serial (enq_site s e) (enq_row s e) (enq_at_once s e) s.resources
@@ -303,7 +329,7 @@ request_held s e now =
       refl,
     ))
 
-request_returning : (s : State) (e : NewRequest) (choice : Option LockRow) → enq_refusal s e ≡ None
+request_returning : (s : State) (e : NewRequest) (choice : Option LockState) → enq_refusal s e ≡ None
     → AllByRecursion (Queued IsHarmless) s.resources → IsReturning s (stepped_after_sweep (step_change s (Enq e) choice))
 unfolding enq_change
 request_returning s e choice passed harmless =
@@ -331,7 +357,8 @@ conversion_held s c a admitted now harmless =
     any_map (λ r. a.resource ≡ r) (IsHeldOn (conversion_grant a) a.resource.value_block) (resource_after_conversion a.request a.at_once c.pid lkid block)
     (λ r same.
     subst (λ (x : Resource). IsHeldOn (conversion_grant a) a.resource.value_block (resource_after_conversion a.request a.at_once c.pid lkid block x)) same
-    (subst (λ (found : Option LockRow). IsHeldOn (conversion_grant a) a.resource.value_block (resource_after_conversion_of a.request a.at_once lkid block a.resource found)) (sym there.0)
+    (subst (λ (found : Option LockState). IsHeldOn (conversion_grant a) a.resource.value_block
+    (resource_after_conversion_of a.request a.at_once lkid block a.resource found)) (sym there.0)
     (subst (λ (b : Bool). IsHeldOn (conversion_grant a) a.resource.value_block
     (cond b (with_value_block block (resource_after_grant (resource_without_granted lkid a.resource) (wanting_row a.row a.request)))
     (record (resource_without_granted lkid a.resource) { converting = a.resource.converting ++ wanting_row a.row a.request ∷ [] }))) (sym now) (
@@ -372,7 +399,7 @@ conversion_returning s c a agree apart passed admitted harmless =
 abbrev IsNoGrant : Ending → Type 0
 IsNoGrant ending = IsGrant ending.how → ⊥
 
-rows_grant_nothing : (how : How) → (IsGrant how → ⊥) → (rows : List LockRow) → AllByRecursion IsNoGrant (flat_map (row_endings how false) rows)
+rows_grant_nothing : (how : How) → (IsGrant how → ⊥) → (rows : List LockState) → AllByRecursion IsNoGrant (flat_map (row_endings how false) rows)
 rows_grant_nothing how none [] = tt
 rows_grant_nothing how none (row ∷ rows) =
     each_append IsNoGrant (row_endings how false row) (flat_map (row_endings how false) rows) (of_want row.want) (rows_grant_nothing how none rows)
@@ -431,7 +458,7 @@ rundown_returning s is_one nodes harmless =
     (each_weaker IsNoGrant WritesNothing (λ ending no. by_act ending Write no) endings none)
     (each_weaker IsNoGrant (Its P new_value_block) (λ ending no returns. absurd (by_act ending Return no returns)) endings none)))
 
-returning : (history : History) (s : State) → Run history s → (step : Step) (choice : Option LockRow) → step_refusal s step ≡ None
+returning : (history : History) (s : State) → Run history s → (step : Step) (choice : Option LockState) → step_refusal s step ≡ None
     → IsReturning s (stepped_after_sweep (step_change s step choice))
 unfolding declare_change set_change take_change deq_change search_change
 returning history s run (Declare d) choice passed =
@@ -486,7 +513,8 @@ told s made returning pid k p is within =
     )
 
 -- after every run
-pub returned_always : (history : History) (old : State) → Run history old → (step : Step) (choice : Option LockRow) → IsChoice old step choice → GrantsReturnValues old step choice
+pub returned_always : (history : History) (old : State) → Run history old → (step : Step) (choice : Option LockState)
+    → IsChoice old step choice → GrantsReturnValues old step choice
 returned_always history old run step choice chosen =
     let all = of_refusal (step_refusal old step) refl in
     record {

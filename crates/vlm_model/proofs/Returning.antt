@@ -1,4 +1,4 @@
--- What grants return to status blocks.
+-- What a grant writes into a status block.
 use Rattle.std.proofs.Common.{◌≡◌, ℕ, Bool, true, false, List, [], ◌∷◌, ◌++◌, cond, not, Option, None, Some, refl, sym, subst, ap, ◌∙◌}
 use Rattle.std.specs.Prelude.{◌&&◌}
 use Rattle.std.specs.List.{AllByRecursion}
@@ -18,7 +18,7 @@ use Rattle.vlm_model.specs.Returned.{is_return, is_wide_return, last_of_kind, la
 use Rattle.vlm_model.proofs.SweptValues.{WritesNothing, end_leaves}
 use Rattle.vlm_model.proofs.Each.{each_weaker}
 use Rattle.vlm_model.proofs.EndWrites.{AreLeft, ServiceLeaves, block_after_how, left_by_both, left_by_none, left_by_one, left_swept, left_with_asts}
-use Rattle.vlm_model.proofs.Writing.{last_of_both, later_end-none, later_end-twice}
+use Rattle.vlm_model.proofs.StatusBlockWrites.{last_of_both, later_end-none, later_end-twice}
 use Rattle.vlm_model.specs.Asts.{warnings}
 
 module _ (P : Ending → ValueBlock → Type 0) where
@@ -81,7 +81,9 @@ module _ (P : Ending → ValueBlock → Type 0) where
   own_status ending (by_grant Return) wide block before its is = (block, its refl, of_marks block.valid wide block.tail_valid)
     where
       of_marks : (valid wide tail_valid : Bool)
-          → condition_number (cond (not valid) Valnotvalid (cond (wide && not tail_valid) Widenotvalid Normal)) ≡ condition_number (told_by_marks wide valid tail_valid)
+          → condition_number (cond (not valid) Valnotvalid
+          (cond (wide && not tail_valid) Widenotvalid Normal)) ≡ condition_number
+          (told_by_marks wide valid tail_valid)
       of_marks false wide tail_valid = refl
       of_marks true true false = refl
       of_marks true true true = refl
@@ -93,10 +95,14 @@ module _ (P : Ending → ValueBlock → Type 0) where
   own_status ending by_rundown wide block before its is = cc
 
   returns_one : (pid number : ℕ) (ending : Ending) (block : ValueBlock) (before : Block) → (ending.how ≡ by_grant Return → P ending block)
-      → ReturnsTo pid number (ending ∷ []) before (cond (is_end_for pid number ending) (block_after_how ending.how (is_wide ending.request) block before) before)
+      → ReturnsTo pid number (ending ∷ []) before
+      (cond (is_end_for pid number ending)
+      (block_after_how ending.how (is_wide ending.request) block before) before)
   returns_one pid number ending block before its = of_test (is_end_for pid number ending) refl
     where
-      of_test : (this : Bool) → is_end_for pid number ending ≡ this → ReturnsTo pid number (ending ∷ []) before (cond this (block_after_how ending.how (is_wide ending.request) block before) before)
+      of_test : (this : Bool) → is_end_for pid number ending ≡ this
+          → ReturnsTo pid number (ending ∷ []) before
+          (cond this (block_after_how ending.how (is_wide ending.request) block before) before)
       of_test true is = record {
         value = rw is (own_value ending ending.how (is_wide ending.request) block before its);
         tail = rw is (own_tail ending ending.how (is_wide ending.request) block before its);
@@ -110,7 +116,9 @@ module _ (P : Ending → ValueBlock → Type 0) where
       → last_of_kind is_one pid number (first ++ second) ≡ later_end (last_of_kind is_one pid number second) (last_of_kind is_one pid number first)
   last_of_both_lists is_one pid number [] second = later_end-none (last_of_kind is_one pid number second)
   last_of_both_lists is_one pid number (ending ∷ first) second =
-      ap (λ (last : Option Ending). later_end last (cond (is_end_for pid number ending && is_one ending) (Some ending) None)) (last_of_both_lists is_one pid number first second)
+      ap (λ (last : Option Ending). later_end last
+      (cond (is_end_for pid number ending && is_one ending) (Some ending) None))
+      (last_of_both_lists is_one pid number first second)
       ∙ later_end-twice (last_of_kind is_one pid number second) (last_of_kind is_one pid number first)
       (cond (is_end_for pid number ending && is_one ending) (Some ending) None)
 
@@ -163,7 +171,8 @@ module _ (P : Ending → ValueBlock → Type 0) where
       → AllByRecursion (Its b.value_block) endings → AreReturned endings b.processes (blocks_after endings b).processes
   all_returned [] b nothing its = none_returned b.processes
   all_returned (ending ∷ endings) b nothing its =
-      left_by_both ReturnsTo returns_both (ending ∷ []) endings b.processes (blocks_after_ending ending b).processes (blocks_after endings (blocks_after_ending ending b)).processes
+      left_by_both ReturnsTo returns_both (ending ∷ []) endings b.processes (blocks_after_ending ending b).processes
+      (blocks_after endings (blocks_after_ending ending b)).processes
       (one_returned ending b its.0)
       (all_returned endings (blocks_after_ending ending b) nothing.1
       (subst (λ (block : ValueBlock). AllByRecursion (Its block) endings) (sym (end_leaves ending.how ending b nothing.0)) its.1))
@@ -183,5 +192,6 @@ module _ (P : Ending → ValueBlock → Type 0) where
     where
       served : (r : Resource) → Serves r → ServiceLeaves ReturnsTo r
       served r each processes =
-          left_with_asts ReturnsTo (warnings (service r).resource) (service r).endings processes (blocks_after (service r).endings (blocks_with r.value_block processes)).processes
+          left_with_asts ReturnsTo (warnings (service r).resource) (service r).endings processes
+          (blocks_after (service r).endings (blocks_with r.value_block processes)).processes
           (all_returned (service r).endings (blocks_with r.value_block processes) each.nothing each.its)

@@ -1,11 +1,11 @@
--- When a lock has its parent, and that a sweep, a conversion and a dequeue leave it its parent.
+-- Each lock of a sub-resource has its parent lock; sweeps, conversions and dequeues keep it.
 use Rattle.std.proofs.Common.{◌≡◌, ◌≤◌, ◌+◌, inl, inr, ℕ, Bool, true, false, not, ◌&&◌, ◌||◌, List, [], ◌∷◌, map, cond, refl, sym, subst, arith}
 use Rattle.std.specs.Prelude.{◌==◌, nat_lt}
 use Rattle.std.specs.List.{AllByRecursion, filter, list_any, sum_by}
 use Rattle.std.proofs.lemmas.Bool.{and_parts, cond_both, or_cases, or_right}
 use Rattle.std.proofs.lemmas.Bool.Decides.{nat_tests}
 use Rattle.std.proofs.lemmas.List.Sums.{sum_by-cons}
-use Rattle.vlm_words.specs.declared.locks.LockRow.{LockRow}
+use Rattle.vlm_words.specs.declared.locks.LockState.{LockState}
 use Rattle.vlm_words.specs.declared.resources.Domain.{Domain}
 use Rattle.vlm_words.specs.declared.resources.ValueBlock.{ValueBlock}
 use Rattle.vlm_words.specs.State.{Process, Resource}
@@ -18,7 +18,7 @@ use Rattle.vlm_model.specs.Laws.{IsSameResource}
 use Rattle.vlm_model.proofs.EachResource.{each_swept}
 use Rattle.vlm_model.proofs.Keys.{KeepsPlace, service_keeps_place}
 use Rattle.vlm_model.proofs.Weights.{served_weighs, weigh, warned_weighs}
-use Rattle.vlm_model.proofs.Moves.{IsByName, grant_keeps}
+use Rattle.vlm_model.proofs.LastingSums.{IsByName, grant_keeps}
 use Rattle.vlm_model.proofs.Holdings.{held_by, locks, served_held}
 use Rattle.vlm_model.proofs.Sums.{sum_of_zero}
 
@@ -41,13 +41,13 @@ abbrev pub is_up : Position → ℕ → ℕ → Resource → Bool
 is_up p pid lkid up = is_parent p up && nat_lt 0 (held_by pid lkid up)
 
 -- a lock of a root at level 0 has no parent; that of a sub-resource has one that holds a mode on the parent resource
-abbrev pub is_rooted : List Resource → Position → LockRow → Bool
+abbrev pub is_rooted : List Resource → Position → LockState → Bool
 is_rooted all p row =
     ((p.parent == 0) && (row.parent == 0) && (p.level == 0))
     || (not (p.parent == 0) && not (row.parent == 0) && list_any (is_up p row.pid row.parent) all)
 
 -- 1 for a row that has not its parent
-abbrev pub loose : List Resource → Position → LockRow → ℕ
+abbrev pub loose : List Resource → Position → LockState → ℕ
 loose all p row = cond (is_rooted all p row) 0 1
 
 pub loose_named : (all : List Resource) (p : Position) → IsByName (loose all p)
@@ -83,7 +83,7 @@ up_mapped p pid lkid f keeps (r ∷ rest) more up =
 not_vacant : (pid lkid : ℕ) (r : Resource) → nat_lt 0 (held_by pid lkid r) ≡ true → is_vacant r ≡ false
 not_vacant pid lkid r holds = of_queues r.granted r.converting r.waiting holds
   where
-    of_queues : (granted converting waiting : List LockRow) → nat_lt 0 (sum_by (locks pid lkid) granted + sum_by (locks pid lkid) converting) ≡ true
+    of_queues : (granted converting waiting : List LockState) → nat_lt 0 (sum_by (locks pid lkid) granted + sum_by (locks pid lkid) converting) ≡ true
         → (is_empty granted && is_empty converting && is_empty waiting) ≡ false
     of_queues [] [] waiting holds = cc
     of_queues [] (row ∷ rows) waiting holds = refl
@@ -115,7 +115,7 @@ up_swept p pid lkid processes (r ∷ rest) up =
 -- ---- rows and their parents
 
 -- where each parent stays one, each row that had its parent has it still
-pub still_rooted : (old new : List Resource) (p : Position) (row : LockRow)
+pub still_rooted : (old new : List Resource) (p : Position) (row : LockState)
     → (list_any (is_up p row.pid row.parent) old ≡ true → list_any (is_up p row.pid row.parent) new ≡ true) → loose new p row ≤ loose old p row
 still_rooted old new p row stays =
     of_tests ((p.parent == 0) && (row.parent == 0) && (p.level == 0)) (not (p.parent == 0) && not (row.parent == 0))
@@ -139,7 +139,7 @@ sum_le_both f g h less (x ∷ xs) =
     omega (arith, less x, sum_le_both f g h less xs, sum_by-cons f x xs, sum_by-cons g x xs, sum_by-cons h x xs)
 
 -- the same for what the rows of a resource weigh
-pub weigh_le_both : (f g h : LockRow → ℕ) → ((row : LockRow) → f row ≤ g row + h row) → (r : Resource) → weigh f r ≤ weigh g r + weigh h r
+pub weigh_le_both : (f g h : LockState → ℕ) → ((row : LockState) → f row ≤ g row + h row) → (r : Resource) → weigh f r ≤ weigh g r + weigh h r
 weigh_le_both f g h less r =
     omega (arith, sum_le_both f g h less r.granted, sum_le_both f g h less r.converting, sum_le_both f g h less r.waiting)
 
@@ -148,7 +148,8 @@ same_position : (before after : Resource) → IsSameResource before after → po
 same_position before after same = rw (same.parent, same.domain, same.level) refl
 
 -- rows that have their parents have them in a changed resource, if the change adds no weight
-pub rooted_changed : (all : List Resource) (f : Resource → Resource) → KeepsPlace f → (r : Resource) → weigh (loose all (position r)) (f r) ≤ weigh (loose all (position r)) r
+pub rooted_changed : (all : List Resource) (f : Resource → Resource) → KeepsPlace f → (r : Resource)
+    → weigh (loose all (position r)) (f r) ≤ weigh (loose all (position r)) r
     → AllRooted all r → AllRooted all (f r)
 rooted_changed all f keeps r less rooted =
     subst (λ (p : Position). weigh (loose all p) (f r) ≡ 0) (sym (same_position r (f r) (keeps r))) (omega (arith, less, rooted))
@@ -167,7 +168,9 @@ rooted_served all block r rooted =
 
 -- a sweep keeps each row's parent
 pub rooted_swept : (processes : List Process) (resources : List Resource)
-    → AllByRecursion (AllRooted resources) resources → AllByRecursion (AllRooted (resources_after_sweep processes resources)) (resources_after_sweep processes resources)
+    → AllByRecursion (AllRooted resources) resources
+    → AllByRecursion (AllRooted (resources_after_sweep processes resources))
+    (resources_after_sweep processes resources)
 rooted_swept processes resources rooted =
     let all : List Resource = resources_after_sweep processes resources in
     each_swept (AllRooted all) (AllRooted all) (rooted_served all) processes resources (each_still resources rooted)
@@ -194,11 +197,11 @@ rooted_swept processes resources rooted =
 -- ---- conversions and dequeues
 
 -- rows whose parents may go with a change: there are none
-abbrev pub NoneOrphaned : (LockRow → Bool) → Resource → Type 0
+abbrev pub NoneOrphaned : (LockState → Bool) → Resource → Type 0
 NoneOrphaned orphaned r = weigh (λ row. cond (orphaned row) 1 0) r ≡ 0
 
 -- a row that has its parent is loose only where that may go
-loose_or_orphaned : (old new : List Resource) (p : Position) (orphaned : LockRow → Bool) (row : LockRow)
+loose_or_orphaned : (old new : List Resource) (p : Position) (orphaned : LockState → Bool) (row : LockState)
     → (orphaned row ≡ false → list_any (is_up p row.pid row.parent) old ≡ true → list_any (is_up p row.pid row.parent) new ≡ true)
     → loose new p row ≤ loose old p row + cond (orphaned row) 1 0
 loose_or_orphaned old new p orphaned row stays =
@@ -213,9 +216,9 @@ loose_or_orphaned old new p orphaned row stays =
 
 -- a change of each resource keeps each row's parent, where it leaves its place, adds no row, and takes no parent of a row
 -- that it leaves
-pub rooted_mapped : (f : Resource → Resource) → KeepsPlace f → ((g : LockRow → ℕ) → IsByName g → (r : Resource) → weigh g (f r) ≤ weigh g r)
-    → (orphaned : LockRow → Bool) → (resources : List Resource)
-    → ((p : Position) (row : LockRow) → orphaned row ≡ false → list_any (is_up p row.pid row.parent) resources ≡ true
+pub rooted_mapped : (f : Resource → Resource) → KeepsPlace f → ((g : LockState → ℕ) → IsByName g → (r : Resource) → weigh g (f r) ≤ weigh g r)
+    → (orphaned : LockState → Bool) → (resources : List Resource)
+    → ((p : Position) (row : LockState) → orphaned row ≡ false → list_any (is_up p row.pid row.parent) resources ≡ true
     → list_any (is_up p row.pid row.parent) (map f resources) ≡ true)
     → AllByRecursion (λ r. NoneOrphaned orphaned (f r)) resources → AllByRecursion (AllRooted resources) resources
     → AllByRecursion (AllRooted (map f resources)) (map f resources)

@@ -5,16 +5,19 @@ use Rattle.std.specs.List.{AllByRecursion, find}
 use Rattle.std.proofs.lemmas.Bool.{cond_both}
 use Rattle.std.proofs.lemmas.List.Elements.{All-from_recursion}
 use Rattle.vlm_words.specs.declared.locks.Request.{Request}
-use Rattle.vlm_words.specs.declared.locks.LockRow.{LockRow}
+use Rattle.vlm_words.specs.declared.locks.LockState.{LockState}
 use Rattle.vlm_words.specs.declared.resources.ValueBlock.{ValueBlock}
 use Rattle.vlm_words.specs.declared.steps.NewRequest.{NewRequest}
 use Rattle.vlm_words.specs.State.{Resource, State}
 use Rattle.vlm_model.specs.Effects.{with_value_block}
 use Rattle.vlm_words.specs.Rows.{granted_row, is_empty, is_lock_of, rows_of, rows_without, wanting_row}
-use Rattle.vlm_model.specs.Grants.{no_service, resource_after_grant, service, service_after_grant, service_of_conversions, service_of_new_requests, service_of_waiting, wanted_fits}
+use Rattle.vlm_model.specs.Grants.{no_service, resource_after_grant, service, service_after_grant}
+use Rattle.vlm_model.specs.Grants.{service_of_conversions, service_of_new_requests, service_of_waiting, wanted_fits}
 use Rattle.vlm_model.specs.Enqueue.{enq_at_once, enq_refusal, enq_resource, enq_row, resource_after_entry}
 use Rattle.vlm_model.specs.Convert.{resource_after_conversion, resource_after_conversion_of, resource_without_granted}
-use Rattle.vlm_model.specs.Withdrawals.{Withdrawal, is_held_by_writer, resource_after_cancel, resource_after_writer, resource_without, row_after_cancel, value_block_after_writer, resource_after_going, resource_after_withdrawals}
+use Rattle.vlm_model.specs.Withdrawals.{Withdrawal, is_held_by_writer, resource_after_cancel, resource_after_writer}
+use Rattle.vlm_model.specs.Withdrawals.{resource_without, row_after_cancel, value_block_after_writer}
+use Rattle.vlm_model.specs.Withdrawals.{resource_after_going, resource_after_withdrawals}
 use Rattle.vlm_model.specs.Runs.{History, Run}
 use Rattle.vlm_model.specs.Laws.{IsConverting, IsHeld, IsWaiting, RowsFit, RowsFitTheirQueues}
 use Rattle.vlm_model.proofs.Withdrawing.{kept_withdrawn}
@@ -29,13 +32,13 @@ pub record Fit (r : Resource) : Type 0 where
   pub converting : AllByRecursion IsConverting r.converting
   pub waiting : AllByRecursion IsWaiting r.waiting
 
--- a row that wants something is settled once it is granted, and so are those before it
-settled_after_grant : (rows : List LockRow) (row : LockRow) → AllByRecursion IsHeld rows → IsSome row.want
+-- a row that wants something is stable once it is granted, and so are those before it
+stable_after_grant : (rows : List LockState) (row : LockState) → AllByRecursion IsHeld rows → IsSome row.want
     → AllByRecursion IsHeld (rows ++ granted_row row ∷ [])
-settled_after_grant rows row settled some = each_append IsHeld rows (granted_row row ∷ []) settled ((some, refl), tt)
+stable_after_grant rows row stable some = each_append IsHeld rows (granted_row row ∷ []) stable ((some, refl), tt)
 
 -- serving the conversions keeps the rows fit
-serve_converting_fit : (r : Resource) (rows : List LockRow) → r.converting ≡ rows → Fit r → Fit (service_of_conversions r rows).resource
+serve_converting_fit : (r : Resource) (rows : List LockState) → r.converting ≡ rows → Fit r → Fit (service_of_conversions r rows).resource
 serve_converting_fit r [] is fit = fit
 serve_converting_fit r (row ∷ rows) is fit =
     let queue : AllByRecursion IsConverting (row ∷ rows) = subst (AllByRecursion IsConverting) is fit.converting in
@@ -44,11 +47,11 @@ serve_converting_fit r (row ∷ rows) is fit =
     (λ more. Fit more.resource)
     (λ _.
     serve_converting_fit (record (resource_after_grant r row) { converting = rows }) rows refl
-    (record { granted = settled_after_grant r.granted row fit.granted queue.0.1; converting = queue.1; waiting = fit.waiting }))
+    (record { granted = stable_after_grant r.granted row fit.granted queue.0.1; converting = queue.1; waiting = fit.waiting }))
     (λ _. fit)
 
 -- serving the waiting queue keeps the rows fit
-serve_waiting_fit : (r : Resource) (rows : List LockRow) → r.waiting ≡ rows → Fit r → Fit (service_of_waiting r rows).resource
+serve_waiting_fit : (r : Resource) (rows : List LockState) → r.waiting ≡ rows → Fit r → Fit (service_of_waiting r rows).resource
 serve_waiting_fit r [] is fit = fit
 serve_waiting_fit r (row ∷ rows) is fit =
     let queue : AllByRecursion IsWaiting (row ∷ rows) = subst (AllByRecursion IsWaiting) is fit.waiting in
@@ -57,7 +60,7 @@ serve_waiting_fit r (row ∷ rows) is fit =
     (λ more. Fit more.resource)
     (λ _.
     serve_waiting_fit (record (resource_after_grant r row) { waiting = rows }) rows refl
-    (record { granted = settled_after_grant r.granted row fit.granted queue.0.1; converting = fit.converting; waiting = queue.1 }))
+    (record { granted = stable_after_grant r.granted row fit.granted queue.0.1; converting = fit.converting; waiting = queue.1 }))
     (λ _. fit)
 
 -- serving keeps the rows fit
@@ -88,12 +91,13 @@ warned_fit r fit = record {
 }
 
 -- the entry of a lock keeps the rows fit
-entered_fit : (s : State) (e : NewRequest) → enq_refusal s e ≡ None → Fit (enq_resource s e) → Fit (resource_after_entry (enq_row s e) (enq_at_once s e) (enq_resource s e))
+entered_fit : (s : State) (e : NewRequest) → enq_refusal s e ≡ None → Fit (enq_resource s e)
+    → Fit (resource_after_entry (enq_row s e) (enq_at_once s e) (enq_resource s e))
 unfolding resource_after_entry
 entered_fit s e _ fit =
     let r : Resource = enq_resource s e in
     cond_both (enq_at_once s e) (resource_after_grant r (enq_row s e)) (record r { waiting = r.waiting ++ enq_row s e ∷ [] }) Fit
-    (λ _. record { granted = settled_after_grant r.granted (enq_row s e) fit.granted refl; converting = fit.converting; waiting = fit.waiting })
+    (λ _. record { granted = stable_after_grant r.granted (enq_row s e) fit.granted refl; converting = fit.converting; waiting = fit.waiting })
     (λ _. record {
       granted = fit.granted;
       converting = fit.converting;
@@ -101,7 +105,8 @@ entered_fit s e _ fit =
     })
 
 -- a conversion keeps the rows fit, whichever row is found
-converted_row_fit : (request : Request) (at_once : Bool) (pid lkid : ℕ) (block : ValueBlock) (r : Resource) (found : Option LockRow) → find (is_lock_of pid lkid) r.granted ≡ found
+converted_row_fit : (request : Request) (at_once : Bool) (pid lkid : ℕ) (block : ValueBlock) (r : Resource)
+    (found : Option LockState) → find (is_lock_of pid lkid) r.granted ≡ found
     → Fit r → Fit (resource_after_conversion_of request at_once lkid block r found)
 converted_row_fit request at_once pid lkid block r None is fit = fit
 converted_row_fit request at_once pid lkid block r (Some row) is fit =
@@ -111,7 +116,7 @@ converted_row_fit request at_once pid lkid block r (Some row) is fit =
     cond_both at_once (with_value_block block (resource_after_grant (resource_without_granted lkid r) (wanting_row row request)))
     (record (resource_without_granted lkid r) { converting = r.converting ++ wanting_row row request ∷ [] }) Fit
     (λ _. record {
-      granted = settled_after_grant (rows_without lkid r.granted) (wanting_row row request) others refl;
+      granted = stable_after_grant (rows_without lkid r.granted) (wanting_row row request) others refl;
       converting = fit.converting;
       waiting = fit.waiting;
     })
@@ -122,7 +127,8 @@ converted_row_fit request at_once pid lkid block r (Some row) is fit =
     })
 
 -- the same, for the row that is found
-converted_fit : (request : Request) (at_once : Bool) (pid lkid : ℕ) (block : ValueBlock) (r : Resource) → Fit r → Fit (resource_after_conversion request at_once pid lkid block r)
+converted_fit : (request : Request) (at_once : Bool) (pid lkid : ℕ) (block : ValueBlock) (r : Resource) → Fit r
+    → Fit (resource_after_conversion request at_once pid lkid block r)
 unfolding resource_after_conversion
 converted_fit request at_once pid lkid block r fit = converted_row_fit request at_once pid lkid block r (find (is_lock_of pid lkid) r.granted) refl fit
 
@@ -135,7 +141,7 @@ without_fit lkid r fit = record {
   waiting = each_filter IsWaiting _ r.waiting fit.waiting;
 }
 
--- a lock whose conversion is cancelled is settled
+-- a lock whose conversion is cancelled is stable
 cancelled_fit : (lkid : ℕ) (r : Resource) → Fit r → Fit (resource_after_cancel lkid r)
 unfolding resource_after_cancel
 cancelled_fit lkid r fit = record {

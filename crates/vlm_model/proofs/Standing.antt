@@ -1,11 +1,12 @@
--- The lock of an accepted request stands as it is asked for.
-use Rattle.std.proofs.Common.{◌≡◌, ◌⊎◌, ℕ, zero, suc, Bool, true, false, List, [], ◌∷◌, ◌++◌, map, take, drop, cond, Option, None, Some, refl, sym, subst, inl, inr, ◌∙◌}
+-- The lock of an accepted request is as the request asks.
+use Rattle.std.proofs.Common.{◌≡◌, ◌⊎◌, ℕ, zero, suc, Bool, true, false, List, [], ◌∷◌, ◌++◌, map, take, drop, cond}
+use Rattle.std.proofs.Common.{Option, None, Some, refl, sym, subst, inl, inr, ◌∙◌}
 use Rattle.std.specs.Prelude.{◌==◌, Any, unwrap_or}
 use Rattle.std.specs.List.{AllZip, find}
 use Rattle.std.proofs.lemmas.Bool.{and_parts, cond_both, eqb-true}
 use Rattle.vlm_words.specs.declared.conditions.Cond.{Cond}
 use Rattle.vlm_words.specs.declared.locks.Request.{Request}
-use Rattle.vlm_words.specs.declared.locks.LockRow.{LockRow}
+use Rattle.vlm_words.specs.declared.locks.LockState.{LockState}
 use Rattle.vlm_words.specs.declared.resources.Site.{Site}
 use Rattle.vlm_words.specs.declared.resources.ValueBlock.{ValueBlock}
 use Rattle.vlm_words.specs.declared.steps.Answer.TheVariants.{Lock}
@@ -23,17 +24,20 @@ use Rattle.vlm_model.specs.Checks.{named_lkid}
 use Rattle.vlm_words.specs.Flags.{has_flag, system}
 use Rattle.vlm_model.specs.Trees.{enq_site, parent_lkid, parent_refusal, privilege_refusal, site_refusal}
 use Rattle.vlm_model.specs.Enqueue.{enq_at_once, enq_change, enq_key, enq_refusal, enq_resource, enq_row, resource_after_entry, resources_after_entry}
-use Rattle.vlm_model.specs.Convert.{ConversionAdmission, admission_among, admission_or, convert_admission, convert_blocks, convert_change, convert_lkid, convert_refusal, convert_request, resource_after_conversion, resource_after_conversion_of, resource_without_granted}
+use Rattle.vlm_model.specs.Convert.{ConversionAdmission, admission_among, admission_or, convert_admission}
+use Rattle.vlm_model.specs.Convert.{convert_blocks, convert_change, convert_lkid, convert_refusal, convert_request}
+use Rattle.vlm_model.specs.Convert.{resource_after_conversion, resource_after_conversion_of, resource_without_granted}
 use Rattle.vlm_model.specs.Runs.{History, Run}
 use Rattle.vlm_model.specs.Stepped.{conversion_change, refused_or, step_change, stepped_after_sweep}
-use Rattle.vlm_model.specs.Laws.{GrantsFirst, IsAskedFor, IsGranted, IsSameButArmed, IsSameResource, IsVacant, StandsAsAskedFor, StandsOn, SweptInOrder, IsRootDomain, first_rows, goes, none, stays}
+use Rattle.vlm_model.specs.Laws.{GrantsFirst, IsAskedFor, IsGranted, IsSameButArmed, IsSameResource, IsVacant}
+use Rattle.vlm_model.specs.Laws.{StandsAsAskedFor, StandsOn, SweptInOrder, IsRootDomain, first_rows, goes, none, stays}
 use Rattle.vlm_model.specs.Standing.{ConvertedLocksStandAsAskedFor, IsRow, NewLocksStandAsAskedFor, StandsConverted, StandsNew, new_conversion, new_request}
 use Rattle.vlm_model.proofs.Admissions.{admitted_request, some_same}
-use Rattle.vlm_model.proofs.Apart.{Apart, apart_always}
+use Rattle.vlm_model.proofs.IdsApart.{Apart, apart_always}
 use Rattle.vlm_model.proofs.Each.{Any-behind, Any-cases, Any-here, Any-none, Any-there, Any-weaker, Found, any_left, found_at}
 use Rattle.vlm_model.proofs.InOrder.{same_then, sweep_in_order}
 use Rattle.vlm_model.proofs.Keys.{Placed, at_key, conversion_keeps_place, enq_keyed, entry_keeps_place, placed_always}
-use Rattle.vlm_model.proofs.Passed.{both_pass, enq_passes}
+use Rattle.vlm_model.proofs.PassedChecks.{both_pass, enq_passes}
 use Rattle.vlm_model.proofs.ReasonsOfRequests.{asked_for}
 use Rattle.vlm_model.proofs.Refusals.{Any_found, caller_passes}
 
@@ -78,13 +82,14 @@ swept_any Q pass occupied _ _ _ (goes {before} {after} {rest} {left} {endings} {
     ]
 
 -- a granted lock stays so
-pub granted_stays : (P : LockRow → Type 0) → ((x y : LockRow) → IsSameButArmed x y → P x → P y) → (before after : Resource) (endings : List Ending)
+pub granted_stays : (P : LockState → Type 0) → ((x y : LockState) → IsSameButArmed x y → P x → P y) → (before after : Resource) (endings : List Ending)
     → GrantsFirst before after endings → Any P before.granted → Any P after.granted
 granted_stays P pass before after endings first some =
     subst (Any P) (sym first.granted) (any_left P first.kept first.given (any_zip IsSameButArmed P P pass before.granted first.kept first.stay some))
 
 -- a row is the same but for what arms it
-same_row : (lkid pid parent : ℕ) (held want : Option Request) (x y : LockRow) → IsSameButArmed x y → IsRow lkid pid parent held want x → IsRow lkid pid parent held want y
+same_row : (lkid pid parent : ℕ) (held want : Option Request) (x y : LockState) → IsSameButArmed x y
+    → IsRow lkid pid parent held want x → IsRow lkid pid parent held want y
 same_row lkid pid parent held want x y same is = record {
   lock = same.lkid ∙ is.lock;
   process = same.pid ∙ is.process;
@@ -94,7 +99,7 @@ same_row lkid pid parent held want x y same is = record {
 }
 
 -- a row that is granted holds what it wanted
-row_granted : (lkid pid parent : ℕ) (held : Option Request) (request : Request) (x y : LockRow) → IsGranted x y → IsRow lkid pid parent held (Some request) x
+row_granted : (lkid pid parent : ℕ) (held : Option Request) (request : Request) (x y : LockState) → IsGranted x y → IsRow lkid pid parent held (Some request) x
     → IsRow lkid pid parent (Some request) None y
 row_granted lkid pid parent held request x y granted is = record {
   lock = granted.lkid ∙ is.lock;
@@ -104,7 +109,8 @@ row_granted lkid pid parent held request x y granted is = record {
   wants = granted.wants_nothing;
 }
 
-module _ (lkid pid parent : ℕ) (held : Option Request) (request : Request) (before after : Resource) (endings : List Ending) (first : GrantsFirst before after endings) where
+module _ (lkid pid parent : ℕ) (held : Option Request) (request : Request) (before after : Resource)
+    (endings : List Ending) (first : GrantsFirst before after endings) where
   -- one that is among the first of the queues is granted
   first_granted : Any (IsRow lkid pid parent held (Some request)) (first_rows first.conversions first.new_requests before)
       → Any (IsRow lkid pid parent (Some request) None) after.granted
@@ -119,7 +125,9 @@ module _ (lkid pid parent : ℕ) (held : Option Request) (request : Request) (be
       → Any (IsRow lkid pid parent (Some request) None) after.granted ⊎ Any (IsRow lkid pid parent held (Some request)) after.waiting
   waiting_after some =
       elim (any_split (IsRow lkid pid parent held (Some request)) first.new_requests before.waiting some) [
-        | inl now ↦ inl (first_granted (Any-behind (IsRow lkid pid parent held (Some request)) (take first.conversions before.converting) (take first.new_requests before.waiting) now))
+        | inl now ↦ inl (first_granted
+            (Any-behind (IsRow lkid pid parent held (Some request)) (take first.conversions before.converting)
+            (take first.new_requests before.waiting) now))
         | inr later ↦ inr (subst (Any (IsRow lkid pid parent held (Some request))) (sym first.waiting) later)
       ]
 
@@ -128,12 +136,14 @@ module _ (lkid pid parent : ℕ) (held : Option Request) (request : Request) (be
       → Any (IsRow lkid pid parent (Some request) None) after.granted ⊎ Any (IsRow lkid pid parent held (Some request)) after.converting
   converting_after some =
       elim (any_split (IsRow lkid pid parent held (Some request)) first.conversions before.converting some) [
-        | inl now ↦ inl (first_granted (any_left (IsRow lkid pid parent held (Some request)) (take first.conversions before.converting) (take first.new_requests before.waiting) now))
+        | inl now ↦ inl (first_granted
+            (any_left (IsRow lkid pid parent held (Some request)) (take first.conversions before.converting)
+            (take first.new_requests before.waiting) now))
         | inr later ↦ inr (subst (Any (IsRow lkid pid parent held (Some request))) (sym first.converting) later)
       ]
 
 -- among no rows is none
-none_among : (P : LockRow → Type 0) (rows : List LockRow) → rows ≡ [] → Any P rows → ⊥
+none_among : (P : LockState → Type 0) (rows : List LockState) → rows ≡ [] → Any P rows → ⊥
 none_among P rows empty some = Any-none P (subst (Any P) empty some)
 
 -- ---- a new request
@@ -150,7 +160,8 @@ asked_same s e before after same asked = record {
     of_lkid : (lkid : ℕ) → StandsAsAskedFor s e asked.caller lkid before → StandsAsAskedFor s e asked.caller lkid after
     of_lkid zero there = (same.parent ∙ there.0, subst (IsRootDomain (has_flag e.flags system) asked.caller) (sym same.domain) there.1)
     of_lkid (suc n) there =
-        Any-weaker (λ up. StandsOn (suc n) asked.caller.pid up × (before.parent ≡ up.serial)) (λ up. StandsOn (suc n) asked.caller.pid up × (after.parent ≡ up.serial))
+        Any-weaker (λ up. StandsOn (suc n) asked.caller.pid up
+        × (before.parent ≡ up.serial)) (λ up. StandsOn (suc n) asked.caller.pid up × (after.parent ≡ up.serial))
         (λ up so. (so.0, same.parent ∙ so.1)) s.resources there
 
 module _ (s : State) (e : NewRequest) (lkid pid parent : ℕ) (request : Request) where
@@ -175,7 +186,7 @@ module _ (s : State) (e : NewRequest) (lkid pid parent : ℕ) (request : Request
       of_queue (inr waiting) = none_among (IsRow lkid pid parent None (Some request)) r.waiting vacant.waiting waiting
 
 -- the resource that a lock enters is among the resources
-pub any_entered : (P : Resource → Type 0) (serial : ℕ) (site : Site) (row : LockRow) (at_once : Bool) (resources : List Resource)
+pub any_entered : (P : Resource → Type 0) (serial : ℕ) (site : Site) (row : LockState) (at_once : Bool) (resources : List Resource)
     → P (resource_after_entry row at_once (unwrap_or (find (is_at site.key) resources) (new_resource serial site)))
     → Any P (resources_after_entry serial site row at_once resources)
 any_entered P serial site row at_once [] here = Any-here P (resource_after_entry row at_once (new_resource serial site)) [] here
@@ -196,7 +207,8 @@ finds_asked s e apart placed passed = of_found (find (is_at (enq_key s e)) s.res
         asked_for s e r (caller_passes s e.pid (enq_passes s e passed).0) apart placed
         (both_pass (parent_refusal s e.pid (parent_lkid s e)) (privilege_refusal s e.pid e.flags (parent_lkid s e)) (enq_passes s e passed).2).0 at
 
-    of_found : (found : Option Resource) → find (is_at (enq_key s e)) s.resources ≡ found → IsAskedFor s e (unwrap_or found (new_resource s.next_serial (enq_site s e)))
+    of_found : (found : Option Resource) → find (is_at (enq_key s e)) s.resources ≡ found
+        → IsAskedFor s e (unwrap_or found (new_resource s.next_serial (enq_site s e)))
     of_found None is =
         asked (new_resource s.next_serial (enq_site s e))
         (at_key (enq_site s e).domain (enq_key s e) (new_resource s.next_serial (enq_site s e)) (enq_keyed s e placed) refl (λ _. refl) refl)
@@ -213,7 +225,8 @@ entered_there s e apart placed passed = (
       (record (enq_resource s e) { waiting = (enq_resource s e).waiting ++ enq_row s e ∷ [] })
       (StandsNew s.next_lkid e.pid (parent_lkid s e) (new_request s.next_request e))
       (λ _.
-      inl (Any-behind (IsRow s.next_lkid e.pid (parent_lkid s e) (Some (new_request s.next_request e)) None) (enq_resource s e).granted (granted_row (enq_row s e) ∷ [])
+      inl (Any-behind (IsRow s.next_lkid e.pid (parent_lkid s e) (Some (new_request s.next_request e)) None)
+      (enq_resource s e).granted (granted_row (enq_row s e) ∷ [])
       (Any-here (IsRow s.next_lkid e.pid (parent_lkid s e) (Some (new_request s.next_request e)) None) (granted_row (enq_row s e)) []
       (record { lock = refl; process = refl; above = refl; holds = refl; wants = refl }))))
       (λ _.
@@ -224,7 +237,8 @@ entered_there s e apart placed passed = (
 
 -- and is there after the sweep
 request_there : (s : State) (e : NewRequest) → Apart s → Placed s → enq_refusal s e ≡ None
-    → Any (IsThere s e s.next_lkid e.pid (parent_lkid s e) (new_request s.next_request e)) (resources_after_sweep (enq_change s e).processes (enq_change s e).resources)
+    → Any (IsThere s e s.next_lkid e.pid (parent_lkid s e) (new_request s.next_request e))
+    (resources_after_sweep (enq_change s e).processes (enq_change s e).resources)
 unfolding enq_change enq_resource
 request_there s e apart placed passed =
     swept_any (IsThere s e s.next_lkid e.pid (parent_lkid s e) (new_request s.next_request e))
@@ -232,7 +246,8 @@ request_there s e apart placed passed =
     (there_occupied s e s.next_lkid e.pid (parent_lkid s e) (new_request s.next_request e))
     (enq_change s e).resources (resources_after_sweep (enq_change s e).processes (enq_change s e).resources) (sweep_endings (enq_change s e).resources)
     (sweep_in_order (enq_change s e).processes (enq_change s e).resources)
-    (any_entered (IsThere s e s.next_lkid e.pid (parent_lkid s e) (new_request s.next_request e)) s.next_serial (enq_site s e) (enq_row s e) (enq_at_once s e) s.resources
+    (any_entered (IsThere s e s.next_lkid e.pid (parent_lkid s e) (new_request s.next_request e)) s.next_serial
+    (enq_site s e) (enq_row s e) (enq_at_once s e) s.resources
     (entered_there s e apart placed passed))
 
 -- after every run the lock of an accepted new request stands as it is asked for
@@ -240,16 +255,18 @@ pub new_locks_always : (history : History) (old : State) → Run history old →
 new_locks_always history old run e choice told lkid chosen answered = of_refusal (enq_refusal old e) refl answered
   where
     of_refusal : (refusal : Option Cond) → enq_refusal old e ≡ refusal → (refused_or refusal old (step_change old (Enq e) choice)).answer ≡ Lock told lkid
-        → Any (IsThere old e lkid e.pid (parent_lkid old e) (new_request old.next_request e)) (refused_or refusal old (step_change old (Enq e) choice)).state.resources
+        → Any (IsThere old e lkid e.pid (parent_lkid old e) (new_request old.next_request e))
+        (refused_or refusal old (step_change old (Enq e) choice)).state.resources
     of_refusal None passed answered =
         let same : old.next_lkid ≡ lkid = cc in
-        subst (λ (n : ℕ). Any (IsThere old e n e.pid (parent_lkid old e) (new_request old.next_request e)) (stepped_after_sweep (step_change old (Enq e) choice)).state.resources) same
+        subst (λ (n : ℕ). Any (IsThere old e n e.pid (parent_lkid old e) (new_request old.next_request e))
+        (stepped_after_sweep (step_change old (Enq e) choice)).state.resources) same
         (request_there old e (apart_always history old run) (placed_always history old run) passed)
     of_refusal (Some refusal) is answered = cc
 
 -- ---- a conversion
 
-module _ (first : Resource) (was : LockRow) (request : Request) where
+module _ (first : Resource) (was : LockState) (request : Request) where
   abbrev IsConverted : Resource → Type 0
   IsConverted r = IsSameResource first r × StandsConverted was request r
 
@@ -259,7 +276,8 @@ module _ (first : Resource) (was : LockRow) (request : Request) where
     where
       still : StandsConverted was request before → StandsConverted was request after
       still (inl granted) =
-          inl (granted_stays (IsRow was.lkid was.pid was.parent (Some request) None) (same_row was.lkid was.pid was.parent (Some request) None) before after endings grants granted)
+          inl (granted_stays (IsRow was.lkid was.pid was.parent (Some request) None)
+          (same_row was.lkid was.pid was.parent (Some request) None) before after endings grants granted)
       still (inr converting) = converting_after was.lkid was.pid was.parent was.held request before after endings grants converting
 
   -- and so a lock is left
@@ -271,19 +289,21 @@ module _ (first : Resource) (was : LockRow) (request : Request) where
       of_queue (inr converting) = none_among (IsRow was.lkid was.pid was.parent was.held (Some request)) r.converting vacant.converting converting
 
 -- the lock of an admitted conversion is granted on a resource that is there
-pub admitted_there : (request : Request) (pid lkid : ℕ) (a : ConversionAdmission) (resources : List Resource) → admission_among request pid lkid resources ≡ Some a
+pub admitted_there : (request : Request) (pid lkid : ℕ) (a : ConversionAdmission) (resources : List Resource)
+    → admission_among request pid lkid resources ≡ Some a
     → (find (is_lock_of pid lkid) a.resource.granted ≡ Some a.row) × Any (λ r. a.resource ≡ r) resources
 admitted_there request pid lkid a [] admitted = cc
 admitted_there request pid lkid a (r ∷ rest) admitted =
     of_found (find (is_lock_of pid lkid) r.granted) refl (admission_among request pid lkid rest) (admitted_there request pid lkid a rest) admitted
   where
-    of_found : (found : Option LockRow) → find (is_lock_of pid lkid) r.granted ≡ found → (later : Option ConversionAdmission)
+    of_found : (found : Option LockState) → find (is_lock_of pid lkid) r.granted ≡ found → (later : Option ConversionAdmission)
         → (later ≡ Some a → (find (is_lock_of pid lkid) a.resource.granted ≡ Some a.row) × Any (λ x. a.resource ≡ x) rest)
         → admission_or request r found later ≡ Some a
         → (find (is_lock_of pid lkid) a.resource.granted ≡ Some a.row) × Any (λ x. a.resource ≡ x) (r ∷ rest)
     of_found None is later behind at = let more = behind at in (more.0, Any-there (λ x. a.resource ≡ x) r rest more.1)
     of_found (Some row) is later behind at =
-        subst (λ (b : ConversionAdmission). (find (is_lock_of pid lkid) b.resource.granted ≡ Some b.row) × Any (λ x. b.resource ≡ x) (r ∷ rest)) (some_same _ a at)
+        subst (λ (b : ConversionAdmission). (find (is_lock_of pid lkid) b.resource.granted ≡ Some b.row)
+        × Any (λ x. b.resource ≡ x) (r ∷ rest)) (some_same _ a at)
         (is, Any-here (λ x. r ≡ x) r rest refl)
 
 -- what a function makes of some element is so of some that it makes
@@ -296,17 +316,19 @@ any_map P Q f pass (x ∷ xs) some =
     ]
 
 -- it stands there as it converts
-converts_there : (request : Request) (at_once : Bool) (pid lkid : ℕ) (block : ValueBlock) (r : Resource) (row : LockRow) → find (is_lock_of pid lkid) r.granted ≡ Some row
+converts_there : (request : Request) (at_once : Bool) (pid lkid : ℕ) (block : ValueBlock) (r : Resource)
+    (row : LockState) → find (is_lock_of pid lkid) r.granted ≡ Some row
     → IsConverted r row request (resource_after_conversion request at_once pid lkid block r)
 unfolding resource_after_conversion
 converts_there request at_once pid lkid block r row is = (
   conversion_keeps_place request at_once pid lkid block r,
-  subst (λ (found : Option LockRow). StandsConverted row request (resource_after_conversion_of request at_once lkid block r found)) (sym is)
+  subst (λ (found : Option LockState). StandsConverted row request (resource_after_conversion_of request at_once lkid block r found)) (sym is)
       (cond_both at_once (with_value_block block (resource_after_grant (resource_without_granted lkid r) (wanting_row row request)))
       (record (resource_without_granted lkid r) { converting = r.converting ++ wanting_row row request ∷ [] })
       (StandsConverted row request)
       (λ _.
-      inl (Any-behind (IsRow row.lkid row.pid row.parent (Some request) None) (resource_without_granted lkid r).granted (granted_row (wanting_row row request) ∷ [])
+      inl (Any-behind (IsRow row.lkid row.pid row.parent (Some request) None) (resource_without_granted lkid r).granted
+      (granted_row (wanting_row row request) ∷ [])
       (Any-here (IsRow row.lkid row.pid row.parent (Some request) None) (granted_row (wanting_row row request)) []
       (record { lock = refl; process = refl; above = refl; holds = refl; wants = refl }))))
       (λ _.
@@ -318,7 +340,8 @@ converts_there request at_once pid lkid block r row is = (
 -- what is said of the lock of a conversion
 abbrev StandsOnAs : State → Conversion → ℕ → List Resource → Type 0
 StandsOnAs s c lkid after =
-    Any (λ before. Any (λ was. (was.lkid ≡ lkid) × (was.pid ≡ c.pid) × Any (IsConverted before was (new_conversion s.next_request c)) after) before.granted) s.resources
+    Any (λ before. Any (λ was. (was.lkid ≡ lkid) × (was.pid ≡ c.pid)
+    × Any (IsConverted before was (new_conversion s.next_request c)) after) before.granted) s.resources
 
 conversion_there : (s : State) (c : Conversion) (a : ConversionAdmission) → convert_admission s c ≡ Some a
     → StandsOnAs s c (convert_lkid s c) (resources_after_sweep (convert_change s c a).processes (convert_change s c a).resources)
@@ -346,7 +369,8 @@ conversion_there s c a admitted =
     (λ before. Any (λ was. (was.lkid ≡ lkid) × (was.pid ≡ c.pid) × Any (IsConverted before was request) after) before.granted)
     (λ r same.
     subst (λ (before : Resource). Any (λ was. (was.lkid ≡ lkid) × (was.pid ≡ c.pid) × Any (IsConverted before was request) after) before.granted) same
-    (Any_found (λ was. (was.lkid ≡ lkid) × (was.pid ≡ c.pid) × Any (IsConverted a.resource was request) after) (is_lock_of c.pid lkid) a.resource.granted a.row there.0
+    (Any_found (λ was. (was.lkid ≡ lkid) × (was.pid ≡ c.pid) × Any (IsConverted a.resource was request) after)
+    (is_lock_of c.pid lkid) a.resource.granted a.row there.0
     (eqb-true a.row.lkid lkid tests.0, eqb-true a.row.pid c.pid tests.1, swept)))
     s.resources there.1
 
@@ -362,7 +386,8 @@ converted_locks_always history old run c choice told lkid chosen answered = of_r
         let same : convert_lkid old c ≡ lkid = cc in
         subst (λ (n : ℕ). StandsOnAs old c n (stepped_after_sweep (conversion_change old c (Some a))).state.resources) same (conversion_there old c a is)
 
-    of_refusal : (refusal : Option Cond) → convert_refusal old c ≡ refusal → (refused_or refusal old (step_change old (Convert c) choice)).answer ≡ Lock told lkid
+    of_refusal : (refusal : Option Cond) → convert_refusal old c ≡ refusal
+        → (refused_or refusal old (step_change old (Convert c) choice)).answer ≡ Lock told lkid
         → StandsOnAs old c lkid (refused_or refusal old (step_change old (Convert c) choice)).state.resources
     of_refusal None passed answered = of_admission (convert_admission old c) refl answered
     of_refusal (Some refusal) is answered = cc

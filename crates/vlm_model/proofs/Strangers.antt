@@ -7,28 +7,31 @@ use Rattle.std.proofs.lemmas.List.Sums.{sum_by-append, sum_by-cons}
 use Rattle.vlm_words.specs.declared.asts.AstKind.{AstKind}
 use Rattle.vlm_words.specs.declared.asts.AstKind.TheVariants.{Completion, Blocking}
 use Rattle.vlm_words.specs.declared.locks.Request.{Request}
-use Rattle.vlm_words.specs.declared.locks.LockRow.{LockRow}
+use Rattle.vlm_words.specs.declared.locks.LockState.{LockState}
 use Rattle.vlm_words.specs.declared.steps.Conversion.{Conversion}
 use Rattle.vlm_words.specs.declared.steps.NewRequest.{NewRequest}
 use Rattle.vlm_words.specs.State.{Node, Resource, State}
 use Rattle.vlm_model.specs.Endings.{Ending, How, is_told, row_endings, wanted_endings}
 use Rattle.vlm_model.specs.Endings.How.{by_grant}
-use Rattle.vlm_model.specs.Asts.{Queued, asts_for, blocking_asts, completion_asts, completions, completions_of, is_synchronous, is_to_warn, row_warnings, warnings}
+use Rattle.vlm_model.specs.Asts.{Queued, asts_for, blocking_asts, completion_asts, completions, completions_of}
+use Rattle.vlm_model.specs.Asts.{is_synchronous, is_to_warn, row_warnings, warnings}
 use Rattle.vlm_model.specs.Grants.{grant_act, grant_endings, service}
 use Rattle.vlm_model.specs.Sweeps.{service_asts, sweep_asts}
 use Rattle.vlm_model.specs.Quotas.{quota_of}
 use Rattle.vlm_words.specs.Rows.{is_lock_of, rows_of, wanting_row}
 use Rattle.vlm_model.specs.Trees.{enq_site}
 use Rattle.vlm_model.specs.Enqueue.{enq_at_once, enq_change, enq_endings, enq_refusal, enq_row}
-use Rattle.vlm_model.specs.Convert.{ConversionAdmission, admission_among, admission_or, conversion_endings, convert_admission, convert_blocks, convert_change, convert_lkid, convert_request, converts_at_once, resource_after_conversion}
+use Rattle.vlm_model.specs.Convert.{ConversionAdmission, admission_among, admission_or, conversion_endings}
+use Rattle.vlm_model.specs.Convert.{convert_admission, convert_blocks, convert_change, convert_lkid, convert_request}
+use Rattle.vlm_model.specs.Convert.{converts_at_once, resource_after_conversion}
 use Rattle.vlm_model.specs.Withdrawals.{Withdrawal, queue_endings, resource_after_withdrawals, withdrawal_endings, withdrawn_endings, state_after_withdrawals}
 use Rattle.vlm_model.specs.Rundown.{rundown_endings, rundowns, state_after_rundown}
 use Rattle.vlm_model.specs.Runs.{History, Run}
 use Rattle.vlm_model.specs.Taking.{queued_to}
 use Rattle.vlm_model.proofs.Admissions.{some_same}
 use Rattle.vlm_model.proofs.Each.{Found, found_at}
-use Rattle.vlm_model.proofs.Moves.{IsByName, converted_named, grant_keeps, withdrawn_named}
-use Rattle.vlm_model.proofs.Queueing.{queued_to-append}
+use Rattle.vlm_model.proofs.LastingSums.{IsByName, converted_named, grant_keeps, withdrawn_named}
+use Rattle.vlm_model.proofs.AstQueueing.{queued_to-append}
 use Rattle.vlm_model.proofs.Quotas.{all_counted, quotas_always, room_left}
 use Rattle.vlm_model.proofs.WhoseLocks.{owned, owning}
 use Rattle.vlm_model.proofs.Sums.{found-le-sum, sum_changed-le, sum_filter-le, sum_of_one, sum_of_zero}
@@ -47,7 +50,7 @@ abbrev wants_of : ℕ → ℕ → Option Request → ℕ
 wants_of pid owner want = cond (owner == pid) (cond (is_some want) 1 0) 0
 
 -- 1 for a row of a lock of the process that wants something
-abbrev wanted_own : ℕ → LockRow → ℕ
+abbrev wanted_own : ℕ → LockState → ℕ
 wanted_own pid row = wants_of pid row.pid row.want
 
 nothing_wanted : (pid owner : ℕ) → wants_of pid owner None ≡ 0
@@ -64,7 +67,7 @@ wanted_ends pid how at_once lkid owner None = sym (nothing_wanted pid owner)
 wanted_ends pid how at_once lkid owner (Some request) =
     sum_of_one (mine pid) (record { lkid = lkid; pid = owner; request = request; how = how; at_once = at_once })
 
-row_ends : (pid : ℕ) (how : How) (at_once : Bool) (row : LockRow) → sum_by (mine pid) (row_endings how at_once row) ≡ wanted_own pid row
+row_ends : (pid : ℕ) (how : How) (at_once : Bool) (row : LockState) → sum_by (mine pid) (row_endings how at_once row) ≡ wanted_own pid row
 row_ends pid how at_once row = wanted_ends pid how at_once row.lkid row.pid row.want
 
 -- a grant ends what its row wanted
@@ -81,7 +84,7 @@ wanted_owned pid owner want = of_tests (owner == pid) (is_some want)
     of_tests false b = omega arith
 
 -- of a process that has no rows none wants
-wanted_rows : (pid : ℕ) (rows : List LockRow) → sum_by (wanted_own pid) rows ≤ sum_by (owned pid) rows
+wanted_rows : (pid : ℕ) (rows : List LockState) → sum_by (wanted_own pid) rows ≤ sum_by (owned pid) rows
 wanted_rows pid [] = omega arith
 wanted_rows pid (row ∷ rows) =
     omega (
@@ -138,14 +141,15 @@ none_completes pid (ending ∷ endings) none =
         (λ _. for_another pid ending.pid ending.lkid Completion ending.request.completion ending.request other)) (λ _. refl)
 
 -- warnings of rows of which none is of the process
-none_warned : (pid : ℕ) (converting waiting rows : List LockRow) → sum_by (owned pid) rows ≡ 0
+none_warned : (pid : ℕ) (converting waiting rows : List LockState) → sum_by (owned pid) rows ≡ 0
     → queued_to pid (flat_map (row_warnings converting waiting) rows) ≡ []
 unfolding row_warnings
 none_warned pid converting waiting [] none = refl
 none_warned pid converting waiting (row ∷ rows) none =
     let both = sum_by-cons (owned pid) row rows in
     queued_to-append pid (row_warnings converting waiting row) (flat_map (row_warnings converting waiting) rows)
-    ∙ ap (λ (asts : List _). asts ++ queued_to pid (flat_map (row_warnings converting waiting) rows)) (here (not_counted (row.pid == pid) (omega (arith, none, both))))
+    ∙ ap (λ (asts : List _). asts ++ queued_to pid (flat_map (row_warnings converting waiting) rows))
+    (here (not_counted (row.pid == pid) (omega (arith, none, both))))
     ∙ none_warned pid converting waiting rows (omega (arith, none, both))
   where
     of_held : (held : Option Request) → (row.pid == pid) ≡ false → queued_to pid (blocking_asts held row.lkid row.pid) ≡ []
@@ -207,7 +211,8 @@ none_requested s e pid passed no_quota none =
         none,
         not_mine,
         sum_of_zero {X = Ending} (enq_endings s e),
-        entered_among_weighs (owned pid) (λ ending. 0) (grant_keeps (owned pid) (owned_named pid)) s.next_serial (enq_site s e) (enq_row s e) (enq_at_once s e) s.resources,
+        entered_among_weighs (owned pid) (λ ending. 0) (grant_keeps (owned pid) (owned_named pid)) s.next_serial
+            (enq_site s e) (enq_row s e) (enq_at_once s e) s.resources,
       );
     }
   where
@@ -222,9 +227,10 @@ none_requested s e pid passed no_quota none =
 admitted_owned : (pid : ℕ) (request : Request) (caller lkid : ℕ) (a : ConversionAdmission) (resources : List Resource)
     → admission_among request caller lkid resources ≡ Some a → owned pid a.row ≤ owning pid resources
 admitted_owned pid request caller lkid a [] at = cc
-admitted_owned pid request caller lkid a (r ∷ rest) at = of_found (find (is_lock_of caller lkid) r.granted) refl (admitted_owned pid request caller lkid a rest) at
+admitted_owned pid request caller lkid a (r ∷ rest) at =
+    of_found (find (is_lock_of caller lkid) r.granted) refl (admitted_owned pid request caller lkid a rest) at
   where
-    of_found : (found : Option LockRow) → find (is_lock_of caller lkid) r.granted ≡ found
+    of_found : (found : Option LockState) → find (is_lock_of caller lkid) r.granted ≡ found
         → (admission_among request caller lkid rest ≡ Some a → owned pid a.row ≤ owning pid rest)
         → admission_or request r found (admission_among request caller lkid rest) ≡ Some a → owned pid a.row ≤ owning pid (r ∷ rest)
     of_found None is behind later = omega (arith, behind later, sum_by-cons (weigh (owned pid)) r rest)
@@ -260,7 +266,7 @@ none_converted s c a pid admitted none = record {
     of_test false = refl
 
 -- the requests of some rows end
-rows_end : (pid : ℕ) (how : How) (rows : List LockRow) → sum_by (mine pid) (flat_map (row_endings how false) rows) ≤ sum_by (owned pid) rows
+rows_end : (pid : ℕ) (how : How) (rows : List LockState) → sum_by (mine pid) (flat_map (row_endings how false) rows) ≤ sum_by (owned pid) rows
 rows_end pid how [] = omega arith
 rows_end pid how (row ∷ rows) =
     omega (
@@ -272,7 +278,7 @@ rows_end pid how (row ∷ rows) =
       sum_by-append (mine pid) (row_endings how false row) (flat_map (row_endings how false) rows),
     )
 
-queue_ends : (pid : ℕ) (how : How) (lkid : ℕ) (rows : List LockRow) → sum_by (mine pid) (queue_endings how lkid rows) ≤ sum_by (owned pid) rows
+queue_ends : (pid : ℕ) (how : How) (lkid : ℕ) (rows : List LockState) → sum_by (mine pid) (queue_endings how lkid rows) ≤ sum_by (owned pid) rows
 queue_ends pid how lkid rows = omega (arith, rows_end pid how (rows_of lkid rows), sum_filter-le (owned pid) (λ row. row.lkid == lkid) rows)
 
 withdrawals_end : (pid : ℕ) (w : Withdrawal) (resources : List Resource) → sum_by (mine pid) (flat_map (withdrawal_endings w) resources) ≤ owning pid resources
@@ -322,7 +328,8 @@ none_ended s is_one nodes pid none = record {
   locks = omega (
     arith,
     none,
-    sum_changed-le (weigh (owned pid)) (resource_after_withdrawals (rundowns is_one s)) (withdrawn_named (owned pid) (owned_named pid) (rundowns is_one s)) s.resources,
+    sum_changed-le (weigh (owned pid)) (resource_after_withdrawals (rundowns is_one s))
+        (withdrawn_named (owned pid) (owned_named pid) (rundowns is_one s)) s.resources,
   );
 }
 

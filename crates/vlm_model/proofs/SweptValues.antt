@@ -4,7 +4,7 @@ use Rattle.std.specs.Prelude.{Any}
 use Rattle.std.specs.List.{AllByRecursion, find}
 use Rattle.std.proofs.lemmas.Bool.{cond_both, true≢false}
 use Rattle.vlm_words.specs.declared.locks.Request.{Request}
-use Rattle.vlm_words.specs.declared.locks.LockRow.{LockRow}
+use Rattle.vlm_words.specs.declared.locks.LockState.{LockState}
 use Rattle.vlm_words.specs.declared.modes.Act.TheVariants.{Nothing, Return, Write}
 use Rattle.vlm_words.specs.declared.resources.ValueBlock.{ValueBlock}
 use Rattle.vlm_words.specs.declared.steps.Conversion.{Conversion}
@@ -14,7 +14,9 @@ use Rattle.vlm_words.specs.State.{Process, Resource, State}
 use Rattle.vlm_model.specs.Endings.{Ending, How, wanted_endings}
 use Rattle.vlm_model.specs.Endings.How.{by_abort, by_cancel, by_deadlock, by_grant, by_rundown}
 use Rattle.vlm_model.specs.Effects.{Blocks, blocks_after, blocks_after_end, blocks_after_ending, blocks_after_return, blocks_with}
-use Rattle.vlm_model.specs.Grants.{grant_act, grant_endings, no_service, resource_after_grant, service, service_after_grant, service_of_conversions, service_of_new_requests, service_of_waiting, valblk_act, wanted_fits}
+use Rattle.vlm_model.specs.Grants.{grant_act, grant_endings, no_service, resource_after_grant, service}
+use Rattle.vlm_model.specs.Grants.{service_after_grant, service_of_conversions, service_of_new_requests}
+use Rattle.vlm_model.specs.Grants.{service_of_waiting, valblk_act, wanted_fits}
 use Rattle.vlm_words.specs.Rows.{is_empty, is_lock_of}
 use Rattle.vlm_model.specs.Sweeps.{blocks_after_service, is_vacant, resource_after_service, resources_after_service, resources_after_sweep, served_with}
 use Rattle.vlm_model.specs.Enqueue.{enq_row}
@@ -22,20 +24,20 @@ use Rattle.vlm_model.specs.Convert.{ConversionAdmission, convert_admission, conv
 use Rattle.vlm_model.specs.Runs.{History, Run}
 use Rattle.vlm_model.specs.Laws.{action_from, IsSameResource}
 use Rattle.vlm_model.proofs.Admissions.{admitted_request, found_lkid}
-use Rattle.vlm_model.proofs.Apart.{Apart, apart_always}
+use Rattle.vlm_model.proofs.IdsApart.{Apart, apart_always}
 use Rattle.vlm_model.proofs.Each.{Any-weaker, each_append, each_weaker, found_at, each_member}
 use Rattle.vlm_model.proofs.HeldModes.{HoldersAgree, holders_agree_always}
 use Rattle.vlm_model.proofs.InOrder.{SameWaiting, conversions_leave_waiting, same_then, service_in_order}
 use Rattle.vlm_model.proofs.Refusals.{Any_found}
 use Rattle.vlm_model.proofs.Waiting.{EachConverting, Queued, queued_always}
-use Rattle.vlm_model.proofs.Writes.{only_row_among, write_at_once}
+use Rattle.vlm_model.proofs.WritingConversions.{only_row_among, write_at_once}
 use Rattle.vlm_model.specs.Asts.{resource_after_warning}
 use Rattle.vlm_model.proofs.Warned.{warned_same}
 
 -- ---- no queued request writes
 
 -- the grant of what the row wants does not write the value block
-abbrev pub IsHarmless : LockRow → Type 0
+abbrev pub IsHarmless : LockState → Type 0
 IsHarmless row = grant_act row.held row.want ≡ Write → ⊥
 
 -- nor does that of a new request
@@ -65,13 +67,15 @@ pub table_writes : (held : Option Request) (request : Request) → has_flag (fla
 unfolding grant_act
 table_writes held request flagged table = of_held held table
   where
-    of_held : (held : Option Request) → action_from held request.mode ≡ Write → cond (has_flag (flag_bits request.flags) valblk) (valblk_act held request.mode) Nothing ≡ Write
+    of_held : (held : Option Request) → action_from held request.mode ≡ Write
+        → cond (has_flag (flag_bits request.flags) valblk) (valblk_act held request.mode) Nothing ≡ Write
     of_held None table = cc
     of_held (Some held) table = rw flagged table
 
 -- an accepted conversion that is not granted at once does not write
 pub conversion_is_harmless : (s : State) (c : Conversion) (a : ConversionAdmission) → AllByRecursion HoldersAgree s.resources → Apart s
-    → convert_refusal s c ≡ None → convert_admission s c ≡ Some a → a.at_once ≡ false → AllByRecursion (EachConverting IsHarmless c (convert_lkid s c) a) s.resources
+    → convert_refusal s c ≡ None → convert_admission s c ≡ Some a → a.at_once ≡ false
+    → AllByRecursion (EachConverting IsHarmless c (convert_lkid s c) a) s.resources
 unfolding convert_admission
 conversion_is_harmless s c a agree apart passed is waits =
     each_weaker (λ r. Any (λ x. r ≡ x) s.resources) (EachConverting IsHarmless c (convert_lkid s c) a) at_each s.resources (each_member s.resources)
@@ -79,11 +83,12 @@ conversion_is_harmless s c a agree apart passed is waits =
     asks : a.request ≡ convert_request s c
     asks = admitted_request (convert_request s c) c.pid (convert_lkid s c) a s.resources is
 
-    writes : (r : Resource) (row : LockRow) → find (is_lock_of c.pid (convert_lkid s c)) r.granted ≡ Some row → Any (λ x. r ≡ x) s.resources
+    writes : (r : Resource) (row : LockState) → find (is_lock_of c.pid (convert_lkid s c)) r.granted ≡ Some row → Any (λ x. r ≡ x) s.resources
         → action_from row.held c.mode ≡ Write → a.at_once ≡ true
     writes r row found there table =
         write_at_once s c a agree passed is
-        (only_row_among (λ x. action_from x.held c.mode ≡ Write) (convert_request s c) c.pid (convert_lkid s c) a s.resources (apart.one_row (convert_lkid s c)) is
+        (only_row_among (λ x. action_from x.held c.mode ≡ Write) (convert_request s c) c.pid
+        (convert_lkid s c) a s.resources (apart.one_row (convert_lkid s c)) is
         (Any-weaker (λ x. r ≡ x) (λ x. Any (λ y. (y.lkid ≡ convert_lkid s c) × (action_from y.held c.mode ≡ Write)) x.granted)
         (λ x same.
         subst (λ (t : Resource). Any (λ y. (y.lkid ≡ convert_lkid s c) × (action_from y.held c.mode ≡ Write)) t.granted) same
@@ -107,7 +112,7 @@ harmless_always =
 abbrev pub WritesNothing : Ending → Type 0
 WritesNothing ending = ending.how ≡ by_grant Write → ⊥
 
-pub grant_harmless : (at_once : Bool) (row : LockRow) → IsHarmless row → AllByRecursion WritesNothing (grant_endings at_once row)
+pub grant_harmless : (at_once : Bool) (row : LockState) → IsHarmless row → AllByRecursion WritesNothing (grant_endings at_once row)
 grant_harmless at_once row harmless = of_want row.want
   where
     of_want : (want : Option Request) → AllByRecursion WritesNothing (wanted_endings (by_grant (grant_act row.held row.want)) at_once row.lkid row.pid want)
@@ -115,8 +120,8 @@ grant_harmless at_once row harmless = of_want row.want
     of_want (Some request) = ((λ is. harmless (cc)), tt)
 
 -- what the grant of each row has, each ending of a service has
-module _ (P : LockRow → Type 0) (Q : Ending → Type 0) (grants : (row : LockRow) → P row → AllByRecursion Q (grant_endings false row)) where
-  conversions_each : (r : Resource) (rows : List LockRow) → AllByRecursion P rows → AllByRecursion Q (service_of_conversions r rows).endings
+module _ (P : LockState → Type 0) (Q : Ending → Type 0) (grants : (row : LockState) → P row → AllByRecursion Q (grant_endings false row)) where
+  conversions_each : (r : Resource) (rows : List LockState) → AllByRecursion P rows → AllByRecursion Q (service_of_conversions r rows).endings
   conversions_each r [] each = tt
   conversions_each r (row ∷ rows) each =
       let granted : Resource = record (resource_after_grant r row) { converting = rows } in
@@ -125,7 +130,7 @@ module _ (P : LockRow → Type 0) (Q : Ending → Type 0) (grants : (row : LockR
       (λ _. each_append Q (grant_endings false row) (service_of_conversions granted rows).endings (grants row each.0) (conversions_each granted rows each.1))
       (λ _. tt)
 
-  waiting_each : (r : Resource) (rows : List LockRow) → AllByRecursion P rows → AllByRecursion Q (service_of_waiting r rows).endings
+  waiting_each : (r : Resource) (rows : List LockState) → AllByRecursion P rows → AllByRecursion Q (service_of_waiting r rows).endings
   waiting_each r [] each = tt
   waiting_each r (row ∷ rows) each =
       let granted : Resource = record (resource_after_grant r row) { waiting = rows } in
@@ -166,14 +171,14 @@ ends_leave (ending ∷ endings) b nothing =
     ends_leave endings (blocks_after_ending ending b) nothing.1 ∙ end_leaves ending.how ending b nothing.0
 
 -- a service moves rows alone
-conversions_leave : (r : Resource) (rows : List LockRow) → (service_of_conversions r rows).resource.value_block ≡ r.value_block
+conversions_leave : (r : Resource) (rows : List LockState) → (service_of_conversions r rows).resource.value_block ≡ r.value_block
 conversions_leave r [] = refl
 conversions_leave r (row ∷ rows) =
     let granted : Resource = record (resource_after_grant r row) { converting = rows } in
     cond_both (wanted_fits row.want r.granted rows) (service_after_grant row (service_of_conversions granted rows)) (no_service r)
     (λ s. s.resource.value_block ≡ r.value_block) (λ _. conversions_leave granted rows) (λ _. refl)
 
-waiting_leaves : (r : Resource) (rows : List LockRow) → (service_of_waiting r rows).resource.value_block ≡ r.value_block
+waiting_leaves : (r : Resource) (rows : List LockState) → (service_of_waiting r rows).resource.value_block ≡ r.value_block
 waiting_leaves r [] = refl
 waiting_leaves r (row ∷ rows) =
     let granted : Resource = record (resource_after_grant r row) { waiting = rows } in

@@ -4,7 +4,7 @@ use Rattle.std.specs.Prelude.{not}
 use Rattle.std.specs.List.{AllByRecursion, find}
 use Rattle.std.proofs.lemmas.Bool.{cond_both}
 use Rattle.std.proofs.lemmas.List.Elements.{All-from_recursion}
-use Rattle.vlm_words.specs.declared.locks.LockRow.{LockRow}
+use Rattle.vlm_words.specs.declared.locks.LockState.{LockState}
 use Rattle.vlm_words.specs.declared.modes.Act.TheVariants.{Nothing, Return, Write}
 use Rattle.vlm_words.specs.declared.resources.ValueBlock.{ValueBlock}
 use Rattle.vlm_words.specs.declared.steps.Conversion.{Conversion}
@@ -22,8 +22,12 @@ use Rattle.vlm_model.specs.SetValue.{set_change}
 use Rattle.vlm_model.specs.Take.{take_change}
 use Rattle.vlm_model.specs.Trees.{enq_site}
 use Rattle.vlm_model.specs.Enqueue.{enq_at_once, enq_change, enq_row}
-use Rattle.vlm_model.specs.Convert.{ConversionAdmission, conversion_endings, convert_admission, convert_blocks, convert_change, convert_lkid, convert_request, resource_after_conversion, resource_after_conversion_of}
-use Rattle.vlm_model.specs.Withdrawals.{Withdrawal, is_held_by_writer, resource_after_going, resource_after_withdrawals, resource_after_writer, state_after_withdrawals, value_block_after_gift, value_block_after_writer}
+use Rattle.vlm_model.specs.Convert.{ConversionAdmission, conversion_endings, convert_admission, convert_blocks}
+use Rattle.vlm_model.specs.Convert.{convert_change, convert_lkid, convert_request, resource_after_conversion}
+use Rattle.vlm_model.specs.Convert.{resource_after_conversion_of}
+use Rattle.vlm_model.specs.Withdrawals.{Withdrawal, is_held_by_writer, resource_after_going, resource_after_withdrawals}
+use Rattle.vlm_model.specs.Withdrawals.{resource_after_writer, state_after_withdrawals, value_block_after_gift}
+use Rattle.vlm_model.specs.Withdrawals.{value_block_after_writer}
 use Rattle.vlm_model.specs.Rundown.{processes_but, rundowns, state_after_rundown}
 use Rattle.vlm_model.specs.Runs.{History, Run}
 use Rattle.vlm_model.specs.TailMarks.{TailsAreValidWithTheirValues}
@@ -88,17 +92,21 @@ conversion_right : (s : State) (c : Conversion) (a : ConversionAdmission) → co
     → AllByRecursion HasRight (convert_change s c a).resources
 unfolding convert_change convert_blocks convert_admission resource_after_conversion
 conversion_right s c a admitted right =
-    each_map HasRight HasRight (resource_after_conversion a.request a.at_once c.pid (convert_lkid s c) (convert_blocks s c a).value_block) at_each s.resources right
+    each_map HasRight HasRight
+    (resource_after_conversion a.request a.at_once c.pid (convert_lkid s c)
+    (convert_blocks s c a).value_block) at_each s.resources right
   where
     written : IsRight (convert_blocks s c a).value_block
     written =
         ends_right (conversion_endings a) (blocks_with a.resource.value_block _)
         (each_there HasRight s.resources a.resource right (admitted_there (convert_request s c) c.pid (convert_lkid s c) a s.resources admitted).1)
 
-    at_each : (r : Resource) → HasRight r → HasRight (resource_after_conversion a.request a.at_once c.pid (convert_lkid s c) (convert_blocks s c a).value_block r)
+    at_each : (r : Resource) → HasRight r
+        → HasRight (resource_after_conversion a.request a.at_once c.pid (convert_lkid s c)
+        (convert_blocks s c a).value_block r)
     at_each r has = of_found (find (is_lock_of c.pid (convert_lkid s c)) r.granted) a.at_once
       where
-        of_found : (found : Option LockRow) (now : Bool)
+        of_found : (found : Option LockState) (now : Bool)
             → HasRight (resource_after_conversion_of a.request now (convert_lkid s c) (convert_blocks s c a).value_block r found)
         of_found None now = has
         of_found (Some row) true = written
@@ -107,7 +115,9 @@ conversion_right s c a admitted right =
 -- what a lock leaves
 left_right : (w : Withdrawal) (r : Resource) → HasRight r → HasRight (resource_after_writer w r)
 left_right w r has =
-    cond_both (is_held_by_writer w.lkid r) (record r { value_block = value_block_after_writer w r.value_block }) r HasRight (λ _. of_mark w.invalidates) (λ _. has)
+    cond_both (is_held_by_writer w.lkid r)
+    (record r { value_block = value_block_after_writer w r.value_block }) r HasRight (λ _. of_mark w.invalidates)
+    (λ _. has)
   where
     given : (value tail : Option (List ℕ)) → IsRight (value_block_after_gift value tail r.value_block)
     given None tail = has

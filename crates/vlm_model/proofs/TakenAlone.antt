@@ -1,12 +1,13 @@
 -- A dequeue of one lock takes it and aborts its request. A cancel, or a search that ends a request, leaves a converting
 -- lock granted as it held.
-use Rattle.std.proofs.Common.{◌≡◌, ◌⊎◌, ℕ, Bool, true, false, not, List, [], ◌∷◌, ◌++◌, map, flat_map, cond, Option, None, Some, inl, inr, refl, sym, ap, subst, ◌∙◌}
+use Rattle.std.proofs.Common.{◌≡◌, ◌⊎◌, ℕ, Bool, true, false, not, List, [], ◌∷◌, ◌++◌, map, flat_map, cond, Option}
+use Rattle.std.proofs.Common.{None, Some, inl, inr, refl, sym, ap, subst, ◌∙◌}
 use Rattle.std.specs.Prelude.{◌==◌, All, Any}
 use Rattle.std.specs.List.{AllByRecursion, AllZip}
 use Rattle.std.proofs.lemmas.Bool.{eqb-true, eqb-false}
 use Rattle.std.proofs.lemmas.List.Elements.{All-from_recursion}
 use Rattle.vlm_words.specs.declared.locks.Request.{Request}
-use Rattle.vlm_words.specs.declared.locks.LockRow.{LockRow}
+use Rattle.vlm_words.specs.declared.locks.LockState.{LockState}
 use Rattle.vlm_words.specs.declared.steps.Dequeue.{Dequeue}
 use Rattle.vlm_words.specs.Flags.{cancel, deqall, has_flag}
 use Rattle.vlm_words.specs.Rows.{rows_of, rows_without}
@@ -15,18 +16,23 @@ use Rattle.vlm_model.specs.Dequeue.{conversion_ending, deq_change, dequeue_lkid,
 use Rattle.vlm_model.specs.Endings.{Ending, How, row_endings, wanted_endings}
 use Rattle.vlm_model.specs.Endings.How.{by_abort, by_deadlock}
 use Rattle.vlm_model.specs.Search.{deadlock_of, search_change}
-use Rattle.vlm_model.specs.Withdrawals.{Withdrawal, is_held_by_writer, queue_endings, resource_after_cancel, resource_after_going, resource_after_withdrawals, resource_after_writer, resource_without, row_after_cancel, value_block_after_writer, withdrawal_endings, withdrawn_endings}
+use Rattle.vlm_model.specs.Withdrawals.{Withdrawal, is_held_by_writer, queue_endings, resource_after_cancel}
+use Rattle.vlm_model.specs.Withdrawals.{resource_after_going, resource_after_withdrawals, resource_after_writer}
+use Rattle.vlm_model.specs.Withdrawals.{resource_without, row_after_cancel, value_block_after_writer}
+use Rattle.vlm_model.specs.Withdrawals.{withdrawal_endings, withdrawn_endings}
 use Rattle.vlm_model.proofs.Each.{Any-here, Any-there, each_append, each_weaker}
 use Rattle.vlm_model.proofs.Keys.{withdrawals_keep_place}
-use Rattle.vlm_model.proofs.Leaving.{AllGo, RowsLeft, rows_left_behind}
+use Rattle.vlm_model.proofs.EndedLocks.{AllGo, RowsLeft, rows_left_behind}
 use Rattle.vlm_model.proofs.TakenBelow.{taken_lkids}
 use Rattle.vlm_model.proofs.Withdrawing.{each_end}
-use Rattle.vlm_model.specs.TakenAlone.{CancelsItsRequest, EndsItsVictim, GivesAsHeld, IsCancelled, LosesLock, LosesThisLock, LosesThisRequest, TakesItsLock, empty_gives, empty_stays, lock_goes, lock_is_given, other_is_not, other_stays}
+use Rattle.vlm_model.specs.TakenAlone.{CancelsItsRequest, EndsItsVictim, GivesAsHeld, IsCancelled, LosesLock}
+use Rattle.vlm_model.specs.TakenAlone.{LosesThisLock, LosesThisRequest, TakesItsLock, empty_gives, empty_stays}
+use Rattle.vlm_model.specs.TakenAlone.{lock_goes, lock_is_given, other_is_not, other_stays}
 
 -- ---- the rows of a queue
 
 -- the rows except this lock's
-loses : (lkid : ℕ) (rows : List LockRow) → LosesLock lkid rows (rows_without lkid rows)
+loses : (lkid : ℕ) (rows : List LockState) → LosesLock lkid rows (rows_without lkid rows)
 loses lkid [] = empty_stays
 loses lkid (row ∷ rows) = of_test (row.lkid == lkid) refl (loses lkid rows)
   where
@@ -36,7 +42,7 @@ loses lkid (row ∷ rows) = of_test (row.lkid == lkid) refl (loses lkid rows)
     of_test false is behind = other_stays (eqb-false row.lkid lkid is) behind
 
 -- the rows of this lock, wanting nothing
-gives : (lkid : ℕ) (rows : List LockRow) → GivesAsHeld lkid rows (map row_after_cancel (rows_of lkid rows))
+gives : (lkid : ℕ) (rows : List LockState) → GivesAsHeld lkid rows (map row_after_cancel (rows_of lkid rows))
 gives lkid [] = empty_gives
 gives lkid (row ∷ rows) = of_test (row.lkid == lkid) refl (gives lkid rows)
   where
@@ -81,8 +87,8 @@ request_leaves w stays r =
           same = withdrawals_keep_place (w ∷ []) r;
           as_held = gives w.lkid r.converting;
           granted = ap (λ (x : Resource). x.granted) after
-              ∙ ap (λ (rows : List LockRow). rows ++ map row_after_cancel (rows_of w.lkid written.converting)) granted
-              ∙ ap (λ (rows : List LockRow). r.granted ++ map row_after_cancel (rows_of w.lkid rows)) converting;
+              ∙ ap (λ (rows : List LockState). rows ++ map row_after_cancel (rows_of w.lkid written.converting)) granted
+              ∙ ap (λ (rows : List LockState). r.granted ++ map row_after_cancel (rows_of w.lkid rows)) converting;
           converting = subst (LosesLock w.lkid r.converting)
               (sym (ap (λ (x : Resource). x.converting) after ∙ ap (rows_without w.lkid) converting)) (loses w.lkid r.converting);
           waiting = subst (LosesLock w.lkid r.waiting)
@@ -108,12 +114,12 @@ all_requests_leave w stays (r ∷ rest) = (request_leaves w stays r, all_request
 abbrev EndsOf : ℕ → How → Type 0 → Ending → Type 0
 EndsOf lkid how Where ending = (ending.lkid ≡ lkid) × (ending.how ≡ how) × Where
 
-queue_ends : (how : How) (lkid : ℕ) (rows : List LockRow)
+queue_ends : (how : How) (lkid : ℕ) (rows : List LockState)
     → AllByRecursion (EndsOf lkid how (Any (λ row. row.lkid ≡ lkid) rows)) (queue_endings how lkid rows)
 queue_ends how lkid [] = tt
 queue_ends how lkid (row ∷ rows) = of_test (row.lkid == lkid) refl (queue_ends how lkid rows)
   where
-    Here : List LockRow → Type 0
+    Here : List LockState → Type 0
     Here = Any (λ x. x.lkid ≡ lkid)
 
     of_want : row.lkid ≡ lkid → Here (row ∷ rows) → (want : Option Request)
@@ -164,7 +170,7 @@ resources_end w (r ∷ rest) =
     ])
     (flat_map (withdrawal_endings w) rest) (resources_end w rest))
   where
-    On : List LockRow → Type 0
+    On : List LockState → Type 0
     On = Any (λ row. row.lkid ≡ w.lkid)
 
 -- what holds of each such ending holds of all endings of the withdrawal
@@ -193,7 +199,7 @@ withdrawal_if d lkid cancels = record {
 abbrev lkids_if : State → Dequeue → Bool → List ℕ
 lkids_if s d all = cond all (taken_lkids s d) (dequeue_lkid s d ∷ [])
 
-pub takes_its_lock : (s : State) (d : Dequeue) (choice : Option LockRow) → has_flag d.flags deqall ≡ false → has_flag d.flags cancel ≡ false
+pub takes_its_lock : (s : State) (d : Dequeue) (choice : Option LockState) → has_flag d.flags deqall ≡ false → has_flag d.flags cancel ≡ false
     → TakesItsLock s d choice
 unfolding deq_change
 takes_its_lock s d choice single plain =
@@ -211,7 +217,7 @@ takes_its_lock s d choice single plain =
           ]));
     }
 
-pub cancels_its_request : (s : State) (d : Dequeue) (choice : Option LockRow) → has_flag d.flags deqall ≡ false → has_flag d.flags cancel ≡ true
+pub cancels_its_request : (s : State) (d : Dequeue) (choice : Option LockState) → has_flag d.flags deqall ≡ false → has_flag d.flags cancel ≡ true
     → CancelsItsRequest s d choice
 unfolding deq_change
 cancels_its_request s d choice single cancels =
@@ -229,7 +235,7 @@ cancels_its_request s d choice single cancels =
           ]));
     }
 
-pub ends_its_victim : (s : State) (node : ℕ) (victim : LockRow) → EndsItsVictim s node victim.lkid (Some victim)
+pub ends_its_victim : (s : State) (node : ℕ) (victim : LockState) → EndsItsVictim s node victim.lkid (Some victim)
 unfolding search_change
 ends_its_victim s node victim =
     record {

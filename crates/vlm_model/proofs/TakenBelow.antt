@@ -1,5 +1,6 @@
 -- A dequeue with DEQALL takes the locks below the one that it names, or all of its caller, and no other.
-use Rattle.std.proofs.Common.{◌≡◌, ◌≢◌, ◌≤◌, ◌+◌, ℕ, Bool, zero, suc, true, false, not, ◌&&◌, ◌||◌, List, [], ◌∷◌, ◌++◌, map, filter, cond, Option, None, Some, inl, inr, refl, sym, ap, subst, ◌∙◌, arith}
+use Rattle.std.proofs.Common.{◌≡◌, ◌≢◌, ◌≤◌, ◌+◌, ℕ, Bool, zero, suc, true, false, not, ◌&&◌, ◌||◌, List, [], ◌∷◌, ◌++◌}
+use Rattle.std.proofs.Common.{map, filter, cond, Option, None, Some, inl, inr, refl, sym, ap, subst, ◌∙◌, arith}
 use Rattle.std.specs.Prelude.{◌==◌, Any, nat_lt}
 use Rattle.std.specs.List.{AllByRecursion, AllZip, list_any, sum_by}
 use Rattle.std.proofs.lemmas.Bool.{and_parts, eq-eqb, eqb-true, or_cases, or_right}
@@ -8,14 +9,15 @@ use Rattle.std.proofs.lemmas.List.Folds.{Any-from_list_any}
 use Rattle.std.proofs.lemmas.List.Sums.{sum_by-append, sum_by-cons}
 use Rattle.vlm_words.specs.declared.conditions.Cond.TheVariants.{Ivlockid, Normal}
 use Rattle.vlm_words.specs.declared.conditions.Cond.{Cond}
-use Rattle.vlm_words.specs.declared.locks.LockRow.{LockRow}
+use Rattle.vlm_words.specs.declared.locks.LockState.{LockState}
 use Rattle.vlm_words.specs.declared.steps.Answer.TheVariants.{Plain}
 use Rattle.vlm_words.specs.declared.steps.Dequeue.{Dequeue}
 use Rattle.vlm_words.specs.declared.steps.Step.TheVariants.{Deq}
 use Rattle.vlm_words.specs.Flags.{deqall, has_flag}
 use Rattle.vlm_words.specs.State.{Resource, State}
 use Rattle.vlm_model.specs.Checks.{caller_refusal, holds_lock, lock_refusal, or_else, which_refusal}
-use Rattle.vlm_model.specs.Dequeue.{cancel_refusal, deq_change, deq_flags_refusal, deq_refusal, dequeue_lkid, dequeued_lock_refusal, is_dequeued, leaves_none, sublocks_refusal, withdrawal_of}
+use Rattle.vlm_model.specs.Dequeue.{cancel_refusal, deq_change, deq_flags_refusal, deq_refusal, dequeue_lkid}
+use Rattle.vlm_model.specs.Dequeue.{dequeued_lock_refusal, is_dequeued, leaves_none, sublocks_refusal, withdrawal_of}
 use Rattle.vlm_model.specs.OwnLocks.{is_below, own_lkids, parent_of}
 use Rattle.vlm_words.specs.Resources.{is_domain}
 use Rattle.vlm_words.specs.Rows.{rows_without}
@@ -23,26 +25,28 @@ use Rattle.vlm_model.specs.Runs.{History, Run}
 use Rattle.vlm_model.specs.Stepped.{refused_or, step_change, stepped}
 use Rattle.vlm_model.specs.Withdrawals.{Withdrawal, resource_after_withdrawals}
 use Rattle.vlm_model.proofs.Trees.{all_dequeued_go, Tree, tree_always}
-use Rattle.vlm_model.proofs.Apart.{Apart, apart_always}
-use Rattle.vlm_model.proofs.Below.{HasRoot, IsRowIn, StandsAtMost, at_root, below_up, nothing_is_above_0, parent_is, parent_of_0, root_of, rows_on, rows_rooted, stands_so, up_at_most}
-use Rattle.vlm_model.proofs.Closed.{as_listed, converting_on, found_on, granted_on, is_in, of_listed, or_below, own_are_closed, waiting_on, was_listed}
+use Rattle.vlm_model.proofs.IdsApart.{Apart, apart_always}
+use Rattle.vlm_model.proofs.LocksBelow.{HasRoot, IsRowIn, StandsAtMost, at_root, below_up, nothing_is_above_0}
+use Rattle.vlm_model.proofs.LocksBelow.{parent_is, parent_of_0, root_of, rows_on, rows_rooted, stands_so, up_at_most}
+use Rattle.vlm_model.proofs.GivenUpTrees.{as_listed, converting_on, found_on, granted_on, is_in, of_listed, or_below, own_are_closed, waiting_on, was_listed}
 use Rattle.vlm_model.proofs.Each.{Any-cases, Any-none, Any-weaker, each_member, each_weaker}
 use Rattle.vlm_model.proofs.Holdings.{held_by}
 use Rattle.vlm_model.proofs.Keys.{withdrawals_keep_place}
-use Rattle.vlm_model.proofs.Leaving.{AllGo, RowsLeft, in_filter, is_listed, row_listed, rows_left, rows_left_behind}
-use Rattle.vlm_model.proofs.LeftValues.{any_and_each, any_so, any_with_member}
-use Rattle.vlm_model.proofs.Passed.{both_pass, flags_go_together, test_passes}
+use Rattle.vlm_model.proofs.EndedLocks.{AllGo, RowsLeft, in_filter, is_listed, row_listed, rows_left, rows_left_behind}
+use Rattle.vlm_model.proofs.ReleasedValues.{any_and_each, any_so, any_with_member}
+use Rattle.vlm_model.proofs.PassedChecks.{both_pass, flags_go_together, test_passes}
 use Rattle.vlm_model.proofs.Reasons.{dequeue_breaks}
 use Rattle.vlm_model.proofs.Rooted.{AllRooted, is_parent, is_rooted, is_up, position}
 use Rattle.vlm_model.proofs.Weights.{weigh}
 use Rattle.vlm_model.proofs.WhoseLocks.{NoStrangers, each_passing, own_are_theirs, strangers}
-use Rattle.vlm_model.specs.TakenBelow.{HasParent, IsDescendant, IsDequeued, LosesLocks, LosesRows, TakesThoseBelowAlone, has_parent_below, is_sublock, none_left, row_goes, row_stays}
+use Rattle.vlm_model.specs.TakenBelow.{HasParent, IsDescendant, IsDequeued, LosesLocks, LosesRows, TakesThoseBelowAlone}
+use Rattle.vlm_model.specs.TakenBelow.{has_parent_below, is_sublock, none_left, row_goes, row_stays}
 
 -- ---- the chain of parents, and the walk along it
 
 -- the row of a lock, where the lock stands
 row_at : (s : State) (lkid parent : ℕ) (C : Type 0)
-    → ((row : LockRow) (r : Resource) → IsRowIn (rows_on r) row → Any (λ x. r ≡ x) s.resources → row.lkid ≡ lkid → row.parent ≡ parent → C)
+    → ((row : LockState) (r : Resource) → IsRowIn (rows_on r) row → Any (λ x. r ≡ x) s.resources → row.lkid ≡ lkid → row.parent ≡ parent → C)
     → HasParent s lkid parent → C
 row_at s lkid parent C so has =
     any_so C s.resources
@@ -55,13 +59,13 @@ row_at s lkid parent C so has =
     (any_with_member (λ r. Any (λ row. (row.lkid ≡ lkid) × (row.parent ≡ parent)) (rows_on r)) s.resources has))
 
 -- a row tells of its lock and its parent
-row_tells : (s : State) (row : LockRow) (r : Resource) → IsRowIn (rows_on r) row → Any (λ x. r ≡ x) s.resources → (lkid parent : ℕ)
+row_tells : (s : State) (row : LockState) (r : Resource) → IsRowIn (rows_on r) row → Any (λ x. r ≡ x) s.resources → (lkid parent : ℕ)
     → row.lkid ≡ lkid → row.parent ≡ parent → HasParent s lkid parent
 row_tells s row r there among lkid parent named above =
     Any-weaker (λ x. r ≡ x) (λ x. Any (λ y. (y.lkid ≡ lkid) × (y.parent ≡ parent)) (rows_on x))
     (λ x same. subst (λ (q : Resource). Any (λ y. (y.lkid ≡ lkid) × (y.parent ≡ parent)) (rows_on q)) same
     (Any-weaker (λ y. row ≡ y) (λ y. (y.lkid ≡ lkid) × (y.parent ≡ parent))
-    (λ y is. (ap (λ (z : LockRow). z.lkid) (sym is) ∙ named, ap (λ (z : LockRow). z.parent) (sym is) ∙ above)) (rows_on r) there))
+    (λ y is. (ap (λ (z : LockState). z.lkid) (sym is) ∙ named, ap (λ (z : LockState). z.parent) (sym is) ∙ above)) (rows_on r) there))
     s.resources among
 
 -- the parent that a lock has is the one that is found
@@ -90,9 +94,10 @@ module _ (s : State) (apart : Apart s) (tree : Tree s) where
       (chain_of_walk top some levels level row.parent))
       standing
     where
-      of_row : (row : LockRow) (r : Resource) → r.level ≤ level → IsRowIn (rows_on r) row → Any (λ x. r ≡ x) s.resources → row.lkid ≡ lkid
+      of_row : (row : LockState) (r : Resource) → r.level ≤ level → IsRowIn (rows_on r) row → Any (λ x. r ≡ x) s.resources → row.lkid ≡ lkid
           → parent_of lkid s.resources ≡ row.parent → HasRoot s.resources r row
-          → (StandsAtMost s.resources level row.parent → is_below levels top s.resources row.parent ≡ true → IsDescendant s top row.parent) → IsDescendant s top lkid
+          → (StandsAtMost s.resources level row.parent → is_below levels top s.resources row.parent ≡ true
+          → IsDescendant s top row.parent) → IsDescendant s top lkid
       of_row row r low there among named is root higher =
           elim (or_cases (parent_of lkid s.resources == top) (is_below levels top s.resources (parent_of lkid s.resources)) below) [
             | inl here ↦ is_sublock (row_tells s row r there among lkid top named (sym is ∙ eqb-true (parent_of lkid s.resources) top here))
@@ -117,7 +122,7 @@ module _ (s : State) (apart : Apart s) (tree : Tree s) where
       of_root row r low (sym (parent_is s apart row r there among) ∙ ap (λ (n : ℕ). parent_of n s.resources) named ∙ parent_told s apart lkid parent has) root)
       standing
     where
-      of_root : (row : LockRow) (r : Resource) → r.level ≤ suc level → row.parent ≡ parent → HasRoot s.resources r row → StandsAtMost s.resources level parent
+      of_root : (row : LockState) (r : Resource) → r.level ≤ suc level → row.parent ≡ parent → HasRoot s.resources r row → StandsAtMost s.resources level parent
       of_root row r low is (at_root none) = absurd (some (sym is ∙ none))
       of_root row r low is (below_up up) = subst (λ (n : ℕ). StandsAtMost s.resources level n) is (up_at_most s.resources r row level low up)
 
@@ -129,7 +134,7 @@ module _ (s : State) (apart : Apart s) (tree : Tree s) where
       of_root row r low (sym (parent_is s apart row r there among) ∙ ap (λ (n : ℕ). parent_of n s.resources) named ∙ parent_told s apart lkid parent has) root)
       standing
     where
-      of_root : (row : LockRow) (r : Resource) → r.level ≤ 0 → row.parent ≡ parent → HasRoot s.resources r row → ⊥
+      of_root : (row : LockState) (r : Resource) → r.level ≤ 0 → row.parent ≡ parent → HasRoot s.resources r row → ⊥
       of_root row r low is (at_root none) = some (sym is ∙ none)
       of_root row r low is (below_up up) =
           any_so ⊥ s.resources
@@ -166,11 +171,11 @@ one_weighs f x (y ∷ xs) there = elim (Any-cases (λ z. x ≡ z) y xs there) [
 ]
 
 -- a row of a lock of which no row is a stranger's is of one of the processes
-is_theirs : (is_one : ℕ → Bool) (s : State) (row : LockRow) (r : Resource) → IsRowIn (rows_on r) row → Any (λ x. r ≡ x) s.resources
+is_theirs : (is_one : ℕ → Bool) (s : State) (row : LockState) (r : Resource) → IsRowIn (rows_on r) row → Any (λ x. r ≡ x) s.resources
     → NoStrangers is_one s.resources row.lkid → is_one row.pid ≡ true
 is_theirs is_one s row r there among none = of_test (is_one row.pid) refl
   where
-    f : LockRow → ℕ
+    f : LockState → ℕ
     f = strangers is_one row.lkid
 
     of_test : (b : Bool) → is_one row.pid ≡ b → b ≡ true
@@ -218,25 +223,25 @@ named_is_own s d apart passed some =
 
 module _ (s : State) (d : Dequeue) (apart : Apart s) (tree : Tree s) (passed : deq_refusal s d ≡ None) where
   -- where the lock of a row stands
-  low_at : (row : LockRow) (r : Resource) → IsRowIn (rows_on r) row → Any (λ x. r ≡ x) s.resources → StandsAtMost s.resources 15 row.lkid
+  low_at : (row : LockState) (r : Resource) → IsRowIn (rows_on r) row → Any (λ x. r ≡ x) s.resources → StandsAtMost s.resources 15 row.lkid
   low_at row r there among =
       Any-weaker (λ x. (r ≡ x) × (x.level ≤ 15)) (λ x. (x.level ≤ 15) × Any (λ y. y.lkid ≡ row.lkid) (rows_on x))
       (λ x on. (
         on.1,
         subst (λ (q : Resource). Any (λ y. y.lkid ≡ row.lkid) (rows_on q)) on.0
-            (Any-weaker (λ y. row ≡ y) (λ y. y.lkid ≡ row.lkid) (λ y same. ap (λ (z : LockRow). z.lkid) (sym same)) (rows_on r) there),
+            (Any-weaker (λ y. row ≡ y) (λ y. y.lkid ≡ row.lkid) (λ y same. ap (λ (z : LockState). z.lkid) (sym same)) (rows_on r) there),
       ))
       s.resources (any_and_each (λ x. r ≡ x) (λ x. x.level ≤ 15) s.resources tree.low among)
 
   -- the resource has its level and its rows their parents
-  root_at : (row : LockRow) (r : Resource) → IsRowIn (rows_on r) row → Any (λ x. r ≡ x) s.resources → HasRoot s.resources r row × (r.level ≤ 15)
+  root_at : (row : LockState) (r : Resource) → IsRowIn (rows_on r) row → Any (λ x. r ≡ x) s.resources → HasRoot s.resources r row × (r.level ≤ 15)
   root_at row r there among =
       any_so (HasRoot s.resources r row × (r.level ≤ 15)) s.resources
       (Any-weaker (λ x. ((r ≡ x) × (x.level ≤ 15)) × AllRooted s.resources x) (λ x. HasRoot s.resources r row × (r.level ≤ 15))
       (λ x on. (
         any_so (HasRoot s.resources r row) (rows_on r)
             (Any-weaker (λ y. (row ≡ y) × (is_rooted s.resources (position r) y ≡ true)) (λ y. HasRoot s.resources r row)
-            (λ y so. root_of s.resources r row (subst (λ (z : LockRow). is_rooted s.resources (position r) z ≡ true) (sym so.0) so.1)) (rows_on r)
+            (λ y so. root_of s.resources r row (subst (λ (z : LockState). is_rooted s.resources (position r) z ≡ true) (sym so.0) so.1)) (rows_on r)
             (any_and_each (λ y. row ≡ y) (λ y. is_rooted s.resources (position r) y ≡ true) (rows_on r)
             (rows_rooted s.resources r (subst (AllRooted s.resources) (sym on.0.0) on.1)) there)),
         subst (λ (q : Resource). q.level ≤ 15) (sym on.0.0) on.0.1,
@@ -264,7 +269,7 @@ module _ (s : State) (d : Dequeue) (apart : Apart s) (tree : Tree s) (passed : d
   below_is_own top own lkid (has_parent_below {parent} has above) = with_parent lkid parent has (below_is_own top own parent above)
 
   -- a row of an own lock is the caller's
-  own_is_callers : (row : LockRow) (r : Resource) → IsRowIn (rows_on r) row → Any (λ x. r ≡ x) s.resources
+  own_is_callers : (row : LockState) (r : Resource) → IsRowIn (rows_on r) row → Any (λ x. r ≡ x) s.resources
       → is_in row.lkid (own_lkids (is_caller d) s) ≡ true → row.pid ≡ d.pid
   own_is_callers row r there among own =
       eqb-true row.pid d.pid
@@ -272,7 +277,7 @@ module _ (s : State) (d : Dequeue) (apart : Apart s) (tree : Tree s) (passed : d
       (of_listed (NoStrangers (is_caller d) s.resources) row.lkid (own_lkids (is_caller d) s) (own_are_theirs (is_caller d) s apart) own))
 
   -- a lock that is listed is taken, and the caller's
-  listed_is_taken : (row : LockRow) (r : Resource) → IsRowIn (rows_on r) row → Any (λ x. r ≡ x) s.resources
+  listed_is_taken : (row : LockState) (r : Resource) → IsRowIn (rows_on r) row → Any (λ x. r ≡ x) s.resources
       → is_in row.lkid (taken_lkids s d) ≡ true → IsDequeued s d row × (row.pid ≡ d.pid)
   listed_is_taken row r there among listed = (of_top (dequeue_lkid s d) refl takes, callers)
     where
@@ -294,7 +299,7 @@ module _ (s : State) (d : Dequeue) (apart : Apart s) (tree : Tree s) (passed : d
           )
 
   -- and one that is taken is listed
-  taken_is_listed : (row : LockRow) (r : Resource) → IsRowIn (rows_on r) row → Any (λ x. r ≡ x) s.resources
+  taken_is_listed : (row : LockState) (r : Resource) → IsRowIn (rows_on r) row → Any (λ x. r ≡ x) s.resources
       → IsDequeued s d row → is_in row.lkid (taken_lkids s d) ≡ true
   taken_is_listed row r there among (inl all) =
       in_filter (is_dequeued s d) row.lkid takes (own_lkids (is_caller d) s)
@@ -315,7 +320,7 @@ module _ (s : State) (d : Dequeue) (apart : Apart s) (tree : Tree s) (passed : d
 -- ---- the rows that are left
 
 -- the lock is among those that are withdrawn
-abbrev is_withdrawn : List Withdrawal → LockRow → Bool
+abbrev is_withdrawn : List Withdrawal → LockState → Bool
 is_withdrawn withdrawals row = list_any (λ w. row.lkid == w.lkid) withdrawals
 
 none_of_none : (withdrawals : List Withdrawal) → rows_left withdrawals [] ≡ []
@@ -323,7 +328,7 @@ none_of_none [] = refl
 none_of_none (w ∷ withdrawals) = none_of_none withdrawals
 
 -- a row whose lock is withdrawn is not left
-one_goes : (withdrawals : List Withdrawal) (row : LockRow) (rows : List LockRow) → is_withdrawn withdrawals row ≡ true
+one_goes : (withdrawals : List Withdrawal) (row : LockState) (rows : List LockState) → is_withdrawn withdrawals row ≡ true
     → rows_left withdrawals (row ∷ rows) ≡ rows_left withdrawals rows
 one_goes [] row rows is = let no : false ≡ true = is in cc
 one_goes (w ∷ withdrawals) row rows is =
@@ -336,40 +341,45 @@ one_goes (w ∷ withdrawals) row rows is =
     of_test false here later = later here
 
 -- and any other is, where it stood
-one_stays : (withdrawals : List Withdrawal) (row : LockRow) (rows : List LockRow) → is_withdrawn withdrawals row ≡ false
+one_stays : (withdrawals : List Withdrawal) (row : LockState) (rows : List LockState) → is_withdrawn withdrawals row ≡ false
     → rows_left withdrawals (row ∷ rows) ≡ row ∷ rows_left withdrawals rows
 one_stays [] row rows is = refl
 one_stays (w ∷ withdrawals) row rows is =
     of_test (row.lkid == w.lkid) is (one_stays withdrawals row (rows_without w.lkid rows))
   where
     of_test : (b : Bool) → (b || is_withdrawn withdrawals row) ≡ false
-        → (is_withdrawn withdrawals row ≡ false → rows_left withdrawals (row ∷ rows_without w.lkid rows) ≡ row ∷ rows_left withdrawals (rows_without w.lkid rows))
-        → rows_left withdrawals (cond (not b) (row ∷ rows_without w.lkid rows) (rows_without w.lkid rows)) ≡ row ∷ rows_left withdrawals (rows_without w.lkid rows)
+        → (is_withdrawn withdrawals row ≡ false
+        → rows_left withdrawals (row ∷ rows_without w.lkid rows) ≡ row ∷ rows_left withdrawals
+        (rows_without w.lkid rows))
+        → rows_left withdrawals
+        (cond (not b) (row ∷ rows_without w.lkid rows) (rows_without w.lkid rows)) ≡ row ∷ rows_left withdrawals
+        (rows_without w.lkid rows)
     of_test true none later = cc
     of_test false none later = later none
 
 -- a withdrawn lock is taken, and the caller's, and one that is taken is withdrawn
-abbrev IsTakenRightly : State → Dequeue → List Withdrawal → LockRow → Type 0
+abbrev IsTakenRightly : State → Dequeue → List Withdrawal → LockState → Type 0
 IsTakenRightly s d withdrawals row =
     (is_withdrawn withdrawals row ≡ true → IsDequeued s d row × (row.pid ≡ d.pid)) × (IsDequeued s d row → is_withdrawn withdrawals row ≡ true)
 
-queue_loses : (s : State) (d : Dequeue) (withdrawals : List Withdrawal) (rows : List LockRow) → AllByRecursion (IsTakenRightly s d withdrawals) rows
+queue_loses : (s : State) (d : Dequeue) (withdrawals : List Withdrawal) (rows : List LockState) → AllByRecursion (IsTakenRightly s d withdrawals) rows
     → LosesRows d.pid (IsDequeued s d) rows (rows_left withdrawals rows)
-queue_loses s d withdrawals [] each = subst (λ (left : List LockRow). LosesRows d.pid (IsDequeued s d) [] left) (sym (none_of_none withdrawals)) none_left
+queue_loses s d withdrawals [] each = subst (λ (left : List LockState). LosesRows d.pid (IsDequeued s d) [] left) (sym (none_of_none withdrawals)) none_left
 queue_loses s d withdrawals (row ∷ rows) each = of_test (is_withdrawn withdrawals row) refl (queue_loses s d withdrawals rows each.1)
   where
     of_test : (b : Bool) → is_withdrawn withdrawals row ≡ b → LosesRows d.pid (IsDequeued s d) rows (rows_left withdrawals rows)
         → LosesRows d.pid (IsDequeued s d) (row ∷ rows) (rows_left withdrawals (row ∷ rows))
     of_test true is behind =
         let taken = each.0.0 is in
-        subst (λ (left : List LockRow). LosesRows d.pid (IsDequeued s d) (row ∷ rows) left) (sym (one_goes withdrawals row rows is)) (row_goes taken.0 taken.1 behind)
+        subst (λ (left : List LockState). LosesRows d.pid (IsDequeued s d) (row ∷ rows) left)
+        (sym (one_goes withdrawals row rows is)) (row_goes taken.0 taken.1 behind)
     of_test false is behind =
-        subst (λ (left : List LockRow). LosesRows d.pid (IsDequeued s d) (row ∷ rows) left) (sym (one_stays withdrawals row rows is))
+        subst (λ (left : List LockState). LosesRows d.pid (IsDequeued s d) (row ∷ rows) left) (sym (one_stays withdrawals row rows is))
         (row_stays (λ taken. let no : false ≡ true = sym is ∙ each.0.1 taken in cc) behind)
 
 module _ (s : State) (d : Dequeue) (apart : Apart s) (tree : Tree s) (passed : deq_refusal s d ≡ None) where
   -- of each row of the resource it is so
-  rows_rightly : (r : Resource) → Any (λ x. r ≡ x) s.resources → (rows : List LockRow) → AllByRecursion (IsRowIn (rows_on r)) rows
+  rows_rightly : (r : Resource) → Any (λ x. r ≡ x) s.resources → (rows : List LockState) → AllByRecursion (IsRowIn (rows_on r)) rows
       → AllByRecursion (IsTakenRightly s d (map (withdrawal_of d) (taken_lkids s d))) rows
   rows_rightly r among rows each =
       each_weaker (IsRowIn (rows_on r)) (IsTakenRightly s d (map (withdrawal_of d) (taken_lkids s d)))
@@ -388,11 +398,11 @@ module _ (s : State) (d : Dequeue) (apart : Apart s) (tree : Tree s) (passed : d
       let left : RowsLeft withdrawals r (resource_after_withdrawals withdrawals r) = rows_left_behind withdrawals go r in
       record {
         same = withdrawals_keep_place withdrawals r;
-        granted = subst (λ (rows : List LockRow). LosesRows d.pid (IsDequeued s d) r.granted rows) (sym left.granted)
+        granted = subst (λ (rows : List LockState). LosesRows d.pid (IsDequeued s d) r.granted rows) (sym left.granted)
             (queue_loses s d withdrawals r.granted (rows_rightly r among r.granted (granted_on r)));
-        converting = subst (λ (rows : List LockRow). LosesRows d.pid (IsDequeued s d) r.converting rows) (sym left.converting)
+        converting = subst (λ (rows : List LockState). LosesRows d.pid (IsDequeued s d) r.converting rows) (sym left.converting)
             (queue_loses s d withdrawals r.converting (rows_rightly r among r.converting (converting_on r)));
-        waiting = subst (λ (rows : List LockRow). LosesRows d.pid (IsDequeued s d) r.waiting rows) (sym left.waiting)
+        waiting = subst (λ (rows : List LockState). LosesRows d.pid (IsDequeued s d) r.waiting rows) (sym left.waiting)
             (queue_loses s d withdrawals r.waiting (rows_rightly r among r.waiting (waiting_on r)));
       }
 
@@ -401,7 +411,7 @@ module _ (s : State) (d : Dequeue) (apart : Apart s) (tree : Tree s) (passed : d
   each_loses go [] among = tt
   each_loses go (r ∷ rest) among = (resource_loses go r among.0, each_loses go rest among.1)
 
-  takes_those : has_flag d.flags deqall ≡ true → (choice : Option LockRow) → TakesThoseBelowAlone s d choice
+  takes_those : has_flag d.flags deqall ≡ true → (choice : Option LockState) → TakesThoseBelowAlone s d choice
   unfolding deq_change
   takes_those all choice =
       subst (λ (b : Bool). AllZip (LosesLocks d.pid (IsDequeued s d)) s.resources
@@ -414,7 +424,7 @@ module _ (s : State) (d : Dequeue) (apart : Apart s) (tree : Tree s) (passed : d
 none_is_normal : (s : State) (d : Dequeue) → deq_refusal s d ≡ Some Normal → ⊥
 none_is_normal s d is = dequeue_breaks s d Normal is
 
-pub normal_passes : (s : State) (d : Dequeue) (choice : Option LockRow) → (stepped s (Deq d) choice).answer ≡ Plain Normal → deq_refusal s d ≡ None
+pub normal_passes : (s : State) (d : Dequeue) (choice : Option LockState) → (stepped s (Deq d) choice).answer ≡ Plain Normal → deq_refusal s d ≡ None
 normal_passes s d choice answered = of_refusal (deq_refusal s d) refl answered
   where
     of_refusal : (refusal : Option Cond) → deq_refusal s d ≡ refusal
@@ -425,7 +435,7 @@ normal_passes s d choice answered = of_refusal (deq_refusal s d) refl answered
         absurd (none_is_normal s d (is ∙ ap (λ (c : Cond). Some c) normal))
 
 -- after every run a dequeue with DEQALL takes the locks that it is to take, and no other
-pub takes_always : (history : History) (old : State) → Run history old → (d : Dequeue) (choice : Option LockRow) → has_flag d.flags deqall ≡ true
+pub takes_always : (history : History) (old : State) → Run history old → (d : Dequeue) (choice : Option LockState) → has_flag d.flags deqall ≡ true
     → (stepped old (Deq d) choice).answer ≡ Plain Normal → TakesThoseBelowAlone old d choice
 takes_always history old run d choice all answered =
     takes_those old d (apart_always history old run) (tree_always history old run) (normal_passes old d choice answered) all choice

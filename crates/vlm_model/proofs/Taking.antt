@@ -6,7 +6,7 @@ use Rattle.std.specs.Option.{option_map_or}
 use Rattle.std.proofs.lemmas.Bool.{cond_both, eqb-true, eqb-false, eq-eqb, ne_eqb}
 use Rattle.vlm_words.specs.declared.asts.Ast.{Ast}
 use Rattle.vlm_words.specs.declared.conditions.Cond.{Cond}
-use Rattle.vlm_words.specs.declared.locks.LockRow.{LockRow}
+use Rattle.vlm_words.specs.declared.locks.LockState.{LockState}
 use Rattle.vlm_words.specs.declared.steps.Answer.TheVariants.{Plain}
 use Rattle.vlm_words.specs.declared.steps.Declaration.{Declaration}
 use Rattle.vlm_words.specs.declared.steps.Step.TheVariants.{Declare, SetValue, Enq, Convert, Deq, Rundown, Leave, Search, Take}
@@ -20,16 +20,18 @@ use Rattle.vlm_model.specs.SetValue.{set_change}
 use Rattle.vlm_model.specs.Take.{take_change, taken_ast}
 use Rattle.vlm_model.specs.Convert.{ConversionAdmission}
 use Rattle.vlm_model.specs.Runs.{History, Run}
-use Rattle.vlm_model.specs.Stepped.{IsChoice, Stepped, conversion_change, refused, refused_or, step_change, step_refusal, stepped, stepped_after_sweep, end_of_processes}
+use Rattle.vlm_model.specs.Stepped.{IsChoice, Stepped, conversion_change, refused, refused_or, step_change}
+use Rattle.vlm_model.specs.Stepped.{step_refusal, stepped, stepped_after_sweep, end_of_processes}
 use Rattle.vlm_model.specs.Taking.{AstsAfter, AstsAfterTake, AstsAreTakenInOrder, AstsLeft, IsTakenFrom, queued_to}
 use Rattle.vlm_model.proofs.Always.{admission_of}
 use Rattle.vlm_model.proofs.Processes.{kept_set}
-use Rattle.vlm_model.proofs.Queueing.{AreQueued, asts_are, both_queued, conversion_queues, none_queued, pending, request_queues, sweep_queues, withdrawn_queue}
-use Rattle.vlm_model.proofs.Written.{as_taken, found_first}
+use Rattle.vlm_model.proofs.AstQueueing.{AreQueued, asts_are, both_queued, conversion_queues, none_queued, pending}
+use Rattle.vlm_model.proofs.AstQueueing.{request_queues, sweep_queues, withdrawn_queue}
+use Rattle.vlm_model.proofs.WrittenBlocks.{as_taken, found_first}
 use Rattle.vlm_words.specs.declared.conditions.Cond.TheVariants.{Normal}
 use Rattle.vlm_model.specs.Rundown.{is_ended_by, nodes_after_departure, processes_but, state_after_rundown}
 use Rattle.vlm_words.specs.Steps.{is_of_node}
-use Rattle.vlm_model.proofs.Ended.{found_still, is_left, rundowns_tell_nobody, swept_living}
+use Rattle.vlm_model.proofs.ProcessEnds.{found_still, is_left, rundowns_tell_nobody, swept_living}
 use Rattle.vlm_model.specs.Search.{victim_withdrawals, search_change}
 use Rattle.vlm_model.specs.Dequeue.{deq_change, withdrawals_of}
 
@@ -70,7 +72,9 @@ taken_there taker pid (p ∷ rest) = of_tests (p.pid == taker) (taken_there take
     of_test q false behind = behind
 
     of_tests : (mine : Bool) → is_some (process_of (processes_after_take taker rest) pid) ≡ is_some (process_of rest pid)
-        → is_some (cond ((as_taken p mine).pid == pid) (Some (as_taken p mine)) (process_of (processes_after_take taker rest) pid)) ≡ is_some (cond (p.pid == pid) (Some p) (process_of rest pid))
+        → is_some (cond ((as_taken p mine).pid == pid) (Some (as_taken p mine))
+        (process_of (processes_after_take taker rest) pid)) ≡ is_some
+        (cond (p.pid == pid) (Some p) (process_of rest pid))
     of_tests true behind = of_test (as_taken p true) (p.pid == pid) behind
     of_tests false behind = of_test p (p.pid == pid) behind
 
@@ -96,8 +100,10 @@ is_there processes pid p is = ap (λ (o : Option Process). is_some o) is
 leaves : (s : State) (step : Step) (change : Stepped) → ((pid : ℕ) (asts : List Ast) → AstsLeft step change.answer pid asts asts)
     → AreQueued change.queued s.processes change.state.processes → Takes s step (stepped_after_sweep change)
 leaves s step change left queued pid before is living =
-    let all : AreQueued (change.queued ++ sweep_asts change.state.resources) s.processes (processes_after_service change.state.processes change.state.resources) =
-    both_queued change.queued (sweep_asts change.state.resources) s.processes change.state.processes (processes_after_service change.state.processes change.state.resources)
+    let all : AreQueued (change.queued ++ sweep_asts change.state.resources) s.processes
+    (processes_after_service change.state.processes change.state.resources) =
+    both_queued change.queued (sweep_asts change.state.resources) s.processes change.state.processes
+    (processes_after_service change.state.processes change.state.resources)
     queued (sweep_queues change.state.processes change.state.resources) in
     record {
       left = before.asts;
@@ -132,7 +138,7 @@ declaring_leaves s d = record {
         is_there (s.processes ++ declared_process s d ∷ []) pid p (found_first s.processes (declared_process s d) pid p found)
 
 -- a take
-taking : (s : State) (taker : ℕ) (choice : Option LockRow) → Takes s (Take taker) (stepped_after_sweep (step_change s (Take taker) choice))
+taking : (s : State) (taker : ℕ) (choice : Option LockState) → Takes s (Take taker) (stepped_after_sweep (step_change s (Take taker) choice))
 unfolding take_change
 taking s taker choice pid before is living = record {
   left = cond (taker == pid) (later before.asts) before.asts;
@@ -174,7 +180,7 @@ ending_takes s step is_one nodes left pid before is living =
           ∙ ap (λ (queued : List Queued). before.asts ++ queued_to pid (queued ++ sweep_asts resources)) (sym (rundowns_tell_nobody is_one s));
     }
 
-takes : (s : State) (step : Step) (choice : Option LockRow) → step_refusal s step ≡ None → Takes s step (stepped_after_sweep (step_change s step choice))
+takes : (s : State) (step : Step) (choice : Option LockState) → step_refusal s step ≡ None → Takes s step (stepped_after_sweep (step_change s step choice))
 unfolding set_change deq_change search_change
 takes s (Declare d) choice passed =
     leaves s (Declare d) (step_change s (Declare d) choice) (λ pid asts. refl) (declaring_leaves s d)
@@ -214,10 +220,12 @@ refused_takes s step refusal pid before is living = record {
     stays (Take process) = refl
 
 -- after every run
-pub taking_always : (history : History) (old : State) → Run history old → (step : Step) (choice : Option LockRow) → IsChoice old step choice → AstsAreTakenInOrder old step choice
+pub taking_always : (history : History) (old : State) → Run history old → (step : Step) (choice : Option LockState)
+    → IsChoice old step choice → AstsAreTakenInOrder old step choice
 taking_always history old run step choice chosen = record {
   asts = λ pid before after was is.
-      subst (AstsAfter step (stepped old step choice).answer (stepped old step choice).queued pid before.asts) (asts_are (stepped old step choice).state.processes pid after is)
+      subst (AstsAfter step (stepped old step choice).answer (stepped old step choice).queued pid before.asts)
+      (asts_are (stepped old step choice).state.processes pid after is)
       (of_refusal (step_refusal old step) refl pid before was (is_there (stepped old step choice).state.processes pid after is));
 }
   where

@@ -1,16 +1,20 @@
--- Locks that are withdrawn together: that comes to the same as one after another.
+-- Withdrawing locks together gives the same state as withdrawing them one after another.
 use Rattle.std.proofs.Common.{◌≡◌, ◌≢◌, ◌≤◌, ◌+◌, ◌-◌, ℕ, Bool, zero, suc, true, false, not, List, [], ◌∷◌, ◌++◌, map, cond, refl, sym, ap, ◌∙◌, arith}
 use Rattle.std.specs.Prelude.{◌&&◌, ◌||◌, ◌==◌}
 use Rattle.std.specs.List.{AllByRecursion, filter, flat_map, list_any, range_with_len}
 use Rattle.std.proofs.lemmas.Bool.{cond_both}
 use Rattle.std.proofs.lemmas.Bool.Decides.{nat_tests}
-use Rattle.vlm_words.specs.declared.locks.LockRow.{LockRow}
+use Rattle.vlm_words.specs.declared.locks.LockState.{LockState}
 use Rattle.vlm_words.specs.declared.steps.Dequeue.{Dequeue}
 use Rattle.vlm_model.specs.Endings.{How, row_endings}
 use Rattle.vlm_words.specs.Flags.{deqall, has_flag}
 use Rattle.vlm_words.specs.Rows.{rows_of, rows_without}
 use Rattle.vlm_words.specs.State.{Resource, State}
-use Rattle.vlm_model.specs.Withdrawals.{Withdrawal, has_writer, is_held_by_writer, is_writer, queue_endings, resource_after_cancel, resource_after_each, resource_after_going, resource_after_withdrawals, resource_after_writer, resource_without, row_after_cancel, value_block_after_writer, withdrawal_endings, withdrawn_endings}
+use Rattle.vlm_model.specs.Withdrawals.{Withdrawal, has_writer, is_held_by_writer, is_writer, queue_endings}
+use Rattle.vlm_model.specs.Withdrawals.{resource_after_cancel, resource_after_each, resource_after_going}
+use Rattle.vlm_model.specs.Withdrawals.{resource_after_withdrawals, resource_after_writer, resource_without}
+use Rattle.vlm_model.specs.Withdrawals.{row_after_cancel, value_block_after_writer, withdrawal_endings}
+use Rattle.vlm_model.specs.Withdrawals.{withdrawn_endings}
 use Rattle.vlm_model.specs.OwnLocks.{has_lock_among, own_lkids}
 use Rattle.vlm_model.specs.Dequeue.{dequeue_lkid, dequeued_lkids, is_dequeued, withdrawal_of, withdrawals_of}
 use Rattle.vlm_model.specs.Rundown.{rundown_of, rundowns}
@@ -24,7 +28,7 @@ OfOneEach withdrawals = EachPair (λ w v. w.lkid ≢ v.lkid) withdrawals
 -- ---- one lock goes, and the others stay
 
 -- what holds of rows of another lock alone finds the same where the rows of this lock are gone
-other_is_there : (lkid : ℕ) (test : LockRow → Bool) → ((row : LockRow) → row.lkid ≡ lkid → test row ≡ false) → (rows : List LockRow)
+other_is_there : (lkid : ℕ) (test : LockState → Bool) → ((row : LockState) → row.lkid ≡ lkid → test row ≡ false) → (rows : List LockState)
     → list_any test (rows_without lkid rows) ≡ list_any test rows
 other_is_there lkid test none [] = refl
 other_is_there lkid test none (row ∷ rows) = of_test (row.lkid == lkid) refl (other_is_there lkid test none rows)
@@ -37,7 +41,7 @@ other_is_there lkid test none (row ∷ rows) = of_test (row.lkid == lkid) refl (
     of_test false is rest = ap (λ (b : Bool). test row || b) rest
 
 -- the rows of another lock
-pub other_rows : (lkid other : ℕ) → lkid ≢ other → (rows : List LockRow) → rows_of other (rows_without lkid rows) ≡ rows_of other rows
+pub other_rows : (lkid other : ℕ) → lkid ≢ other → (rows : List LockState) → rows_of other (rows_without lkid rows) ≡ rows_of other rows
 other_rows lkid other apart [] = refl
 other_rows lkid other apart (row ∷ rows) = of_test (row.lkid == lkid) refl (other_rows lkid other apart rows)
   where
@@ -47,16 +51,16 @@ other_rows lkid other apart (row ∷ rows) = of_test (row.lkid == lkid) refl (ot
     of_test true is rest =
         let no : (row.lkid == other) ≡ false = grind (arith, nat_tests, is, apart) in
         rw no rest
-    of_test false is rest = ap (λ (kept : List LockRow). cond (row.lkid == other) (row ∷ kept) kept) rest
+    of_test false is rest = ap (λ (kept : List LockState). cond (row.lkid == other) (row ∷ kept) kept) rest
 
 -- another lock that may write is there still
-other_writer : (lkid other : ℕ) → lkid ≢ other → (rows : List LockRow) → has_writer other (rows_without lkid rows) ≡ has_writer other rows
+other_writer : (lkid other : ℕ) → lkid ≢ other → (rows : List LockState) → has_writer other (rows_without lkid rows) ≡ has_writer other rows
 other_writer lkid other apart rows =
     other_is_there lkid (λ row. (row.lkid == other) && is_writer row.held)
     (λ row is. let no : (row.lkid == other) ≡ false = grind (arith, nat_tests, is, apart) in rw no refl) rows
 
 -- and is none of those that are granted again
-none_among_cancelled : (lkid other : ℕ) → lkid ≢ other → (granted rows : List LockRow)
+none_among_cancelled : (lkid other : ℕ) → lkid ≢ other → (granted rows : List LockState)
     → has_writer other (granted ++ map row_after_cancel (rows_of lkid rows)) ≡ has_writer other granted
 none_among_cancelled lkid other apart [] [] = refl
 none_among_cancelled lkid other apart [] (row ∷ rows) =
@@ -131,7 +135,7 @@ all_one_after_another w withdrawals apart (r ∷ rest) =
     cc
 
 -- the request of another lock ends as it would
-queue_ends_same : (how : How) (lkid other : ℕ) → lkid ≢ other → (rows : List LockRow)
+queue_ends_same : (how : How) (lkid other : ℕ) → lkid ≢ other → (rows : List LockState)
     → queue_endings how other (rows_without lkid rows) ≡ queue_endings how other rows
 queue_ends_same how lkid other apart rows = ap (flat_map (row_endings how false)) (other_rows lkid other apart rows)
 
@@ -174,7 +178,11 @@ others_end_same w (v ∷ withdrawals) apart resources =
 
 pub from_on : (first many : ℕ) → AllByRecursion (λ n. first ≤ n) (range_with_len first many)
 from_on first zero = tt
-from_on first (suc many) = (omega arith, each_weaker (λ n. first + 1 ≤ n) (λ n. first ≤ n) (λ n above. omega (arith, above)) (range_with_len (first + 1) many) (from_on (first + 1) many))
+from_on first (suc many) = (
+  omega arith,
+  each_weaker (λ n. first + 1 ≤ n) (λ n. first ≤ n) (λ n above. omega (arith, above))
+      (range_with_len (first + 1) many) (from_on (first + 1) many),
+)
 
 -- numbers in order are apart
 pub range_apart : (first many : ℕ) → EachPair (λ a b. a ≢ b) (range_with_len first many)

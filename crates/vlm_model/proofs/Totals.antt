@@ -7,7 +7,7 @@ use Rattle.std.proofs.lemmas.List.Filters.{sum_by-filter_both}
 use Rattle.std.proofs.lemmas.List.Sums.{sum_by-append, sum_by-cons, sum_by_push}
 use Rattle.vlm_words.specs.declared.conditions.Cond.{Cond}
 use Rattle.vlm_words.specs.declared.locks.Request.{Request}
-use Rattle.vlm_words.specs.declared.locks.LockRow.{LockRow}
+use Rattle.vlm_words.specs.declared.locks.LockState.{LockState}
 use Rattle.vlm_words.specs.declared.resources.ValueBlock.{ValueBlock}
 use Rattle.vlm_words.specs.declared.steps.Conversion.{Conversion}
 use Rattle.vlm_words.specs.declared.steps.NewRequest.{NewRequest}
@@ -24,22 +24,26 @@ use Rattle.vlm_model.specs.Declare.{declare_change}
 use Rattle.vlm_model.specs.SetValue.{set_change}
 use Rattle.vlm_model.specs.Take.{take_change}
 use Rattle.vlm_model.specs.Enqueue.{enq_at_once, enq_change, enq_endings, enq_resource, enq_row}
-use Rattle.vlm_model.specs.Convert.{ConversionAdmission, convert_admission, convert_blocks, convert_change, convert_lkid, resource_after_conversion, resource_after_conversion_of, resource_without_granted}
+use Rattle.vlm_model.specs.Convert.{ConversionAdmission, convert_admission, convert_blocks, convert_change}
+use Rattle.vlm_model.specs.Convert.{convert_lkid, resource_after_conversion, resource_after_conversion_of}
+use Rattle.vlm_model.specs.Convert.{resource_without_granted}
 use Rattle.vlm_model.specs.Dequeue.{deq_change, withdrawals_of}
 use Rattle.vlm_model.specs.Rundown.{is_ended_by, nodes_after_departure, rundowns, state_after_rundown}
 use Rattle.vlm_words.specs.Steps.{is_of_node}
-use Rattle.vlm_model.specs.Withdrawals.{Withdrawal, is_held_by_writer, resource_after_cancel, resource_after_going, resource_after_withdrawals, resource_without, row_after_cancel, value_block_after_writer}
+use Rattle.vlm_model.specs.Withdrawals.{Withdrawal, is_held_by_writer, resource_after_cancel, resource_after_going}
+use Rattle.vlm_model.specs.Withdrawals.{resource_after_withdrawals, resource_without, row_after_cancel}
+use Rattle.vlm_model.specs.Withdrawals.{value_block_after_writer}
 use Rattle.vlm_model.specs.Stepped.{Stepped, conversion_change, refused_or, step_change, step_refusal, stepped}
 use Rattle.vlm_model.proofs.Each.{found_at}
 use Rattle.vlm_model.proofs.Sums.{sum_changed-le, sum_of_zero, sum_same}
 use Rattle.vlm_model.proofs.Weights.{entered_among_weighs, weigh}
-use Rattle.vlm_model.proofs.Moves.{IsByName, converted_named, grant_keeps, swept_named, withdrawn_named}
-use Rattle.vlm_model.proofs.Apart.{Apart, standing, stands}
+use Rattle.vlm_model.proofs.LastingSums.{IsByName, converted_named, grant_keeps, swept_named, withdrawn_named}
+use Rattle.vlm_model.proofs.IdsApart.{Apart, standing, stands}
 use Rattle.vlm_model.proofs.Counts.{found_stands}
 use Rattle.vlm_model.specs.Search.{victim_withdrawals, search_change}
 
 -- 1 for each row
-abbrev pub one_each : LockRow → ℕ
+abbrev pub one_each : LockState → ℕ
 one_each row = 1
 
 -- how many locks stand on the resources
@@ -67,10 +71,11 @@ entered_total s e =
 -- ---- the rows of one lock
 
 -- the rows of a lock, counted as such
-ones_of : (lkid : ℕ) (rows : List LockRow) → sum_by one_each (rows_of lkid rows) ≡ sum_by (stands lkid) rows
+ones_of : (lkid : ℕ) (rows : List LockState) → sum_by one_each (rows_of lkid rows) ≡ sum_by (stands lkid) rows
 ones_of lkid [] = refl
 ones_of lkid (row ∷ rows) =
-    elim (row.lkid == lkid) as (λ b. (row.lkid == lkid) ≡ b → sum_by one_each (cond b (row ∷ rows_of lkid rows) (rows_of lkid rows)) ≡ sum_by (stands lkid) (row ∷ rows)) [
+    elim (row.lkid == lkid) as (λ b. (row.lkid == lkid) ≡ b
+    → sum_by one_each (cond b (row ∷ rows_of lkid rows) (rows_of lkid rows)) ≡ sum_by (stands lkid) (row ∷ rows)) [
       | true ↦ λ is.
           let here : stands lkid row ≡ 1 = ap (λ (b : Bool). cond b 1 0) is in
           omega (arith, here, ones_of lkid rows, sum_by-cons one_each row (rows_of lkid rows), sum_by-cons (stands lkid) row rows)
@@ -80,7 +85,7 @@ ones_of lkid (row ∷ rows) =
     ] refl
 
 -- with those of all other locks they are all rows
-ones_without : (lkid : ℕ) (rows : List LockRow) → sum_by one_each (rows_without lkid rows) + sum_by (stands lkid) rows ≡ sum_by one_each rows
+ones_without : (lkid : ℕ) (rows : List LockState) → sum_by one_each (rows_without lkid rows) + sum_by (stands lkid) rows ≡ sum_by one_each rows
 ones_without lkid rows =
     omega (
       arith,
@@ -91,7 +96,7 @@ ones_without lkid rows =
 -- ---- a conversion
 
 -- a conversion keeps how many rows a resource has, where its lock has no second one, whichever row is found
-converted_row_total : (request : Request) (at_once : Bool) (pid lkid : ℕ) (block : ValueBlock) (r : Resource) (found : Option LockRow)
+converted_row_total : (request : Request) (at_once : Bool) (pid lkid : ℕ) (block : ValueBlock) (r : Resource) (found : Option LockState)
     → find (is_lock_of pid lkid) r.granted ≡ found → weigh (stands lkid) r ≤ 1
     → weigh one_each (resource_after_conversion_of request at_once lkid block r found) ≡ weigh one_each r
 converted_row_total request at_once pid lkid block r None is single = refl
@@ -230,7 +235,8 @@ most_added (Search node) = 0
 most_added (Take pid) = 0
 
 -- a conversion adds no lock, whether it is admitted or not
-conversion_total : (s : State) (c : Conversion) (admission : Option ConversionAdmission) → total (conversion_change s c admission).state.resources ≤ total s.resources
+conversion_total : (s : State) (c : Conversion) (admission : Option ConversionAdmission)
+    → total (conversion_change s c admission).state.resources ≤ total s.resources
 unfolding convert_change
 conversion_total s c None = omega arith
 conversion_total s c (Some a) =
@@ -238,7 +244,7 @@ conversion_total s c (Some a) =
     (converted_named one_each one_named a.request a.at_once c.pid (convert_lkid s c) (convert_blocks s c a).value_block) s.resources
 
 -- the change of a step adds no more
-change_total : (s : State) (step : Step) (choice : Option LockRow) → total (step_change s step choice).state.resources ≤ total s.resources + most_added step
+change_total : (s : State) (step : Step) (choice : Option LockState) → total (step_change s step choice).state.resources ≤ total s.resources + most_added step
 unfolding declare_change set_change take_change deq_change search_change
 change_total s (Declare d) choice = omega arith
 change_total s (SetValue v) choice = omega arith
@@ -251,7 +257,7 @@ change_total s (Search node) choice = omega (arith, withdrawn_total (victim_with
 change_total s (Take pid) choice = omega arith
 
 -- a step adds no more locks than its kind may, whether it is refused or made, and whatever it chooses
-pub step_total : (s : State) (step : Step) (choice : Option LockRow) → total (stepped s step choice).state.resources ≤ total s.resources + most_added step
+pub step_total : (s : State) (step : Step) (choice : Option LockState) → total (stepped s step choice).state.resources ≤ total s.resources + most_added step
 step_total s step choice = of_refusal (step_refusal s step)
   where
     change : Stepped

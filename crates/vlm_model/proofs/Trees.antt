@@ -1,5 +1,6 @@
 -- After every step each lock of a sub-resource has its parent, and each sub-resource stands below its parent resource.
-use Rattle.std.proofs.Common.{◌≡◌, ◌≢◌, ◌≤◌, ◌<◌, ◌+◌, inl, inr, ℕ, Bool, true, false, not, ◌&&◌, ◌||◌, List, [], ◌∷◌, ◌++◌, map, cond, Option, None, Some, refl, sym, ap, ◌∙◌, arith, subst}
+use Rattle.std.proofs.Common.{◌≡◌, ◌≢◌, ◌≤◌, ◌<◌, ◌+◌, inl, inr, ℕ, Bool, true, false, not, ◌&&◌, ◌||◌, List, [], ◌∷◌}
+use Rattle.std.proofs.Common.{◌++◌, map, cond, Option, None, Some, refl, sym, ap, ◌∙◌, arith, subst}
 use Rattle.std.specs.Prelude.{◌==◌, All, nat_lt}
 use Rattle.std.specs.List.{AllByRecursion, list_any, sum_by, filter}
 use Rattle.std.proofs.lemmas.Bool.{and_parts, eq-eqb, eqb-true, or_cases, or_parts}
@@ -7,7 +8,7 @@ use Rattle.std.proofs.lemmas.Bool.Decides.{nat_tests}
 use Rattle.std.proofs.lemmas.List.Elements.{All-from_recursion}
 use Rattle.std.proofs.lemmas.List.Folds.{Any-from_list_any}
 use Rattle.std.proofs.lemmas.List.Sums.{sum_by-append, sum_by-cons}
-use Rattle.vlm_words.specs.declared.locks.LockRow.{LockRow}
+use Rattle.vlm_words.specs.declared.locks.LockState.{LockState}
 use Rattle.vlm_words.specs.declared.conditions.Cond.TheVariants.{Sublocks}
 use Rattle.vlm_words.specs.declared.steps.Conversion.{Conversion}
 use Rattle.vlm_words.specs.declared.steps.Dequeue.{Dequeue}
@@ -15,7 +16,7 @@ use Rattle.vlm_words.specs.declared.steps.NewRequest.{NewRequest}
 use Rattle.vlm_words.specs.Flags.{cancel, has_flag, deqall}
 use Rattle.vlm_words.specs.State.{Resource, State, Node}
 use Rattle.vlm_model.specs.Sweeps.{is_vacant, state_after_sweep}
-use Rattle.vlm_model.specs.Settled.{IsSettled}
+use Rattle.vlm_model.specs.Stable.{IsStable}
 use Rattle.vlm_words.specs.Resources.{is_at, is_domain, new_resource}
 use Rattle.vlm_model.specs.Checks.{caller_refusal, which_refusal}
 use Rattle.vlm_model.specs.Trees.{enq_site, root_domain, site_below}
@@ -24,26 +25,31 @@ use Rattle.vlm_model.specs.Declare.{declare_change}
 use Rattle.vlm_model.specs.SetValue.{set_change}
 use Rattle.vlm_model.specs.Take.{take_change}
 use Rattle.vlm_model.specs.Convert.{ConversionAdmission, convert_blocks, convert_change, convert_lkid, resource_after_conversion}
-use Rattle.vlm_model.specs.Dequeue.{cancel_refusal, deq_change, deq_flags_refusal, deq_refusal, dequeue_lkid, has_sublock, has_sublock_on, sublocks_refusal, withdrawal_of, dequeued_lock_refusal, is_dequeued, leaves_none}
+use Rattle.vlm_model.specs.Dequeue.{cancel_refusal, deq_change, deq_flags_refusal, deq_refusal, dequeue_lkid}
+use Rattle.vlm_model.specs.Dequeue.{has_sublock, has_sublock_on, sublocks_refusal, withdrawal_of, dequeued_lock_refusal}
+use Rattle.vlm_model.specs.Dequeue.{is_dequeued, leaves_none}
 use Rattle.vlm_model.specs.Withdrawals.{Withdrawal, resource_after_withdrawals, state_after_withdrawals}
 use Rattle.vlm_model.specs.Runs.{History, Run}
 use Rattle.vlm_model.specs.Laws.{ChainsAreBounded, HasItsLevel, HasItsParent, HoldsOn, ParentsOutliveTheirSublocks, TreesAreBounded}
 use Rattle.vlm_model.proofs.Always.{always, kept_by_stepped, WithdrawsNow, gives_up, ends_deadlock}
 use Rattle.vlm_model.proofs.Each.{Any-weaker, each_map, each_weaker, each_so}
-use Rattle.vlm_model.proofs.Passed.{sixth_passes, test_fails, flags_go_together}
+use Rattle.vlm_model.proofs.PassedChecks.{sixth_passes, test_fails, flags_go_together}
 use Rattle.vlm_model.proofs.EachResource.{each_entered_among, each_entered_at, each_swept}
-use Rattle.vlm_model.proofs.Settled.{settled_law}
-use Rattle.vlm_model.proofs.Keys.{KeepsPlace, Placed, conversion_keeps_place, entry_keeps_place, is_domain-true, placed_always, service_keeps_place, withdrawals_keep_place}
+use Rattle.vlm_model.proofs.Stable.{stable_law}
+use Rattle.vlm_model.proofs.Keys.{KeepsPlace, Placed, conversion_keeps_place, entry_keeps_place, is_domain-true}
+use Rattle.vlm_model.proofs.Keys.{placed_always, service_keeps_place, withdrawals_keep_place}
 use Rattle.vlm_model.proofs.Weights.{entered_weighs, weigh}
-use Rattle.vlm_model.proofs.Moves.{converted_named, withdrawn_named, grant_keeps}
-use Rattle.vlm_model.proofs.Apart.{Apart, apart_always, standing, stands}
+use Rattle.vlm_model.proofs.LastingSums.{converted_named, withdrawn_named, grant_keeps}
+use Rattle.vlm_model.proofs.IdsApart.{Apart, apart_always, standing, stands}
 use Rattle.vlm_model.proofs.Holdings.{converted_held, held_by, locks, withdrawn_held}
 use Rattle.vlm_model.proofs.Sums.{sum_of_zero}
-use Rattle.vlm_model.proofs.Rooted.{Position, position, is_parent, is_up, is_rooted, loose, loose_named, AllRooted, up_mapped, still_rooted, weigh_le_both, rooted_changed, rooted_swept, NoneOrphaned, rooted_mapped}
+use Rattle.vlm_model.proofs.Rooted.{Position, position, is_parent, is_up, is_rooted, loose, loose_named, AllRooted}
+use Rattle.vlm_model.proofs.Rooted.{up_mapped, still_rooted, weigh_le_both, rooted_changed, rooted_swept, NoneOrphaned}
+use Rattle.vlm_model.proofs.Rooted.{rooted_mapped}
 use Rattle.vlm_model.proofs.NewlyRooted.{parent_of, up_entered, rooted_row, stands_well, own_rooted}
-use Rattle.vlm_model.proofs.Below.{each_weightless, held_there, no_more_levels}
-use Rattle.vlm_model.proofs.Closed.{Closed, each_closed, held_stays, orphaned_by, own_are_closed, taken_are_closed}
-use Rattle.vlm_model.proofs.Leaving.{AllGo, AllListed, all_go, none_left_here}
+use Rattle.vlm_model.proofs.LocksBelow.{each_weightless, held_there, no_more_levels}
+use Rattle.vlm_model.proofs.GivenUpTrees.{Closed, each_closed, held_stays, orphaned_by, own_are_closed, taken_are_closed}
+use Rattle.vlm_model.proofs.EndedLocks.{AllGo, AllListed, all_go, none_left_here}
 use Rattle.vlm_model.specs.OwnLocks.{own_lkids}
 use Rattle.vlm_model.specs.Rundown.{rundown_of, state_after_rundown}
 use Rattle.vlm_model.specs.Search.{victim_withdrawals, deadlock_of}
@@ -57,7 +63,8 @@ pub record Tree (s : State) : Type 0 where
 tree_swept : (s : State) → Tree s → Tree (state_after_sweep s)
 tree_swept s tree = record {
   rooted = rooted_swept s.processes s.resources tree.rooted;
-  low = each_swept (λ r. r.level ≤ 15) (λ r. r.level ≤ 15) (λ block r low. omega (arith, low, (service_keeps_place block r).level)) s.processes s.resources tree.low;
+  low = each_swept (λ r. r.level ≤ 15) (λ r. r.level ≤ 15)
+      (λ block r low. omega (arith, low, (service_keeps_place block r).level)) s.processes s.resources tree.low;
 }
 
 -- a new request's own resource is at a level that is there
@@ -69,12 +76,14 @@ level_fits s e passed =
     ]
 
 -- a new request keeps the tree
-tree_entered : (s : State) (e : NewRequest) → enq_refusal s e ≡ None → Placed s → AllByRecursion (λ r. is_vacant r ≡ false) s.resources → Tree s → Tree (enq_change s e)
+tree_entered : (s : State) (e : NewRequest) → enq_refusal s e ≡ None → Placed s
+    → AllByRecursion (λ r. is_vacant r ≡ false) s.resources → Tree s → Tree (enq_change s e)
 unfolding enq_change
 tree_entered s e passed placed occupied tree = record {
   rooted =
       each_entered_at (AllRooted new) s.next_serial (enq_site s e) (enq_row s e) (enq_at_once s e)
-      (entered (new_resource s.next_serial (enq_site s e)) refl own.0) s.resources (each_entry s.resources tree.rooted own.1) (each_still s.resources tree.rooted);
+      (entered (new_resource s.next_serial (enq_site s e)) refl own.0) s.resources
+      (each_entry s.resources tree.rooted own.1) (each_still s.resources tree.rooted);
   low =
       each_entered_among (λ r. r.level ≤ 15) s.next_serial (enq_site s e) (enq_row s e) (enq_at_once s e) (level_fits s e passed)
       (λ r low. omega (arith, low, (entry_keeps_place (enq_row s e) (enq_at_once s e) r).level)) s.resources tree.low;
@@ -93,12 +102,14 @@ tree_entered s e passed placed occupied tree = record {
         (resources_after_entry s.next_serial (enq_site s e) (enq_row s e) (enq_at_once s e) s.resources) (position r) (enq_row s e) ≡ true) s.resources
     own = own_rooted s e passed placed occupied tree.rooted _ stays
 
-    entered : (r : Resource) → AllRooted new r → is_rooted new (position r) (enq_row s e) ≡ true → AllRooted new (resource_after_entry (enq_row s e) (enq_at_once s e) r)
+    entered : (r : Resource) → AllRooted new r → is_rooted new (position r) (enq_row s e) ≡ true
+        → AllRooted new (resource_after_entry (enq_row s e) (enq_at_once s e) r)
     entered r rooted is =
         rooted_changed new (resource_after_entry (enq_row s e) (enq_at_once s e)) (entry_keeps_place (enq_row s e) (enq_at_once s e)) r
         (omega (
           arith,
-          entered_weighs (loose new (position r)) (λ ending. 0) (grant_keeps (loose new (position r)) (loose_named new (position r))) (enq_row s e) (enq_at_once s e) r,
+          entered_weighs (loose new (position r)) (λ ending. 0)
+              (grant_keeps (loose new (position r)) (loose_named new (position r))) (enq_row s e) (enq_at_once s e) r,
           ap {B = ℕ} (λ (b : Bool). cond b 0 1) is,
         ))
         rooted
@@ -154,7 +165,8 @@ tree_converted s c a apart tree = record {
       up_mapped p row.pid row.parent (resource_after_conversion a.request a.at_once c.pid (convert_lkid s c) (convert_blocks s c a).value_block)
       (conversion_keeps_place a.request a.at_once c.pid (convert_lkid s c) (convert_blocks s c a).value_block) s.resources
       (each_weaker (λ r. weigh (stands (convert_lkid s c)) r ≤ 1)
-      (λ r. held_by row.pid row.parent r ≤ held_by row.pid row.parent (resource_after_conversion a.request a.at_once c.pid (convert_lkid s c) (convert_blocks s c a).value_block r))
+      (λ r. held_by row.pid row.parent r ≤ held_by row.pid row.parent
+      (resource_after_conversion a.request a.at_once c.pid (convert_lkid s c) (convert_blocks s c a).value_block r))
       (λ r one. converted_held row.pid row.parent c.pid (convert_lkid s c) a.request a.at_once (convert_blocks s c a).value_block r one) s.resources
       (one_on_each (convert_lkid s c) s.resources (apart.one_row (convert_lkid s c)))))
       (none_orphaned (resource_after_conversion a.request a.at_once c.pid (convert_lkid s c) (convert_blocks s c a).value_block) s.resources) tree.rooted;
@@ -164,17 +176,19 @@ tree_converted s c a apart tree = record {
 }
 
 -- the row's parent goes with a dequeue of one lock
-abbrev orphaned_by_one : Withdrawal → LockRow → Bool
+abbrev orphaned_by_one : Withdrawal → LockState → Bool
 orphaned_by_one w row = not w.stays && (row.parent == w.lkid)
 
 -- rows of which none passes a test are counted 0
-none_counted : (b : Bool) (lkid : ℕ) (rows : List LockRow) → (b && has_sublock lkid rows) ≡ false → sum_by (λ row. cond (b && (row.parent == lkid)) 1 0) rows ≡ 0
+none_counted : (b : Bool) (lkid : ℕ) (rows : List LockState) → (b && has_sublock lkid rows) ≡ false
+    → sum_by (λ row. cond (b && (row.parent == lkid)) 1 0) rows ≡ 0
 none_counted false lkid rows none = sum_of_zero rows
 none_counted true lkid [] none = refl
 none_counted true lkid (row ∷ rows) none = of_test (row.parent == lkid) refl (none_counted true lkid rows)
   where
     of_test : (b : Bool) → (row.parent == lkid) ≡ b
-        → (has_sublock lkid rows ≡ false → sum_by (λ (x : LockRow). cond (x.parent == lkid) 1 0) rows ≡ 0) → sum_by (λ (x : LockRow). cond (x.parent == lkid) 1 0) (row ∷ rows) ≡ 0
+        → (has_sublock lkid rows ≡ false → sum_by (λ (x : LockState). cond (x.parent == lkid) 1 0) rows ≡ 0)
+        → sum_by (λ (x : LockState). cond (x.parent == lkid) 1 0) (row ∷ rows) ≡ 0
     of_test true is later = let no : true ≡ false = sym (ap (λ (b : Bool). b || has_sublock lkid rows) is) ∙ none in cc
     of_test false is later =
         let behind : has_sublock lkid rows ≡ false = sym (ap (λ (b : Bool). b || has_sublock lkid rows) is) ∙ none in
@@ -182,7 +196,7 @@ none_counted true lkid (row ∷ rows) none = of_test (row.parent == lkid) refl (
           arith,
           later behind,
           ap {B = ℕ} (λ (b : Bool). cond b 1 0) is,
-          sum_by-cons (λ (x : LockRow). cond (x.parent == lkid) 1 0) row rows,
+          sum_by-cons (λ (x : LockState). cond (x.parent == lkid) 1 0) row rows,
         )
 
 -- where the checks of a dequeue of one lock pass, no row is orphaned by it
@@ -232,8 +246,9 @@ none_left_behind s d passed alone =
 
 -- withdrawals keep the tree, where none of what they leave has its parent among them
 module _ (s t : State) (withdrawals : List Withdrawal) (is : t.resources ≡ map (resource_after_withdrawals withdrawals) s.resources) (tree : Tree s)
-    (orphaned : LockRow → Bool)
-    (stays : (row : LockRow) → orphaned row ≡ false → (r : Resource) → held_by row.pid row.parent r ≤ held_by row.pid row.parent (resource_after_withdrawals withdrawals r))
+    (orphaned : LockState → Bool)
+    (stays : (row : LockState) → orphaned row ≡ false → (r : Resource)
+    → held_by row.pid row.parent r ≤ held_by row.pid row.parent (resource_after_withdrawals withdrawals r))
     (none : AllByRecursion (λ r. NoneOrphaned orphaned (resource_after_withdrawals withdrawals r)) s.resources) where
   tree_withdrawn : Tree t
   tree_withdrawn =
@@ -250,12 +265,14 @@ module _ (s t : State) (withdrawals : List Withdrawal) (is : t.resources ≡ map
       }
 
 -- locks that go together with those below them
-tree_closed : (s t : State) → Apart s → Tree s → (f : ℕ → Withdrawal) → ((lkid : ℕ) → (f lkid).lkid ≡ lkid) → (lkids : List ℕ) → AllGo (map f lkids) → Closed s lkids
+tree_closed : (s t : State) → Apart s → Tree s → (f : ℕ → Withdrawal) → ((lkid : ℕ) → (f lkid).lkid ≡ lkid)
+    → (lkids : List ℕ) → AllGo (map f lkids) → Closed s lkids
     → t.resources ≡ map (resource_after_withdrawals (map f lkids)) s.resources → Tree t
 tree_closed s t apart tree f named lkids go closed is =
     tree_withdrawn s t (map f lkids) is tree (orphaned_by (map f lkids))
     (λ row keeps r. held_stays row.pid row.parent (map f lkids) go keeps r)
-    (each_weaker (AllListed (orphaned_by (map f lkids)) (map f lkids)) (λ r. NoneOrphaned (orphaned_by (map f lkids)) (resource_after_withdrawals (map f lkids) r))
+    (each_weaker (AllListed (orphaned_by (map f lkids)) (map f lkids))
+    (λ r. NoneOrphaned (orphaned_by (map f lkids)) (resource_after_withdrawals (map f lkids) r))
     (λ r listed. none_left_here (orphaned_by (map f lkids)) (map f lkids) go r listed) s.resources
     (each_closed s tree.rooted tree.low f named lkids closed))
 
@@ -302,12 +319,12 @@ tree_dequeued s d apart passed tree = of_flag (has_flag d.flags deqall) refl
         (ap (λ (all : Bool). map (resource_after_withdrawals (map (withdrawal_of d) (cond all lkids (dequeue_lkid s d ∷ [])))) s.resources) is)
 
 -- a search keeps the tree: a victim that waits has no sublocks, and one that converts stays
-tree_searched : (s : State) (choice : Option LockRow) → Tree s → Tree (state_after_withdrawals (victim_withdrawals choice) s)
+tree_searched : (s : State) (choice : Option LockState) → Tree s → Tree (state_after_withdrawals (victim_withdrawals choice) s)
 tree_searched s choice tree =
     tree_withdrawn s (state_after_withdrawals (victim_withdrawals choice) s) (victim_withdrawals choice) refl tree (λ row. false)
     (λ row _ r. stays choice row r) (none_orphaned (resource_after_withdrawals (victim_withdrawals choice)) s.resources)
   where
-    stays : (chosen : Option LockRow) (row : LockRow) (r : Resource)
+    stays : (chosen : Option LockState) (row : LockState) (r : Resource)
         → held_by row.pid row.parent r ≤ held_by row.pid row.parent (resource_after_withdrawals (victim_withdrawals chosen) r)
     stays None row r = omega arith
     stays (Some victim) row r = withdrawn_held row.pid row.parent (deadlock_of victim.lkid) (λ goes. cc) r
@@ -329,7 +346,7 @@ tree_ended s is_one nodes apart tree =
 occupied_always : (history : History) (last : State) → Run history last
     → AllByRecursion (λ r. is_vacant r ≡ false) last.resources
 occupied_always history last run =
-    each_weaker IsSettled (λ r. is_vacant r ≡ false) (λ r settled. settled.occupied) last.resources (settled_law history last run)
+    each_weaker IsStable (λ r. is_vacant r ≡ false) (λ r stable. stable.occupied) last.resources (stable_law history last run)
 
 -- after every run
 pub tree_always : (history : History) (last : State) → Run history last → Tree last
@@ -351,7 +368,7 @@ tree_always =
 -- ---- the laws
 
 -- a row that has its parent by the test has it by the law
-has_its_parent : (all : List Resource) (r : Resource) (row : LockRow) → is_rooted all (position r) row ≡ true → HasItsParent all r row
+has_its_parent : (all : List Resource) (r : Resource) (row : LockState) → is_rooted all (position r) row ≡ true → HasItsParent all r row
 has_its_parent all r row rooted =
     elim (or_cases ((r.parent == 0) && (row.parent == 0) && (r.level == 0))
     (not (r.parent == 0) && not (row.parent == 0) && list_any (is_up (position r) row.pid row.parent) all) rooted) [
@@ -390,7 +407,7 @@ parents_always history last run =
   where
     each_row : (r : Resource) → AllRooted last.resources r → All (HasItsParent last.resources r) (r.granted ++ r.converting ++ r.waiting)
     each_row r rooted =
-        let f : LockRow → ℕ = loose last.resources (position r) in
+        let f : LockState → ℕ = loose last.resources (position r) in
         All-from_recursion (HasItsParent last.resources r) (r.granted ++ r.converting ++ r.waiting)
         (each_weaker (λ row. loose last.resources (position r) row ≡ 0) (HasItsParent last.resources r)
         (λ row none. has_its_parent last.resources r row (rooted_row last.resources (position r) row none)) (r.granted ++ r.converting ++ r.waiting)

@@ -1,8 +1,8 @@
--- What holds of each queued row after every run, where each row that is queued has it.
+-- A fact that holds of each queued lock when it queues holds of it after every run.
 use Rattle.std.proofs.Common.{◌≡◌, ℕ, Bool, false, List, [], ◌∷◌, ◌++◌, map, Option, None, Some, refl, sym, subst}
 use Rattle.std.specs.List.{AllByRecursion, find}
 use Rattle.std.proofs.lemmas.Bool.{cond_both}
-use Rattle.vlm_words.specs.declared.locks.LockRow.{LockRow}
+use Rattle.vlm_words.specs.declared.locks.LockState.{LockState}
 use Rattle.vlm_words.specs.declared.resources.ValueBlock.{ValueBlock}
 use Rattle.vlm_words.specs.declared.steps.Conversion.{Conversion}
 use Rattle.vlm_words.specs.declared.steps.NewRequest.{NewRequest}
@@ -16,8 +16,12 @@ use Rattle.vlm_model.specs.Declare.{declare_change}
 use Rattle.vlm_model.specs.SetValue.{set_change}
 use Rattle.vlm_model.specs.Take.{take_change}
 use Rattle.vlm_model.specs.Enqueue.{enq_at_once, enq_change, enq_refusal, enq_row, resource_after_entry}
-use Rattle.vlm_model.specs.Convert.{ConversionAdmission, convert_admission, convert_blocks, convert_change, convert_lkid, convert_refusal, resource_after_conversion, resource_after_conversion_of, resource_without_granted}
-use Rattle.vlm_model.specs.Withdrawals.{Withdrawal, is_held_by_writer, resource_after_cancel, resource_after_going, resource_after_withdrawals, resource_after_writer, resource_without, value_block_after_writer, state_after_withdrawals}
+use Rattle.vlm_model.specs.Convert.{ConversionAdmission, convert_admission, convert_blocks, convert_change}
+use Rattle.vlm_model.specs.Convert.{convert_lkid, convert_refusal, resource_after_conversion}
+use Rattle.vlm_model.specs.Convert.{resource_after_conversion_of, resource_without_granted}
+use Rattle.vlm_model.specs.Withdrawals.{Withdrawal, is_held_by_writer, resource_after_cancel, resource_after_going}
+use Rattle.vlm_model.specs.Withdrawals.{resource_after_withdrawals, resource_after_writer, resource_without}
+use Rattle.vlm_model.specs.Withdrawals.{value_block_after_writer, state_after_withdrawals}
 use Rattle.vlm_model.specs.Rundown.{rundowns, state_after_rundown}
 use Rattle.vlm_model.specs.Runs.{History, Run}
 use Rattle.vlm_model.proofs.Each.{each_append, each_drop, each_filter, each_map}
@@ -28,15 +32,15 @@ use Rattle.vlm_model.proofs.InOrder.{service_in_order}
 use Rattle.vlm_model.specs.Asts.{resource_after_warning}
 
 -- each queued row has it
-pub record Queued (P : LockRow → Type 0) (r : Resource) : Type 0 where
+pub record Queued (P : LockState → Type 0) (r : Resource) : Type 0 where
   pub converting : AllByRecursion P r.converting
   pub waiting : AllByRecursion P r.waiting
 
 -- each row of the lock that converts has it as it is queued
-abbrev pub EachConverting : (LockRow → Type 0) → Conversion → ℕ → ConversionAdmission → Resource → Type 0
-EachConverting P c lkid a r = (row : LockRow) → find (is_lock_of c.pid lkid) r.granted ≡ Some row → P (wanting_row row a.request)
+abbrev pub EachConverting : (LockState → Type 0) → Conversion → ℕ → ConversionAdmission → Resource → Type 0
+EachConverting P c lkid a r = (row : LockState) → find (is_lock_of c.pid lkid) r.granted ≡ Some row → P (wanting_row row a.request)
 
-module _ (P : LockRow → Type 0) where
+module _ (P : LockState → Type 0) where
   -- service leaves queued rows as they were
   served_queued : (block : ValueBlock) (r : Resource) → Queued P r → Queued P (served_with block r)
   unfolding resource_after_warning
@@ -52,7 +56,7 @@ module _ (P : LockRow → Type 0) where
   swept_queued t = each_swept (Queued P) (Queued P) served_queued t.processes t.resources
 
   -- a lock that enters is granted at once, or has it
-  entered_queued : (row : LockRow) (at_once : Bool) (r : Resource) → (at_once ≡ false → P row) → Queued P r
+  entered_queued : (row : LockState) (at_once : Bool) (r : Resource) → (at_once ≡ false → P row) → Queued P r
       → Queued P (resource_after_entry row at_once r)
   unfolding resource_after_entry
   entered_queued row at_once r has queued =
@@ -79,13 +83,14 @@ module _ (P : LockRow → Type 0) where
   unfolding convert_change resource_after_conversion
   conversion_queued s c a has each = at_each s.resources has each
     where
-      of_found : (r : Resource) → (a.at_once ≡ false → EachConverting P c (convert_lkid s c) a r) → Queued P r → (found : Option LockRow)
+      of_found : (r : Resource) → (a.at_once ≡ false → EachConverting P c (convert_lkid s c) a r) → Queued P r → (found : Option LockState)
           → find (is_lock_of c.pid (convert_lkid s c)) r.granted ≡ found
           → Queued P (resource_after_conversion_of a.request a.at_once (convert_lkid s c) (convert_blocks s c a).value_block r found)
       of_found r has queued None is = queued
       of_found r has queued (Some row) is =
           cond_both a.at_once
-          (with_value_block (convert_blocks s c a).value_block (resource_after_grant (resource_without_granted (convert_lkid s c) r) (wanting_row row a.request)))
+          (with_value_block (convert_blocks s c a).value_block
+          (resource_after_grant (resource_without_granted (convert_lkid s c) r) (wanting_row row a.request)))
           (record (resource_without_granted (convert_lkid s c) r) { converting = r.converting ++ wanting_row row a.request ∷ [] }) (Queued P)
           (λ _. record { converting = queued.converting; waiting = queued.waiting })
           (λ waits. record {
@@ -95,7 +100,9 @@ module _ (P : LockRow → Type 0) where
 
       at_each : (resources : List Resource) → (a.at_once ≡ false → AllByRecursion (EachConverting P c (convert_lkid s c) a) resources)
           → AllByRecursion (Queued P) resources
-          → AllByRecursion (Queued P) (map (resource_after_conversion a.request a.at_once c.pid (convert_lkid s c) (convert_blocks s c a).value_block) resources)
+          → AllByRecursion (Queued P)
+          (map (resource_after_conversion a.request a.at_once c.pid (convert_lkid s c)
+          (convert_blocks s c a).value_block) resources)
       at_each [] has queued = tt
       at_each (r ∷ rest) has queued = (
         of_found r (λ waits. (has waits).0) queued.0 (find (is_lock_of c.pid (convert_lkid s c)) r.granted) refl,
@@ -127,11 +134,13 @@ module _ (P : LockRow → Type 0) where
       → AllByRecursion (Queued P) (state_after_rundown is_one nodes s).resources
   unfolding state_after_rundown
   rundown_queued s is_one nodes each =
-      each_map (Queued P) (Queued P) (resource_after_withdrawals (rundowns is_one s)) (kept_withdrawn (Queued P) left_queued gone_queued (rundowns is_one s)) s.resources each
+      each_map (Queued P) (Queued P) (resource_after_withdrawals (rundowns is_one s))
+      (kept_withdrawn (Queued P) left_queued gone_queued (rundowns is_one s)) s.resources each
 
   -- after every run each queued row has it
   pub queued_always : ((history : History) (s : State) → Run history s → (e : NewRequest) → enq_refusal s e ≡ None → enq_at_once s e ≡ false → P (enq_row s e))
-      → ((history : History) (s : State) → Run history s → (c : Conversion) (a : ConversionAdmission) → convert_refusal s c ≡ None → convert_admission s c ≡ Some a
+      → ((history : History) (s : State) → Run history s → (c : Conversion) (a : ConversionAdmission)
+      → convert_refusal s c ≡ None → convert_admission s c ≡ Some a
       → a.at_once ≡ false → AllByRecursion (EachConverting P c (convert_lkid s c) a) s.resources)
       → (history : History) (last : State) → Run history last → AllByRecursion (Queued P) last.resources
   unfolding declare_change set_change take_change

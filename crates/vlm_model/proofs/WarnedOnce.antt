@@ -1,5 +1,6 @@
 -- A grant arms its lock at most, and a warning disarms it.
-use Rattle.std.proofs.Common.{◌≡◌, ◌≤◌, ◌+◌, ◌++◌, ◌&&◌, ℕ, Bool, true, false, not, List, [], ◌∷◌, map, cond, Option, None, Some, inl, inr, refl, sym, subst, ap, arith}
+use Rattle.std.proofs.Common.{◌≡◌, ◌≤◌, ◌+◌, ◌++◌, ◌&&◌, ℕ, Bool, true, false, not, List, [], ◌∷◌, map, cond, Option}
+use Rattle.std.proofs.Common.{None, Some, inl, inr, refl, sym, subst, ap, arith}
 use Rattle.std.specs.Prelude.{◌==◌}
 use Rattle.std.specs.List.{flat_map, sum_by}
 use Rattle.std.proofs.lemmas.Bool.{and_parts, cond_both}
@@ -8,7 +9,7 @@ use Rattle.std.proofs.lemmas.List.Sums.{sum_by-append, sum_by-cons, sum_by_push}
 use Rattle.vlm_words.specs.declared.asts.AstKind.TheVariants.{Blocking}
 use Rattle.vlm_words.specs.declared.conditions.Cond.{Cond}
 use Rattle.vlm_words.specs.declared.locks.Request.{Request}
-use Rattle.vlm_words.specs.declared.locks.LockRow.{LockRow}
+use Rattle.vlm_words.specs.declared.locks.LockState.{LockState}
 use Rattle.vlm_words.specs.declared.resources.Site.{Site}
 use Rattle.vlm_words.specs.declared.resources.ValueBlock.{ValueBlock}
 use Rattle.vlm_words.specs.declared.conditions.Cond.TheVariants.{Normal}
@@ -23,7 +24,9 @@ use Rattle.vlm_model.specs.Endings.{Ending}
 use Rattle.vlm_model.specs.Endings.How.{by_grant}
 use Rattle.vlm_model.specs.Asts.{Queued, asts_for, blocking_asts, completions_of, is_to_warn, resource_after_warning, row_after_warning, row_warnings, warnings}
 use Rattle.vlm_model.specs.Effects.{with_value_block}
-use Rattle.vlm_model.specs.Grants.{Service, grant_act, grant_endings, no_service, resource_after_grant, service, service_after_grant, service_of_conversions, service_of_new_requests, service_of_waiting, wanted_fits}
+use Rattle.vlm_model.specs.Grants.{Service, grant_act, grant_endings, no_service, resource_after_grant, service}
+use Rattle.vlm_model.specs.Grants.{service_after_grant, service_of_conversions, service_of_new_requests}
+use Rattle.vlm_model.specs.Grants.{service_of_waiting, wanted_fits}
 use Rattle.vlm_words.specs.Rows.{granted_row, is_arming, is_empty, is_lock_of, rows_of, rows_without, wanting_row}
 use Rattle.vlm_model.specs.Sweeps.{blocks_after_service, resource_after_service, resources_after_sweep, service_asts, sweep_asts, sweep_endings}
 use Rattle.vlm_words.specs.Resources.{is_at, new_resource}
@@ -32,16 +35,21 @@ use Rattle.vlm_model.specs.SetValue.{set_change}
 use Rattle.vlm_model.specs.Take.{take_change}
 use Rattle.vlm_model.specs.Trees.{enq_site}
 use Rattle.vlm_model.specs.Enqueue.{enq_at_once, enq_change, enq_endings, enq_row, resource_after_entry, resources_after_entry}
-use Rattle.vlm_model.specs.Convert.{ConversionAdmission, conversion_endings, convert_admission, convert_blocks, convert_change, convert_lkid, convert_request, resource_after_conversion_of, resource_without_granted}
-use Rattle.vlm_model.specs.Withdrawals.{Withdrawal, is_held_by_writer, resource_after_cancel, resource_after_going, resource_after_withdrawals, resource_after_writer, resource_without, row_after_cancel, value_block_after_writer, withdrawn_endings}
+use Rattle.vlm_model.specs.Convert.{ConversionAdmission, conversion_endings, convert_admission, convert_blocks}
+use Rattle.vlm_model.specs.Convert.{convert_change, convert_lkid, convert_request, resource_after_conversion_of}
+use Rattle.vlm_model.specs.Convert.{resource_without_granted}
+use Rattle.vlm_model.specs.Withdrawals.{Withdrawal, is_held_by_writer, resource_after_cancel, resource_after_going}
+use Rattle.vlm_model.specs.Withdrawals.{resource_after_withdrawals, resource_after_writer, resource_without}
+use Rattle.vlm_model.specs.Withdrawals.{row_after_cancel, value_block_after_writer, withdrawn_endings}
 use Rattle.vlm_model.specs.Dequeue.{deq_change, withdrawals_of}
 use Rattle.vlm_model.specs.Rundown.{is_ended_by, nodes_after_departure, rundown_endings, rundowns, state_after_rundown}
 use Rattle.vlm_words.specs.Steps.{is_of_node}
-use Rattle.vlm_model.specs.Stepped.{Outcome, Stepped, conversion_change, end_of_processes, outcome_endings, outcome_queued, refused_or, step_change, step_refusal, stepped_after_sweep}
+use Rattle.vlm_model.specs.Stepped.{Outcome, Stepped, conversion_change, end_of_processes, outcome_endings}
+use Rattle.vlm_model.specs.Stepped.{outcome_queued, refused_or, step_change, step_refusal, stepped_after_sweep}
 use Rattle.vlm_model.specs.Runs.{History, Run, begin, next}
 use Rattle.vlm_model.proofs.Admissions.{admitted_request}
 use Rattle.vlm_model.proofs.Always.{admission_of, withdrawal_of_all}
-use Rattle.vlm_model.proofs.Apart.{Apart, apart_always}
+use Rattle.vlm_model.proofs.IdsApart.{Apart, apart_always}
 use Rattle.vlm_model.proofs.Each.{Found}
 use Rattle.vlm_model.proofs.Sums.{sum_changed-le, sum_filter-le, sum_filter_but-le, sum_of_one, sum_of_zeros, sum_same}
 use Rattle.vlm_model.proofs.Weights.{dropped_weighs, weigh}
@@ -49,7 +57,7 @@ use Rattle.vlm_model.proofs.Withdrawing.{kept_withdrawn}
 use Rattle.vlm_model.specs.WarnedOnce.{EachGrantIsWarnedAtMostOnce, is_armed_lock, is_grant_to_warn, is_warning_of, tells_warning}
 use Rattle.vlm_model.proofs.ConvertsOnce.{ConvertsWithin, all_convert}
 use Rattle.vlm_model.proofs.Completing.{each_completion}
-use Rattle.vlm_model.proofs.Falling.{is_armed}
+use Rattle.vlm_model.proofs.DueAstsFall.{is_armed}
 use Rattle.vlm_model.specs.Search.{victim_withdrawals, search_change, victim_lkid}
 
 -- 1 for a warning of the lock
@@ -57,7 +65,7 @@ abbrev warned : ℕ → Queued → ℕ
 warned lkid q = cond (is_warning_of lkid q) 1 0
 
 -- 1 for a row of the lock that is armed
-abbrev armed : ℕ → LockRow → ℕ
+abbrev armed : ℕ → LockState → ℕ
 armed lkid row = cond (is_armed_lock lkid row) 1 0
 
 -- 1 for a grant to the lock that may be warned of
@@ -79,7 +87,7 @@ never true = refl
 never false = refl
 
 -- a grant arms its row at most, and only where it may be warned of
-grant_arms : (lkid : ℕ) (at_once : Bool) (row : LockRow) → armed lkid (granted_row row) ≡ sum_by (given lkid) (grant_endings at_once row)
+grant_arms : (lkid : ℕ) (at_once : Bool) (row : LockState) → armed lkid (granted_row row) ≡ sum_by (given lkid) (grant_endings at_once row)
 grant_arms lkid at_once row = of_want row.want
   where
     of_want : (want : Option Request)
@@ -87,18 +95,27 @@ grant_arms lkid at_once row = of_want row.want
         ≡ sum_by (given lkid) (grant_endings at_once (record row { want = want }))
     of_want None = never (row.lkid == lkid)
     of_want (Some request) =
-        sym (sum_of_one (given lkid) (record { lkid = row.lkid; pid = row.pid; request = request; how = by_grant (grant_act row.held (Some request)); at_once = at_once }))
+        sym (sum_of_one (given lkid)
+        (record {
+          lkid = row.lkid;
+          pid = row.pid;
+          request = request;
+          how =
+              by_grant (grant_act row.held (Some request));
+          at_once = at_once;
+        }))
 
 -- what is armed after a service was armed, or is given by it
 abbrev ServiceArms : ℕ → Service → Resource → Type 0
 ServiceArms lkid more r = weigh (armed lkid) more.resource ≤ weigh (armed lkid) r + sum_by (given lkid) more.endings
 
-serve_converting_arms : (lkid : ℕ) (r : Resource) (rows : List LockRow) → r.converting ≡ rows → ServiceArms lkid (service_of_conversions r rows) r
+serve_converting_arms : (lkid : ℕ) (r : Resource) (rows : List LockState) → r.converting ≡ rows → ServiceArms lkid (service_of_conversions r rows) r
 serve_converting_arms lkid r [] is = omega arith
 serve_converting_arms lkid r (row ∷ rows) is =
     let granted : Resource = record (resource_after_grant r row) { converting = rows } in
     let more : Service = service_of_conversions granted rows in
-    let after : weigh (armed lkid) more.resource ≤ weigh (armed lkid) granted + sum_by (given lkid) more.endings = serve_converting_arms lkid granted rows refl in
+    let after : weigh (armed lkid) more.resource ≤ weigh (armed lkid) granted + sum_by (given lkid) more.endings =
+    serve_converting_arms lkid granted rows refl in
     cond_both (wanted_fits row.want r.granted rows) (service_after_grant row more) (no_service r) (λ served. ServiceArms lkid served r)
     (λ _. omega (
       arith,
@@ -111,7 +128,7 @@ serve_converting_arms lkid r (row ∷ rows) is =
     ))
     (λ _. omega arith)
 
-serve_waiting_arms : (lkid : ℕ) (r : Resource) (rows : List LockRow) → r.waiting ≡ rows → ServiceArms lkid (service_of_waiting r rows) r
+serve_waiting_arms : (lkid : ℕ) (r : Resource) (rows : List LockState) → r.waiting ≡ rows → ServiceArms lkid (service_of_waiting r rows) r
 serve_waiting_arms lkid r [] is = omega arith
 serve_waiting_arms lkid r (row ∷ rows) is =
     let granted : Resource = record (resource_after_grant r row) { waiting = rows } in
@@ -140,7 +157,8 @@ served_arms lkid r =
     let first : Service = service_of_conversions r r.converting in
     let arms : weigh (armed lkid) first.resource ≤ weigh (armed lkid) r + sum_by (given lkid) first.endings = serve_converting_arms lkid r r.converting refl in
     let later : Service = service_of_new_requests first.resource in
-    let then_arms : weigh (armed lkid) later.resource ≤ weigh (armed lkid) first.resource + sum_by (given lkid) later.endings = serve_new_requests_arms lkid first.resource in
+    let then_arms : weigh (armed lkid) later.resource ≤ weigh (armed lkid) first.resource + sum_by
+    (given lkid) later.endings = serve_new_requests_arms lkid first.resource in
     omega (arith, arms, then_arms, sum_by-append (given lkid) first.endings later.endings)
 
 -- ---- warnings
@@ -156,7 +174,7 @@ held_warns lkid (Some held) own pid = of_routine held.blocking
         omega (arith, sum_of_one (warned lkid) (record { pid = pid; ast = record { kind = Blocking; routine = routine; param = held.param; lkid = own } }))
 
 -- a row that is warned was armed, and is so no more
-row_disarms : (lkid : ℕ) (converting waiting : List LockRow) (row : LockRow)
+row_disarms : (lkid : ℕ) (converting waiting : List LockState) (row : LockState)
     → armed lkid (row_after_warning converting waiting row) + sum_by (warned lkid) (row_warnings converting waiting row) ≤ armed lkid row
 unfolding row_after_warning row_warnings
 row_disarms lkid converting waiting row = of_test (is_to_warn converting waiting row) refl
@@ -176,7 +194,7 @@ row_disarms lkid converting waiting row = of_test (is_to_warn converting waiting
           ap (λ (b : Bool). armed lkid (record row { armed = b })) (is_armed converting waiting row to_warn),
         )
 
-rows_disarm : (lkid : ℕ) (converting waiting rows : List LockRow)
+rows_disarm : (lkid : ℕ) (converting waiting rows : List LockState)
     → sum_by (armed lkid) (map (row_after_warning converting waiting) rows) + sum_by (warned lkid) (flat_map (row_warnings converting waiting) rows)
     ≤ sum_by (armed lkid) rows
 rows_disarm lkid converting waiting [] = omega arith
@@ -221,7 +239,7 @@ swept_within lkid processes (r ∷ rest) =
 
 -- ---- new requests
 
-entered_arms : (lkid : ℕ) (row : LockRow) (at_once : Bool) (r : Resource) → row.armed ≡ false
+entered_arms : (lkid : ℕ) (row : LockState) (at_once : Bool) (r : Resource) → row.armed ≡ false
     → weigh (armed lkid) (resource_after_entry row at_once r) ≤ weigh (armed lkid) r + sum_by (given lkid) (cond at_once (grant_endings true row) [])
 unfolding resource_after_entry
 entered_arms lkid row at_once r unarmed =
@@ -237,7 +255,7 @@ entered_arms lkid row at_once r unarmed =
       )
     ]
 
-entered_among_arms : (lkid serial : ℕ) (site : Site) (row : LockRow) (at_once : Bool) (resources : List Resource) → row.armed ≡ false
+entered_among_arms : (lkid serial : ℕ) (site : Site) (row : LockState) (at_once : Bool) (resources : List Resource) → row.armed ≡ false
     → sum_by (weigh (armed lkid)) (resources_after_entry serial site row at_once resources)
     ≤ sum_by (weigh (armed lkid)) resources + sum_by (given lkid) (cond at_once (grant_endings true row) [])
 entered_among_arms lkid serial site row at_once [] unarmed =
@@ -270,7 +288,7 @@ entered_among_arms lkid serial site row at_once (r ∷ rest) unarmed =
 -- ---- conversions
 
 -- on the resource of the lock
-converted_row_arms : (lkid : ℕ) (request : Request) (at_once : Bool) (caller named : ℕ) (block : ValueBlock) (r : Resource) (row : LockRow)
+converted_row_arms : (lkid : ℕ) (request : Request) (at_once : Bool) (caller named : ℕ) (block : ValueBlock) (r : Resource) (row : LockState)
     → Found (is_lock_of caller named) r.granted row
     → weigh (armed lkid) (resource_after_conversion_of request at_once named block r (Some row))
     ≤ weigh (armed lkid) r + sum_by (given lkid) (cond at_once (grant_endings true (wanting_row row request)) [])
@@ -353,7 +371,7 @@ swept_given lkid s change within =
     )
 
 -- a new request
-request_given : (lkid : ℕ) (s : State) (e : NewRequest) (choice : Option LockRow) → IsWithinGiven lkid s (step_change s (Enq e) choice)
+request_given : (lkid : ℕ) (s : State) (e : NewRequest) (choice : Option LockState) → IsWithinGiven lkid s (step_change s (Enq e) choice)
 unfolding enq_change
 request_given lkid s e choice =
     omega (
@@ -374,7 +392,9 @@ conversion_given lkid s c a apart admitted =
     let arms : ConvertsWithin (armed lkid) none (sum_by (given lkid)) a.request c.pid named block a s.resources =
     subst (λ (q : Request). ConvertsWithin (armed lkid) none (sum_by (given lkid)) q c.pid named block a s.resources) (sym request)
     (all_convert (armed lkid) none (sum_by (given lkid)) (convert_request s c) c.pid named block
-    (λ at_once r row at. omega (arith, converted_row_arms lkid (convert_request s c) at_once c.pid named block r row at)) a s.resources (apart.one_row named) admitted) in
+    (λ at_once r row at. omega
+    (arith, converted_row_arms lkid (convert_request s c) at_once c.pid named block r row at)) a s.resources
+    (apart.one_row named) admitted) in
     omega (arith, arms, all_complete lkid (conversion_endings a))
 
 -- locks that are withdrawn
@@ -397,7 +417,7 @@ end_given lkid s is_one nodes =
     )
 
 -- a step that no check refuses
-made_given : (lkid : ℕ) (s : State) (step : Step) (choice : Option LockRow) → Apart s → step_refusal s step ≡ None
+made_given : (lkid : ℕ) (s : State) (step : Step) (choice : Option LockState) → Apart s → step_refusal s step ≡ None
     → IsWithinGiven lkid s (stepped_after_sweep (step_change s step choice))
 unfolding declare_change set_change take_change deq_change search_change
 made_given lkid s (Declare d) choice apart passed = swept_given lkid s (step_change s (Declare d) choice) (omega arith)
@@ -416,7 +436,7 @@ made_given lkid s (Search node) choice apart passed =
     swept_given lkid s (step_change s (Search node) choice) (withdrawn_given lkid s (Victim (victim_lkid choice)) (victim_withdrawals choice))
 made_given lkid s (Take process) choice apart passed = swept_given lkid s (step_change s (Take process) choice) (omega arith)
 
-step_given : (lkid : ℕ) (s : State) (step : Step) (choice : Option LockRow) → Apart s → (refusal : Option Cond) → step_refusal s step ≡ refusal
+step_given : (lkid : ℕ) (s : State) (step : Step) (choice : Option LockState) → Apart s → (refusal : Option Cond) → step_refusal s step ≡ refusal
     → IsWithinGiven lkid s (refused_or refusal s (step_change s step choice))
 step_given lkid s step choice apart None passed = made_given lkid s step choice apart passed
 step_given lkid s step choice apart (Some refusal) is = omega arith

@@ -7,7 +7,7 @@ use Rattle.std.proofs.lemmas.List.Elements.{All-from_recursion}
 use Rattle.vlm_words.specs.declared.asts.AstKind.TheVariants.{Blocking}
 use Rattle.vlm_words.specs.declared.conditions.Cond.{Cond}
 use Rattle.vlm_words.specs.declared.locks.Request.{Request}
-use Rattle.vlm_words.specs.declared.locks.LockRow.{LockRow}
+use Rattle.vlm_words.specs.declared.locks.LockState.{LockState}
 use Rattle.vlm_words.specs.declared.resources.ValueBlock.{ValueBlock}
 use Rattle.vlm_words.specs.declared.steps.Answer.{Answer}
 use Rattle.vlm_words.specs.declared.steps.Conversion.{Conversion}
@@ -19,7 +19,9 @@ use Rattle.vlm_model.specs.Endings.{Ending}
 use Rattle.vlm_model.specs.Endings.How.{by_grant}
 use Rattle.vlm_model.specs.Asts.{Queued, asts_for, blocking_asts, completions_of, is_to_warn, resource_after_warning, row_after_warning, row_warnings, warnings}
 use Rattle.vlm_model.specs.Effects.{with_value_block}
-use Rattle.vlm_model.specs.Grants.{Service, grant_act, grant_endings, no_service, resource_after_grant, service, service_after_grant, service_of_conversions, service_of_new_requests, service_of_waiting, wanted_fits}
+use Rattle.vlm_model.specs.Grants.{Service, grant_act, grant_endings, no_service, resource_after_grant, service}
+use Rattle.vlm_model.specs.Grants.{service_after_grant, service_of_conversions, service_of_new_requests}
+use Rattle.vlm_model.specs.Grants.{service_of_waiting, wanted_fits}
 use Rattle.vlm_words.specs.Rows.{granted_row, is_arming, is_empty, is_lock_of, rows_of, rows_without, wanting_row}
 use Rattle.vlm_model.specs.Sweeps.{blocks_after_service, is_vacant, resource_after_service, resources_after_sweep, service_asts, sweep_asts, sweep_endings}
 use Rattle.vlm_model.specs.Declare.{declare_change}
@@ -27,8 +29,12 @@ use Rattle.vlm_model.specs.SetValue.{set_change}
 use Rattle.vlm_model.specs.Take.{take_change}
 use Rattle.vlm_model.specs.Trees.{enq_site}
 use Rattle.vlm_model.specs.Enqueue.{enq_at_once, enq_change, enq_resource, enq_row, resource_after_entry}
-use Rattle.vlm_model.specs.Convert.{ConversionAdmission, conversion_endings, convert_admission, convert_blocks, convert_change, convert_lkid, convert_request, resource_after_conversion, resource_after_conversion_of, resource_without_granted}
-use Rattle.vlm_model.specs.Withdrawals.{Withdrawal, is_held_by_writer, resource_after_cancel, resource_after_going, resource_after_withdrawals, resource_after_writer, resource_without, row_after_cancel, value_block_after_writer}
+use Rattle.vlm_model.specs.Convert.{ConversionAdmission, conversion_endings, convert_admission, convert_blocks}
+use Rattle.vlm_model.specs.Convert.{convert_change, convert_lkid, convert_request, resource_after_conversion}
+use Rattle.vlm_model.specs.Convert.{resource_after_conversion_of, resource_without_granted}
+use Rattle.vlm_model.specs.Withdrawals.{Withdrawal, is_held_by_writer, resource_after_cancel, resource_after_going}
+use Rattle.vlm_model.specs.Withdrawals.{resource_after_withdrawals, resource_after_writer, resource_without}
+use Rattle.vlm_model.specs.Withdrawals.{row_after_cancel, value_block_after_writer}
 use Rattle.vlm_model.specs.Dequeue.{deq_change, withdrawals_of}
 use Rattle.vlm_model.specs.Rundown.{is_ended_by, rundowns, state_after_rundown}
 use Rattle.vlm_words.specs.Steps.{is_of_node}
@@ -37,14 +43,14 @@ use Rattle.vlm_model.specs.Granted.{IsGrantTo}
 use Rattle.vlm_model.specs.Stepped.{Outcome, Stepped, conversion_change, outcome_endings, outcome_queued, refused_or, step_change, step_refusal, stepped}
 use Rattle.vlm_model.specs.Runs.{History, Run, begin, history_after, next}
 use Rattle.vlm_model.proofs.Always.{admission_of}
-use Rattle.vlm_model.proofs.WritesAtOnce.{admitted_stands}
+use Rattle.vlm_model.proofs.GrantsAtOnce.{admitted_stands}
 use Rattle.vlm_model.proofs.Each.{Any-behind, Any-weaker, Found, any_left, each_append, each_at, each_filter, each_map, each_member, each_weaker, found_at}
 use Rattle.vlm_model.proofs.EachResource.{each_entered_on, found_has}
 use Rattle.vlm_model.proofs.Granted.{EachRow, admitted_owned, each_row_weaker}
 use Rattle.vlm_model.proofs.Withdrawing.{kept_withdrawn}
 use Rattle.vlm_model.specs.WarnedSince.{EachGrantIsArmedOrWarned, IsTold, IsWarningOf, QueuedSince, and_then, at_grant}
 use Rattle.vlm_model.proofs.Accounting.{each_first}
-use Rattle.vlm_model.proofs.Falling.{is_armed}
+use Rattle.vlm_model.proofs.DueAstsFall.{is_armed}
 
 -- each of these is among those
 abbrev AreIn : {X : Type 0} → List X → List X → Type 0
@@ -59,7 +65,7 @@ each_last P (x ∷ xs) ys each = each_last P xs ys each.1
 abbrev Said : Type 1
 Said = ℕ → ℕ → Bool → Option Request → Type 0
 
-abbrev OfRow : Said → LockRow → Type 0
+abbrev OfRow : Said → LockState → Type 0
 OfRow F row = F row.lkid row.pid row.armed row.held
 
 -- what a step ends and queues keeps what is said of rows: of a row that holds nothing, of one that is granted, and of
@@ -73,13 +79,20 @@ module _ (F : Said) (ended : List Ending) (queued : List Queued) (keeps : Keeps 
   -- ---- grants
 
   -- a row whose grant is among the endings
-  granted_so : (at_once : Bool) (row : LockRow) → AreIn ended (grant_endings at_once row) → OfRow F (granted_row row)
+  granted_so : (at_once : Bool) (row : LockState) → AreIn ended (grant_endings at_once row) → OfRow F (granted_row row)
   granted_so at_once row ends = of_want row.want ends
     where
       of_want : (want : Option Request) → AreIn ended (grant_endings at_once (record row { want = want })) → F row.lkid row.pid (is_arming want) want
       of_want None ends = keeps.nothing row.lkid row.pid false
       of_want (Some request) ends =
-          let its : Ending = record { lkid = row.lkid; pid = row.pid; request = request; how = by_grant (grant_act row.held (Some request)); at_once = at_once } in
+          let its : Ending = record {
+            lkid = row.lkid;
+            pid = row.pid;
+            request = request;
+            how =
+                by_grant (grant_act row.held (Some request));
+            at_once = at_once;
+          } in
           keeps.grant row.lkid row.pid request
           (Any-weaker (λ y. its ≡ y) (IsGrantTo row.lkid row.pid request)
           (λ y same. subst (IsGrantTo row.lkid row.pid request) same (record { lock = refl; process = refl; whole = refl; grants = tt })) ended ends.0)
@@ -88,7 +101,7 @@ module _ (F : Said) (ended : List Ending) (queued : List Queued) (keeps : Keeps 
   abbrev Serves : Service → Type 0
   Serves served = AreIn ended served.endings → EachRow (OfRow F) served.resource
 
-  serve_converting_so : (r : Resource) (rows : List LockRow) → r.converting ≡ rows → EachRow (OfRow F) r → Serves (service_of_conversions r rows)
+  serve_converting_so : (r : Resource) (rows : List LockState) → r.converting ≡ rows → EachRow (OfRow F) r → Serves (service_of_conversions r rows)
   serve_converting_so r [] is each = λ _. each
   serve_converting_so r (row ∷ rows) is each =
       let granted : Resource = record (resource_after_grant r row) { converting = rows } in
@@ -103,7 +116,7 @@ module _ (F : Said) (ended : List Ending) (queued : List Queued) (keeps : Keeps 
       }) (each_last (λ x. Any (λ y. x ≡ y) ended) (grant_endings false row) more.endings ends))
       (λ _ _. each)
 
-  serve_waiting_so : (r : Resource) (rows : List LockRow) → r.waiting ≡ rows → EachRow (OfRow F) r → Serves (service_of_waiting r rows)
+  serve_waiting_so : (r : Resource) (rows : List LockState) → r.waiting ≡ rows → EachRow (OfRow F) r → Serves (service_of_waiting r rows)
   serve_waiting_so r [] is each = λ _. each
   serve_waiting_so r (row ∷ rows) is each =
       let granted : Resource = record (resource_after_grant r row) { waiting = rows } in
@@ -131,7 +144,7 @@ module _ (F : Said) (ended : List Ending) (queued : List Queued) (keeps : Keeps 
 
   -- ---- warnings
 
-  row_warned_so : (converting waiting : List LockRow) (row : LockRow) → AreIn queued (row_warnings converting waiting row) → OfRow F row
+  row_warned_so : (converting waiting : List LockState) (row : LockState) → AreIn queued (row_warnings converting waiting row) → OfRow F row
       → OfRow F (row_after_warning converting waiting row)
   unfolding row_after_warning row_warnings
   row_warned_so converting waiting row asts said = of_test (is_to_warn converting waiting row) refl asts
@@ -143,7 +156,7 @@ module _ (F : Said) (ended : List Ending) (queued : List Queued) (keeps : Keeps 
           keeps.warning row.lkid row.pid row.held
           (subst (λ (b : Bool). F row.lkid row.pid b row.held) (is_armed converting waiting row to_warn) said) asts
 
-  rows_warned_so : (converting waiting rows : List LockRow) → AreIn queued (flat_map (row_warnings converting waiting) rows) → AllByRecursion (OfRow F) rows
+  rows_warned_so : (converting waiting rows : List LockState) → AreIn queued (flat_map (row_warnings converting waiting) rows) → AllByRecursion (OfRow F) rows
       → AllByRecursion (OfRow F) (map (row_after_warning converting waiting) rows)
   rows_warned_so converting waiting [] asts each = tt
   rows_warned_so converting waiting (row ∷ rows) asts each =
@@ -185,7 +198,7 @@ module _ (F : Said) (ended : List Ending) (queued : List Queued) (keeps : Keeps 
   -- ---- the changes of the steps
 
   -- a new request
-  entered_so : (row : LockRow) (at_once : Bool) (r : Resource) → row.held ≡ None → AreIn ended (cond at_once (grant_endings true row) [])
+  entered_so : (row : LockState) (at_once : Bool) (r : Resource) → row.held ≡ None → AreIn ended (cond at_once (grant_endings true row) [])
       → EachRow (OfRow F) r → EachRow (OfRow F) (resource_after_entry row at_once r)
   unfolding resource_after_entry
   entered_so row true r none ends each = record {
@@ -202,7 +215,8 @@ module _ (F : Said) (ended : List Ending) (queued : List Queued) (keeps : Keeps 
   }
 
   -- a conversion, on one resource
-  converted_so : (a : ConversionAdmission) (pid lkid : ℕ) (block : ValueBlock) (r : Resource) (found : Option LockRow) → find (is_lock_of pid lkid) r.granted ≡ found
+  converted_so : (a : ConversionAdmission) (pid lkid : ℕ) (block : ValueBlock) (r : Resource) (found : Option LockState)
+      → find (is_lock_of pid lkid) r.granted ≡ found
       → a.row.lkid ≡ lkid → a.row.pid ≡ pid → AreIn ended (conversion_endings a) → EachRow (OfRow F) r
       → EachRow (OfRow F) (resource_after_conversion_of a.request a.at_once lkid block r found)
   converted_so a pid lkid block r None is named owned ends each = each
@@ -289,7 +303,7 @@ module _ (F : Said) (ended : List Ending) (queued : List Queued) (keeps : Keeps 
   Changes s change =
       AreIn ended change.endings → AllByRecursion (EachRow (OfRow F)) s.resources → AllByRecursion (EachRow (OfRow F)) change.state.resources
 
-  request_so : (s : State) (e : NewRequest) (choice : Option LockRow) → Changes s (step_change s (Enq e) choice)
+  request_so : (s : State) (e : NewRequest) (choice : Option LockState) → Changes s (step_change s (Enq e) choice)
   unfolding enq_change enq_resource
   request_so s e choice ends each =
       each_entered_on (EachRow (OfRow F)) s.next_serial (enq_site s e) (enq_row s e) (enq_at_once s e) s.resources
@@ -304,7 +318,7 @@ module _ (F : Said) (ended : List Ending) (queued : List Queued) (keeps : Keeps 
       (admitted_stands (convert_request s c) c.pid lkid a s.resources admitted).1
       (admitted_owned (convert_request s c) c.pid lkid a s.resources admitted) ends each
 
-  change_so : (s : State) (step : Step) (choice : Option LockRow) → step_refusal s step ≡ None → Changes s (step_change s step choice)
+  change_so : (s : State) (step : Step) (choice : Option LockState) → step_refusal s step ≡ None → Changes s (step_change s step choice)
   unfolding declare_change set_change take_change deq_change search_change state_after_rundown
   change_so s (Declare d) choice passed ends each = each
   change_so s (SetValue v) choice passed ends each = each
@@ -388,12 +402,13 @@ kept_so run outcome = record {
         record {
           before = was.before;
           queued = was.queued;
-          warning = inr (Any-behind (IsWarningOf lkid pid held routine) was.before (outcome_queued outcome) (its_warning lkid pid held routine held.blocking named asts));
+          warning = inr (Any-behind (IsWarningOf lkid pid held routine) was.before (outcome_queued outcome)
+              (its_warning lkid pid held routine held.blocking named asts));
         }
 
 -- what was so before the step is so with what it queues
 told_kept : {history : History} {old new : State} {step : Step} {answer : Answer} (run : Run history old) (outcome : Outcome old step new answer)
-    → (row : LockRow) → OfRow (IsTold run) row → OfRow (Kept run outcome) row
+    → (row : LockState) → OfRow (IsTold run) row → OfRow (Kept run outcome) row
 told_kept run outcome row told = of_held row.held told
   where
     of_held : (held : Option Request) → IsTold run row.lkid row.pid row.armed held → Kept run outcome row.lkid row.pid row.armed held
@@ -410,7 +425,7 @@ told_kept run outcome row told = of_held row.held told
         }
 
 kept_told : {history : History} {old new : State} {step : Step} {answer : Answer} (run : Run history old) (outcome : Outcome old step new answer)
-    → (row : LockRow) → OfRow (Kept run outcome) row → OfRow (IsTold (next run outcome)) row
+    → (row : LockState) → OfRow (Kept run outcome) row → OfRow (IsTold (next run outcome)) row
 kept_told run outcome row kept = of_held row.held kept
   where
     of_held : (held : Option Request) → Kept run outcome row.lkid row.pid row.armed held → IsTold (next run outcome) row.lkid row.pid row.armed held
@@ -430,7 +445,7 @@ told_always _ last (next {history} {old} {new} {step} {answer} run outcome) =
 
 pub warned_since_always : (history : History) (last : State) (run : Run history last) → EachGrantIsArmedOrWarned run
 warned_since_always history last run =
-    let Told : LockRow → Type 0 = λ row. IsTold run row.lkid row.pid row.armed row.held in
+    let Told : LockState → Type 0 = λ row. IsTold run row.lkid row.pid row.armed row.held in
     All-from_recursion (λ r. All Told (r.granted ++ r.converting)) last.resources
     (each_weaker (EachRow (OfRow (IsTold run))) (λ r. All Told (r.granted ++ r.converting))
     (λ r each. All-from_recursion Told (r.granted ++ r.converting) (each_append Told r.granted r.converting each.granted each.converting))

@@ -7,7 +7,7 @@ use Rattle.std.proofs.lemmas.List.Elements.{All-from_recursion, recursion_from_A
 use Rattle.vlm_words.specs.declared.asts.AstKind.TheVariants.{Completion, Blocking}
 use Rattle.vlm_words.specs.declared.conditions.Cond.{Cond}
 use Rattle.vlm_words.specs.declared.locks.Request.{Request}
-use Rattle.vlm_words.specs.declared.locks.LockRow.{LockRow}
+use Rattle.vlm_words.specs.declared.locks.LockState.{LockState}
 use Rattle.vlm_words.specs.declared.resources.ValueBlock.{ValueBlock}
 use Rattle.vlm_words.specs.declared.steps.Answer.{Answer}
 use Rattle.vlm_words.specs.declared.steps.Step.{Step}
@@ -29,7 +29,7 @@ use Rattle.vlm_model.specs.Warning.{IsNamedByGrant, NamesTheRoutine, WarningsAre
 use Rattle.vlm_model.proofs.Completing.{change_queues, each_completion}
 
 -- what a lock holds was granted to it
-abbrev Was : List Ending → LockRow → Type 0
+abbrev Was : List Ending → LockState → Type 0
 Was endings row = WasGranted endings row.lkid row.pid row.held
 
 -- so it is with all locks that are granted on these resources
@@ -66,16 +66,17 @@ held_named endings (Some held) lkid pid was = of_routine held.blocking refl
       tt,
     )
 
-row_named : (endings : List Ending) (converting waiting : List LockRow) (row : LockRow) → Was endings (row_after_warning converting waiting row)
+row_named : (endings : List Ending) (converting waiting : List LockState) (row : LockState) → Was endings (row_after_warning converting waiting row)
     → AllByRecursion (IsNamedByGrant endings) (row_warnings converting waiting row)
 unfolding row_warnings row_after_warning
 row_named endings converting waiting row was =
     cond_both (is_to_warn converting waiting row) (blocking_asts row.held row.lkid row.pid) [] (AllByRecursion (IsNamedByGrant endings))
     (λ _. held_named endings row.held row.lkid row.pid
-    (cond_both (is_to_warn converting waiting row) (record row { armed = false }) row (λ x. Was endings x → Was endings row) (λ _ given. given) (λ _ given. given) was))
+    (cond_both (is_to_warn converting waiting row) (record row { armed = false }) row (λ x. Was endings x
+    → Was endings row) (λ _ given. given) (λ _ given. given) was))
     (λ _. tt)
 
-rows_named : (endings : List Ending) (converting waiting rows : List LockRow) → AllByRecursion (Was endings) (map (row_after_warning converting waiting) rows)
+rows_named : (endings : List Ending) (converting waiting rows : List LockState) → AllByRecursion (Was endings) (map (row_after_warning converting waiting) rows)
     → AllByRecursion (IsNamedByGrant endings) (flat_map (row_warnings converting waiting) rows)
 rows_named endings converting waiting [] each = tt
 rows_named endings converting waiting (row ∷ rows) each =
@@ -96,7 +97,8 @@ split endings r rest each = of_test (is_vacant r) refl each
     of_test false left each = (each.0, each.1)
     of_test true vacant each = (
       subst (AllByRecursion (Was endings)) (sym (is_empty-true r.granted
-          (and_parts (is_empty r.granted) (is_empty r.converting) (and_parts (is_empty r.granted && is_empty r.converting) (is_empty r.waiting) vacant).0).0)) tt,
+          (and_parts (is_empty r.granted) (is_empty r.converting)
+          (and_parts (is_empty r.granted && is_empty r.converting) (is_empty r.waiting) vacant).0).0)) tt,
       each,
     )
 
@@ -123,7 +125,8 @@ made_named endings None s change queues each =
     (sweep_named endings change.state.processes change.state.resources each)
 made_named endings (Some refusal) s change queues each = tt
 
-outcome_named : (endings : List Ending) (old new : State) (step : Step) (answer : Answer) (outcome : Outcome old step new answer) → AllWere endings new.resources
+outcome_named : (endings : List Ending) (old new : State) (step : Step) (answer : Answer)
+    (outcome : Outcome old step new answer) → AllWere endings new.resources
     → AllByRecursion (IsNamedByGrant endings) (outcome_queued outcome)
 outcome_named endings old new step answer (inl made) each =
     made_named endings (step_refusal old step) old (step_change old step made.choice) (change_queues old step made.choice)

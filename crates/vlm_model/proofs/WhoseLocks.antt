@@ -1,39 +1,39 @@
--- Whose lock an identification is.
+-- The process that has the lock of an ID.
 use Rattle.std.proofs.Common.{◌≡◌, ◌≤◌, ◌+◌, ◌-◌, ℕ, Bool, true, false, not, List, [], ◌∷◌, flat_map, cond, Option, None, Some, refl, ap, inl, inr, ◌∙◌, arith}
 use Rattle.std.specs.Prelude.{◌==◌, ◌&&◌, ◌||◌}
 use Rattle.std.specs.List.{AllByRecursion, filter, list_any, range_with_len, sum_by}
 use Rattle.std.proofs.lemmas.Bool.{or_cases}
 use Rattle.std.proofs.lemmas.List.Sums.{sum_by-cons}
 use Rattle.vlm_words.specs.declared.locks.Request.{Request}
-use Rattle.vlm_words.specs.declared.locks.LockRow.{LockRow}
+use Rattle.vlm_words.specs.declared.locks.LockState.{LockState}
 use Rattle.vlm_words.specs.State.{Resource, State}
 use Rattle.vlm_model.specs.Endings.{Ending, How, row_endings, wanted_endings}
 use Rattle.vlm_words.specs.Rows.{rows_of}
 use Rattle.vlm_model.specs.OwnLocks.{has_lock_among, is_lock_among, own_lkids}
 use Rattle.vlm_model.specs.Withdrawals.{Withdrawal, queue_endings, withdrawal_endings, withdrawn_endings}
 use Rattle.vlm_model.specs.Rundown.{rundown_endings, rundown_of, rundowns}
-use Rattle.vlm_model.proofs.Apart.{Apart, standing, stands}
+use Rattle.vlm_model.proofs.IdsApart.{Apart, standing, stands}
 use Rattle.vlm_model.proofs.Each.{each_append, each_map, each_weaker}
 use Rattle.vlm_model.proofs.Weights.{weigh}
 use Rattle.vlm_model.proofs.Withdrawing.{each_end}
-use Rattle.vlm_model.proofs.Moves.{IsByName}
+use Rattle.vlm_model.proofs.LastingSums.{IsByName}
 use Rattle.vlm_model.proofs.Holdings.{locks}
 use Rattle.std.proofs.lemmas.Bool.Decides.{eqb_tells}
 
--- 1 for a row of this identification that is of one of these processes
-abbrev pub among : (ℕ → Bool) → ℕ → LockRow → ℕ
+-- 1 for a row of this ID that is of one of these processes
+abbrev pub among : (ℕ → Bool) → ℕ → LockState → ℕ
 among is_one lkid row = cond (is_lock_among is_one lkid row) 1 0
 
--- 1 for a row of this identification that is of another process
-abbrev pub strangers : (ℕ → Bool) → ℕ → LockRow → ℕ
+-- 1 for a row of this ID that is of another process
+abbrev pub strangers : (ℕ → Bool) → ℕ → LockState → ℕ
 strangers is_one lkid row = cond ((row.lkid == lkid) && not (is_one row.pid)) 1 0
 
--- no row of this identification is of another process
+-- no row of this ID is of another process
 abbrev pub NoStrangers : (ℕ → Bool) → List Resource → ℕ → Type 0
 NoStrangers is_one resources lkid = sum_by (weigh (strangers is_one lkid)) resources ≡ 0
 
--- a row of the identification is of one of the processes, or of another one
-stands_of : (is_one : ℕ → Bool) (lkid : ℕ) (row : LockRow) → stands lkid row ≡ among is_one lkid row + strangers is_one lkid row
+-- a row of the ID is of one of the processes, or of another one
+stands_of : (is_one : ℕ → Bool) (lkid : ℕ) (row : LockState) → stands lkid row ≡ among is_one lkid row + strangers is_one lkid row
 stands_of is_one lkid row = of_tests (row.lkid == lkid) (is_one row.pid)
   where
     of_tests : (a b : Bool) → cond a 1 0 ≡ cond (a && b) 1 0 + cond (a && not b) 1 0
@@ -41,7 +41,7 @@ stands_of is_one lkid row = of_tests (row.lkid == lkid) (is_one row.pid)
     of_tests true false = refl
     of_tests false b = refl
 
-rows_of_all : (is_one : ℕ → Bool) (lkid : ℕ) (rows : List LockRow)
+rows_of_all : (is_one : ℕ → Bool) (lkid : ℕ) (rows : List LockState)
     → sum_by (stands lkid) rows ≡ sum_by (among is_one lkid) rows + sum_by (strangers is_one lkid) rows
 rows_of_all is_one lkid [] = refl
 rows_of_all is_one lkid (row ∷ rows) =
@@ -70,7 +70,7 @@ all_of is_one lkid (r ∷ rest) =
     )
 
 -- what is found is counted
-rows_counted : (is_one : ℕ → Bool) (lkid : ℕ) (rows : List LockRow) → list_any (is_lock_among is_one lkid) rows ≡ true
+rows_counted : (is_one : ℕ → Bool) (lkid : ℕ) (rows : List LockState) → list_any (is_lock_among is_one lkid) rows ≡ true
     → 1 ≤ sum_by (among is_one lkid) rows
 rows_counted is_one lkid [] found = cc
 rows_counted is_one lkid (row ∷ rows) found =
@@ -101,7 +101,7 @@ held_counted is_one lkid (r ∷ rest) held =
       | inr later ↦ omega (arith, held_counted is_one lkid rest later, sum_by-cons (weigh (among is_one lkid)) r rest)
     ]
 
--- where a row of the identification is of one of the processes, no other row has it
+-- where a row of the ID is of one of the processes, no other row has it
 pub none_strange : (is_one : ℕ → Bool) (s : State) → Apart s → (lkid : ℕ) → list_any (has_lock_among is_one lkid) s.resources ≡ true
     → NoStrangers is_one s.resources lkid
 none_strange is_one s apart lkid held =
@@ -124,7 +124,7 @@ own_are_theirs is_one s apart =
     (each_passing (λ lkid. list_any (has_lock_among is_one lkid) s.resources) (range_with_len 1 (s.next_lkid - 1)))
 
 -- a row of a lock of another process is a stranger's
-anothers : (is_one : ℕ → Bool) (pid lkid : ℕ) → is_one pid ≡ false → (row : LockRow) → locks pid lkid row ≤ strangers is_one lkid row
+anothers : (is_one : ℕ → Bool) (pid lkid : ℕ) → is_one pid ≡ false → (row : LockState) → locks pid lkid row ≤ strangers is_one lkid row
 anothers is_one pid lkid differs row =
     elim (eqb_tells row.pid pid) [
       | inl same ↦ rw (same.0, ap is_one same.1 ∙ differs) (of_tests (row.lkid == lkid))
@@ -139,7 +139,7 @@ anothers is_one pid lkid differs row =
     of_none true false = omega arith
     of_none false b = omega arith
 
-pub all_anothers : (is_one : ℕ → Bool) (pid lkid : ℕ) → is_one pid ≡ false → (rows : List LockRow)
+pub all_anothers : (is_one : ℕ → Bool) (pid lkid : ℕ) → is_one pid ≡ false → (rows : List LockState)
     → sum_by (locks pid lkid) rows ≤ sum_by (strangers is_one lkid) rows
 all_anothers is_one pid lkid differs [] = omega arith
 all_anothers is_one pid lkid differs (row ∷ rows) =
@@ -158,7 +158,7 @@ abbrev pub IsTheirs : (ℕ → Bool) → Ending → Type 0
 IsTheirs is_one ending = is_one ending.pid ≡ true
 
 -- the requests of rows of which none is a stranger's are of the processes
-ends_of : (is_one : ℕ → Bool) (lkid : ℕ) (how : How) (rows : List LockRow) → sum_by (strangers is_one lkid) rows ≡ 0
+ends_of : (is_one : ℕ → Bool) (lkid : ℕ) (how : How) (rows : List LockState) → sum_by (strangers is_one lkid) rows ≡ 0
     → AllByRecursion (IsTheirs is_one) (queue_endings how lkid rows)
 ends_of is_one lkid how [] nothing = tt
 ends_of is_one lkid how (row ∷ rows) nothing =
@@ -210,7 +210,7 @@ rundown_ends_are_theirs is_one s apart = withdrawn_are_theirs is_one (rundowns i
 -- ---- how many locks a process has
 
 -- 1 for a row of a lock of the process
-abbrev pub owned : ℕ → LockRow → ℕ
+abbrev pub owned : ℕ → LockState → ℕ
 owned pid row = cond (row.pid == pid) 1 0
 
 -- how many locks the process has

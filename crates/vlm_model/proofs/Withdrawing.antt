@@ -10,7 +10,9 @@ use Rattle.vlm_model.specs.OwnLocks.{own_lkids}
 use Rattle.vlm_model.specs.Dequeue.{conversion_ending, dequeued_lkids, withdrawal_of, withdrawals_of}
 use Rattle.vlm_model.specs.Rundown.{rundown_of, rundowns}
 use Rattle.vlm_words.specs.State.{Resource, State}
-use Rattle.vlm_model.specs.Withdrawals.{Withdrawal, resource_after_each, resource_after_going, resource_after_withdrawals, resource_after_writer, withdrawal_endings, withdrawn_endings}
+use Rattle.vlm_model.specs.Withdrawals.{Withdrawal, resource_after_each, resource_after_going}
+use Rattle.vlm_model.specs.Withdrawals.{resource_after_withdrawals, resource_after_writer, withdrawal_endings}
+use Rattle.vlm_model.specs.Withdrawals.{withdrawn_endings}
 use Rattle.vlm_model.proofs.Each.{each_append, each_map, each_so}
 
 -- what each change keeps, all keep

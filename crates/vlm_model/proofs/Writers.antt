@@ -1,5 +1,6 @@
--- Only writers change value blocks.
-use Rattle.std.proofs.Common.{◌≡◌, ◌⊎◌, ◌-◌, ◌+◌, ℕ, Bool, true, false, not, List, [], ◌∷◌, ◌++◌, map, length, get_or, cond, Option, None, Some, refl, sym, subst, ap, inl, inr, ◌∙◌, arith}
+-- Only requests that may write change a value block.
+use Rattle.std.proofs.Common.{◌≡◌, ◌⊎◌, ◌-◌, ◌+◌, ℕ, Bool, true, false, not, List, [], ◌∷◌, ◌++◌, map, length, get_or}
+use Rattle.std.proofs.Common.{cond, Option, None, Some, refl, sym, subst, ap, inl, inr, ◌∙◌, arith}
 use Rattle.std.specs.Prelude.{◌==◌, ◌≢◌, ◌&&◌, Any, ◌/◌, ⊤}
 use Rattle.std.specs.List.{AllByRecursion, find, list_any}
 use Rattle.std.proofs.lemmas.Bool.{and_from, and_parts, cases_lt, cond_both, eq-eqb, eqb-true, or_cases}
@@ -9,7 +10,7 @@ use Rattle.std.proofs.lemmas.List.Folds.{Any-from_list_any, list_any-append, lis
 use Rattle.vlm_words.specs.declared.blocks.Block.{Block}
 use Rattle.vlm_words.specs.declared.conditions.Cond.{Cond}
 use Rattle.vlm_words.specs.declared.locks.Request.{Request}
-use Rattle.vlm_words.specs.declared.locks.LockRow.{LockRow}
+use Rattle.vlm_words.specs.declared.locks.LockState.{LockState}
 use Rattle.vlm_words.specs.declared.modes.Act.TheVariants.{Write}
 use Rattle.vlm_words.specs.declared.modes.Act.{Act}
 use Rattle.vlm_words.specs.declared.modes.Mode.TheVariants.{Nl, Cr, Cw, Pr, Pw, Ex}
@@ -37,33 +38,43 @@ use Rattle.vlm_model.specs.SetValue.{set_change}
 use Rattle.vlm_model.specs.Take.{take_change}
 use Rattle.vlm_model.specs.Trees.{enq_site}
 use Rattle.vlm_model.specs.Enqueue.{enq_at_once, enq_change, enq_row, resource_after_entry}
-use Rattle.vlm_model.specs.Convert.{ConversionAdmission, conversion_endings, convert_admission, convert_blocks, convert_change, convert_lkid, convert_refusal, convert_request, resource_after_conversion, resource_after_conversion_of}
-use Rattle.vlm_model.specs.Withdrawals.{Withdrawal, has_writer, is_held_by_writer, is_writer, resource_after_cancel, resource_after_going, resource_after_withdrawals, resource_after_writer, resource_without, value_block_after_gift, value_block_after_writer, resource_after_each}
+use Rattle.vlm_model.specs.Convert.{ConversionAdmission, conversion_endings, convert_admission, convert_blocks}
+use Rattle.vlm_model.specs.Convert.{convert_change, convert_lkid, convert_refusal, convert_request}
+use Rattle.vlm_model.specs.Convert.{resource_after_conversion, resource_after_conversion_of}
+use Rattle.vlm_model.specs.Withdrawals.{Withdrawal, has_writer, is_held_by_writer, is_writer, resource_after_cancel}
+use Rattle.vlm_model.specs.Withdrawals.{resource_after_going, resource_after_withdrawals, resource_after_writer}
+use Rattle.vlm_model.specs.Withdrawals.{resource_without, value_block_after_gift, value_block_after_writer}
+use Rattle.vlm_model.specs.Withdrawals.{resource_after_each}
 use Rattle.vlm_model.specs.Dequeue.{deq_change, dequeue_lkid, withdrawal_of, withdrawals_of, deq_refusal, dequeued_lkids}
 use Rattle.vlm_model.specs.Runs.{History, Run}
 use Rattle.vlm_model.specs.Stepped.{IsChoice, Stepped, conversion_change, refused_or, step_change, step_refusal, stepped, stepped_after_sweep}
 use Rattle.vlm_model.specs.Laws.{Stands, action_from}
-use Rattle.vlm_model.specs.Writers.{HasItsValue, HasNewValue, IsWrittenValue, IsWriter, LeavesValue, OnlyWritersChangeValues, WritesFrom, WritesValue, HasWriterOf, IsHeldByWriter, IsWrittenFrom}
+use Rattle.vlm_model.specs.Writers.{HasItsValue, HasNewValue, IsWrittenValue, IsWriter, LeavesValue}
+use Rattle.vlm_model.specs.Writers.{OnlyWritersChangeValues, WritesFrom, WritesValue, HasWriterOf, IsHeldByWriter}
+use Rattle.vlm_model.specs.Writers.{IsWrittenFrom}
 use Rattle.vlm_model.proofs.Admissions.{admitted_request, found_lkid}
 use Rattle.vlm_model.proofs.Always.{admission_of}
-use Rattle.vlm_model.proofs.Apart.{Apart, apart_always}
-use Rattle.vlm_model.proofs.WritesAtOnce.{only_there}
-use Rattle.vlm_model.proofs.Each.{Any-behind, Any-cases, Any-none, Any-weaker, any_left, each_filter, each_map, each_weaker, found_at, each_member, Any-here, each_so, each_there}
+use Rattle.vlm_model.proofs.IdsApart.{Apart, apart_always}
+use Rattle.vlm_model.proofs.GrantsAtOnce.{only_there}
+use Rattle.vlm_model.proofs.Each.{Any-behind, Any-cases, Any-none, Any-weaker, any_left, each_filter, each_map}
+use Rattle.vlm_model.proofs.Each.{each_weaker, found_at, each_member, Any-here, each_so, each_there}
 use Rattle.vlm_model.proofs.EachResource.{each_entered_at}
 use Rattle.vlm_model.proofs.HeldModes.{HoldersAgree, holders_agree_always}
 use Rattle.vlm_model.proofs.Keys.{Placed, WasGiven, conversion_keeps_place, entry_keeps_place, placed_always, withdrawals_keep_place}
 use Rattle.vlm_model.proofs.Refusals.{Any_found}
 use Rattle.vlm_model.proofs.Standing.{admitted_there}
-use Rattle.vlm_model.proofs.SweptValues.{IsHarmless, WritesNothing, conversion_is_harmless, ends_leave, grant_harmless, harmless_always, new_is_harmless, served, served_leaves, served_same, swept_alone, table_writes, writes_by_table}
+use Rattle.vlm_model.proofs.SweptValues.{IsHarmless, WritesNothing, conversion_is_harmless, ends_leave, grant_harmless}
+use Rattle.vlm_model.proofs.SweptValues.{harmless_always, new_is_harmless, served, served_leaves, served_same}
+use Rattle.vlm_model.proofs.SweptValues.{swept_alone, table_writes, writes_by_table}
 use Rattle.vlm_model.proofs.Waiting.{Queued, conversion_queued, request_queued, rundown_queued, withdrawn_queued}
-use Rattle.vlm_model.proofs.Writes.{only_row_among, write_at_once}
-use Rattle.vlm_model.proofs.Written.{blocks_are, conversion_names}
+use Rattle.vlm_model.proofs.WritingConversions.{only_row_among, write_at_once}
+use Rattle.vlm_model.proofs.WrittenBlocks.{blocks_are, conversion_names}
 use Rattle.vlm_model.proofs.EndWrites.{block_at, block_numbered, block_written, many_written}
 use Rattle.vlm_model.specs.OwnLocks.{own_lkids}
 use Rattle.vlm_model.specs.Rundown.{is_ended_by, nodes_after_departure, rundown_of, rundowns, state_after_rundown}
 use Rattle.vlm_words.specs.Steps.{is_of_node}
-use Rattle.vlm_model.proofs.LeftValues.{IsPlain, LeftTogether, left_together, lkids_of_writers, writer_found, writer_of}
-use Rattle.vlm_model.proofs.Passed.{flags_go_together, given_none, no_value_goes}
+use Rattle.vlm_model.proofs.ReleasedValues.{IsPlain, LeftTogether, left_together, lkids_of_writers, writer_found, writer_of}
+use Rattle.vlm_model.proofs.PassedChecks.{flags_go_together, given_none, no_value_goes}
 use Rattle.vlm_model.specs.Search.{victim_withdrawals, search_change, deadlock_of}
 
 -- ---- what is so of a resource
@@ -123,10 +134,11 @@ idle_has s step none =
 -- ---- a new request
 
 -- an entry leaves the value block
-pub entry_leaves : (row : LockRow) (at_once : Bool) (r : Resource) → (resource_after_entry row at_once r).value_block ≡ r.value_block
+pub entry_leaves : (row : LockState) (at_once : Bool) (r : Resource) → (resource_after_entry row at_once r).value_block ≡ r.value_block
 unfolding resource_after_entry
 entry_leaves row at_once r =
-    cond_both at_once (resource_after_grant r row) (record r { waiting = r.waiting ++ row ∷ [] }) (λ after. after.value_block ≡ r.value_block) (λ _. refl) (λ _. refl)
+    cond_both at_once (resource_after_grant r row) (record r { waiting = r.waiting ++ row ∷ [] })
+    (λ after. after.value_block ≡ r.value_block) (λ _. refl) (λ _. refl)
 
 -- no resource has the serial that is to come
 all_older : (next : ℕ) (resources : List Resource) → AllByRecursion (WasGiven next) resources → AllByRecursion (λ before. before.serial ≢ next) resources
@@ -136,14 +148,15 @@ all_older next (r ∷ rest) given = ((λ same. absurd (omega (arith, same, given
 request_has : (s : State) (e : NewRequest) → Placed s → AllByRecursion (Has s (Enq e)) (enq_change s e).resources
 unfolding enq_change
 request_has s e placed =
-    let row : LockRow = enq_row s e in
+    let row : LockState = enq_row s e in
     let now : Bool = enq_at_once s e in
     let here = idle_has s (Enq e) (λ r writes. writes) in
     each_entered_at (Has s (Enq e)) s.next_serial (enq_site s e) row now
     (inr (record {
       made =
           All-from_recursion (λ before. before.serial ≢ (resource_after_entry row now (new_resource s.next_serial (enq_site s e))).serial) s.resources
-          (subst (λ (n : ℕ). AllByRecursion (λ before. before.serial ≢ n) s.resources) (sym (entry_keeps_place row now (new_resource s.next_serial (enq_site s e))).serial)
+          (subst (λ (n : ℕ). AllByRecursion (λ before. before.serial ≢ n) s.resources)
+          (sym (entry_keeps_place row now (new_resource s.next_serial (enq_site s e))).serial)
           (all_older s.next_serial s.resources placed.given));
       zeros = ap (λ (block : ValueBlock). block.value) (entry_leaves row now (new_resource s.next_serial (enq_site s e)));
       valid = ap (λ (block : ValueBlock). block.valid) (entry_leaves row now (new_resource s.next_serial (enq_site s e)));
@@ -173,7 +186,7 @@ is_writer_so (Some held) (inl pw) = rw pw refl
 is_writer_so (Some held) (inr ex) = rw ex refl
 
 -- a lock that may write is among the rows
-abbrev WriterAmong : ℕ → List LockRow → Type 0
+abbrev WriterAmong : ℕ → List LockState → Type 0
 WriterAmong lkid rows = Any (λ row. (row.lkid ≡ lkid) × IsWriter row.held) rows
 
 held_by_writer : (lkid : ℕ) (r : Resource) → WriterAmong lkid (r.granted ++ r.converting) → is_held_by_writer lkid r ≡ true
@@ -190,7 +203,7 @@ writer_holds lkid r held =
       | inr converting ↦ Any-behind (λ row. (row.lkid ≡ lkid) × IsWriter row.held) r.granted r.converting (among r.converting converting)
     ]
   where
-    among : (rows : List LockRow) → has_writer lkid rows ≡ true → WriterAmong lkid rows
+    among : (rows : List LockState) → has_writer lkid rows ≡ true → WriterAmong lkid rows
     among rows some =
         Any-weaker (λ row. ((row.lkid == lkid) && is_writer row.held) ≡ true) (λ row. (row.lkid ≡ lkid) × IsWriter row.held)
         (λ row passes.
@@ -204,11 +217,16 @@ going_leaves w r =
     cond_both w.stays (resource_after_cancel w.lkid r) (resource_without w.lkid r) (λ after. after.value_block ≡ r.value_block) (λ _. refl) (λ _. refl)
 
 -- the value block after a withdrawal
-withdrawn_value : (w : Withdrawal) (r : Resource) → (resource_after_withdrawals (w ∷ []) r).value_block ≡ cond (is_held_by_writer w.lkid r) (value_block_after_writer w r.value_block) r.value_block
+withdrawn_value : (w : Withdrawal) (r : Resource)
+    → (resource_after_withdrawals (w ∷ []) r).value_block ≡ cond (is_held_by_writer w.lkid r)
+    (value_block_after_writer w r.value_block) r.value_block
 withdrawn_value w r =
     going_leaves w (resource_after_writer w r)
     ∙ cond_both (is_held_by_writer w.lkid r) (record r { value_block = value_block_after_writer w r.value_block }) r
-    (λ left. (cond (is_held_by_writer w.lkid r) (record r { value_block = value_block_after_writer w r.value_block }) r).value_block ≡ (cond (is_held_by_writer w.lkid r) (value_block_after_writer w r.value_block) r.value_block)) (λ is. rw is refl) (λ is. rw is refl)
+    (λ left. (cond (is_held_by_writer w.lkid r)
+    (record r { value_block = value_block_after_writer w r.value_block }) r).value_block ≡
+    (cond (is_held_by_writer w.lkid r) (value_block_after_writer w r.value_block) r.value_block)) (λ is. rw is refl)
+    (λ is. rw is refl)
 
 -- what a dequeue leaves, and that a cancel leaves nothing
 abbrev left_value : Option (List ℕ) → Option (List ℕ) → Bool → Bool → ValueBlock → ValueBlock
@@ -311,7 +329,8 @@ several_have_its : (s : State) (d : Dequeue) → has_flag d.flags cancel ≡ fal
     → HasItsValue s (Deq d) r (resource_after_withdrawals (withdrawals_of s d) r)
 several_have_its s d plain none r =
     together_has_its s (Deq d) (has_flag d.flags invvalblk) (withdrawals_of s d)
-    (each_map (λ lkid. ⊤) (IsPlain (has_flag d.flags invvalblk)) (withdrawal_of d) (λ lkid _. (rw (plain, none) refl, rw plain (marks (has_flag d.flags invvalblk))))
+    (each_map (λ lkid. ⊤) (IsPlain (has_flag d.flags invvalblk)) (withdrawal_of d)
+    (λ lkid _. (rw (plain, none) refl, rw plain (marks (has_flag d.flags invvalblk))))
     (dequeued_lkids s d) (each_so (λ lkid. ⊤) (λ lkid. tt) (dequeued_lkids s d)))
     r
     (λ writes. lkids_of_writers (withdrawal_of d) (λ lkid. refl) (dequeued_lkids s d) r ∙ holds_some r (dequeued_lkids s d) writes.1)
@@ -384,14 +403,14 @@ dequeue_has s d passed = changed_has s (Deq d) (resource_after_withdrawals (with
 -- ---- a search
 
 -- the victim leaves the value block
-victim_leaves : (choice : Option LockRow) (r : Resource) → (resource_after_withdrawals (victim_withdrawals choice) r).value_block ≡ r.value_block
+victim_leaves : (choice : Option LockState) (r : Resource) → (resource_after_withdrawals (victim_withdrawals choice) r).value_block ≡ r.value_block
 victim_leaves None r = refl
 victim_leaves (Some victim) r =
     withdrawn_value (deadlock_of victim.lkid) r
     ∙ cond_both (is_held_by_writer victim.lkid r) (value_block_after_writer (deadlock_of victim.lkid) r.value_block) r.value_block
     (λ block. block ≡ r.value_block) (λ _. refl) (λ _. refl)
 
-search_has : (s : State) (node : ℕ) (choice : Option LockRow) → AllByRecursion (Has s (Search node)) (search_change s choice).resources
+search_has : (s : State) (node : ℕ) (choice : Option LockState) → AllByRecursion (Has s (Search node)) (search_change s choice).resources
 unfolding search_change
 search_has s node choice =
     changed_has s (Search node) (resource_after_withdrawals (victim_withdrawals choice))
@@ -462,7 +481,15 @@ written_value s c a now writes =
     (blocks_after (cond b (grant_endings true (wanting_row a.row a.request)) [])
     (blocks_with a.resource.value_block (processes_after_acceptance c.pid c.block (convert_lkid s c) s.processes))).value_block) now
     ∙ ap (λ (act : Act).
-    (blocks_after_grant act (record { lkid = a.row.lkid; pid = a.row.pid; request = a.request; how = by_grant (grant_act a.row.held (Some a.request)); at_once = true })
+    (blocks_after_grant act
+    (record {
+      lkid = a.row.lkid;
+      pid = a.row.pid;
+      request = a.request;
+      how =
+          by_grant (grant_act a.row.held (Some a.request));
+      at_once = true;
+    })
     (blocks_with a.resource.value_block (processes_after_acceptance c.pid c.block (convert_lkid s c) s.processes))).value_block) writes
 
 -- and where it does not write
@@ -514,7 +541,7 @@ module _ (s : State) (c : Conversion) (a : ConversionAdmission) (agree : AllByRe
       (only_there (convert_request s c) c.pid (convert_lkid s c) a s.resources (apart.one_row (convert_lkid s c)) admitted) there stands
 
   -- what is so of a granted row of the lock is so of the row that converts
-  only_row : (P : LockRow → Type 0) (r : Resource) → Any (λ x. r ≡ x) s.resources → Any (λ row. (row.lkid ≡ convert_lkid s c) × P row) r.granted → P a.row
+  only_row : (P : LockState → Type 0) (r : Resource) → Any (λ x. r ≡ x) s.resources → Any (λ row. (row.lkid ≡ convert_lkid s c) × P row) r.granted → P a.row
   unfolding convert_admission
   only_row P r there some =
       only_row_among P (convert_request s c) c.pid (convert_lkid s c) a s.resources (apart.one_row (convert_lkid s c)) admitted
@@ -548,37 +575,42 @@ module _ (s : State) (c : Conversion) (a : ConversionAdmission) (agree : AllByRe
   written_so : (p : Process) → process_of s.processes c.pid ≡ Some p → a.at_once ≡ true → grant_act a.row.held (Some a.request) ≡ Write
       → IsWrittenFrom (has_flag c.flags wide) (get_or p.blocks (c.block - 1) new_status_block) a.resource.value_block (convert_blocks s c a).value_block
   written_so p lives now act =
-      subst (λ (request : Request). IsWrittenFrom (is_wide request) (get_or p.blocks (c.block - 1) new_status_block) a.resource.value_block (convert_blocks s c a).value_block)
+      subst (λ (request : Request). IsWrittenFrom (is_wide request)
+      (get_or p.blocks (c.block - 1) new_status_block) a.resource.value_block (convert_blocks s c a).value_block)
       asks
       (written_from (is_wide a.request)
-      (status_block_of (processes_after_acceptance c.pid c.block (convert_lkid s c) s.processes) a.row.pid a.request.block) (get_or p.blocks (c.block - 1) new_status_block) a.resource.value_block (convert_blocks s c a).value_block
+      (status_block_of (processes_after_acceptance c.pid c.block
+      (convert_lkid s c) s.processes) a.row.pid a.request.block)
+      (get_or p.blocks (c.block - 1) new_status_block) a.resource.value_block (convert_blocks s c a).value_block
       (written_value s c a now act) (part_written (λ block. block.value) (λ _. refl) p lives) (part_written (λ block. block.tail) (λ _. refl) p lives))
 
   -- a resource after the conversion
-  abbrev after_conversion : Resource → Option LockRow → Resource
+  abbrev after_conversion : Resource → Option LockState → Resource
   after_conversion r there = resource_after_conversion_of a.request a.at_once (convert_lkid s c) (convert_blocks s c a).value_block r there
 
-  at_once_value : (r : Resource) (row : LockRow) → a.at_once ≡ true → (after_conversion r (Some row)).value_block ≡ (convert_blocks s c a).value_block
+  at_once_value : (r : Resource) (row : LockState) → a.at_once ≡ true → (after_conversion r (Some row)).value_block ≡ (convert_blocks s c a).value_block
   at_once_value r row now = rw now refl
 
-  waiting_value : (r : Resource) (row : LockRow) → a.at_once ≡ false → (after_conversion r (Some row)).value_block ≡ r.value_block
+  waiting_value : (r : Resource) (row : LockState) → a.at_once ≡ false → (after_conversion r (Some row)).value_block ≡ r.value_block
   waiting_value r row waits = rw waits refl
 
-  written_there : (r : Resource) → Any (λ x. r ≡ x) s.resources → WritesValue s (Convert c) r → (there : Option LockRow)
+  written_there : (r : Resource) → Any (λ x. r ≡ x) s.resources → WritesValue s (Convert c) r → (there : Option LockState)
       → find (is_lock_of c.pid (convert_lkid s c)) r.granted ≡ there → IsWrittenValue s (Convert c) r.value_block (after_conversion r there).value_block
   written_there r member writes there is p lives =
       let from : WritesFrom a.row.held c.mode = only_row (λ row. WritesFrom row.held c.mode) r member writes.1 in
       let now : a.at_once ≡ true = write_at_once s c a agree passed admitted (to_table a.row.held c.mode from) in
       let same : r ≡ a.resource =
       only_one r member
-      (Any-weaker (λ row. (row.lkid ≡ convert_lkid s c) × WritesFrom row.held c.mode) (λ row. row.lkid ≡ convert_lkid s c) (λ row so. so.0) r.granted writes.1) in
+      (Any-weaker (λ row. (row.lkid ≡ convert_lkid s c)
+      × WritesFrom row.held c.mode) (λ row. row.lkid ≡ convert_lkid s c) (λ row so. so.0) r.granted writes.1) in
       let row : there ≡ Some a.row = sym is ∙ ap (λ (x : Resource). find (is_lock_of c.pid (convert_lkid s c)) x.granted) same ∙ found in
       subst (IsWrittenFrom (has_flag c.flags wide) (get_or p.blocks (c.block - 1) new_status_block) r.value_block)
-      (sym (ap (λ (found : Option LockRow). (after_conversion r found).value_block) row ∙ at_once_value r a.row now))
-      (subst (λ (x : Resource). IsWrittenFrom (has_flag c.flags wide) (get_or p.blocks (c.block - 1) new_status_block) x.value_block (convert_blocks s c a).value_block)
+      (sym (ap (λ (found : Option LockState). (after_conversion r found).value_block) row ∙ at_once_value r a.row now))
+      (subst (λ (x : Resource). IsWrittenFrom (has_flag c.flags wide)
+      (get_or p.blocks (c.block - 1) new_status_block) x.value_block (convert_blocks s c a).value_block)
       (sym same) (written_so p lives now (act_is (writes.0, from))))
 
-  kept_there : (r : Resource) → Any (λ x. r ≡ x) s.resources → (WritesValue s (Convert c) r → ⊥) → (there : Option LockRow)
+  kept_there : (r : Resource) → Any (λ x. r ≡ x) s.resources → (WritesValue s (Convert c) r → ⊥) → (there : Option LockState)
       → find (is_lock_of c.pid (convert_lkid s c)) r.granted ≡ there → (now : Bool) → a.at_once ≡ now → (after_conversion r there).value_block ≡ r.value_block
   kept_there r member none None is now at = refl
   kept_there r member none (Some row) is false at = waiting_value r row at
@@ -595,11 +627,11 @@ module _ (s : State) (c : Conversion) (a : ConversionAdmission) (agree : AllByRe
       none (
         writes.0,
         Any_found (λ x. (x.lkid ≡ lkid) × WritesFrom x.held c.mode) (is_lock_of c.pid lkid) r.granted row is
-            (named, subst (λ (x : LockRow). WritesFrom x.held c.mode) (sym its) writes.1),
+            (named, subst (λ (x : LockState). WritesFrom x.held c.mode) (sym its) writes.1),
       ))
       ∙ ap (λ (x : Resource). x.value_block) (sym same)
     where
-      row_same : (x y : LockRow) → Some x ≡ Some y → x ≡ y
+      row_same : (x y : LockState) → Some x ≡ Some y → x ≡ y
       row_same x y is = cc
 
   conversion_has_its : (r : Resource) → Any (λ x. r ≡ x) s.resources
@@ -619,11 +651,12 @@ module _ (s : State) (c : Conversion) (a : ConversionAdmission) (agree : AllByRe
 -- ---- the steps
 
 -- a change whose resources have it, once it is swept
-swept_change : (s : State) (step : Step) (change : Stepped) → AllByRecursion (Queued IsHarmless) change.state.resources → AllByRecursion (Has s step) change.state.resources
+swept_change : (s : State) (step : Step) (change : Stepped) → AllByRecursion (Queued IsHarmless) change.state.resources
+    → AllByRecursion (Has s step) change.state.resources
     → AllByRecursion (Has s step) (stepped_after_sweep change).state.resources
 swept_change s step change harmless each = swept_has s step change.state.processes change.state.resources harmless each
 
-accepted_has : (history : History) (s : State) → Run history s → (step : Step) (choice : Option LockRow) → step_refusal s step ≡ None
+accepted_has : (history : History) (s : State) → Run history s → (step : Step) (choice : Option LockState) → step_refusal s step ≡ None
     → AllByRecursion (Has s step) (stepped_after_sweep (step_change s step choice)).state.resources
 unfolding declare_change set_change take_change deq_change search_change
 accepted_has history s run (Declare d) choice passed =
@@ -637,26 +670,29 @@ accepted_has history s run (Convert c) choice passed =
     let admitted = admission_of s c passed in
     let agree = holders_agree_always history s run in
     let apart = apart_always history s run in
-    subst (λ (there : Option ConversionAdmission). AllByRecursion (Has s (Convert c)) (stepped_after_sweep (conversion_change s c there)).state.resources) (sym admitted.1)
+    subst (λ (there : Option ConversionAdmission). AllByRecursion (Has s (Convert c))
+    (stepped_after_sweep (conversion_change s c there)).state.resources) (sym admitted.1)
     (swept_change s (Convert c) (conversion_change s c (Some admitted.0))
     (conversion_queued IsHarmless s c admitted.0 (conversion_is_harmless s c admitted.0 agree apart passed admitted.1) (harmless_always history s run))
     (conversion_has s c admitted.0 agree apart passed admitted.1))
 accepted_has history s run (Deq d) choice passed =
-    swept_change s (Deq d) (step_change s (Deq d) choice) (withdrawn_queued IsHarmless s (withdrawals_of s d) (harmless_always history s run)) (dequeue_has s d passed)
+    swept_change s (Deq d) (step_change s (Deq d) choice)
+    (withdrawn_queued IsHarmless s (withdrawals_of s d) (harmless_always history s run)) (dequeue_has s d passed)
 accepted_has history s run (Rundown pid) choice passed =
     swept_change s (Rundown pid) (step_change s (Rundown pid) choice) (rundown_queued IsHarmless s (is_ended_by pid) s.nodes (harmless_always history s run))
     (ending_has s (Rundown pid) (is_ended_by pid) s.nodes (apart_always history s run) (of_pid pid) (is_pid pid) (λ before after left. left))
 accepted_has history s run (Leave node) choice passed =
     swept_change s (Leave node) (step_change s (Leave node) choice)
     (rundown_queued IsHarmless s (is_of_node node) (nodes_after_departure s.nodes node) (harmless_always history s run))
-    (ending_has s (Leave node) (is_of_node node) (nodes_after_departure s.nodes node) (apart_always history s run) (of_node node) (is_node_of node) (λ before after left. left))
+    (ending_has s (Leave node) (is_of_node node) (nodes_after_departure s.nodes node) (apart_always history s run)
+    (of_node node) (is_node_of node) (λ before after left. left))
 accepted_has history s run (Search node) choice passed =
     swept_change s (Search node) (step_change s (Search node) choice)
     (withdrawn_queued IsHarmless s (victim_withdrawals choice) (harmless_always history s run)) (search_has s node choice)
 accepted_has history s run (Take pid) choice passed =
     swept_change s (Take pid) (step_change s (Take pid) choice) (harmless_always history s run) (idle_has s (Take pid) (λ r writes. writes))
 
-pub writers_always : (history : History) (old : State) → Run history old → (step : Step) (choice : Option LockRow) → IsChoice old step choice
+pub writers_always : (history : History) (old : State) → Run history old → (step : Step) (choice : Option LockState) → IsChoice old step choice
     → step_refusal old step ≡ None → OnlyWritersChangeValues old step choice
 writers_always history old run step choice chosen passed =
     All-from_recursion (Has old step) (stepped old step choice).state.resources

@@ -1,7 +1,7 @@
 -- The law that what is queued is taken or pending.
 use Rattle.std.specs.Prelude.{◌≡◌, ◌≢◌, ◌==◌, ◌++◌, ℕ, List, [], ◌∷◌, All, Option, None, Some, if◌then◌else◌}
 use Rattle.vlm_words.specs.declared.asts.Ast.{Ast}
-use Rattle.vlm_words.specs.declared.locks.LockRow.{LockRow}
+use Rattle.vlm_words.specs.declared.locks.LockState.{LockState}
 use Rattle.vlm_words.specs.declared.steps.Answer.TheVariants.{Process as process_answer, Taken}
 use Rattle.vlm_words.specs.declared.steps.Answer.{Answer}
 use Rattle.vlm_words.specs.declared.steps.Step.TheVariants.{Take}
@@ -21,7 +21,7 @@ abbrev pub taken_by : ℕ → List Step → List Answer → List Ast
 taken_by pid (step ∷ steps) (answer ∷ answers) = taken_in pid step answer ++ taken_by pid steps answers
 taken_by pid steps answers = []
 
--- no declaration answered this identification
+-- no declaration answered this ID
 abbrev pub IsNeverDeclared : ℕ → List Answer → Type 0
 IsNeverDeclared pid answers = All (λ answer. answer ≢ process_answer pid) answers
 
@@ -39,7 +39,7 @@ pub record WhatIsQueuedIsTakenOrPending (history : History) (last : State) : Typ
   pub ended : (pid : ℕ) → process_of last.processes pid ≡ None
       → IsTakenButFor (queued_to pid history.queued) (taken_by pid history.steps history.answers)
   pub no_more : (pid : ℕ) → process_of last.processes pid ≡ None
-      → (step : Step) (choice : Option LockRow) → IsChoice last step choice
+      → (step : Step) (choice : Option LockState) → IsChoice last step choice
       → queued_to pid (stepped last step choice).queued ≡ []
   pub undeclared : (pid : ℕ) → IsNeverDeclared pid history.answers
       → queued_to pid history.queued ≡ []

@@ -6,7 +6,7 @@ use Rattle.vlm_words.specs.declared.asts.Ast.{Ast}
 use Rattle.vlm_words.specs.declared.asts.AstKind.{AstKind}
 use Rattle.vlm_words.specs.declared.asts.AstKind.TheVariants.{Completion, Blocking}
 use Rattle.vlm_words.specs.declared.locks.Request.{Request}
-use Rattle.vlm_words.specs.declared.locks.LockRow.{LockRow}
+use Rattle.vlm_words.specs.declared.locks.LockState.{LockState}
 use Rattle.vlm_words.specs.Flags.{flag_bits, has_flag, syncsts}
 use Rattle.vlm_words.specs.State.{Process, Resource, process_of}
 use Rattle.vlm_model.specs.Endings.{Ending, is_told}
@@ -17,7 +17,7 @@ use Rattle.vlm_words.specs.Processes.{with_ast, without_oldest_ast}
 abbrev pub asts_of : List Process → ℕ → List Ast
 asts_of processes pid = option_map_or (λ p. p.asts) (process_of processes pid) []
 
--- the oldest AST of the process is taken, if it has this identification
+-- the oldest AST of the process is taken, if it has this ID
 unfoldable pub process_after_take : ℕ → Process → Process
 process_after_take pid p = if p.pid == pid then without_oldest_ast p else p
 
@@ -30,7 +30,7 @@ pub record Queued : Type 0 where
   pub pid : ℕ
   pub ast : Ast
 
--- the AST is queued to the process, if it has this identification
+-- the AST is queued to the process, if it has this ID
 unfoldable pub process_after_queueing : ℕ → Ast → Process → Process
 process_after_queueing pid ast p = if p.pid == pid then with_ast ast p else p
 
@@ -76,14 +76,14 @@ completions_of endings = flat_map completions endings
 -- ---- warnings
 
 -- the held mode, if there is one, is incompatible with some queued request
-abbrev pub blocks_a_request : Option Request → List LockRow → List LockRow → Bool
+abbrev pub blocks_a_request : Option Request → List LockState → List LockState → Bool
 blocks_a_request None converting waiting = false
 blocks_a_request (Some held) converting waiting =
     list_any (λ row. blocks_request held.mode row.want) converting
     || list_any (λ row. blocks_request held.mode row.want) waiting
 
 -- the granted lock is armed and blocks a queued request
-unfoldable pub is_to_warn : List LockRow → List LockRow → LockRow → Bool
+unfoldable pub is_to_warn : List LockState → List LockState → LockState → Bool
 is_to_warn converting waiting row = row.armed && blocks_a_request row.held converting waiting
 
 -- the blocking AST of a held request, if it names a blocking routine
@@ -92,7 +92,7 @@ blocking_asts None lkid pid = []
 blocking_asts (Some held) lkid pid = asts_for Blocking held.blocking held lkid pid
 
 -- the blocking AST of a granted lock, if the lock is to be warned
-unfoldable pub row_warnings : List LockRow → List LockRow → LockRow → List Queued
+unfoldable pub row_warnings : List LockState → List LockState → LockState → List Queued
 row_warnings converting waiting row =
     if is_to_warn converting waiting row then blocking_asts row.held row.lkid row.pid else []
 
@@ -101,7 +101,7 @@ unfoldable pub warnings : Resource → List Queued
 warnings r = flat_map (row_warnings r.converting r.waiting) r.granted
 
 -- a warned lock is disarmed
-unfoldable pub row_after_warning : List LockRow → List LockRow → LockRow → LockRow
+unfoldable pub row_after_warning : List LockState → List LockState → LockState → LockState
 row_after_warning converting waiting row =
     if is_to_warn converting waiting row then record row { armed = false } else row
 

@@ -1,7 +1,7 @@
 -- The law that a warned lock is in the way.
 use Rattle.std.specs.Prelude.{◌≡◌, ◌++◌, List, All, Any}
 use Rattle.vlm_words.specs.declared.asts.AstKind.TheVariants.{Blocking}
-use Rattle.vlm_words.specs.declared.locks.LockRow.{LockRow}
+use Rattle.vlm_words.specs.declared.locks.LockState.{LockState}
 use Rattle.vlm_words.specs.State.{State}
 use Rattle.vlm_model.specs.Asts.{Queued}
 use Rattle.vlm_model.specs.Laws.{AreCompatible}
@@ -9,7 +9,7 @@ use Rattle.vlm_model.specs.Stepped.{Stepped}
 
 -- the row is the lock of this AST and of the process that gets it, and its held mode is incompatible with one of
 -- these queued requests
-pub record IsInTheWayOf (queued : List LockRow) (q : Queued) (row : LockRow) : Type 0 where
+pub record IsInTheWayOf (queued : List LockState) (q : Queued) (row : LockState) : Type 0 where
   pub lock : row.lkid ≡ q.ast.lkid
   pub process : row.pid ≡ q.pid
   pub blocks_request : Any (λ other. AreCompatible other.want row.held → ⊥) queued

@@ -20,7 +20,7 @@ or_else (Some refusal) later = Some refusal
 abbrev pub has_departed : List Node → ℕ → Bool
 has_departed nodes node = nat_lt 0 node && (node_at nodes node).departed
 
--- DEPARTED if the caller's node has departed, NONEXPR if no living process has the identification
+-- DEPARTED if the caller's node has departed, NONEXPR if no living process has the ID
 unfoldable pub caller_refusal : State → ℕ → Option Cond
 caller_refusal s pid =
     if has_departed s.nodes (node_of_pid pid) then Some Departed
@@ -40,7 +40,7 @@ unfoldable pub which_refusal : State → ℕ → Which → Option Cond
 which_refusal s pid (Id lkid) = None
 which_refusal s pid (Block number) = status_block_refusal s pid number
 
--- the named identification: given by itself, or by the status block
+-- the named ID: given by itself, or by the status block
 abbrev pub named_lkid : State → ℕ → Which → ℕ
 named_lkid s pid (Id lkid) = lkid
 named_lkid s pid (Block number) = (status_block_of s.processes pid number).lkid
@@ -51,11 +51,11 @@ holds_lock pid lkid r =
     list_any (is_lock_of pid lkid) r.granted || list_any (is_lock_of pid lkid) r.converting
     || list_any (is_lock_of pid lkid) r.waiting
 
--- IVLOCKID if the identification is not a lock of the caller
+-- IVLOCKID if the ID is not a lock of the caller
 unfoldable pub lock_refusal : State → ℕ → ℕ → Option Cond
 lock_refusal s pid lkid = if list_any (holds_lock pid lkid) s.resources then None else Some Ivlockid
 
--- NOLOCKID if the identifications or the request numbers are used up
+-- NOLOCKID if the IDs or the request numbers are used up
 unfoldable pub numbers_refusal : State → Option Cond
 numbers_refusal s = if nat_lt s.next_lkid (2 ^ 32) && nat_lt s.next_request (2 ^ 64) then None else Some Nolockid
 

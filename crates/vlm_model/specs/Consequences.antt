@@ -3,7 +3,7 @@ use Rattle.std.specs.Prelude.{Contains, List, None, Option, Some, [], count_by, 
 use Rattle.vlm_words.specs.Dues.{due}
 use Rattle.vlm_words.specs.Flags.{flag_bits, has_flag, nodlckblk, nodlckwt}
 use Rattle.vlm_words.specs.State.{Process, Resource, State}
-use Rattle.vlm_words.specs.declared.locks.LockRow.{LockRow}
+use Rattle.vlm_words.specs.declared.locks.LockState.{LockState}
 use Rattle.vlm_words.specs.declared.locks.Request.{Request}
 use Rattle.vlm_words.specs.declared.modes.Mode.{Mode}
 use Rattle.vlm_words.specs.declared.modes.Mode.TheVariants.{Ex, Pr}
@@ -34,25 +34,25 @@ abbrev pub due_or_pending : ℕ → Process → State → ℕ
 due_or_pending pid p s = length p.asts + due pid s.resources
 
 -- the resource has this granted lock and no other
-pub record IsHeldAlone (row : LockRow) (r : Resource) : Type 0 where
+pub record IsHeldAlone (row : LockState) (r : Resource) : Type 0 where
   pub granted : r.granted ≡ row ∷ []
   pub converting : r.converting ≡ []
   pub waiting : r.waiting ≡ []
 
 -- the resource has this converting lock and no other
-pub record ConvertsAlone (row : LockRow) (r : Resource) : Type 0 where
+pub record ConvertsAlone (row : LockState) (r : Resource) : Type 0 where
   pub granted : r.granted ≡ []
   pub converting : r.converting ≡ row ∷ []
   pub waiting : r.waiting ≡ []
 
 -- the resource has this waiting lock and no other
-pub record WaitsAlone (row : LockRow) (r : Resource) : Type 0 where
+pub record WaitsAlone (row : LockState) (r : Resource) : Type 0 where
   pub granted : r.granted ≡ []
   pub converting : r.converting ≡ []
   pub waiting : r.waiting ≡ row ∷ []
 
 -- what the resources are after the step's own change, before its sweep
-abbrev pub changed : State → Step → Option LockRow → List Resource
+abbrev pub changed : State → Step → Option LockState → List Resource
 changed old step choice = (step_change old step choice).state.resources
 
 -- the request has this number and all that the caller asked for
@@ -77,7 +77,7 @@ IsOfConversion number c None = ⊥
 IsOfConversion number c (Some request) = IsAsRequested number c.mode c.flags c.block c.ast c.bast c.param request
 
 -- the lock holds PR and wants EX, and its requests wait and are waited for
-pub record ConvertsUp (row : LockRow) : Type 0 where
+pub record ConvertsUp (row : LockState) : Type 0 where
   pub was : Request
   pub held : row.held ≡ Some was
   pub reads : was.mode ≡ Pr
@@ -88,7 +88,7 @@ pub record ConvertsUp (row : LockRow) : Type 0 where
   pub waits : has_flag (flag_bits asked.flags) nodlckwt ≡ false
 
 -- two locks of one resource hold PR, and both convert to EX
-pub record AreDeadlocked (s : State) (a b : LockRow) : Type 0 where
+pub record AreDeadlocked (s : State) (a b : LockState) : Type 0 where
   pub r : Resource
   pub there : Contains s.resources r
   pub first : Contains r.converting a

@@ -3,7 +3,7 @@ use Rattle.std.specs.Prelude.{ℕ, Bool, true, false, not, ◌&&◌, ◌||◌, �
 use Rattle.vlm_words.specs.declared.conditions.Cond.TheVariants.{Badparam, Cvtungrant}
 use Rattle.vlm_words.specs.declared.conditions.Cond.{Cond}
 use Rattle.vlm_words.specs.declared.locks.Request.{Request}
-use Rattle.vlm_words.specs.declared.locks.LockRow.{LockRow}
+use Rattle.vlm_words.specs.declared.locks.LockState.{LockState}
 use Rattle.vlm_words.specs.declared.modes.Mode.{Mode}
 use Rattle.vlm_words.specs.declared.resources.ValueBlock.{ValueBlock}
 use Rattle.vlm_words.specs.declared.steps.Conversion.{Conversion}
@@ -15,7 +15,8 @@ use Rattle.vlm_model.specs.Endings.{Ending}
 use Rattle.vlm_model.specs.Effects.{Blocks, blocks_after, blocks_with, with_value_block}
 use Rattle.vlm_words.specs.Rows.{fits, is_empty, is_lock_of, rows_without, wanting_row}
 use Rattle.vlm_model.specs.Grants.{grant_endings, resource_after_grant}
-use Rattle.vlm_model.specs.Checks.{caller_refusal, lock_refusal, named_lkid, or_else, queue_refusal, request_flags_refusal, request_numbers_refusal, status_block_refusal, which_refusal}
+use Rattle.vlm_model.specs.Checks.{caller_refusal, lock_refusal, named_lkid, or_else, queue_refusal}
+use Rattle.vlm_model.specs.Checks.{request_flags_refusal, request_numbers_refusal, status_block_refusal, which_refusal}
 
 -- granted at once: the mode fits beside all other locks, and with QUECVT no conversion is queued
 unfoldable pub converts_at_once : Request → ℕ → Resource → Bool
@@ -26,12 +27,12 @@ converts_at_once request lkid r =
 -- an admitted conversion: the granted lock and its resource, the request, and whether it is granted at once
 pub record ConversionAdmission : Type 0 where
   pub resource : Resource
-  pub row : LockRow
+  pub row : LockState
   pub request : Request
   pub at_once : Bool
 
 -- the admission of the lock if it is granted on this resource, else the one found later
-abbrev pub admission_or : Request → Resource → Option LockRow → Option ConversionAdmission
+abbrev pub admission_or : Request → Resource → Option LockState → Option ConversionAdmission
     → Option ConversionAdmission
 admission_or request r None later = later
 admission_or request r (Some row) later =
@@ -74,7 +75,7 @@ is_queued_legally_from None mode = false
 is_queued_legally_from (Some held) mode = is_queued_legally held.mode mode
 
 -- BADPARAM if QUECVT does not go with the two modes
-unfoldable pub pair_refusal : Conversion → LockRow → Option Cond
+unfoldable pub pair_refusal : Conversion → LockState → Option Cond
 pair_refusal c row =
     if has_flag c.flags quecvt && not (is_queued_legally_from row.held c.mode) then Some Badparam
     else None
@@ -110,7 +111,7 @@ abbrev pub resource_without_granted : ℕ → Resource → Resource
 resource_without_granted lkid r = record r { granted = rows_without lkid r.granted }
 
 -- the lock is granted at once, and the value block becomes this one; or it goes to the end of the conversion queue
-abbrev pub resource_after_conversion_of : Request → Bool → ℕ → ValueBlock → Resource → Option LockRow
+abbrev pub resource_after_conversion_of : Request → Bool → ℕ → ValueBlock → Resource → Option LockState
     → Resource
 resource_after_conversion_of request at_once lkid block r None = r
 resource_after_conversion_of request at_once lkid block r (Some row) =

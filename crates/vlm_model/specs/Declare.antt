@@ -20,7 +20,7 @@ declare_refusal s d =
     else (if nat_lt (node_at s.nodes d.node).declared 65535 then None else Some Badparam)
     )
 
--- the identification of the node's next process
+-- the ID of the node's next process
 abbrev pub next_pid : State → ℕ → ℕ
 next_pid s node = node * 65536 + ((node_at s.nodes node).declared + 1)
 

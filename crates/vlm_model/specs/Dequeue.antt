@@ -3,7 +3,7 @@ use Rattle.std.specs.Prelude.{ℕ, Bool, not, ◌&&◌, ◌||◌, ◌==◌, List
 use Rattle.std.specs.List.{list_any}
 use Rattle.vlm_words.specs.declared.conditions.Cond.TheVariants.{Badparam, Cancelgrant, Sublocks}
 use Rattle.vlm_words.specs.declared.conditions.Cond.{Cond}
-use Rattle.vlm_words.specs.declared.locks.LockRow.{LockRow}
+use Rattle.vlm_words.specs.declared.locks.LockState.{LockState}
 use Rattle.vlm_words.specs.declared.steps.Dequeue.{Dequeue}
 use Rattle.vlm_words.specs.Flags.{cancel, deq_bits, deqall, has_flag, invvalblk, is_known}
 use Rattle.vlm_words.specs.State.{Resource, State}
@@ -47,7 +47,7 @@ cancel_refusal s d =
     else None
 
 -- one of the rows is a sublock of the lock
-abbrev pub has_sublock : ℕ → List LockRow → Bool
+abbrev pub has_sublock : ℕ → List LockState → Bool
 has_sublock lkid rows = list_any (λ row. row.parent == lkid) rows
 
 -- a sublock of the lock is on the resource, in any queue
@@ -95,7 +95,7 @@ withdrawal_of d lkid = record {
 abbrev pub is_dequeued : State → Dequeue → ℕ → Bool
 is_dequeued s d lkid = (dequeue_lkid s d == 0) || is_below 15 (dequeue_lkid s d) s.resources lkid
 
--- the locks that a dequeue withdraws, by rising identification
+-- the locks that a dequeue withdraws, by rising ID
 abbrev pub dequeued_lkids : State → Dequeue → List ℕ
 dequeued_lkids s d =
     if has_flag d.flags deqall then filter (is_dequeued s d) (own_lkids (λ pid. pid == d.pid) s)

@@ -32,7 +32,7 @@ IsEndOf pid step answer = ((step ≡ Rundown pid) ⊎ (step ≡ Leave (pid / 655
 abbrev pub HasEnded : ℕ → List Step → List Answer → Type 0
 HasEnded pid steps answers = HasHappened (IsEndOf pid) steps answers
 
--- no living process has the identification of an ended one; each step of it is refused by NONEXPR or DEPARTED, and
+-- no living process has the ID of an ended one; each step of it is refused by NONEXPR or DEPARTED, and
 -- nothing is queued to it
 pub record EndedProcessesAreToldNoMore (history : History) (last : State) : Type 0 where
   pub gone : (pid : ℕ) → HasEnded pid history.steps history.answers → All (λ p. p.pid ≢ pid) last.processes

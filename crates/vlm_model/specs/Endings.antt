@@ -3,7 +3,7 @@ use Rattle.std.specs.Prelude.{ℕ, Bool, true, false, List, [], ◌∷◌, Optio
 use Rattle.vlm_words.specs.declared.conditions.Cond.TheVariants.{Normal, Abort, Cancel, Deadlock}
 use Rattle.vlm_words.specs.declared.conditions.Cond.{Cond}
 use Rattle.vlm_words.specs.declared.locks.Request.{Request}
-use Rattle.vlm_words.specs.declared.locks.LockRow.{LockRow}
+use Rattle.vlm_words.specs.declared.locks.LockState.{LockState}
 use Rattle.vlm_words.specs.declared.modes.Act.{Act}
 
 -- the ways to end: by grant, which may return or write the value block, or by abort, cancel, deadlock or rundown
@@ -29,7 +29,7 @@ wanted_endings how at_once lkid pid (Some request) =
     record { lkid = lkid; pid = pid; request = request; how = how; at_once = at_once } ∷ []
 
 -- the ending of the request that a row wants
-abbrev pub row_endings : How → Bool → LockRow → List Ending
+abbrev pub row_endings : How → Bool → LockState → List Ending
 row_endings how at_once row = wanted_endings how at_once row.lkid row.pid row.want
 
 -- the status that an ending writes unless it returns the value block; a rundown writes no status

@@ -5,7 +5,7 @@ use Rattle.std.specs.Result.{result_err}
 use Rattle.vlm_words.specs.declared.conditions.Cond.TheVariants.{Unsupported}
 use Rattle.vlm_words.specs.declared.conditions.Cond.{Cond}
 use Rattle.vlm_words.specs.declared.locks.Request.{Request}
-use Rattle.vlm_words.specs.declared.locks.LockRow.{LockRow}
+use Rattle.vlm_words.specs.declared.locks.LockState.{LockState}
 use Rattle.vlm_words.specs.declared.modes.Mode.{Mode}
 use Rattle.vlm_words.specs.declared.resources.Key.{Key}
 use Rattle.vlm_words.specs.declared.resources.Site.{Site}
@@ -49,8 +49,8 @@ enq_request s e = record {
   param = e.param;
 }
 
--- the new row, under the next identification; nothing is granted yet
-abbrev pub enq_row : State → NewRequest → LockRow
+-- the new row, under the next ID; nothing is granted yet
+abbrev pub enq_row : State → NewRequest → LockState
 enq_row s e = record {
   lkid = s.next_lkid;
   pid = e.pid;
@@ -70,7 +70,7 @@ unfoldable pub is_at_once : Request → Resource → Bool
 is_at_once request r = has_flag (flag_bits request.flags) expedite || is_free_for request r
 
 -- the lock is granted at once, or goes to the end of the waiting queue
-unfoldable pub resource_after_entry : LockRow → Bool → Resource → Resource
+unfoldable pub resource_after_entry : LockState → Bool → Resource → Resource
 resource_after_entry row at_once r =
     if at_once then resource_after_grant r row else record r { waiting = r.waiting ++ row ∷ [] }
 
@@ -79,7 +79,7 @@ abbrev pub has_resource : Key → List Resource → Bool
 has_resource key resources = list_any (is_at key) resources
 
 -- the lock enters the resource at the site; if there is no such resource, a new one at the end
-abbrev pub resources_after_entry : ℕ → Site → LockRow → Bool → List Resource → List Resource
+abbrev pub resources_after_entry : ℕ → Site → LockState → Bool → List Resource → List Resource
 resources_after_entry serial site row at_once [] =
     resource_after_entry row at_once (new_resource serial site) ∷ []
 resources_after_entry serial site row at_once (r ∷ rest) =

@@ -1,7 +1,7 @@
 -- How queued requests are granted: what fits, a grant, the service of a resource.
 use Rattle.std.specs.Prelude.{Bool, false, List, [], ◌∷◌, ◌++◌, Option, None, Some, if◌then◌else◌}
 use Rattle.vlm_words.specs.declared.locks.Request.{Request}
-use Rattle.vlm_words.specs.declared.locks.LockRow.{LockRow}
+use Rattle.vlm_words.specs.declared.locks.LockState.{LockState}
 use Rattle.vlm_words.specs.declared.modes.Act.TheVariants.{Nothing, Return}
 use Rattle.vlm_words.specs.declared.modes.Act.{Act}
 use Rattle.vlm_words.specs.declared.modes.Mode.{Mode}
@@ -13,12 +13,12 @@ use Rattle.vlm_model.specs.Endings.How.{by_grant}
 use Rattle.vlm_words.specs.Rows.{fits, granted_row, is_empty}
 
 -- the wanted request fits beside these rows; false if nothing is wanted
-abbrev pub wanted_fits : Option Request → List LockRow → List LockRow → Bool
+abbrev pub wanted_fits : Option Request → List LockState → List LockState → Bool
 wanted_fits None granted converting = false
 wanted_fits (Some request) granted converting = fits request.mode granted converting
 
 -- a grant: the row goes to the end of the granted queue
-abbrev pub resource_after_grant : Resource → LockRow → Resource
+abbrev pub resource_after_grant : Resource → LockState → Resource
 resource_after_grant r row = record r { granted = r.granted ++ granted_row row ∷ [] }
 
 -- what VALBLK does at a grant: a new request returns the value block, a conversion goes by the table
@@ -33,7 +33,7 @@ grant_act held (Some want) =
     if has_flag (flag_bits want.flags) valblk then valblk_act held want.mode else Nothing
 
 -- the ending that a grant brings
-abbrev pub grant_endings : Bool → LockRow → List Ending
+abbrev pub grant_endings : Bool → LockState → List Ending
 grant_endings at_once row = row_endings (by_grant (grant_act row.held row.want)) at_once row
 
 -- the result of a service: the resource, and the endings of the granted requests
@@ -46,11 +46,11 @@ abbrev pub no_service : Resource → Service
 no_service r = record { resource = r; endings = [] }
 
 -- one grant, and then more of the service
-abbrev pub service_after_grant : LockRow → Service → Service
+abbrev pub service_after_grant : LockState → Service → Service
 service_after_grant row more = record more { endings = grant_endings false row ++ more.endings }
 
 -- grants the first conversion as long as it fits
-abbrev pub service_of_conversions : Resource → List LockRow → Service
+abbrev pub service_of_conversions : Resource → List LockState → Service
 service_of_conversions r [] = no_service r
 service_of_conversions r (row ∷ rows) =
     if wanted_fits row.want r.granted rows
@@ -59,7 +59,7 @@ service_of_conversions r (row ∷ rows) =
     else no_service r
 
 -- grants the first waiting request as long as it fits
-abbrev pub service_of_waiting : Resource → List LockRow → Service
+abbrev pub service_of_waiting : Resource → List LockState → Service
 service_of_waiting r [] = no_service r
 service_of_waiting r (row ∷ rows) =
     if wanted_fits row.want r.granted r.converting

@@ -1,7 +1,7 @@
 -- The law that a step's own change keeps each queue in order.
 use Rattle.std.specs.Prelude.{◌≡◌, ◌≤◌, ◌/◌, ◌==◌, ◌++◌, ℕ, Bool, true, false, List, [], ◌∷◌, All, Option, None, Some, length, if◌then◌else◌}
 use Rattle.std.specs.List.{AllZip, list_any}
-use Rattle.vlm_words.specs.declared.locks.LockRow.{LockRow}
+use Rattle.vlm_words.specs.declared.locks.LockState.{LockState}
 use Rattle.vlm_words.specs.declared.steps.Step.TheVariants.{Declare, SetValue, Enq, Convert, Deq, Rundown, Leave, Search, Take}
 use Rattle.vlm_words.specs.declared.steps.Step.{Step}
 use Rattle.vlm_words.specs.State.{Resource, State}
@@ -16,13 +16,13 @@ abbrev pub is_lock_of_one : (ℕ → Bool) → State → ℕ → Bool
 is_lock_of_one is_one s lkid = list_any (has_lock_among is_one lkid) s.resources
 
 -- the lock is the one chosen by a search, if there is one
-abbrev pub is_chosen_lock : Option LockRow → ℕ → Bool
+abbrev pub is_chosen_lock : Option LockState → ℕ → Bool
 is_chosen_lock None lkid = false
 is_chosen_lock (Some chosen) lkid = lkid == chosen.lkid
 
 -- the step's own locks: the lock that it makes or names; with DEQALL, a rundown or a departure all locks of the
 -- processes; for a search the victim
-abbrev pub is_own_lock : State → Step → Option LockRow → ℕ → Bool
+abbrev pub is_own_lock : State → Step → Option LockState → ℕ → Bool
 is_own_lock s (Declare d) choice lkid = false
 is_own_lock s (SetValue v) choice lkid = false
 is_own_lock s (Enq e) choice lkid = lkid == s.next_lkid
@@ -36,12 +36,12 @@ is_own_lock s (Search node) choice lkid = is_chosen_lock choice lkid
 is_own_lock s (Take pid) choice lkid = false
 
 -- rows keep their order; only own locks leave, and at most one own lock joins, at the end
-pub data JoinsBehind (own : ℕ → Bool) : List LockRow → List LockRow → Type 0 where
+pub data JoinsBehind (own : ℕ → Bool) : List LockState → List LockState → Type 0 where
   nobody_joins : JoinsBehind own [] []
-  one_joins : {row : LockRow} → own row.lkid ≡ true → JoinsBehind own [] (row ∷ [])
-  row_stays : {row : LockRow} {before after : List LockRow} → JoinsBehind own before after
+  one_joins : {row : LockState} → own row.lkid ≡ true → JoinsBehind own [] (row ∷ [])
+  row_stays : {row : LockState} {before after : List LockState} → JoinsBehind own before after
       → JoinsBehind own (row ∷ before) (row ∷ after)
-  row_leaves : {row : LockRow} {before after : List LockRow} → own row.lkid ≡ true → JoinsBehind own before after
+  row_leaves : {row : LockState} {before after : List LockState} → own row.lkid ≡ true → JoinsBehind own before after
       → JoinsBehind own (row ∷ before) after
 
 -- the resource is the same, and each of its queues keeps its order
@@ -58,7 +58,7 @@ pub record HasOwnAlone (own : ℕ → Bool) (r : Resource) : Type 0 where
   pub waiting : JoinsBehind own [] r.waiting
 
 -- the step's change keeps the order of every queue, and makes at most one resource, at the end
-pub record ChangesKeepOrder (old : State) (step : Step) (choice : Option LockRow) : Type 0 where
+pub record ChangesKeepOrder (old : State) (step : Step) (choice : Option LockState) : Type 0 where
   pub kept : List Resource
   pub made : List Resource
   pub resources : (step_change old step choice).state.resources ≡ kept ++ made

@@ -1,10 +1,11 @@
 -- The definitions of most laws. They use no definition that serves, grants or sweeps.
-use Rattle.std.specs.Prelude.{◌≡◌, ◌≢◌, ◌<◌, ◌≤◌, ◌+◌, ◌==◌, ◌⊎◌, ◌++◌, ℕ, zero, suc, Bool, List, [], ◌∷◌, true, false, All, AllPairs, Any, count_by, sum_by, take, drop, Option, None, Some, IsSome, ⊤}
+use Rattle.std.specs.Prelude.{◌≡◌, ◌≢◌, ◌<◌, ◌≤◌, ◌+◌, ◌==◌, ◌⊎◌, ◌++◌, ℕ, zero, suc, Bool, List, [], ◌∷◌, true, false}
+use Rattle.std.specs.Prelude.{All, AllPairs, Any, count_by, sum_by, take, drop, Option, None, Some, IsSome, ⊤}
 use Rattle.std.specs.List.{AllZip}
 use Rattle.std.specs.Option.{option_map_or}
 use Rattle.vlm_words.specs.declared.conditions.Cond.{Cond}
 use Rattle.vlm_words.specs.declared.locks.Request.{Request}
-use Rattle.vlm_words.specs.declared.locks.LockRow.{LockRow}
+use Rattle.vlm_words.specs.declared.locks.LockState.{LockState}
 use Rattle.vlm_words.specs.declared.modes.Act.TheVariants.{Nothing, Write}
 use Rattle.vlm_words.specs.declared.modes.Act.{Act}
 use Rattle.vlm_words.specs.declared.modes.Mode.TheVariants.{Nl}
@@ -43,12 +44,12 @@ HeldModesAreCompatible s =
     All (λ r. AllPairs (λ a b. AreCompatible a.held b.held) (r.granted ++ r.converting)) s.resources
 
 -- the wanted mode is incompatible with what one of these rows holds
-abbrev pub Conflicts : Option Request → List LockRow → Type 0
+abbrev pub Conflicts : Option Request → List LockState → Type 0
 Conflicts None rows = ⊤
 Conflicts (Some want) rows = Any (λ row. IsBeside want.mode row.held → ⊥) rows
 
 -- the first conversion does not fit; without conversions, the first waiting request does not fit
-abbrev pub HeadsDoNotFit : List LockRow → List LockRow → List LockRow → Type 0
+abbrev pub HeadsDoNotFit : List LockState → List LockState → List LockState → Type 0
 HeadsDoNotFit granted [] [] = ⊤
 HeadsDoNotFit granted [] (row ∷ rows) = Conflicts row.want granted
 HeadsDoNotFit granted (row ∷ rows) waiting = Conflicts row.want (granted ++ rows)
@@ -58,7 +59,7 @@ abbrev pub NothingIsLeftToGrant : State → Type 0
 NothingIsLeftToGrant s = All (λ r. HeadsDoNotFit r.granted r.converting r.waiting) s.resources
 
 -- if the row is armed, its held mode is compatible with every queued request
-abbrev pub IsInNobodysWay : List LockRow → LockRow → Type 0
+abbrev pub IsInNobodysWay : List LockState → LockState → Type 0
 IsInNobodysWay queued row = row.armed ≡ true → All (λ other. AreCompatible other.want row.held) queued
 
 -- in each resource nothing is left to warn
@@ -96,7 +97,7 @@ pub record EachRequestEndsOnce (endings : List Ending) (last : State) : Type 0 w
       → (wanting number last ≡ 0) × (times_ended number endings ≡ 0)
 
 -- the same lock after its grant: it holds what it wanted, and wants nothing
-pub record IsGranted (before after : LockRow) : Type 0 where
+pub record IsGranted (before after : LockState) : Type 0 where
   pub lkid : after.lkid ≡ before.lkid
   pub pid : after.pid ≡ before.pid
   pub parent : after.parent ≡ before.parent
@@ -113,7 +114,7 @@ IsGrant by_deadlock = ⊥
 IsGrant by_rundown = ⊥
 
 -- the ending is the grant of what the row wanted, from a queue
-pub record IsGrantOf (row : LockRow) (ending : Ending) : Type 0 where
+pub record IsGrantOf (row : LockState) (ending : Ending) : Type 0 where
   pub lkid : ending.lkid ≡ row.lkid
   pub pid : ending.pid ≡ row.pid
   pub request : Some ending.request ≡ row.want
@@ -121,7 +122,7 @@ pub record IsGrantOf (row : LockRow) (ending : Ending) : Type 0 where
   pub queued : ending.at_once ≡ false
 
 -- the same lock, which holds and wants the same; only whether it is armed may differ
-pub record IsSameButArmed (before after : LockRow) : Type 0 where
+pub record IsSameButArmed (before after : LockState) : Type 0 where
   pub lkid : after.lkid ≡ before.lkid
   pub pid : after.pid ≡ before.pid
   pub parent : after.parent ≡ before.parent
@@ -137,7 +138,7 @@ pub record IsSameResource (before after : Resource) : Type 0 where
   pub level : after.level ≡ before.level
 
 -- the first rows of the conversion queue and of the waiting queue, this many of each
-abbrev pub first_rows : ℕ → ℕ → Resource → List LockRow
+abbrev pub first_rows : ℕ → ℕ → Resource → List LockState
 first_rows conversions new_requests r = take conversions r.converting ++ take new_requests r.waiting
 
 -- grants go to the first rows of each queue, in order, to waiting ones only if no conversion is left; all other rows
@@ -145,8 +146,8 @@ first_rows conversions new_requests r = take conversions r.converting ++ take ne
 pub record GrantsFirst (before after : Resource) (endings : List Ending) : Type 0 where
   pub conversions : ℕ
   pub new_requests : ℕ
-  pub kept : List LockRow
-  pub given : List LockRow
+  pub kept : List LockState
+  pub given : List LockState
   pub same : IsSameResource before after
   pub converting : after.converting ≡ drop conversions before.converting
   pub waiting : after.waiting ≡ drop new_requests before.waiting
@@ -213,7 +214,7 @@ EntersInTurn s e =
     ⊎ ((has_flag e.flags expedite ≡ true) × (e.mode ≡ Nl))
 
 -- the lock is in the queue
-abbrev pub Stands : ℕ → List LockRow → Type 0
+abbrev pub Stands : ℕ → List LockState → Type 0
 Stands lkid rows = Any (λ row. row.lkid ≡ lkid) rows
 
 -- the conversion fits beside all other locks, and with QUECVT no conversion is queued
@@ -234,7 +235,7 @@ IsGrantedInTurn s (Convert c) ending =
 IsGrantedInTurn s step ending = ⊥
 
 -- a step grants at once only its own request; its sweep then grants the first requests of each queue, in order
-pub record GrantsFollowQueueOrder (old : State) (step : Step) (choice : Option LockRow) : Type 0 where
+pub record GrantsFollowQueueOrder (old : State) (step : Step) (choice : Option LockState) : Type 0 where
   pub swept_endings : List Ending
   pub swept :
       SweptInOrder (step_change old step choice).state.resources (stepped old step choice).state.resources swept_endings
@@ -244,15 +245,15 @@ pub record GrantsFollowQueueOrder (old : State) (step : Step) (choice : Option L
       (step_change old step choice).endings
 
 -- a granted lock holds a mode and wants nothing
-abbrev pub IsHeld : LockRow → Type 0
+abbrev pub IsHeld : LockState → Type 0
 IsHeld row = IsSome row.held × (row.want ≡ None)
 
 -- a converting lock holds a mode and wants a mode
-abbrev pub IsConverting : LockRow → Type 0
+abbrev pub IsConverting : LockState → Type 0
 IsConverting row = IsSome row.held × IsSome row.want
 
 -- a waiting lock holds nothing and wants a mode
-abbrev pub IsWaiting : LockRow → Type 0
+abbrev pub IsWaiting : LockState → Type 0
 IsWaiting row = (row.held ≡ None) × IsSome row.want
 
 -- each lock of the resource is in the queue that fits what it holds and wants
@@ -278,7 +279,7 @@ IsGrantedAtOnce number endings =
 
 -- an accepted conversion between modes that write the value block is granted at once
 abbrev pub WritesAreGrantedAtOnce : State → Type 0
-WritesAreGrantedAtOnce old = (c : Conversion) (choice : Option LockRow) (cond : Cond) (lkid : ℕ)
+WritesAreGrantedAtOnce old = (c : Conversion) (choice : Option LockState) (cond : Cond) (lkid : ℕ)
     → IsChoice old (Convert c) choice → (stepped old (Convert c) choice).answer ≡ Lock cond lkid
     → Any (λ r. Any (λ row. (row.lkid ≡ lkid) × (action_from row.held c.mode ≡ Write)) r.granted)
     old.resources
@@ -290,8 +291,8 @@ rows_on lkid r =
     count_by (λ row. row.lkid == lkid) r.granted + count_by (λ row. row.lkid == lkid) r.converting
     + count_by (λ row. row.lkid == lkid) r.waiting
 
--- no two rows have one identification; no row has 0, or an identification that is still to be given
-pub record IdentificationsAreApart (s : State) : Type 0 where
+-- no two rows have one ID; no row has 0, or an ID that is still to be given
+pub record IdsAreApart (s : State) : Type 0 where
   pub one_row : (lkid : ℕ) → sum_by (rows_on lkid) s.resources ≤ 1
   pub none_is_0 : sum_by (rows_on 0) s.resources ≡ 0
   pub none_to_come : (lkid : ℕ) → s.next_lkid ≤ lkid → sum_by (rows_on lkid) s.resources ≡ 0
@@ -306,16 +307,16 @@ pub record HaveOneKey (a b : Resource) : Type 0 where
 abbrev pub KeysAreApart : State → Type 0
 KeysAreApart s = AllPairs (λ a b. HaveOneKey a b → ⊥) s.resources
 
--- serials rise from 1 and are below the next serial; at most as many were given as lock identifications
+-- serials rise from 1 and are below the next serial; at most as many were given as lock IDs
 pub record SerialsRise (s : State) : Type 0 where
   pub rising : AllPairs (λ a b. a.serial < b.serial) s.resources
   pub from_1 : All (λ r. 0 < r.serial) s.resources
   pub given : All (λ r. r.serial < s.next_serial) s.resources
   pub few : s.next_serial ≤ s.next_lkid
 
--- a declaration gives an identification that no living process has
-abbrev pub DeclarationsGiveNewIdentifications : State → Type 0
-DeclarationsGiveNewIdentifications s = (d : Declaration) (choice : Option LockRow) (pid : ℕ)
+-- a declaration gives an ID that no living process has
+abbrev pub DeclarationsGiveNewIds : State → Type 0
+DeclarationsGiveNewIds s = (d : Declaration) (choice : Option LockState) (pid : ℕ)
     → IsChoice s (Declare d) choice → (stepped s (Declare d) choice).answer ≡ process_answer pid
     → All (λ p. p.pid ≢ pid) s.processes
 
@@ -325,7 +326,7 @@ HoldsOn lkid pid r = Any (λ row. (row.lkid ≡ lkid) × (row.pid ≡ pid)) (r.g
 
 -- a lock on a root has no parent lock; on a sub-resource it has one of the same process that holds a mode on the
 -- parent resource
-abbrev pub HasItsParent : List Resource → Resource → LockRow → Type 0
+abbrev pub HasItsParent : List Resource → Resource → LockState → Type 0
 HasItsParent resources r row =
     ((r.parent ≡ 0) × (row.parent ≡ 0))
     ⊎ ((r.parent ≢ 0) × (row.parent ≢ 0)

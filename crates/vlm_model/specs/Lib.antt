@@ -33,8 +33,8 @@ pub mod Taking
 pub mod Standing
 pub mod Writers
 pub mod Returned
-pub mod Settled
-pub mod Circles
+pub mod Stable
+pub mod Cycles
 pub mod Completing
 pub mod Accounting
 pub mod Anew
@@ -49,8 +49,9 @@ pub mod EndedProcesses
 pub mod Happened
 pub mod Privileges
 pub mod Owners
-pub mod NoNewCircles
+pub mod NoNewCycles
 pub mod TailMarks
 pub mod AtOnce
 pub mod WarnedSince
 pub mod Consequences
+pub mod Reuse

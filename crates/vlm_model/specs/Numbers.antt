@@ -1,6 +1,6 @@
--- The law that lock identifications, request numbers and serials are given once.
+-- The law that lock IDs, request numbers and serials are given once.
 use Rattle.std.specs.Prelude.{◌≡◌, ◌+◌, ◌⊎◌, ℕ, Any, sum_by, Option}
-use Rattle.vlm_words.specs.declared.locks.LockRow.{LockRow}
+use Rattle.vlm_words.specs.declared.locks.LockState.{LockState}
 use Rattle.vlm_words.specs.declared.steps.Answer.TheVariants.{Lock}
 use Rattle.vlm_words.specs.declared.steps.Answer.{Answer}
 use Rattle.vlm_words.specs.declared.steps.Conversion.{Conversion}
@@ -11,7 +11,7 @@ use Rattle.vlm_model.specs.Checks.{named_lkid}
 use Rattle.vlm_model.specs.Stepped.{stepped}
 use Rattle.vlm_model.specs.Laws.{rows_on}
 
--- a new request takes the next identification, which one lock then has, and the next request number
+-- a new request takes the next ID, which one lock then has, and the next request number
 pub record TakenByNewRequest (old new : State) (lkid : ℕ) : Type 0 where
   pub answered : lkid ≡ old.next_lkid
   pub stands : sum_by (rows_on lkid) new.resources ≡ 1
@@ -24,7 +24,7 @@ pub record TakenByConversion (old new : State) (c : Conversion) (lkid : ℕ) : T
   pub next_lkid : new.next_lkid ≡ old.next_lkid
   pub next_request : new.next_request ≡ old.next_request + 1
 
--- no identification and no request number is taken
+-- no ID and no request number is taken
 pub record NoneTaken (old new : State) : Type 0 where
   pub next_lkid : new.next_lkid ≡ old.next_lkid
   pub next_request : new.next_request ≡ old.next_request
@@ -46,6 +46,6 @@ TakesSerial old new =
     ⊎ ((new.next_serial ≡ old.next_serial) × (HasSerial old.next_serial new → ⊥))
 
 -- a step takes the numbers of what it makes, and no others
-pub record NumbersAreGivenOnce (old : State) (step : Step) (choice : Option LockRow) : Type 0 where
+pub record NumbersAreGivenOnce (old : State) (step : Step) (choice : Option LockState) : Type 0 where
   pub requests : TakesNumbers old (stepped old step choice).state step (stepped old step choice).answer
   pub serials : TakesSerial old (stepped old step choice).state

@@ -2,12 +2,12 @@
 use Rattle.std.specs.Prelude.{ℕ, Bool, zero, suc, false, ◌&&◌, ◌||◌, ◌==◌, ◌-◌, ◌++◌, List, filter, flat_map, slice_get}
 use Rattle.std.specs.List.{list_any, range_with_len}
 use Rattle.std.specs.Option.{option_map_or}
-use Rattle.vlm_words.specs.declared.locks.LockRow.{LockRow}
+use Rattle.vlm_words.specs.declared.locks.LockState.{LockState}
 use Rattle.vlm_words.specs.Rows.{rows_of}
 use Rattle.vlm_words.specs.State.{Resource, State}
 
 -- the row is of this lock, and its process is one of these
-abbrev pub is_lock_among : (ℕ → Bool) → ℕ → LockRow → Bool
+abbrev pub is_lock_among : (ℕ → Bool) → ℕ → LockState → Bool
 is_lock_among is_one lkid row = (row.lkid == lkid) && is_one row.pid
 
 -- the lock is on the resource, in some queue, and its process is one of these
@@ -16,13 +16,13 @@ has_lock_among is_one lkid r =
     list_any (is_lock_among is_one lkid) r.granted || list_any (is_lock_among is_one lkid) r.converting
     || list_any (is_lock_among is_one lkid) r.waiting
 
--- the locks of these processes, by rising identification
+-- the locks of these processes, by rising ID
 abbrev pub own_lkids : (ℕ → Bool) → State → List ℕ
 own_lkids is_one s =
     filter (λ lkid. list_any (has_lock_among is_one lkid) s.resources) (range_with_len 1 (s.next_lkid - 1))
 
 -- the rows of this lock on all resources
-abbrev pub all_rows_of : ℕ → List Resource → List LockRow
+abbrev pub all_rows_of : ℕ → List Resource → List LockState
 all_rows_of lkid resources =
     flat_map (λ r. rows_of lkid r.granted ++ rows_of lkid r.converting ++ rows_of lkid r.waiting) resources
 

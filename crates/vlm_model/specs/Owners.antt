@@ -1,6 +1,6 @@
 -- The law that other processes are left alone.
 use Rattle.std.specs.Prelude.{◌≡◌, ◌≤◌, ◌+◌, ◌/◌, ◌==◌, ◌&&◌, ℕ, All, Option, None, Some, count_by, sum_by}
-use Rattle.vlm_words.specs.declared.locks.LockRow.{LockRow}
+use Rattle.vlm_words.specs.declared.locks.LockState.{LockState}
 use Rattle.vlm_words.specs.declared.steps.Step.TheVariants.{Declare, SetValue, Enq, Convert, Deq, Rundown, Leave, Search, Take}
 use Rattle.vlm_words.specs.declared.steps.Step.{Step}
 use Rattle.vlm_words.specs.State.{Resource, State}
@@ -8,12 +8,12 @@ use Rattle.vlm_model.specs.Laws.{IsGrant}
 use Rattle.vlm_model.specs.Stepped.{stepped}
 
 -- the process owns the lock that a search chose
-abbrev pub IsChosenOwner : Option LockRow → ℕ → Type 0
+abbrev pub IsChosenOwner : Option LockState → ℕ → Type 0
 IsChosenOwner None pid = ⊥
 IsChosenOwner (Some chosen) pid = pid ≡ chosen.pid
 
 -- the process makes the step, is of the departing node, or owns the victim of a search
-abbrev pub IsConcerned : Step → Option LockRow → ℕ → Type 0
+abbrev pub IsConcerned : Step → Option LockState → ℕ → Type 0
 IsConcerned (Declare d) choice pid = ⊥
 IsConcerned (SetValue v) choice pid = pid ≡ v.pid
 IsConcerned (Enq e) choice pid = pid ≡ e.pid
@@ -32,7 +32,7 @@ lock_rows pid lkid r =
     + count_by (λ row. (row.lkid == lkid) && (row.pid == pid)) r.waiting
 
 -- a step ends no request of another process except by a grant, and takes no lock of another process
-pub record OthersAreLeftAlone (old : State) (step : Step) (choice : Option LockRow) : Type 0 where
+pub record OthersAreLeftAlone (old : State) (step : Step) (choice : Option LockState) : Type 0 where
   pub endings :
       All (λ ending. (IsGrant ending.how → ⊥) → IsConcerned step choice ending.pid) (stepped old step choice).endings
   pub locks : (pid lkid : ℕ) → (IsConcerned step choice pid → ⊥)

@@ -14,7 +14,7 @@ first_pending node processes = option_map (λ p. p.pid) (find (is_pending_on nod
 abbrev pub AreOfNodes : State → Type 0
 AreOfNodes s = All (λ p. is_node (node_of_pid p.pid) ≡ true) s.processes
 
--- each living process is of a node from 1 to 8, and the identifications of a node's processes rise
+-- each living process is of a node from 1 to 8, and the IDs of a node's processes rise
 pub record ProcessesRise (s : State) : Type 0 where
   pub named : AreOfNodes s
   pub rising : AllPairs (λ a b. node_of_pid a.pid ≡ node_of_pid b.pid → a.pid < b.pid) s.processes

@@ -1,6 +1,6 @@
 -- The law that roots of the system are privileged.
 use Rattle.std.specs.Prelude.{◌≡◌, ◌⊎◌, true, All, Any, Option, Some}
-use Rattle.vlm_words.specs.declared.locks.LockRow.{LockRow}
+use Rattle.vlm_words.specs.declared.locks.LockState.{LockState}
 use Rattle.vlm_words.specs.declared.resources.Domain.TheVariants.{System}
 use Rattle.vlm_words.specs.declared.steps.NewRequest.{NewRequest}
 use Rattle.vlm_words.specs.declared.steps.Step.TheVariants.{Enq}
@@ -31,7 +31,7 @@ IsPrivilegedStep s (Enq e) = IsPrivileged s e
 IsPrivilegedStep s step = ⊥
 
 -- a root in the system's domain existed before the step, or the step is privileged
-abbrev pub SystemRootsArePrivileged : State → Step → Option LockRow → Type 0
+abbrev pub SystemRootsArePrivileged : State → Step → Option LockState → Type 0
 SystemRootsArePrivileged old step choice =
     All (λ r. IsSystemRoot r → WasSystemRoot old r ⊎ IsPrivilegedStep old step)
     (stepped old step choice).state.resources

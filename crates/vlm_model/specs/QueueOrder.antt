@@ -1,11 +1,11 @@
 -- The law that each queue is in the order of its requests.
 use Rattle.std.specs.Prelude.{◌<◌, ℕ, List, All, AllPairs}
-use Rattle.vlm_words.specs.declared.locks.LockRow.{LockRow}
+use Rattle.vlm_words.specs.declared.locks.LockState.{LockState}
 use Rattle.vlm_words.specs.State.{Resource, State}
 use Rattle.vlm_model.specs.Deadlocks.{wanted_number}
 
 -- the numbers of the wanted requests rise along these rows, and each is below the next request number
-pub record NumbersRise (next : ℕ) (rows : List LockRow) : Type 0 where
+pub record NumbersRise (next : ℕ) (rows : List LockState) : Type 0 where
   pub rising : AllPairs (λ a b. wanted_number a < wanted_number b) rows
   pub given : All (λ row. wanted_number row < next) rows
 

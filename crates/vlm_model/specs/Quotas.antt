@@ -3,11 +3,11 @@ use Rattle.std.specs.Prelude.{ℕ, ◌+◌, ◌==◌, List, Option, None, Some, 
 use Rattle.std.specs.Option.{option_map_or}
 use Rattle.vlm_words.specs.declared.conditions.Cond.TheVariants.{Exenqlm}
 use Rattle.vlm_words.specs.declared.conditions.Cond.{Cond}
-use Rattle.vlm_words.specs.declared.locks.LockRow.{LockRow}
+use Rattle.vlm_words.specs.declared.locks.LockState.{LockState}
 use Rattle.vlm_words.specs.State.{Process, Resource, State, process_of}
 
 -- how many of the rows are locks of the process
-abbrev pub rows_owned : ℕ → List LockRow → ℕ
+abbrev pub rows_owned : ℕ → List LockState → ℕ
 rows_owned pid rows = count_by (λ row. row.pid == pid) rows
 
 -- how many locks of the process are on the resource

@@ -1,6 +1,6 @@
 -- The laws of how many ASTs a process may get.
 use Rattle.std.specs.Prelude.{◌≡◌, ◌≤◌, ◌==◌, ◌+◌, ℕ, List, ◌∷◌, Option, Some, length, if◌then◌else◌}
-use Rattle.vlm_words.specs.declared.locks.LockRow.{LockRow}
+use Rattle.vlm_words.specs.declared.locks.LockState.{LockState}
 use Rattle.vlm_words.specs.declared.steps.Answer.TheVariants.{Lock}
 use Rattle.vlm_words.specs.declared.steps.Answer.{Answer}
 use Rattle.vlm_words.specs.declared.steps.Step.TheVariants.{Enq, Convert}
@@ -18,7 +18,7 @@ routines_asked pid (Convert c) (Lock cond lkid) = if c.pid == pid then routines_
 routines_asked pid step answer = 0
 
 -- the ASTs of a living process, pending and due together, grow at most by the routines of its own accepted request
-pub record OnlyOwnRequestsRaiseDues (old : State) (step : Step) (choice : Option LockRow) : Type 0 where
+pub record OnlyOwnRequestsRaiseDues (old : State) (step : Step) (choice : Option LockState) : Type 0 where
   pub room : (pid : ℕ) (before after : Process) → process_of old.processes pid ≡ Some before
       → process_of (stepped old step choice).state.processes pid ≡ Some after
       → length after.asts + due pid (stepped old step choice).state.resources

@@ -1,10 +1,13 @@
 -- The law that a refusal has its reason: the rule of each condition, in words of its own.
 use Rattle.std.specs.Prelude.{◌≡◌, ◌≢◌, ◌<◌, ◌≤◌, ◌/◌, ◌^◌, ◌⊎◌, ℕ, true, false, List, [], ◌∷◌, ◌++◌, length, sum_by, All, Any, Option, None, Some, IsSome, ⊤}
 use Rattle.std.specs.Int.{bit_at}
-use Rattle.vlm_words.specs.declared.conditions.Cond.TheVariants.{Normal, Synch, Notqueued, Cancelgrant, Sublocks, Ivlockid, Cvtungrant, Parnotgrant, Exdepth, Exenqlm, Nolockid, Ivbuflen, Badparam, Unsupported, Nosyslck, Accvio, Nonexpr, Departed}
+use Rattle.vlm_words.specs.declared.conditions.Cond.TheVariants.{Normal, Synch, Notqueued, Cancelgrant, Sublocks}
+use Rattle.vlm_words.specs.declared.conditions.Cond.TheVariants.{Ivlockid, Cvtungrant, Parnotgrant, Exdepth, Exenqlm}
+use Rattle.vlm_words.specs.declared.conditions.Cond.TheVariants.{Nolockid, Ivbuflen, Badparam, Unsupported, Nosyslck}
+use Rattle.vlm_words.specs.declared.conditions.Cond.TheVariants.{Accvio, Nonexpr, Departed}
 use Rattle.vlm_words.specs.declared.conditions.Cond.{Cond}
 use Rattle.vlm_words.specs.declared.locks.Request.{Request}
-use Rattle.vlm_words.specs.declared.locks.LockRow.{LockRow}
+use Rattle.vlm_words.specs.declared.locks.LockState.{LockState}
 use Rattle.vlm_words.specs.declared.modes.Mode.TheVariants.{Nl}
 use Rattle.vlm_words.specs.declared.modes.Mode.{Mode}
 use Rattle.vlm_words.specs.declared.steps.Answer.TheVariants.{Process as process_answer, Lock, Plain, Taken, Victim}
@@ -43,11 +46,11 @@ pub record HasUnknownBit (flags : List ℕ) (bits : ℕ) : Type 0 where
 abbrev pub HasDeparted : State → ℕ → Type 0
 HasDeparted s node = (0 < node) × ((node_at s.nodes node).departed ≡ true)
 
--- no living process has the identification
+-- no living process has the ID
 abbrev pub IsNobody : State → ℕ → Type 0
 IsNobody s pid = All (λ p. p.pid ≢ pid) s.processes
 
--- a living process has the identification, and P holds of it
+-- a living process has the ID, and P holds of it
 abbrev pub IsOfCaller : State → ℕ → (Process → Type 0) → Type 0
 IsOfCaller s pid P = (p : Process) × (process_of s.processes pid ≡ Some p) × P p
 
@@ -60,12 +63,12 @@ abbrev pub IsNamedByNoBlock : State → ℕ → Which → Type 0
 IsNamedByNoBlock s pid (Id lkid) = ⊥
 IsNamedByNoBlock s pid (Block number) = HasNoBlock s pid number
 
--- the process has a lock with this identification
+-- the process has a lock with this ID
 abbrev pub HasLock : State → ℕ → ℕ → Type 0
 HasLock s pid lkid = Any (StandsOn lkid pid) s.resources
 
 -- the lock of this process is among the rows
-abbrev pub IsAmong : ℕ → ℕ → List LockRow → Type 0
+abbrev pub IsAmong : ℕ → ℕ → List LockState → Type 0
 IsAmong lkid pid rows = Any (λ row. (row.lkid ≡ lkid) × (row.pid ≡ pid)) rows
 
 -- the lock of this process is granted on some resource
@@ -206,14 +209,14 @@ IsAcceptance (Take pid) AtOnce (Taken ast) = ⊤
 IsAcceptance step AtOnce answer = ⊥
 
 -- the step breaks no rule and is accepted
-pub record IsAccepted (old : State) (step : Step) (choice : Option LockRow) : Type 0 where
+pub record IsAccepted (old : State) (step : Step) (choice : Option LockState) : Type 0 where
   pub keeps : (cond : Cond) → Breaks old step cond → ⊥
   pub answered :
       IsAcceptance step (IsGrantedAtOnce old.next_request (stepped old step choice).endings)
       (stepped old step choice).answer
 
 -- the step breaks a rule, is answered the condition of that rule, and changes nothing
-pub record IsRefused (old : State) (step : Step) (choice : Option LockRow) : Type 0 where
+pub record IsRefused (old : State) (step : Step) (choice : Option LockState) : Type 0 where
   pub told : Cond
   pub breaks : Breaks old step told
   pub answered : (stepped old step choice).answer ≡ Plain told
@@ -221,5 +224,5 @@ pub record IsRefused (old : State) (step : Step) (choice : Option LockRow) : Typ
   pub none_ends : (stepped old step choice).endings ≡ []
 
 -- a step is accepted, or refused for a reason; if it breaks several rules, the law leaves open which one answers
-abbrev pub RefusalHasItsReason : State → Step → Option LockRow → Type 0
+abbrev pub RefusalHasItsReason : State → Step → Option LockState → Type 0
 RefusalHasItsReason old step choice = IsAccepted old step choice ⊎ IsRefused old step choice

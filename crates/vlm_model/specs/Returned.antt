@@ -1,9 +1,10 @@
 -- The law that a grant returns the value block.
-use Rattle.std.specs.Prelude.{◌≡◌, ◌<◌, ◌+◌, ◌&&◌, ◌⊎◌, ◌++◌, ℕ, Bool, true, false, List, [], ◌∷◌, length, slice_index_or, nat_le, All, Any, Option, None, Some, ⊤, if◌then◌else◌}
+use Rattle.std.specs.Prelude.{◌≡◌, ◌<◌, ◌+◌, ◌&&◌, ◌⊎◌, ◌++◌, ℕ, Bool, true, false, List, [], ◌∷◌, length}
+use Rattle.std.specs.Prelude.{slice_index_or, nat_le, All, Any, Option, None, Some, ⊤, if◌then◌else◌}
 use Rattle.vlm_words.specs.declared.conditions.Cond.{Cond}
 use Rattle.vlm_words.specs.declared.conditions.Cond.TheVariants.{Normal, Valnotvalid, Widenotvalid}
 use Rattle.vlm_words.specs.declared.locks.Request.{Request}
-use Rattle.vlm_words.specs.declared.locks.LockRow.{LockRow}
+use Rattle.vlm_words.specs.declared.locks.LockState.{LockState}
 use Rattle.vlm_words.specs.declared.modes.Act.TheVariants.{Nothing, Return, Write}
 use Rattle.vlm_words.specs.declared.modes.Act.{Act}
 use Rattle.vlm_words.specs.declared.modes.Mode.TheVariants.{Pw, Ex}
@@ -105,7 +106,7 @@ TellsMark s (Some ending) status = ending.how ≡ by_grant Return
     (told_by_marks (has_flag (flag_bits ending.request.flags) wide) block.valid block.tail_valid))
 
 -- each grant does what its request asks for, and a status block gets the value block as it is after the step
-pub record GrantsReturnValues (old : State) (step : Step) (choice : Option LockRow) : Type 0 where
+pub record GrantsReturnValues (old : State) (step : Step) (choice : Option LockState) : Type 0 where
   pub acts :
       All (λ ending. IsGrant ending.how → ActsAsAskedFor old ending) (stepped old step choice).endings
   pub values : (pid k : ℕ) (p : Process) → process_of (stepped old step choice).state.processes pid ≡ Some p

@@ -24,7 +24,7 @@ rundown_of lkid = record {
   invalidates = true;
 }
 
--- the withdrawals of all locks of these processes, by rising identification
+-- the withdrawals of all locks of these processes, by rising ID
 abbrev pub rundowns : (ℕ → Bool) → State → List Withdrawal
 rundowns is_one s = map rundown_of (own_lkids is_one s)
 

@@ -2,7 +2,7 @@
 use Rattle.std.specs.Prelude.{ℕ, true, false, ◌≡◌, List, [], ◌∷◌, Option, None, Some}
 use Rattle.std.specs.Option.{option_map}
 use Rattle.vlm_words.specs.declared.conditions.Cond.{Cond}
-use Rattle.vlm_words.specs.declared.locks.LockRow.{LockRow}
+use Rattle.vlm_words.specs.declared.locks.LockState.{LockState}
 use Rattle.vlm_words.specs.State.{State}
 use Rattle.vlm_model.specs.Endings.{Ending}
 use Rattle.vlm_model.specs.Endings.How.{by_deadlock}
@@ -15,7 +15,7 @@ abbrev pub search_refusal : State → ℕ → Option Cond
 search_refusal s node = leave_refusal s node
 
 -- the choice of a search: the victim, if there is one; nothing if the search is refused
-abbrev pub IsSearchedFor : Option Cond → State → Option LockRow → Type 0
+abbrev pub IsSearchedFor : Option Cond → State → Option LockState → Type 0
 IsSearchedFor None s choice = IsVictim s choice
 IsSearchedFor (Some refusal) s choice = choice ≡ None
 
@@ -33,18 +33,18 @@ deadlock_of lkid = record {
 }
 
 -- the withdrawal of the victim, if there is one
-abbrev pub victim_withdrawals : Option LockRow → List Withdrawal
+abbrev pub victim_withdrawals : Option LockState → List Withdrawal
 victim_withdrawals None = []
 victim_withdrawals (Some victim) = deadlock_of victim.lkid ∷ []
 
 -- the victim's lock, if there is one
-abbrev pub victim_lkid : Option LockRow → Option ℕ
+abbrev pub victim_lkid : Option LockState → Option ℕ
 victim_lkid choice = option_map (λ victim. victim.lkid) choice
 
 -- the ending of the victim's request
-abbrev pub search_endings : State → Option LockRow → List Ending
+abbrev pub search_endings : State → Option LockState → List Ending
 search_endings s choice = withdrawn_endings (victim_withdrawals choice) s.resources
 
 -- the victim is withdrawn; without a victim nothing changes
-unfoldable pub search_change : State → Option LockRow → State
+unfoldable pub search_change : State → Option LockState → State
 search_change s choice = state_after_withdrawals (victim_withdrawals choice) s

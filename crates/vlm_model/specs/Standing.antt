@@ -2,7 +2,7 @@
 use Rattle.std.specs.Prelude.{◌≡◌, ◌⊎◌, ℕ, Any, Option, None, Some}
 use Rattle.vlm_words.specs.declared.conditions.Cond.{Cond}
 use Rattle.vlm_words.specs.declared.locks.Request.{Request}
-use Rattle.vlm_words.specs.declared.locks.LockRow.{LockRow}
+use Rattle.vlm_words.specs.declared.locks.LockState.{LockState}
 use Rattle.vlm_words.specs.declared.steps.Answer.TheVariants.{Lock}
 use Rattle.vlm_words.specs.declared.steps.Conversion.{Conversion}
 use Rattle.vlm_words.specs.declared.steps.NewRequest.{NewRequest}
@@ -37,7 +37,7 @@ new_conversion number c = record {
 }
 
 -- the row has this lock, process, parent lock, held request and wanted request
-pub record IsRow (lkid pid parent : ℕ) (held want : Option Request) (row : LockRow) : Type 0 where
+pub record IsRow (lkid pid parent : ℕ) (held want : Option Request) (row : LockState) : Type 0 where
   pub lock : row.lkid ≡ lkid
   pub process : row.pid ≡ pid
   pub above : row.parent ≡ parent
@@ -53,14 +53,14 @@ StandsNew lkid pid parent request r =
 -- the lock of an accepted new request is on the resource asked for, is the caller's, is under the named parent lock,
 -- and has the whole request
 abbrev pub NewLocksStandAsAskedFor : State → Type 0
-NewLocksStandAsAskedFor old = (e : NewRequest) (choice : Option LockRow) (cond : Cond) (lkid : ℕ)
+NewLocksStandAsAskedFor old = (e : NewRequest) (choice : Option LockState) (cond : Cond) (lkid : ℕ)
     → IsChoice old (Enq e) choice → (stepped old (Enq e) choice).answer ≡ Lock cond lkid
     → Any (λ r. IsAskedFor old e r
     × StandsNew lkid e.pid (named_lkid old e.pid e.parent) (new_request old.next_request e) r)
     (stepped old (Enq e) choice).state.resources
 
 -- the lock is granted and holds the request, or it converts, holds what it held, and wants the request
-abbrev pub StandsConverted : LockRow → Request → Resource → Type 0
+abbrev pub StandsConverted : LockState → Request → Resource → Type 0
 StandsConverted was request r =
     Any (IsRow was.lkid was.pid was.parent (Some request) None) r.granted
     ⊎ Any (IsRow was.lkid was.pid was.parent was.held (Some request)) r.converting
@@ -68,7 +68,7 @@ StandsConverted was request r =
 -- the lock of an accepted conversion was granted and is the caller's; it is on the same resource, with the whole
 -- request
 abbrev pub ConvertedLocksStandAsAskedFor : State → Type 0
-ConvertedLocksStandAsAskedFor old = (c : Conversion) (choice : Option LockRow) (cond : Cond) (lkid : ℕ)
+ConvertedLocksStandAsAskedFor old = (c : Conversion) (choice : Option LockState) (cond : Cond) (lkid : ℕ)
     → IsChoice old (Convert c) choice → (stepped old (Convert c) choice).answer ≡ Lock cond lkid
     → Any (λ before.
     Any (λ was. (was.lkid ≡ lkid) × (was.pid ≡ c.pid)

@@ -22,7 +22,7 @@ abbrev pub status_block_of : List Process → ℕ → ℕ → Block
 status_block_of processes pid n =
     if nat_lt 0 n then slice_index_or (status_blocks_of processes pid) (n - 1) new_status_block else new_status_block
 
--- block n is written, if the process has this identification
+-- block n is written, if the process has this ID
 unfoldable pub process_after_write : ℕ → ℕ → Block → Process → Process
 process_after_write pid n block p = if p.pid == pid then process_with_block n block p else p
 

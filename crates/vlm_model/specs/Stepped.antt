@@ -3,7 +3,7 @@ use Rattle.std.specs.Prelude.{◌≡◌, ◌⊎◌, ⊤, ℕ, Bool, List, [], �
 use Rattle.std.proofs.Common.{inl, inr}
 use Rattle.vlm_words.specs.declared.conditions.Cond.TheVariants.{Normal, Badparam, Insfmem}
 use Rattle.vlm_words.specs.declared.conditions.Cond.{Cond}
-use Rattle.vlm_words.specs.declared.locks.LockRow.{LockRow}
+use Rattle.vlm_words.specs.declared.locks.LockState.{LockState}
 use Rattle.vlm_words.specs.declared.steps.Answer.TheVariants.{Process as process_answer, Lock, Plain, Taken, Victim}
 use Rattle.vlm_words.specs.declared.steps.Answer.{Answer}
 use Rattle.vlm_words.specs.declared.steps.Conversion.{Conversion}
@@ -67,12 +67,12 @@ step_refusal s (Search node) = search_refusal s node
 step_refusal s (Take pid) = take_refusal s pid
 
 -- the choice of a step: a search chooses its victim, no other step chooses
-abbrev pub IsChoice : State → Step → Option LockRow → Type 0
+abbrev pub IsChoice : State → Step → Option LockState → Type 0
 IsChoice s (Search node) choice = IsSearchedFor (search_refusal s node) s choice
 IsChoice s step choice = choice ≡ None
 
 -- the change of a step that no check refuses, before its sweep, with its own endings and their completions
-abbrev pub step_change : State → Step → Option LockRow → Stepped
+abbrev pub step_change : State → Step → Option LockState → Stepped
 step_change s (Declare d) choice = record {
   state = declare_change s d;
   answer = process_answer (next_pid s d.node);
@@ -129,7 +129,7 @@ refused_or None s change = stepped_after_sweep change
 refused_or (Some refusal) s change = refused s refusal
 
 -- a step of the plain machine: the checks in order, then the change, then the sweep
-abbrev pub stepped : State → Step → Option LockRow → Stepped
+abbrev pub stepped : State → Step → Option LockState → Stepped
 stepped s step choice = refused_or (step_refusal s step) s (step_change s step choice)
 
 -- the conversion names a routine, so it may need memory for an AST
@@ -150,7 +150,7 @@ MayWantMemory (Take pid) = ⊥
 
 -- the step is made, with some choice
 pub record IsMade (old : State) (step : Step) (new : State) (answer : Answer) : Type 0 where
-  pub choice : Option LockRow
+  pub choice : Option LockState
   pub chosen : IsChoice old step choice
   pub state : new ≡ (stepped old step choice).state
   pub answered : answer ≡ (stepped old step choice).answer

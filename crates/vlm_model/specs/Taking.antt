@@ -1,7 +1,7 @@
 -- The law that ASTs are taken in order.
 use Rattle.std.specs.Prelude.{◌≡◌, ◌==◌, ◌++◌, ℕ, Bool, true, false, List, [], ◌∷◌, Option, None, Some, if◌then◌else◌}
 use Rattle.vlm_words.specs.declared.asts.Ast.{Ast}
-use Rattle.vlm_words.specs.declared.locks.LockRow.{LockRow}
+use Rattle.vlm_words.specs.declared.locks.LockState.{LockState}
 use Rattle.vlm_words.specs.declared.steps.Answer.TheVariants.{Taken}
 use Rattle.vlm_words.specs.declared.steps.Answer.{Answer}
 use Rattle.vlm_words.specs.declared.steps.Step.TheVariants.{Take}
@@ -39,7 +39,7 @@ pub record AstsAfter (step : Step) (answer : Answer) (queued : List Queued) (pid
   pub behind : after ≡ left ++ queued_to pid queued
 
 -- a Take answers the oldest AST of its process; no other step takes an AST, and new ones join at the end
-pub record AstsAreTakenInOrder (old : State) (step : Step) (choice : Option LockRow) : Type 0 where
+pub record AstsAreTakenInOrder (old : State) (step : Step) (choice : Option LockState) : Type 0 where
   pub asts : (pid : ℕ) (before after : Process) → process_of old.processes pid ≡ Some before
       → process_of (stepped old step choice).state.processes pid ≡ Some after
       → AstsAfter step (stepped old step choice).answer (stepped old step choice).queued pid before.asts after.asts

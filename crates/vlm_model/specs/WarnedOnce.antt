@@ -2,7 +2,7 @@
 use Rattle.std.specs.Prelude.{◌≤◌, ◌==◌, ◌+◌, ◌&&◌, ℕ, Bool, true, false, count_by, sum_by, is_some}
 use Rattle.vlm_words.specs.declared.asts.AstKind.{AstKind}
 use Rattle.vlm_words.specs.declared.asts.AstKind.TheVariants.{Completion, Blocking}
-use Rattle.vlm_words.specs.declared.locks.LockRow.{LockRow}
+use Rattle.vlm_words.specs.declared.locks.LockState.{LockState}
 use Rattle.vlm_words.specs.State.{Resource, State}
 use Rattle.vlm_model.specs.Endings.{Ending, How}
 use Rattle.vlm_model.specs.Endings.How.{by_abort, by_cancel, by_deadlock, by_grant, by_rundown}
@@ -19,7 +19,7 @@ abbrev pub is_warning_of : ℕ → Queued → Bool
 is_warning_of lkid q = tells_warning q.ast.kind && (q.ast.lkid == lkid)
 
 -- the row is of the lock, and armed
-abbrev pub is_armed_lock : ℕ → LockRow → Bool
+abbrev pub is_armed_lock : ℕ → LockState → Bool
 is_armed_lock lkid row = (row.lkid == lkid) && row.armed
 
 -- how many rows of a resource are of the lock, and armed

@@ -3,7 +3,7 @@
 use Rattle.std.specs.Prelude.{ℕ, Bool, false, ◌&&◌, ◌||◌, ◌==◌, List, [], ◌∷◌, ◌++◌, map, flat_map, Option, None, Some, if◌then◌else◌}
 use Rattle.std.specs.List.{list_any}
 use Rattle.vlm_words.specs.declared.locks.Request.{Request}
-use Rattle.vlm_words.specs.declared.locks.LockRow.{LockRow}
+use Rattle.vlm_words.specs.declared.locks.LockState.{LockState}
 use Rattle.vlm_words.specs.declared.resources.ValueBlock.{ValueBlock}
 use Rattle.vlm_words.specs.Modes.{is_writing}
 use Rattle.vlm_words.specs.ValueBlocks.{invalid_value_block, new_value_block, written_value_block}
@@ -27,7 +27,7 @@ pub record Withdrawal : Type 0 where
 -- ---- the requests end
 
 -- the request of this lock ends, if the lock is in this queue
-abbrev pub queue_endings : How → ℕ → List LockRow → List Ending
+abbrev pub queue_endings : How → ℕ → List LockState → List Ending
 queue_endings how lkid rows = flat_map (row_endings how false) (rows_of lkid rows)
 
 -- the request of the lock ends, if it is queued on this resource
@@ -53,7 +53,7 @@ is_writer None = false
 is_writer (Some held) = is_writing held.mode
 
 -- the lock is among the rows, and holds PW or EX
-abbrev pub has_writer : ℕ → List LockRow → Bool
+abbrev pub has_writer : ℕ → List LockState → Bool
 has_writer lkid rows = list_any (λ row. (row.lkid == lkid) && is_writer row.held) rows
 
 -- a given value is written, with or without a tail
@@ -88,7 +88,7 @@ resource_without lkid r = record r {
 }
 
 -- the row wants nothing, holds what it held, and is armed as before
-abbrev pub row_after_cancel : LockRow → LockRow
+abbrev pub row_after_cancel : LockState → LockState
 row_after_cancel row = record row { want = None }
 
 -- a converting lock goes to the end of the granted queue; a waiting lock goes

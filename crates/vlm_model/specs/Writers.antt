@@ -2,7 +2,7 @@
 use Rattle.std.specs.Prelude.{◌≡◌, ◌≢◌, ◌⊎◌, ◌-◌, ◌/◌, ◌++◌, ℕ, Bool, true, false, List, replicate, slice_index_or, All, Any, Option, None, Some}
 use Rattle.vlm_words.specs.declared.blocks.Block.{Block}
 use Rattle.vlm_words.specs.declared.locks.Request.{Request}
-use Rattle.vlm_words.specs.declared.locks.LockRow.{LockRow}
+use Rattle.vlm_words.specs.declared.locks.LockState.{LockState}
 use Rattle.vlm_words.specs.declared.modes.Mode.TheVariants.{Pw, Ex}
 use Rattle.vlm_words.specs.declared.modes.Mode.{Mode}
 use Rattle.vlm_words.specs.declared.resources.ValueBlock.{ValueBlock}
@@ -104,7 +104,7 @@ pub record HasNewValue (s : State) (after : Resource) : Type 0 where
   pub tail_valid : after.value_block.tail_valid ≡ true
 
 -- only a step whose own lock holds PW or EX changes a value block
-abbrev pub OnlyWritersChangeValues : State → Step → Option LockRow → Type 0
+abbrev pub OnlyWritersChangeValues : State → Step → Option LockState → Type 0
 OnlyWritersChangeValues old step choice =
     All (λ after. Any (λ before. HasItsValue old step before after) old.resources ⊎ HasNewValue old after)
     (stepped old step choice).state.resources

@@ -1,8 +1,10 @@
 -- The law that a step writes only the status blocks that are named.
-use Rattle.std.specs.Prelude.{◌≡◌, ◌<◌, ◌+◌, ◌/◌, ◌==◌, ◌&&◌, not, filter, ◌⊎◌, ◌++◌, ℕ, Bool, true, false, List, [], ◌∷◌, map, length, replicate, slice_index_or, Any, Option, None, Some, unwrap_or, if◌then◌else◌}
+use Rattle.std.specs.Prelude.{◌≡◌, ◌<◌, ◌+◌, ◌/◌, ◌==◌, ◌&&◌, not, filter, ◌⊎◌, ◌++◌, ℕ, Bool, true, false, List, []}
+use Rattle.std.specs.Prelude.{◌∷◌, map, length, replicate, slice_index_or, Any, Option, None, Some, unwrap_or}
+use Rattle.std.specs.Prelude.{if◌then◌else◌}
 use Rattle.vlm_words.specs.declared.blocks.Block.{Block}
 use Rattle.vlm_words.specs.declared.conditions.Cond.TheVariants.{Normal, Abort, Cancel, Deadlock, Valnotvalid, Widenotvalid}
-use Rattle.vlm_words.specs.declared.locks.LockRow.{LockRow}
+use Rattle.vlm_words.specs.declared.locks.LockState.{LockState}
 use Rattle.vlm_words.specs.declared.modes.Act.TheVariants.{Nothing, Return, Write}
 use Rattle.vlm_words.specs.declared.steps.Answer.TheVariants.{Lock, Plain, Process as process_answer}
 use Rattle.vlm_words.specs.declared.steps.Answer.{Answer}
@@ -125,7 +127,7 @@ pub record BlocksAfter (step : Step) (answer : Answer) (endings : List Ending) (
       (slice_index_or after k blank_block)
 
 -- a step writes the status blocks that it names, and the blocks of the requests that end in it, and no other
-pub record WritesNamedBlocks (old : State) (step : Step) (choice : Option LockRow) : Type 0 where
+pub record WritesNamedBlocks (old : State) (step : Step) (choice : Option LockState) : Type 0 where
   pub processes :
       ProcessesAfter step (stepped old step choice).answer old.processes (stepped old step choice).state.processes
   pub blocks : (pid : ℕ) (before after : Process) → process_of old.processes pid ≡ Some before

@@ -2,7 +2,7 @@
 //! if there is one: its contract is the law.
 
 ghost use Rattle.std.specs.Prelude.{◌≡◌, ℕ, true, false, Option, Some};
-ghost use Rattle.vlm_words.specs.declared.locks.LockRow.{LockRow};
+ghost use Rattle.vlm_words.specs.declared.locks.LockState.{LockState};
 ghost use Rattle.vlm_words.specs.declared.conditions.Cond.TheVariants.{Normal};
 ghost use Rattle.vlm_words.specs.declared.steps.Answer.TheVariants.{Plain};
 ghost use Rattle.vlm_words.specs.declared.steps.Dequeue.{Dequeue};
@@ -25,9 +25,9 @@ ghost use Rattle.vlm_model.specs.Warning.{WarningsAreOfGrants};
 ghost use Rattle.vlm_model.specs.WarnedOnce.{EachGrantIsWarnedAtMostOnce};
 ghost use Rattle.vlm_model.specs.WarnedSince.{EachGrantIsArmedOrWarned};
 ghost use Rattle.vlm_model.specs.BlocksRequests.{WarnedLocksAreInTheWay};
-ghost use Rattle.vlm_model.specs.NoNewCircles.{NoneIsCaughtAnew};
+ghost use Rattle.vlm_model.specs.NoNewCycles.{NoneIsCaughtAnew};
 ghost use Rattle.vlm_model.specs.TailMarks.{TailsAreValidWithTheirValues};
-ghost use Rattle.vlm_model.specs.TakenBelow.{AbortsByRisingIdentification, TakesThoseBelowAlone};
+ghost use Rattle.vlm_model.specs.TakenBelow.{AbortsByRisingId, TakesThoseBelowAlone};
 ghost use Rattle.vlm_model.specs.TakenAlone.{CancelsItsRequest, EndsItsVictim, TakesItsLock};
 
 use crate::laws::law_asts_are_taken_in_order;
@@ -42,8 +42,8 @@ pub fn law_what_is_queued_is_taken_or_pending()
     law_asts_are_taken_in_order();
 }
 
-/// A declaration gives an identification that no earlier declaration of the run gave.
-pub fn law_no_identification_is_given_twice()
+/// A declaration gives an ID that no earlier declaration of the run gave.
+pub fn law_no_id_is_given_twice()
     ensures { (history : History) (last : State) → Run history last
         → GivesNoneTwice history last }
 {}
@@ -59,7 +59,7 @@ pub fn law_a_request_completes_once()
 /// every AST that is queued was due.
 pub fn law_only_own_requests_raise_what_is_due()
     ensures { (history : History) (old : State) → Run history old
-        → (step : Step) (choice : Option LockRow)
+        → (step : Step) (choice : Option LockState)
         → IsChoice old step choice → OnlyOwnRequestsRaiseDues old step choice }
 {
     law_asts_are_taken_in_order();
@@ -95,7 +95,7 @@ pub fn law_a_grant_is_armed_or_was_warned()
 /// In any state: a lock that a step warns is granted, after the step, in a mode that is incompatible with some queued
 /// request of its resource. The AST goes to the lock's process.
 pub fn law_a_warned_lock_blocks_a_request()
-    ensures { (s : State) (step : Step) (choice : Option LockRow)
+    ensures { (s : State) (step : Step) (choice : Option LockState)
         → WarnedLocksAreInTheWay (stepped s step choice) }
 {}
 
@@ -113,7 +113,7 @@ pub fn law_no_process_of_a_departed_node_lives()
         → NoneLivesOnDepartedNodes history last }
 {}
 
-/// After its accepted rundown, or the accepted departure of its node, no living process has the identification. Each
+/// After its accepted rundown, or the accepted departure of its node, no living process has the ID. Each
 /// step of the process is answered NONEXPR or DEPARTED and changes nothing, and nothing is queued to it.
 pub fn law_an_ended_process_is_told_no_more()
     ensures { (history : History) (last : State) → Run history last
@@ -127,24 +127,24 @@ pub fn law_an_ended_process_is_told_no_more()
 /// order.
 pub fn law_a_dequeue_of_all_takes_those_below_alone()
     ensures { (history : History) (old : State) → Run history old
-        → (d : Dequeue) (choice : Option LockRow) → has_flag d.flags deqall ≡ true
+        → (d : Dequeue) (choice : Option LockState) → has_flag d.flags deqall ≡ true
         → (stepped old (Deq d) choice).answer ≡ Plain Normal
         → TakesThoseBelowAlone old d choice }
 {}
 
-/// A Deq with DEQALL aborts the requests of the locks that it takes, conversions included, by rising identification
+/// A Deq with DEQALL aborts the requests of the locks that it takes, conversions included, by rising ID
 /// of the locks, and all before the grants of its sweep.
-pub fn law_a_dequeue_of_all_aborts_by_rising_identification()
+pub fn law_a_dequeue_of_all_aborts_by_rising_id()
     ensures { (history : History) (old : State) → Run history old
-        → (d : Dequeue) (choice : Option LockRow) → has_flag d.flags deqall ≡ true
+        → (d : Dequeue) (choice : Option LockState) → has_flag d.flags deqall ≡ true
         → (stepped old (Deq d) choice).answer ≡ Plain Normal
-        → AbortsByRisingIdentification old d choice }
+        → AbortsByRisingId old d choice }
 {}
 
 /// In any state: a Deq without DEQALL and CANCEL takes the lock that it names, and no other; before its sweep the other
 /// locks are as they were, in their order. The lock's request, if it has one, ends by ABORT.
 pub fn law_a_dequeue_takes_its_lock()
-    ensures { (s : State) (d : Dequeue) (choice : Option LockRow)
+    ensures { (s : State) (d : Dequeue) (choice : Option LockState)
         → has_flag d.flags deqall ≡ false → has_flag d.flags cancel ≡ false
         → TakesItsLock s d choice }
 {}
@@ -153,17 +153,17 @@ pub fn law_a_dequeue_takes_its_lock()
 /// request and no other. A conversion ends by CANCEL or DEADLOCK, and its lock joins the granted queue: it holds what
 /// it held, and is armed as before. A waiting request ends by ABORT or DEADLOCK, and its lock goes.
 pub fn law_a_cancelled_conversion_leaves_its_lock()
-    ensures cancel { (s : State) (d : Dequeue) (choice : Option LockRow)
+    ensures cancel { (s : State) (d : Dequeue) (choice : Option LockState)
         → has_flag d.flags deqall ≡ false → has_flag d.flags cancel ≡ true
         → CancelsItsRequest s d choice }
-    ensures search { (s : State) (node : ℕ) (victim : LockRow)
+    ensures search { (s : State) (node : ℕ) (victim : LockState)
         → EndsItsVictim s node victim.lkid (Some victim) }
 {}
 
 /// A root in the system's domain is made only by a request with SYSTEM whose caller has the privilege SYSLCK.
 pub fn law_system_roots_are_privileged()
     ensures { (history : History) (old : State) → Run history old
-        → (step : Step) (choice : Option LockRow)
+        → (step : Step) (choice : Option LockState)
         → IsChoice old step choice → SystemRootsArePrivileged old step choice }
 {}
 
@@ -171,14 +171,14 @@ pub fn law_system_roots_are_privileged()
 /// the processes of a departing node and the victim of a search.
 pub fn law_others_are_left_alone()
     ensures { (history : History) (old : State) → Run history old
-        → (step : Step) (choice : Option LockRow) → IsChoice old step choice
+        → (step : Step) (choice : Option LockState) → IsChoice old step choice
         → OthersAreLeftAlone old step choice }
 {}
 
-/// In any state: a search makes no request deadlocked. Each request that waits in a circle after the search waited in
-/// one before it, so the grants after the victim's end close no new circle.
+/// In any state: a search makes no request deadlocked. Each request that waits in a cycle after the search waited in
+/// one before it, so the grants after the victim's end close no new cycle.
 pub fn law_a_search_catches_nobody_anew()
-    ensures { (s : State) (node : ℕ) (choice : Option LockRow)
+    ensures { (s : State) (node : ℕ) (choice : Option LockState)
         → NoneIsCaughtAnew s (stepped s (Search node) choice).state }
 {}
 

@@ -8,7 +8,7 @@ ghost use Rattle.vlm_words.specs.declared.asts.Ast.{Ast};
 ghost use Rattle.vlm_words.specs.declared.asts.AstKind.TheVariants.{Blocking, Completion};
 ghost use Rattle.vlm_words.specs.declared.conditions.Cond.{Cond};
 ghost use Rattle.vlm_words.specs.declared.conditions.Cond.TheVariants.{Normal};
-ghost use Rattle.vlm_words.specs.declared.locks.LockRow.{LockRow};
+ghost use Rattle.vlm_words.specs.declared.locks.LockState.{LockState};
 ghost use Rattle.vlm_words.specs.declared.locks.Request.{Request};
 ghost use Rattle.vlm_words.specs.declared.modes.Act.{Act};
 ghost use Rattle.vlm_words.specs.declared.modes.Mode.TheVariants.{Nl};
@@ -33,7 +33,7 @@ ghost use Rattle.vlm_model.specs.EndedProcesses.{EndedProcessesAreToldNoMore, Is
 ghost use Rattle.vlm_model.specs.Endings.{Ending};
 ghost use Rattle.vlm_model.specs.Endings.How.{by_abort, by_cancel, by_deadlock, by_grant, by_rundown};
 ghost use Rattle.vlm_model.specs.Laws.{IsVacant};
-ghost use Rattle.vlm_model.specs.NoNewCircles.{NoneIsCaughtAnew};
+ghost use Rattle.vlm_model.specs.NoNewCycles.{NoneIsCaughtAnew};
 ghost use Rattle.vlm_model.specs.Owners.{OthersAreLeftAlone};
 ghost use Rattle.vlm_model.specs.Privileges.{SystemRootsArePrivileged};
 ghost use Rattle.vlm_model.specs.Raising.{NoMoreIsQueuedThanNamed, OnlyOwnRequestsRaiseDues};
@@ -41,7 +41,7 @@ ghost use Rattle.vlm_model.specs.Runs.{History, Run, next};
 ghost use Rattle.vlm_model.specs.Stepped.{IsChoice, Outcome, Stepped, outcome_queued, step_change, stepped};
 ghost use Rattle.vlm_model.specs.TailMarks.{TailsAreValidWithTheirValues};
 ghost use Rattle.vlm_model.specs.TakenAlone.{CancelsItsRequest, EndsItsVictim, TakesItsLock};
-ghost use Rattle.vlm_model.specs.TakenBelow.{AbortsByRisingIdentification, TakesThoseBelowAlone};
+ghost use Rattle.vlm_model.specs.TakenBelow.{AbortsByRisingId, TakesThoseBelowAlone};
 ghost use Rattle.vlm_model.specs.WarnedOnce.{EachGrantIsWarnedAtMostOnce};
 ghost use Rattle.vlm_model.specs.WarnedSince.{EachGrantIsArmedOrWarned};
 ghost use Rattle.vlm_model.specs.Warning.{WarningsAreOfGrants};
@@ -55,18 +55,18 @@ pub fn an_invalid_value_has_no_valid_tail()
 
 /// No request without SYSTEM, no caller without SYSLCK and no conversion makes a root in the system's domain.
 pub fn nobody_else_makes_a_root_of_the_system()
-    ensures caller { (old : State) (e : NewRequest) (choice : Option LockRow) (caller : Process)
+    ensures caller { (old : State) (e : NewRequest) (choice : Option LockState) (caller : Process)
         (r : Resource) → SystemRootsArePrivileged old (Enq e) choice
         → Contains (stepped old (Enq e) choice).state.resources r → r.parent ≡ 0
         → r.domain ≡ System → All (λ before. before.serial ≡ r.serial → before.parent ≡ 0
         → before.domain ≢ System) old.resources
         → process_of old.processes e.pid ≡ Some caller → caller.syslck ≡ false → ⊥ }
-    ensures request { (old : State) (e : NewRequest) (choice : Option LockRow) (r : Resource)
+    ensures request { (old : State) (e : NewRequest) (choice : Option LockState) (r : Resource)
         → SystemRootsArePrivileged old (Enq e) choice
         → Contains (stepped old (Enq e) choice).state.resources r → r.parent ≡ 0
         → r.domain ≡ System → All (λ before. before.serial ≡ r.serial → before.parent ≡ 0
         → before.domain ≢ System) old.resources → has_flag e.flags system ≡ false → ⊥ }
-    ensures conversion { (old : State) (c : Conversion) (choice : Option LockRow) (r : Resource)
+    ensures conversion { (old : State) (c : Conversion) (choice : Option LockState) (r : Resource)
         → SystemRootsArePrivileged old (Convert c) choice
         → Contains (stepped old (Convert c) choice).state.resources r → r.parent ≡ 0
         → r.domain ≡ System → All (λ before. before.serial ≡ r.serial → before.parent ≡ 0
@@ -76,25 +76,25 @@ pub fn nobody_else_makes_a_root_of_the_system()
 /// A step of one process ends no request of another, except by a grant, and takes no lock of it. A departure ends only
 /// requests of its node, and a search only those of its victim's process.
 pub fn a_step_of_one_process_ends_nothing_of_another()
-    ensures requests { (old : State) (step : Step) (choice : Option LockRow) (pid : ℕ)
+    ensures requests { (old : State) (step : Step) (choice : Option LockState) (pid : ℕ)
         (ending : Ending) → OthersAreLeftAlone old step choice → IsStepOfProcess pid step
         → Contains (stepped old step choice).endings ending → ending.pid ≢ pid
         → ((act : Act) → ending.how ≢ by_grant act) → ⊥ }
-    ensures locks { (old : State) (step : Step) (choice : Option LockRow) (pid other lkid : ℕ)
+    ensures locks { (old : State) (step : Step) (choice : Option LockState) (pid other lkid : ℕ)
         → OthersAreLeftAlone old step choice → IsStepOfProcess pid step → other ≢ pid
         → rows_of_lock other lkid (stepped old step choice).state
         < rows_of_lock other lkid old → ⊥ }
-    ensures departures { (old : State) (node : ℕ) (choice : Option LockRow) (ending : Ending)
+    ensures departures { (old : State) (node : ℕ) (choice : Option LockState) (ending : Ending)
         → OthersAreLeftAlone old (Leave node) choice
         → Contains (stepped old (Leave node) choice).endings ending → ending.pid / 65536 ≢ node
         → ending.how ≡ by_rundown → ⊥ }
-    ensures searches { (old : State) (node : ℕ) (victim : LockRow) (ending : Ending)
+    ensures searches { (old : State) (node : ℕ) (victim : LockState) (ending : Ending)
         → OthersAreLeftAlone old (Search node) (Some victim)
         → Contains (stepped old (Search node) (Some victim)).endings ending
         → ending.pid ≢ victim.pid → ending.how ≡ by_deadlock → ⊥ }
 {}
 
-/// A declaration does not answer an identification that an earlier declaration of the run answered.
+/// A declaration does not answer an ID that an earlier declaration of the run answered.
 pub fn a_process_is_not_declared_again()
     ensures { (history : History) (last : State) (d : Declaration) (pid : ℕ)
         → GivesNoneTwice history last → Contains history.answers (process_answer pid)
@@ -142,7 +142,7 @@ pub fn no_ast_is_lost_or_made_up()
         (history_of (Take pid ∷ []) (Taken (Some ast) ∷ []) [] []) last
         → process_of last.processes pid ≡ None → ⊥ }
     ensures no_more { (history : History) (q : Queued) (last : State) (step : Step)
-        (choice : Option LockRow) → WhatIsQueuedIsTakenOrPending history last
+        (choice : Option LockState) → WhatIsQueuedIsTakenOrPending history last
         → process_of last.processes q.pid ≡ None → IsChoice last step choice
         → (stepped last step choice).queued ≡ q ∷ [] → ⊥ }
     ensures undeclared { (q : Queued) (last : State)
@@ -152,27 +152,27 @@ pub fn no_ast_is_lost_or_made_up()
 /// The ASTs of a process do not grow by a request of another process, by a refused request, by one that names no
 /// routine, or by a dequeue.
 pub fn nothing_else_raises_what_is_due()
-    ensures anothers { (old : State) (c : Conversion) (choice : Option LockRow) (pid : ℕ)
+    ensures anothers { (old : State) (c : Conversion) (choice : Option LockState) (pid : ℕ)
         (before after : Process) → OnlyOwnRequestsRaiseDues old (Convert c) choice
         → c.pid ≢ pid → process_of old.processes pid ≡ Some before
         → process_of (stepped old (Convert c) choice).state.processes pid ≡ Some after
         → due_or_pending pid before old
         < due_or_pending pid after (stepped old (Convert c) choice).state → ⊥ }
-    ensures refused { (old : State) (e : NewRequest) (choice : Option LockRow) (pid : ℕ)
+    ensures refused { (old : State) (e : NewRequest) (choice : Option LockState) (pid : ℕ)
         (cond : Cond) (before after : Process) → OnlyOwnRequestsRaiseDues old (Enq e) choice
         → (stepped old (Enq e) choice).answer ≡ Plain cond
         → process_of old.processes pid ≡ Some before
         → process_of (stepped old (Enq e) choice).state.processes pid ≡ Some after
         → due_or_pending pid before old
         < due_or_pending pid after (stepped old (Enq e) choice).state → ⊥ }
-    ensures unnamed { (old : State) (e : NewRequest) (choice : Option LockRow) (pid lkid : ℕ)
+    ensures unnamed { (old : State) (e : NewRequest) (choice : Option LockState) (pid lkid : ℕ)
         (cond : Cond) (before after : Process) → OnlyOwnRequestsRaiseDues old (Enq e) choice
         → (stepped old (Enq e) choice).answer ≡ Lock cond lkid → e.ast ≡ None → e.bast ≡ None
         → process_of old.processes pid ≡ Some before
         → process_of (stepped old (Enq e) choice).state.processes pid ≡ Some after
         → due_or_pending pid before old
         < due_or_pending pid after (stepped old (Enq e) choice).state → ⊥ }
-    ensures dequeue { (old : State) (d : Dequeue) (choice : Option LockRow) (pid : ℕ)
+    ensures dequeue { (old : State) (d : Dequeue) (choice : Option LockState) (pid : ℕ)
         (before after : Process) → OnlyOwnRequestsRaiseDues old (Deq d) choice
         → process_of old.processes pid ≡ Some before
         → process_of (stepped old (Deq d) choice).state.processes pid ≡ Some after
@@ -223,7 +223,7 @@ pub fn no_grant_is_warned_again()
     ensures anothers { (ending : Ending) (q : Queued) (last : State)
         → EachGrantIsWarnedAtMostOnce (history_of [] [] (ending ∷ []) (q ∷ [])) last
         → q.ast.kind ≡ Blocking → ending.lkid ≢ q.ast.lkid → ⊥ }
-    ensures armed { (ending : Ending) (q : Queued) (last : State) (r : Resource) (row : LockRow)
+    ensures armed { (ending : Ending) (q : Queued) (last : State) (r : Resource) (row : LockState)
         → EachGrantIsWarnedAtMostOnce (history_of [] [] (ending ∷ []) (q ∷ [])) last
         → q.ast.kind ≡ Blocking → Contains last.resources r → Contains r.granted row
         → row.lkid ≡ q.ast.lkid → row.armed ≡ true → ⊥ }
@@ -269,20 +269,20 @@ pub fn an_ended_process_does_nothing()
 /// A Deq with DEQALL and lock 0 leaves no lock of its caller. Below a lock it leaves no sublock, and takes no lock
 /// without a parent lock. It takes no lock of another process.
 pub fn a_dequeue_of_all_takes_no_other_lock()
-    ensures own { (old : State) (d : Dequeue) (choice : Option LockRow) (r after : Resource)
-        (row : LockRow) → TakesThoseBelowAlone old d choice → old.resources ≡ r ∷ []
+    ensures own { (old : State) (d : Dequeue) (choice : Option LockState) (r after : Resource)
+        (row : LockState) → TakesThoseBelowAlone old d choice → old.resources ≡ r ∷ []
         → changed old (Deq d) choice ≡ after ∷ [] → d.lock ≡ Id 0 → r.granted ≡ row ∷ []
         → row.pid ≡ d.pid → after.granted ≡ [] }
-    ensures anothers { (old : State) (d : Dequeue) (choice : Option LockRow)
-        (r after : Resource) (row : LockRow) → TakesThoseBelowAlone old d choice
+    ensures anothers { (old : State) (d : Dequeue) (choice : Option LockState)
+        (r after : Resource) (row : LockState) → TakesThoseBelowAlone old d choice
         → old.resources ≡ r ∷ [] → changed old (Deq d) choice ≡ after ∷ []
         → r.converting ≡ row ∷ [] → row.pid ≢ d.pid → after.converting ≡ row ∷ [] }
-    ensures sublock { (old : State) (d : Dequeue) (choice : Option LockRow) (r after : Resource)
-        (row : LockRow) (top : ℕ) → TakesThoseBelowAlone old d choice → old.resources ≡ r ∷ []
+    ensures sublock { (old : State) (d : Dequeue) (choice : Option LockState) (r after : Resource)
+        (row : LockState) (top : ℕ) → TakesThoseBelowAlone old d choice → old.resources ≡ r ∷ []
         → changed old (Deq d) choice ≡ after ∷ [] → d.lock ≡ Id top → 0 < top
         → WaitsAlone row r → row.parent ≡ top → after.waiting ≡ [] }
-    ensures without_parent { (old : State) (d : Dequeue) (choice : Option LockRow)
-        (r after : Resource) (row : LockRow) (top : ℕ) → TakesThoseBelowAlone old d choice
+    ensures without_parent { (old : State) (d : Dequeue) (choice : Option LockState)
+        (r after : Resource) (row : LockState) (top : ℕ) → TakesThoseBelowAlone old d choice
         → old.resources ≡ r ∷ [] → changed old (Deq d) choice ≡ after ∷ [] → d.lock ≡ Id top
         → 0 < top → IsHeldAlone row r → row.parent ≡ 0 → 0 < row.lkid
         → after.granted ≡ row ∷ [] }
@@ -290,33 +290,33 @@ pub fn a_dequeue_of_all_takes_no_other_lock()
 
 /// A Deq with DEQALL never ends the request of a later lock first, and never ends one by CANCEL.
 pub fn a_dequeue_of_all_aborts_no_later_lock_first()
-    ensures order { (old : State) (d : Dequeue) (choice : Option LockRow) (i j : ℕ)
-        (none a b : Ending) → AbortsByRisingIdentification old d choice → i < j
+    ensures order { (old : State) (d : Dequeue) (choice : Option LockState) (i j : ℕ)
+        (none a b : Ending) → AbortsByRisingId old d choice → i < j
         → j < length (step_change old (Deq d) choice).endings
         → slice_index_or (step_change old (Deq d) choice).endings i none ≡ a
         → slice_index_or (step_change old (Deq d) choice).endings j none ≡ b
         → b.lkid ≤ a.lkid → ⊥ }
-    ensures how { (old : State) (d : Dequeue) (choice : Option LockRow) (ending : Ending)
-        → AbortsByRisingIdentification old d choice
+    ensures how { (old : State) (d : Dequeue) (choice : Option LockState) (ending : Ending)
+        → AbortsByRisingId old d choice
         → Contains (step_change old (Deq d) choice).endings ending
         → ending.how ≡ by_cancel → ⊥ }
 {}
 
 /// A Deq takes the lock that it names and no other, and ends a request of it by ABORT alone.
 pub fn a_dequeue_takes_no_other_lock()
-    ensures granted { (s : State) (d : Dequeue) (choice : Option LockRow) (r after : Resource)
-        (row : LockRow) (lkid : ℕ) → TakesItsLock s d choice → s.resources ≡ r ∷ []
+    ensures granted { (s : State) (d : Dequeue) (choice : Option LockState) (r after : Resource)
+        (row : LockState) (lkid : ℕ) → TakesItsLock s d choice → s.resources ≡ r ∷ []
         → changed s (Deq d) choice ≡ after ∷ [] → d.lock ≡ Id lkid → r.granted ≡ row ∷ []
         → row.lkid ≡ lkid → after.granted ≡ [] }
-    ensures waiting { (s : State) (d : Dequeue) (choice : Option LockRow) (r after : Resource)
-        (row : LockRow) (lkid : ℕ) → TakesItsLock s d choice → s.resources ≡ r ∷ []
+    ensures waiting { (s : State) (d : Dequeue) (choice : Option LockState) (r after : Resource)
+        (row : LockState) (lkid : ℕ) → TakesItsLock s d choice → s.resources ≡ r ∷ []
         → changed s (Deq d) choice ≡ after ∷ [] → d.lock ≡ Id lkid → r.waiting ≡ row ∷ []
         → row.lkid ≡ lkid → after.waiting ≡ [] }
-    ensures other { (s : State) (d : Dequeue) (choice : Option LockRow) (r after : Resource)
-        (row : LockRow) (lkid : ℕ) → TakesItsLock s d choice → s.resources ≡ r ∷ []
+    ensures other { (s : State) (d : Dequeue) (choice : Option LockState) (r after : Resource)
+        (row : LockState) (lkid : ℕ) → TakesItsLock s d choice → s.resources ≡ r ∷ []
         → changed s (Deq d) choice ≡ after ∷ [] → d.lock ≡ Id lkid → r.converting ≡ row ∷ []
         → row.lkid ≢ lkid → after.converting ≡ row ∷ [] }
-    ensures requests { (s : State) (d : Dequeue) (choice : Option LockRow) (ending : Ending)
+    ensures requests { (s : State) (d : Dequeue) (choice : Option LockState) (ending : Ending)
         (lkid : ℕ) → TakesItsLock s d choice → d.lock ≡ Id lkid
         → Contains (step_change s (Deq d) choice).endings ending
         → (ending.lkid ≢ lkid) ⊎ (ending.how ≡ by_cancel) → ⊥ }
@@ -325,28 +325,28 @@ pub fn a_dequeue_takes_no_other_lock()
 /// A conversion that a CANCEL or a search ends leaves its lock granted exactly as it held. A cancelled waiting lock
 /// goes, and no other lock changes.
 pub fn a_cancelled_conversion_holds_what_it_held()
-    ensures conversion { (s : State) (d : Dequeue) (choice : Option LockRow)
-        (r after : Resource) (row : LockRow) (lkid : ℕ) → CancelsItsRequest s d choice
+    ensures conversion { (s : State) (d : Dequeue) (choice : Option LockState)
+        (r after : Resource) (row : LockState) (lkid : ℕ) → CancelsItsRequest s d choice
         → s.resources ≡ r ∷ [] → changed s (Deq d) choice ≡ after ∷ [] → d.lock ≡ Id lkid
         → ConvertsAlone row r → row.lkid ≡ lkid → IsHeldAlone (record row { want = None }) after }
-    ensures waiting { (s : State) (d : Dequeue) (choice : Option LockRow) (r after : Resource)
-        (row : LockRow) (lkid : ℕ) → CancelsItsRequest s d choice → s.resources ≡ r ∷ []
+    ensures waiting { (s : State) (d : Dequeue) (choice : Option LockState) (r after : Resource)
+        (row : LockState) (lkid : ℕ) → CancelsItsRequest s d choice → s.resources ≡ r ∷ []
         → changed s (Deq d) choice ≡ after ∷ [] → d.lock ≡ Id lkid → WaitsAlone row r
         → row.lkid ≡ lkid → IsVacant after }
-    ensures other { (s : State) (d : Dequeue) (choice : Option LockRow) (r after : Resource)
-        (row : LockRow) (lkid : ℕ) → CancelsItsRequest s d choice → s.resources ≡ r ∷ []
+    ensures other { (s : State) (d : Dequeue) (choice : Option LockState) (r after : Resource)
+        (row : LockState) (lkid : ℕ) → CancelsItsRequest s d choice → s.resources ≡ r ∷ []
         → changed s (Deq d) choice ≡ after ∷ [] → d.lock ≡ Id lkid → ConvertsAlone row r
         → row.lkid ≢ lkid → ConvertsAlone row after }
-    ensures how { (s : State) (d : Dequeue) (choice : Option LockRow) (r : Resource)
-        (row : LockRow) (ending : Ending) → CancelsItsRequest s d choice
+    ensures how { (s : State) (d : Dequeue) (choice : Option LockState) (r : Resource)
+        (row : LockState) (ending : Ending) → CancelsItsRequest s d choice
         → s.resources ≡ r ∷ [] → ConvertsAlone row r
         → Contains (step_change s (Deq d) choice).endings ending
         → ending.how ≡ by_cancel }
-    ensures victim { (s : State) (node : ℕ) (victim : LockRow) (r after : Resource)
+    ensures victim { (s : State) (node : ℕ) (victim : LockState) (r after : Resource)
         → EndsItsVictim s node victim.lkid (Some victim) → s.resources ≡ r ∷ []
         → changed s (Search node) (Some victim) ≡ after ∷ [] → ConvertsAlone victim r
         → IsHeldAlone (record victim { want = None }) after }
-    ensures end_of_victim { (s : State) (node : ℕ) (victim : LockRow) (ending : Ending)
+    ensures end_of_victim { (s : State) (node : ℕ) (victim : LockState) (ending : Ending)
         → EndsItsVictim s node victim.lkid (Some victim)
         → Contains (step_change s (Search node) (Some victim)).endings ending
         → (ending.lkid ≡ victim.lkid) × (ending.how ≡ by_deadlock) }
@@ -363,16 +363,16 @@ pub fn nothing_that_fits_waits()
         → has_flag e.flags expedite ≡ true → e.mode ≡ Nl
         → (stepped old (Enq e) None).endings ≡ [] → ⊥ }
     ensures beside { (old : State) (e : NewRequest) (cond : Cond) (lkid : ℕ) (r : Resource)
-        (row : LockRow) (held : Request) → WhatFitsIsGrantedAtOnce old
+        (row : LockState) (held : Request) → WhatFitsIsGrantedAtOnce old
         → (stepped old (Enq e) None).answer ≡ Lock cond lkid → old.resources ≡ r ∷ []
         → IsHeldAlone row r → row.held ≡ Some held → is_compatible e.mode held.mode ≡ true
         → (stepped old (Enq e) None).endings ≡ [] → ⊥ }
     ensures only_lock { (old : State) (c : Conversion) (cond : Cond) (r : Resource)
-        (row : LockRow) → WhatFitsIsGrantedAtOnce old
+        (row : LockState) → WhatFitsIsGrantedAtOnce old
         → (stepped old (Convert c) None).answer ≡ Lock cond row.lkid → old.resources ≡ r ∷ []
         → IsHeldAlone row r → (stepped old (Convert c) None).endings ≡ [] → ⊥ }
     ensures overtaking { (old : State) (c : Conversion) (cond : Cond) (r : Resource)
-        (row other : LockRow) (held : Request) → WhatFitsIsGrantedAtOnce old
+        (row other : LockState) (held : Request) → WhatFitsIsGrantedAtOnce old
         → (stepped old (Convert c) None).answer ≡ Lock cond row.lkid → old.resources ≡ r ∷ []
         → r.granted ≡ row ∷ [] → r.converting ≡ other ∷ [] → other.held ≡ Some held
         → is_compatible c.mode held.mode ≡ true → has_flag c.flags quecvt ≡ false
@@ -381,7 +381,7 @@ pub fn nothing_that_fits_waits()
 
 /// A search makes no two conversions that block each other where nobody was queued.
 pub fn no_search_makes_a_deadlock()
-    ensures { (old new : State) (a b : LockRow) → NoneIsCaughtAnew old new
+    ensures { (old new : State) (a b : LockState) → NoneIsCaughtAnew old new
         → AreDeadlocked new a b
         → All (λ r. (r.converting ≡ []) × (r.waiting ≡ [])) old.resources → ⊥ }
 {}
@@ -390,14 +390,14 @@ pub fn no_search_makes_a_deadlock()
 /// parameter. If no earlier step granted the request, the last step warned it.
 pub fn no_disarmed_lock_is_unwarned()
     ensures ever { (history : History) (last : State) (run : Run history last) (r : Resource)
-        (row : LockRow) (held : Request) (routine : ℕ) → EachGrantIsArmedOrWarned run
+        (row : LockState) (held : Request) (routine : ℕ) → EachGrantIsArmedOrWarned run
         → Contains last.resources r → Contains (r.granted ++ r.converting) row
         → row.held ≡ Some held → held.blocking ≡ Some routine → row.armed ≡ false
         → All (λ q. q.ast.kind ≡ Blocking → q.pid ≡ row.pid → q.ast.lkid ≡ row.lkid
         → q.ast.routine ≡ routine → q.ast.param ≢ held.param) history.queued → ⊥ }
     ensures since { (history : History) (old new : State) (step : Step) (answer : Answer)
         (run : Run history old) (outcome : Outcome old step new answer) (r : Resource)
-        (row : LockRow) (held : Request) (routine : ℕ)
+        (row : LockState) (held : Request) (routine : ℕ)
         → EachGrantIsArmedOrWarned (next run outcome)
         → Contains new.resources r → Contains (r.granted ++ r.converting) row
         → row.held ≡ Some held → held.blocking ≡ Some routine → row.armed ≡ false

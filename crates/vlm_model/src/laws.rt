@@ -3,17 +3,17 @@
 
 ghost use Rattle.std.specs.Prelude.{◌≡◌, ℕ, List, None, Option};
 ghost use Rattle.std.specs.List.{AllByRecursion};
-ghost use Rattle.vlm_words.specs.declared.locks.LockRow.{LockRow};
+ghost use Rattle.vlm_words.specs.declared.locks.LockState.{LockState};
 ghost use Rattle.vlm_words.specs.declared.steps.Answer.TheVariants.{Victim};
 ghost use Rattle.vlm_words.specs.declared.steps.Step.TheVariants.{Search};
 ghost use Rattle.vlm_words.specs.declared.steps.Step.{Step};
 ghost use Rattle.vlm_words.specs.State.{Process, Resource, State};
-ghost use Rattle.vlm_model.specs.Settled.{IsSettled, IsSweptNext, IsUnswept};
+ghost use Rattle.vlm_model.specs.Stable.{IsStable, IsSweptNext, IsUnswept};
 ghost use Rattle.vlm_model.specs.Runs.{History, Run};
 ghost use Rattle.vlm_model.specs.Stepped.{IsChoice, step_refusal, stepped};
 ghost use Rattle.vlm_model.specs.Granted.{NoGrantIsHidden};
 ghost use Rattle.vlm_model.specs.Joining.{ChangesKeepOrder};
-ghost use Rattle.vlm_model.specs.Circles.{FindsWhoIsCaught};
+ghost use Rattle.vlm_model.specs.Cycles.{FindsWhoIsCaught};
 ghost use Rattle.vlm_model.specs.Numbers.{NumbersAreGivenOnce};
 ghost use Rattle.vlm_model.specs.Pending.{ProcessesRise};
 ghost use Rattle.vlm_model.specs.Queued.{NoqueueIsKept};
@@ -24,7 +24,7 @@ ghost use Rattle.vlm_model.specs.Written.{WritesNamedBlocks};
 ghost use Rattle.vlm_model.specs.Taking.{AstsAreTakenInOrder};
 ghost use Rattle.vlm_model.specs.Standing.{ConvertedLocksStandAsAskedFor, NewLocksStandAsAskedFor};
 ghost use Rattle.vlm_model.specs.Reasons.{RefusalHasItsReason};
-ghost use Rattle.vlm_model.specs.Laws.{ChainsAreBounded, DeclarationsGiveNewIdentifications, EachRequestEndsOnce, GrantsFollowQueueOrder, HeldModesAreCompatible, IdentificationsAreApart, KeysAreApart, NoResourceIsVacant, NothingIsLeftToGrant, NothingIsLeftToWarn, ParentsOutliveTheirSublocks, QuotasAreKept, RowsFitTheirQueues, SerialsRise, TreesAreBounded, WritesAreGrantedAtOnce};
+ghost use Rattle.vlm_model.specs.Laws.{ChainsAreBounded, DeclarationsGiveNewIds, EachRequestEndsOnce, GrantsFollowQueueOrder, HeldModesAreCompatible, IdsAreApart, KeysAreApart, NoResourceIsVacant, NothingIsLeftToGrant, NothingIsLeftToWarn, ParentsOutliveTheirSublocks, QuotasAreKept, RowsFitTheirQueues, SerialsRise, TreesAreBounded, WritesAreGrantedAtOnce};
 
 /// In each resource the held modes of any two locks are compatible.
 pub fn law_held_modes_are_compatible()
@@ -62,25 +62,25 @@ pub fn law_rows_fit_their_queues()
     ensures { (history : History) (last : State) → Run history last → RowsFitTheirQueues last }
 {}
 
-/// No two locks have one identification. No lock has 0 or an identification that is still to be given.
-pub fn law_identifications_are_apart()
-    ensures { (history : History) (last : State) → Run history last → IdentificationsAreApart last }
+/// No two locks have one ID. No lock has 0 or an ID that is still to be given.
+pub fn law_ids_are_apart()
+    ensures { (history : History) (last : State) → Run history last → IdsAreApart last }
 {}
 
 /// Serials rise from 1 in the order of making, and each is below the next serial. At most as many serials as lock
-/// identifications were given, since each new resource is made for a new lock.
+/// IDs were given, since each new resource is made for a new lock.
 pub fn law_serials_rise()
     ensures { (history : History) (last : State) → Run history last → SerialsRise last }
 {}
 
-/// A declaration gives an identification that no living process has.
-pub fn law_a_declaration_gives_a_new_identification()
+/// A declaration gives an ID that no living process has.
+pub fn law_a_declaration_gives_a_new_id()
     ensures { (history : History) (last : State) → Run history last
-        → DeclarationsGiveNewIdentifications last }
+        → DeclarationsGiveNewIds last }
 {}
 
-/// A living process is of a node from 1 to 8. The identifications of a node's processes rise in the order of making.
-pub fn law_identifications_of_processes_rise()
+/// A living process is of a node from 1 to 8. The IDs of a node's processes rise in the order of making.
+pub fn law_process_ids_rise()
     ensures { (history : History) (last : State) → Run history last → ProcessesRise last }
 {}
 
@@ -119,7 +119,7 @@ pub fn law_quotas_are_kept()
 /// no conversion is left.
 pub fn law_grants_follow_queue_order()
     ensures { (history : History) (old : State) → Run history old
-        → (step : Step) (choice : Option LockRow)
+        → (step : Step) (choice : Option LockState)
         → IsChoice old step choice → step_refusal old step ≡ None
         → GrantsFollowQueueOrder old step choice }
 {}
@@ -127,7 +127,7 @@ pub fn law_grants_follow_queue_order()
 /// A step's own change keeps each queue in order: only its own locks leave, and at most one joins, at the end.
 pub fn law_changes_keep_the_order_of_queues()
     ensures { (history : History) (old : State) → Run history old
-        → (step : Step) (choice : Option LockRow) → IsChoice old step choice
+        → (step : Step) (choice : Option LockState) → IsChoice old step choice
         → step_refusal old step ≡ None → ChangesKeepOrder old step choice }
 {}
 
@@ -142,27 +142,27 @@ pub fn law_no_resource_is_vacant()
     ensures { (history : History) (last : State) → Run history last → NoResourceIsVacant last }
 {}
 
-/// Between two steps each resource is settled: nothing to grant, nobody to warn, some lock left.
-pub fn law_each_resource_is_settled()
+/// Between two steps each resource is stable: nothing to grant, nobody to warn, some lock left.
+pub fn law_each_resource_is_stable()
     ensures { (history : History) (last : State) → Run history last
-        → AllByRecursion IsSettled last.resources }
+        → AllByRecursion IsStable last.resources }
 {}
 
-/// A sweep changes only resources that are not settled. It serves the first of them, drops it if no lock is left on
-/// it, and goes on with the resources after it. If all are settled, it does nothing.
-pub fn law_a_sweep_touches_only_what_is_not_settled()
+/// A sweep changes only resources that are not stable. It serves the first of them, drops it if no lock is left on
+/// it, and goes on with the resources after it. If all are stable, it does nothing.
+pub fn law_a_sweep_touches_only_what_is_not_stable()
     ensures next { (processes : List Process) (before : List Resource) (r : Resource)
-        (after : List Resource) → AllByRecursion IsSettled before
+        (after : List Resource) → AllByRecursion IsStable before
         → IsSweptNext processes before r after }
     ensures done { (processes : List Process) (resources : List Resource)
-        → AllByRecursion IsSettled resources → IsUnswept processes resources }
+        → AllByRecursion IsStable resources → IsUnswept processes resources }
 {}
 
-/// A step takes a number only for what it makes: a request number for each accepted request, a lock identification
+/// A step takes a number only for what it makes: a request number for each accepted request, a lock ID
 /// for each new lock, a serial for each new resource. No step lowers a number, so each is given once.
 pub fn law_numbers_are_given_once()
     ensures { (history : History) (old : State) → Run history old
-        → (step : Step) (choice : Option LockRow)
+        → (step : Step) (choice : Option LockState)
         → IsChoice old step choice → NumbersAreGivenOnce old step choice }
 {}
 
@@ -170,7 +170,7 @@ pub fn law_numbers_are_given_once()
 /// nothing.
 pub fn law_a_refusal_has_its_reason()
     ensures { (history : History) (old : State) → Run history old
-        → (step : Step) (choice : Option LockRow)
+        → (step : Step) (choice : Option LockState)
         → IsChoice old step choice → RefusalHasItsReason old step choice }
 {}
 
@@ -191,7 +191,7 @@ pub fn law_queues_are_in_the_order_of_requests()
 /// gives the status. Declarations add processes, rundowns and departures remove them, and no other step does either.
 pub fn law_a_step_writes_the_status_blocks_that_are_named()
     ensures { (history : History) (old : State) → Run history old
-        → (step : Step) (choice : Option LockRow)
+        → (step : Step) (choice : Option LockState)
         → IsChoice old step choice → WritesNamedBlocks old step choice }
 {}
 
@@ -199,7 +199,7 @@ pub fn law_a_step_writes_the_status_blocks_that_are_named()
 /// a Take leaves the ASTs of other processes alone. New ASTs join at the end.
 pub fn law_asts_are_taken_in_order()
     ensures { (history : History) (old : State) → Run history old
-        → (step : Step) (choice : Option LockRow)
+        → (step : Step) (choice : Option LockState)
         → IsChoice old step choice → AstsAreTakenInOrder old step choice }
 {}
 
@@ -219,7 +219,7 @@ pub fn law_a_lock_stands_as_asked_for()
 /// value block.
 pub fn law_only_writers_change_value_blocks()
     ensures { (history : History) (old : State) → Run history old
-        → (step : Step) (choice : Option LockRow)
+        → (step : Step) (choice : Option LockState)
         → IsChoice old step choice → step_refusal old step ≡ None
         → OnlyWritersChangeValues old step choice }
 {}
@@ -230,16 +230,16 @@ pub fn law_only_writers_change_value_blocks()
 /// WIDENOTVALID if a wide return meets only an invalid tail, else NORMAL.
 pub fn law_a_grant_returns_the_value_block()
     ensures { (history : History) (old : State) → Run history old
-        → (step : Step) (choice : Option LockRow)
+        → (step : Step) (choice : Option LockState)
         → IsChoice old step choice → GrantsReturnValues old step choice }
 {}
 
-/// A search that answers no lock changes nothing, and then no processes wait in a circle. A search that answers a
+/// A search that answers no lock changes nothing, and then no processes wait in a cycle. A search that answers a
 /// lock ends its request by deadlock. That request waited for a lock whose owner waited, directly or through others,
-/// for the request's own process, or was that process. No request in such a circle was accepted later.
+/// for the request's own process, or was that process. No request in such a cycle was accepted later.
 pub fn law_a_search_finds_who_is_caught()
     ensures { (history : History) (old : State) → Run history old
-        → (node : ℕ) (choice : Option LockRow) → IsChoice old (Search node) choice
+        → (node : ℕ) (choice : Option LockState) → IsChoice old (Search node) choice
         → (lkid : Option ℕ) → (stepped old (Search node) choice).answer ≡ Victim lkid
         → FindsWhoIsCaught old (stepped old (Search node) choice) lkid }
 {}

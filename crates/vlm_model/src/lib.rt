@@ -10,3 +10,4 @@ pub mod histories;
 pub mod history_consequences;
 pub mod law_consequences;
 pub mod laws;
+pub mod service_laws;

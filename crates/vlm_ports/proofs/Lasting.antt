@@ -1,5 +1,7 @@
 -- What the hub knows of its nodes' rings lasts.
-use Rattle.std.proofs.Common.{◌≡◌, ◌+◌, ◌-◌, ◌<◌, ◌≤◌, ◌++◌, ℕ, zero, suc, List, [], ◌∷◌, ap, ap₂, append-nil, append_assoc, arith, get_or, get_or-set_other, get_or-set_same, inl, inr, length, map, refl, set, subst, sym, ◌∙◌}
+use Rattle.std.proofs.Common.{◌≡◌, ◌+◌, ◌-◌, ◌<◌, ◌≤◌, ◌++◌, ℕ, zero, suc, List, [], ◌∷◌, ap, ap₂, append-nil}
+use Rattle.std.proofs.Common.{append_assoc, arith, get_or, get_or-set_other, get_or-set_same, inl, inr, length, map}
+use Rattle.std.proofs.Common.{refl, set, subst, sym, ◌∙◌}
 use Rattle.std.proofs.lemmas.Bool.{cases_eq}
 use Rattle.std.proofs.lemmas.List.{get_or-map, get_or_default, length-append, length-map, map-append}
 use mathlib.Core.List.{IsPrefix}
@@ -46,9 +48,11 @@ lasts_then a b c first then = record {
 }
 
 -- more is known
-pub lasts_more : (was l : NodeRings) → has_taken l ≡ has_taken was → IsPrefix (knows was) (knows l) → has_told l ≡ has_told was → places was ≤ places l → Lasts was l
+pub lasts_more : (was l : NodeRings) → has_taken l ≡ has_taken was → IsPrefix (knows was) (knows l)
+    → has_told l ≡ has_told was → places was ≤ places l → Lasts was l
 lasts_more was l taken known told more = record {
-  posts = subst (λ (ss : List Step). IsPrefix (has_taken was ++ knows was) (ss ++ knows l)) (sym taken) (prefix_behind (has_taken was) (knows was) (knows l) known);
+  posts = subst (λ (ss : List Step). IsPrefix (has_taken was ++ knows was) (ss ++ knows l)) (sym taken)
+      (prefix_behind (has_taken was) (knows was) (knows l) known);
   places = let long = ap (λ (xs : List Item). length xs) told in omega (arith, long, more);
 }
 
@@ -65,7 +69,8 @@ lasts_taken was l posts told same = record {
 }
 
 -- an item is sent
-pub lasts_sent : (was l : NodeRings) (item : Item) → has_taken l ≡ has_taken was → knows l ≡ knows was → has_told l ≡ has_told was ++ item ∷ [] → places was ≡ places l + 1 → Lasts was l
+pub lasts_sent : (was l : NodeRings) (item : Item) → has_taken l ≡ has_taken was → knows l ≡ knows was
+    → has_told l ≡ has_told was ++ item ∷ [] → places was ≡ places l + 1 → Lasts was l
 lasts_sent was l item taken known told fewer = record {
   posts = ([], append-nil (has_taken was ++ knows was) ∙ ap₂ (λ (x y : List Step). x ++ y) (sym taken) (sym known));
   places =
@@ -98,7 +103,8 @@ pub all_node_rings_then : (ls ms ns : List NodeRings) → EachLasts ls ms → Ea
 all_node_rings_then ls ms ns first then k d = lasts_then (get_or ls k d) (get_or ms k d) (get_or ns k d) (first k d) (then k d)
 
 -- what is read of the lines at another place
-pub at_other : {Y : Type 0} (f : NodeRings → Y) (ls : List NodeRings) (at : ℕ) (l : NodeRings) (m : ℕ) (e : Y) → (m ≡ at → ⊥) → get_or (map f (set ls at l)) m e ≡ get_or (map f ls) m e
+pub at_other : {Y : Type 0} (f : NodeRings → Y) (ls : List NodeRings) (at : ℕ) (l : NodeRings) (m : ℕ) (e : Y)
+    → (m ≡ at → ⊥) → get_or (map f (set ls at l)) m e ≡ get_or (map f ls) m e
 at_other f [] at l m e ne = refl
 at_other f (x ∷ xs) zero l zero e ne = absurd (ne refl)
 at_other f (x ∷ xs) zero l (suc m) e ne = refl
@@ -120,7 +126,8 @@ made_is ls js linked node some d lt =
     let here = linked (node - 1) d lt in
     let is : node - 1 + 1 ≡ node = omega (arith, some) in
     let same : l.node ≡ node = here.node ∙ is in
-    let P : ℕ → Type 0 = λ n. (has_taken l ≡ front (has_taken l) (asked n js) ++ asked node js) × (has_told l ≡ front (has_told l) (told n js) ++ told node js) in
+    let P : ℕ → Type 0 = λ n. (has_taken l ≡ front (has_taken l) (asked n js) ++ asked node js)
+    × (has_told l ≡ front (has_told l) (told n js) ++ told node js) in
     let Q : ℕ → Type 0 = λ n. (has_taken l ≡ front (has_taken l) (asked n js) ++ asked n js) × (has_told l ≡ front (has_told l) (told n js) ++ told n js) in
     let both : P l.node = subst P (sym same) (subst Q is (here.taken, here.told)) in
     subst (λ (b : Base). (has_taken l ≡ b.asked_before ++ asked node js) × (has_told l ≡ b.told_before ++ told node js))
@@ -144,10 +151,12 @@ places_are ls js linked node some d lt =
     ap₂ (λ (x y : ℕ). x + y) (ap (λ (xs : List Item). length xs) (made_is ls js linked node some d lt).1) (sym (get_or-map places ls (node - 1) d 0 lt))
 
 -- what lasts of each line lasts of each node
-pub known_kept : (ls ms : List NodeRings) (js ks : List Entry) → AreLinked ls js → AreLinked ms ks → map node_rings_identity ms ≡ map node_rings_identity ls → EachLasts ls ms
+pub known_kept : (ls ms : List NodeRings) (js ks : List Entry) → AreLinked ls js → AreLinked ms ks
+    → map node_rings_identity ms ≡ map node_rings_identity ls → EachLasts ls ms
     → (node : ℕ) → 0 < node → node ≤ length ls → IsPrefix (known_of ls js node) (known_of ms ks node) × (places_of ls js node ≤ places_of ms ks node)
 known_kept ls ms js ks linked now same last node some within =
-    let long : length ms ≡ length ls = sym (length-map ms node_rings_identity) ∙ ap (λ (rs : List (ℕ × RingName × RingName)). length rs) same ∙ length-map ls node_rings_identity in
+    let long : length ms ≡ length ls = sym (length-map ms node_rings_identity)
+    ∙ ap (λ (rs : List (ℕ × RingName × RingName)). length rs) same ∙ length-map ls node_rings_identity in
     let lt : node - 1 < length ls = omega (arith, some, within) in
     let there : node - 1 < length ms = omega (arith, lt, long) in
     let d = some_node_rings ls (omega (arith, lt)) in
@@ -155,13 +164,16 @@ known_kept ls ms js ks linked now same last node some within =
     let more = lasts.places in
     let first = places_are ls js linked node some d lt in let then = places_are ms ks now node some d there in (
       subst (λ (ss : List Step). IsPrefix ss (known_of ms ks node)) (posts_are ls js linked node some d lt)
-          (subst (λ (ss : List Step). IsPrefix (has_taken (get_or ls (node - 1) d) ++ knows (get_or ls (node - 1) d)) ss) (posts_are ms ks now node some d there) lasts.posts),
+          (subst (λ (ss : List Step). IsPrefix
+          (has_taken (get_or ls (node - 1) d) ++ knows (get_or ls (node - 1) d)) ss)
+          (posts_are ms ks now node some d there) lasts.posts),
       omega (arith, first, then, more),
     )
 
 -- of the nodes whose line is not written back what is known is what was known
 pub others_last : (ls : List NodeRings) (at own : ℕ) (l : NodeRings) → own ≡ at + 1 → (node : ℕ) → 0 < node → (node ≡ own → ⊥)
-    → (get_or (map knows (set ls at l)) (node - 1) [] ≡ get_or (map knows ls) (node - 1) []) × (get_or (map places (set ls at l)) (node - 1) 0 ≡ get_or (map places ls) (node - 1) 0)
+    → (get_or (map knows (set ls at l)) (node - 1) [] ≡ get_or (map knows ls) (node - 1) [])
+    × (get_or (map places (set ls at l)) (node - 1) 0 ≡ get_or (map places ls) (node - 1) 0)
 others_last ls at own l here node some other =
     let ne : node - 1 ≡ at → ⊥ = λ h. other (omega (arith, h, here, some)) in
     (at_other knows ls at l (node - 1) [] ne, at_other places ls at l (node - 1) 0 ne)

@@ -1,3 +1,7 @@
+pub mod Beginnings
+pub mod Sheets
+pub mod Lengthening
+pub mod Steps
 pub mod Fronts
 pub mod Lines
 pub mod Resting

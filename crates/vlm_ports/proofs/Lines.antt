@@ -1,5 +1,7 @@
 -- One line of the hub changes, as the journal grows.
-use Rattle.std.proofs.Common.{◌≡◌, ◌≢◌, ◌+◌, ◌-◌, ◌/◌, ◌<◌, ◌≤◌, ◌⊎◌, ℕ, List, [], ◌∷◌, ◌++◌, refl, ap, ◌∙◌, sym, subst, append-nil, arith, length, map, get_or, set, length-set, get_or-set_same, get_or-set_other, inl, inr, Some}
+use Rattle.std.proofs.Common.{◌≡◌, ◌≢◌, ◌+◌, ◌-◌, ◌/◌, ◌<◌, ◌≤◌, ◌⊎◌, ℕ, List, [], ◌∷◌, ◌++◌, refl, ap, ◌∙◌, sym, subst}
+use Rattle.std.proofs.Common.{append-nil, arith, length, map, get_or, set, length-set, get_or-set_same}
+use Rattle.std.proofs.Common.{get_or-set_other, inl, inr, Some}
 use Rattle.std.proofs.Math.Seq.{map-set_same}
 use Rattle.std.proofs.lemmas.Bool.{cases_eq}
 use Rattle.std.proofs.lemmas.List.{get_or-map, get_or_default, length-map}
@@ -23,7 +25,9 @@ use Rattle.vlm_ports.proofs.Fronts.{ends_with_none, front_all, front_stays, same
 -- ---- places
 
 -- the rings stay
-pub rings_set : (ls : List NodeRings) (at : ℕ) (l was : NodeRings) → was ≡ get_or ls at was → node_rings_identity l ≡ node_rings_identity was → map node_rings_identity (set ls at l) ≡ map node_rings_identity ls
+pub rings_set : (ls : List NodeRings) (at : ℕ) (l was : NodeRings) → was ≡ get_or ls at was
+    → node_rings_identity l ≡ node_rings_identity was
+    → map node_rings_identity (set ls at l) ≡ map node_rings_identity ls
 rings_set ls at l was is same = map-set_same node_rings_identity ls at l was (same ∙ ap node_rings_identity is)
 
 pub node_rings_within : (ls : List NodeRings) (at : ℕ) (r : ℕ × RingName × RingName) → slice_get (map node_rings_identity ls) at ≡ Some r → at < length ls
@@ -71,7 +75,8 @@ module _ (k : ℕ) (l was : NodeRings) (js ks : List Entry) (linked : IsLinked k
       ∙ ap (λ (n : ℕ). front (has_told was) (told n js)) (sym linked.node))
 
 -- a line that has taken and sent nothing more
-pub none_more : (k : ℕ) (l was : NodeRings) (js ks : List Entry) → node_rings_identity l ≡ node_rings_identity was → has_taken l ≡ has_taken was → has_told l ≡ has_told was
+pub none_more : (k : ℕ) (l was : NodeRings) (js ks : List Entry) → node_rings_identity l ≡ node_rings_identity was
+    → has_taken l ≡ has_taken was → has_told l ≡ has_told was
     → asked (k + 1) ks ≡ asked (k + 1) js → told (k + 1) ks ≡ told (k + 1) js → HasMore k l was js ks
 none_more k l was js ks same taken sent asks tells = record {
   same = same;
@@ -112,10 +117,14 @@ module _ (ls : List NodeRings) (js ks : List Entry) (linked : AreLinked ls js) w
     by_place k d within =
         elim (cases_eq k at) [
           | inl e ↦
-              let P : ℕ → Type 0 = λ m. IsLinked m (get_or (set ls at l) m d) ks × (node_rings_base ks (get_or (set ls at l) m d) ≡ node_rings_base js (get_or ls m d)) in
+              let P : ℕ → Type 0 = λ m. IsLinked m (get_or (set ls at l) m d) ks
+              × (node_rings_base ks (get_or (set ls at l) m d) ≡ node_rings_base js (get_or ls m d)) in
               let Q : NodeRings → Type 0 = λ x. IsLinked at x ks × (node_rings_base ks x ≡ node_rings_base js (get_or ls at d)) in
-              subst P (sym e) (subst Q (sym (get_or-set_same ls at l d lt))
-              (linked_more at l was js ks was_linked more, base_stays at l was js ks was_linked more ∙ ap (node_rings_base js) (is ∙ get_or_default ls at was d lt)))
+              subst P (sym e) (subst Q (sym (get_or-set_same ls at l d lt)) (
+                linked_more at l was js ks was_linked more,
+                base_stays at l was js ks was_linked more
+                    ∙ ap (node_rings_base js) (is ∙ get_or_default ls at was d lt),
+              ))
           | inr ne ↦
               let Q : NodeRings → Type 0 = λ x. IsLinked k x ks × (node_rings_base ks x ≡ node_rings_base js (get_or ls k d)) in
               subst Q (sym (get_or-set_other ls at k l d ne)) (unasked k d within (others k ne))
@@ -137,7 +146,8 @@ module _ (ls : List NodeRings) (js ks : List Entry) (linked : AreLinked ls js) w
 -- ---- entries
 
 -- a post of the node is served
-pub served_more : (at : ℕ) (l was : NodeRings) (js : List Entry) (e : Entry) → LengthensLittle js e → e.sender ≡ at + 1 → node_rings_identity l ≡ node_rings_identity was
+pub served_more : (at : ℕ) (l was : NodeRings) (js : List Entry) (e : Entry) → LengthensLittle js e → e.sender ≡ at + 1
+    → node_rings_identity l ≡ node_rings_identity was
     → has_taken l ≡ has_taken was ++ e.step ∷ [] → has_told l ≡ has_told was ++ answer_item e.answer ∷ [] → HasMore at l was js (js ++ e ∷ [])
 served_more at l was js e little from same taken sent =
     let some : 0 < e.sender = omega (arith, from) in
@@ -176,7 +186,8 @@ delivered_more at l was js pid ast little to same taken sent =
     }
 
 -- the other nodes
-others_of : (at : ℕ) (js : List Entry) (e : Entry) (little : LengthensLittle js e) → little.one ≡ at + 1 → (e.sender ≡ 0) ⊎ (e.sender ≡ at + 1) → OthersStay at js (js ++ e ∷ [])
+others_of : (at : ℕ) (js : List Entry) (e : Entry) (little : LengthensLittle js e) → little.one ≡ at + 1
+    → (e.sender ≡ 0) ⊎ (e.sender ≡ at + 1) → OthersStay at js (js ++ e ∷ [])
 others_of at js e little to from k ne = (
   little.asks_none (k + 1) (λ h. elim from [ inl z ↦ absurd (omega (arith, h, z)) | inr s ↦ ne (omega (arith, h, s)) ]),
   little.tells_none (k + 1) (omega arith) (λ h. ne (omega (arith, h, to))),
@@ -187,7 +198,8 @@ others_of_served at js e little from =
     let some : 0 < e.sender = omega (arith, from) in
     others_of at js e little ((little.answers some).0 ∙ from) (inr from)
 
-pub others_of_delivered : (at : ℕ) (js : List Entry) (pid : ℕ) (ast : Ast) → LengthensLittle js (delivery pid ast) → pid / 65536 ≡ at + 1 → OthersStay at js (js ++ delivery pid ast ∷ [])
+pub others_of_delivered : (at : ℕ) (js : List Entry) (pid : ℕ) (ast : Ast) → LengthensLittle js (delivery pid ast)
+    → pid / 65536 ≡ at + 1 → OthersStay at js (js ++ delivery pid ast ∷ [])
 others_of_delivered at js pid ast little to = others_of at js (delivery pid ast) little ((little.takes pid ast refl refl).0 ∙ to) (inl refl)
 
 -- a node is lost
@@ -201,13 +213,16 @@ lost_stays js e node little from step k = (
   elim (cases_eq (k + 1) little.one) [
     | inl same ↦
         subst (λ (n : ℕ). told n (js ++ e ∷ []) ≡ told n js) (sym same)
-        (little.tells (omega (arith, same)) ∙ ap (λ (xs : List Item). told little.one js ++ xs) (little.leaves node from step) ∙ append-nil (told little.one js))
+        (little.tells (omega (arith, same))
+        ∙ ap (λ (xs : List Item). told little.one js ++ xs) (little.leaves node from step)
+        ∙ append-nil (told little.one js))
     | inr other ↦ little.tells_none (k + 1) (omega arith) other
   ],
 )
 
 -- the line at a place is that of its node
-pub node_at : (ls : List NodeRings) (js : List Entry) (at : ℕ) (l was : NodeRings) → AreLinked ls js → at < length ls → was ≡ get_or ls at was → node_rings_identity l ≡ node_rings_identity was → l.node ≡ at + 1
+pub node_at : (ls : List NodeRings) (js : List Entry) (at : ℕ) (l was : NodeRings) → AreLinked ls js → at < length ls
+    → was ≡ get_or ls at was → node_rings_identity l ≡ node_rings_identity was → l.node ≡ at + 1
 node_at ls js at l was linked lt is same =
     let P : NodeRings → Type 0 = λ x. x.node ≡ at + 1 in
     ap (λ (i : ℕ × RingName × RingName). i.0) same ∙ subst P (sym is) (linked at was lt).node
@@ -223,17 +238,20 @@ longer : (js room ks : List Entry) (e : Entry) → room ≡ js → ks ≡ room +
 longer js room ks e same is = is ∙ ap (λ (es : List Entry). es ++ e ∷ []) same
 
 -- an AST is sent
-pub delivered_follows : (ls : List NodeRings) (js room ks : List Entry) (at : ℕ) (l was : NodeRings) (pid : ℕ) (ast : Ast) → AreLinked ls js → at < length ls → was ≡ get_or ls at was
+pub delivered_follows : (ls : List NodeRings) (js room ks : List Entry) (at : ℕ) (l was : NodeRings) (pid : ℕ)
+    (ast : Ast) → AreLinked ls js → at < length ls → was ≡ get_or ls at was
     → room ≡ js → LengthensLittle room (delivery pid ast) → ks ≡ room ++ delivery pid ast ∷ [] → pid / 65536 ≡ at + 1
     → node_rings_identity l ≡ node_rings_identity was → has_taken l ≡ has_taken was → has_told l ≡ has_told was ++ ast_item pid ast ∷ []
     → Follow ls (set ls at l) js ks
 delivered_follows ls js room ks at l was pid ast linked lt is same little more to ring taken sent =
     let here : LengthensLittle js (delivery pid ast) = subst (λ (es : List Entry). LengthensLittle es (delivery pid ast)) same little in
     subst (λ (es : List Entry). Follow ls (set ls at l) js es) (sym (longer js room ks (delivery pid ast) same more))
-    (set_follows ls js (js ++ delivery pid ast ∷ []) linked at l was lt is (delivered_more at l was js pid ast here to ring taken sent) (others_of_delivered at js pid ast here to))
+    (set_follows ls js (js ++ delivery pid ast ∷ []) linked at l was lt is
+    (delivered_more at l was js pid ast here to ring taken sent) (others_of_delivered at js pid ast here to))
 
 -- a post is answered
-pub served_follows : (ls : List NodeRings) (js room ks : List Entry) (at : ℕ) (l was : NodeRings) (e : Entry) → AreLinked ls js → at < length ls → was ≡ get_or ls at was
+pub served_follows : (ls : List NodeRings) (js room ks : List Entry) (at : ℕ) (l was : NodeRings) (e : Entry)
+    → AreLinked ls js → at < length ls → was ≡ get_or ls at was
     → room ≡ js → LengthensLittle room e → ks ≡ room ++ e ∷ [] → e.sender ≡ at + 1
     → node_rings_identity l ≡ node_rings_identity was → has_taken l ≡ has_taken was ++ e.step ∷ [] → has_told l ≡ has_told was ++ answer_item e.answer ∷ []
     → Follow ls (set ls at l) js ks
@@ -268,22 +286,27 @@ fresh_linked ls fresh k d within = record {
 }
 
 -- what is read of all lines at a node
-at_node_rings : {Y : Type 0} (f : NodeRings → Y) (x : NodeRings) (xs : List NodeRings) (node : ℕ) (e : Y) → 0 < node → node ≤ length (x ∷ xs) → get_or (map f (x ∷ xs)) (node - 1) e ≡ f (get_or (x ∷ xs) (node - 1) x)
+at_node_rings : {Y : Type 0} (f : NodeRings → Y) (x : NodeRings) (xs : List NodeRings) (node : ℕ) (e : Y) → 0 < node
+    → node ≤ length (x ∷ xs) → get_or (map f (x ∷ xs)) (node - 1) e ≡ f (get_or (x ∷ xs) (node - 1) x)
 at_node_rings f x xs node e some within = get_or-map f (x ∷ xs) (node - 1) x e (omega (arith, some, within))
 
 -- then all that a node asked for and was told stands before
 abbrev pub StandsBefore : List NodeRings → List Entry → List Entry → ℕ → Type 0
 StandsBefore ls es js node =
-    ((get_or (map (node_rings_base es) ls) (node - 1) no_base).asked_before ≡ (get_or (map (node_rings_base js) ls) (node - 1) no_base).asked_before ++ asked node js)
-    × ((get_or (map (node_rings_base es) ls) (node - 1) no_base).told_before ≡ (get_or (map (node_rings_base js) ls) (node - 1) no_base).told_before ++ told node js)
+    ((get_or (map (node_rings_base es) ls) (node - 1) no_base).asked_before ≡
+    (get_or (map (node_rings_base js) ls) (node - 1) no_base).asked_before ++ asked node js)
+    × ((get_or (map (node_rings_base es) ls) (node - 1) no_base).told_before ≡
+    (get_or (map (node_rings_base js) ls) (node - 1) no_base).told_before ++ told node js)
 
 all_before : (l : NodeRings) (js : List Entry) (k node : ℕ) → node ≡ k + 1 → IsLinked k l js
     → (front (has_taken l) (asked l.node []) ≡ front (has_taken l) (asked l.node js) ++ asked node js)
     × (front (has_told l) (told l.node []) ≡ front (has_told l) (told l.node js) ++ told node js)
 all_before l js k node is linked =
     let same : l.node ≡ node = linked.node ∙ sym is in
-    let P : ℕ → Type 0 = λ n. (front (has_taken l) [] ≡ front (has_taken l) (asked n js) ++ asked node js) × (front (has_told l) [] ≡ front (has_told l) (told n js) ++ told node js) in
-    let Q : ℕ → Type 0 = λ n. (front (has_taken l) [] ≡ front (has_taken l) (asked n js) ++ asked n js) × (front (has_told l) [] ≡ front (has_told l) (told n js) ++ told n js) in
+    let P : ℕ → Type 0 = λ n. (front (has_taken l) [] ≡ front (has_taken l) (asked n js) ++ asked node js)
+    × (front (has_told l) [] ≡ front (has_told l) (told n js) ++ told node js) in
+    let Q : ℕ → Type 0 = λ n. (front (has_taken l) [] ≡ front (has_taken l) (asked n js) ++ asked n js)
+    × (front (has_told l) [] ≡ front (has_told l) (told n js) ++ told n js) in
     subst P (sym same) (subst Q (sym is) (front_all (has_taken l) ∙ linked.taken, front_all (has_told l) ∙ linked.told))
 
 pub cut_before : (ls : List NodeRings) (js : List Entry) → AreLinked ls js → (node : ℕ) → 0 < node → node ≤ length ls → StandsBefore ls [] js node
@@ -300,7 +323,8 @@ cut_before (x ∷ xs) js linked node some within =
 
 -- at first nothing stands before
 pub none_before : (ls : List NodeRings) → AreFresh ls → (node : ℕ) → 0 < node → node ≤ length ls
-    → ((get_or (map (node_rings_base []) ls) (node - 1) no_base).asked_before ≡ []) × ((get_or (map (node_rings_base []) ls) (node - 1) no_base).told_before ≡ [])
+    → ((get_or (map (node_rings_base []) ls) (node - 1) no_base).asked_before ≡ [])
+    × ((get_or (map (node_rings_base []) ls) (node - 1) no_base).told_before ≡ [])
 none_before [] fresh node some within = absurd (omega (arith, some, within))
 none_before (x ∷ xs) fresh node some within =
     let lt : node - 1 < length (x ∷ xs) = omega (arith, some, within) in
@@ -312,19 +336,23 @@ none_before (x ∷ xs) fresh node some within =
 -- ---- a settled port
 
 -- what is read of the lines once one of them is written back
-pub at_set : {Y : Type 0} (f : NodeRings → Y) (ls : List NodeRings) (at : ℕ) (l : NodeRings) (m : ℕ) (e : Y) → m ≡ at → at < length ls → get_or (map f (set ls at l)) m e ≡ f l
+pub at_set : {Y : Type 0} (f : NodeRings → Y) (ls : List NodeRings) (at : ℕ) (l : NodeRings) (m : ℕ) (e : Y) → m ≡ at
+    → at < length ls → get_or (map f (set ls at l)) m e ≡ f l
 at_set f ls at l m e is lt =
     let P : ℕ → Type 0 = λ n. get_or (map f (set ls at l)) n e ≡ f l in
     subst P (sym is) (get_or-map f (set ls at l) at l e (let long = length-set ls at l in omega (arith, long, lt)) ∙ ap f (get_or-set_same ls at l l lt))
 
 -- what a line has taken and sent is what stands before, and what its node asked for and is told
-pub settled_node_rings : (ls : List NodeRings) (js : List Entry) (at : ℕ) (l : NodeRings) (node : ℕ) → AreLinked (set ls at l) js → at < length ls → node ≡ at + 1
+pub settled_node_rings : (ls : List NodeRings) (js : List Entry) (at : ℕ) (l : NodeRings) (node : ℕ)
+    → AreLinked (set ls at l) js → at < length ls → node ≡ at + 1
     → (has_taken l ≡ (get_or (map (node_rings_base js) (set ls at l)) (node - 1) no_base).asked_before ++ asked node js)
     × (has_told l ≡ (get_or (map (node_rings_base js) (set ls at l)) (node - 1) no_base).told_before ++ told node js)
 settled_node_rings ls js at l node linked lt is =
-    let here : IsLinked at l js = subst (λ (x : NodeRings). IsLinked at x js) (get_or-set_same ls at l l lt) (linked at l (let long = length-set ls at l in omega (arith, long, lt))) in
+    let here : IsLinked at l js = subst (λ (x : NodeRings). IsLinked at x js) (get_or-set_same ls at l l lt)
+    (linked at l (let long = length-set ls at l in omega (arith, long, lt))) in
     let same : l.node ≡ node = here.node ∙ sym is in
-    let P : ℕ → Type 0 = λ n. (has_taken l ≡ front (has_taken l) (asked n js) ++ asked node js) × (has_told l ≡ front (has_told l) (told n js) ++ told node js) in
+    let P : ℕ → Type 0 = λ n. (has_taken l ≡ front (has_taken l) (asked n js) ++ asked node js)
+    × (has_told l ≡ front (has_told l) (told n js) ++ told node js) in
     let Q : ℕ → Type 0 = λ n. (has_taken l ≡ front (has_taken l) (asked n js) ++ asked n js) × (has_told l ≡ front (has_told l) (told n js) ++ told n js) in
     let both : P l.node = subst P (sym same) (subst Q (sym is) (here.taken, here.told)) in
     subst (λ (b : Base). (has_taken l ≡ b.asked_before ++ asked node js) × (has_told l ≡ b.told_before ++ told node js))

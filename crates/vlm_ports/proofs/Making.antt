@@ -16,7 +16,8 @@ each_of_rings rings ports new same = λ k d lt.
     let at : slice_get (map identity ports) k ≡ Some (identity (get_or ports k d)) =
     slice_get-map identity ports k ∙ ap (option_map identity) (slice_get-get_or ports k d lt) in (
       omega (arith, node),
-      subst (λ n. slice_get rings n ≡ Some (identity (get_or ports k d))) (sym before) (subst (λ rs. slice_get rs k ≡ Some (identity (get_or ports k d))) same at),
+      subst (λ n. slice_get rings n ≡ Some (identity (get_or ports k d))) (sym before)
+          (subst (λ rs. slice_get rs k ≡ Some (identity (get_or ports k d))) same at),
     )
 
 -- what holds of each of a list by its place, and of one more behind them, holds of each of all

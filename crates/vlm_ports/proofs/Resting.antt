@@ -1,5 +1,6 @@
 -- When the hub may idle.
-use Rattle.std.proofs.Common.{◌≡◌, ℕ, zero, suc, ◌+◌, ◌-◌, ◌<◌, ◌≤◌, List, [], ◌∷◌, ◌++◌, refl, ap, ◌∙◌, sym, subst, append-nil, append_assoc, arith, length, map, get_or, ◌⊎◌, inl, inr, length-append}
+use Rattle.std.proofs.Common.{◌≡◌, ℕ, zero, suc, ◌+◌, ◌-◌, ◌<◌, ◌≤◌, List, [], ◌∷◌, ◌++◌, refl, ap, ◌∙◌, sym, subst}
+use Rattle.std.proofs.Common.{append-nil, append_assoc, arith, length, map, get_or, ◌⊎◌, inl, inr, length-append}
 use Rattle.std.proofs.lemmas.Bool.{cases_eq}
 use Rattle.vlm_journal.specs.declared.entries.Entry.{Entry}
 use Rattle.std.specs.Prelude.{None}
@@ -47,7 +48,12 @@ grew_one js room ks s r t e same stays is leads departed takes = record {
 
 -- entries behind one another of a node that had departed
 stays_on : {node : ℕ} {a b : List Entry} {t u : State} → StaysDeparted node a t → StaysDeparted node b u → StaysDeparted node (a ++ b) u
-stays_on {node} {a} {b} first then = record { departed = then.departed; told = All-append (λ (e : Entry). e.sender ≡ node → e.answer ≡ Plain Departed) a b first.told then.told }
+stays_on {node} {a} {b} first then =
+    record {
+      departed = then.departed;
+      told = All-append (λ (e : Entry). e.sender ≡ node
+          → e.answer ≡ Plain Departed) a b first.told then.told;
+    }
 
 pub grew_add : {m n : ℕ} {js ks ls : List Entry} {s t u : State} → Grew m js s ks t → Grew n ks t ls u → Grew (m + n) js s ls u
 grew_add {m} {n} {js} {ks} {ls} {s} a b = record {
@@ -70,7 +76,9 @@ rest_more at a b same below here k lt d = elim (cases_eq k at) [
 ]
 
 same_rings : (a b : Hub) → rings a ≡ rings b → nodes a ≡ nodes b
-same_rings a b e = sym (length-map a.all_node_rings.items node_rings_identity) ∙ (ap (λ (rs : List (ℕ × RingName × RingName)). length rs) e ∙ length-map b.all_node_rings.items node_rings_identity)
+same_rings a b e = sym (length-map a.all_node_rings.items node_rings_identity)
+    ∙ (ap (λ (rs : List (ℕ × RingName × RingName)). length rs) e
+    ∙ length-map b.all_node_rings.items node_rings_identity)
 
 pub within_rings : (a b : Hub) (at : ℕ) → rings a ≡ rings b → at < nodes b → at < nodes a
 within_rings a b at e lt = let n = same_rings a b e in omega arith

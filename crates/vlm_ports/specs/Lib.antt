@@ -1,3 +1,8 @@
+pub mod Rows
+pub mod Histories
+pub mod Sheets
+pub mod Rule
+pub mod Watching
 pub mod Posts
 pub mod Rings
 pub mod Ports

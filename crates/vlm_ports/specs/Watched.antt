@@ -2,12 +2,12 @@
 use Rattle.std.specs.Prelude.{◌≡◌, ◌++◌, ◌∷◌, List, [], length, Option, None, Some, IsNone, IsSome}
 use Rattle.logbook.specs.Pages.{Book}
 use Rattle.vlm_ports.specs.declared.hub.Hub.{Hub}
-use Rattle.vlm_watch.specs.declared.board.Board.{Board}
-use Rattle.vlm_watch.specs.declared.rows.Change.{Change}
-use Rattle.vlm_watch.specs.declared.rows.RootKey.{RootKey}
-use Rattle.vlm_watch.specs.declared.watcher.Watcher.{Watcher}
-use Rattle.vlm_watch.specs.Rows.{IsChangeOf}
-use Rattle.vlm_watch.specs.Watching.{board_of, keys_of, name_of, published as published_on}
+use Rattle.vlm_ports.specs.declared.watch.board.Board.{Board}
+use Rattle.vlm_ports.specs.declared.watch.rows.Change.{Change}
+use Rattle.vlm_ports.specs.declared.watch.rows.RootKey.{RootKey}
+use Rattle.vlm_ports.specs.declared.watch.watcher.Watcher.{Watcher}
+use Rattle.vlm_ports.specs.Rows.{IsChangeOf}
+use Rattle.vlm_ports.specs.Watching.{board_of, keys_of, name_of, published as published_on}
 
 -- the board of the hub's watchers, once the hub is watched
 abbrev pub board : Hub → Option Board

@@ -7,12 +7,12 @@ ghost use Rattle.vlm_ports.specs.Ports.{AreNew as AreNewPorts, identity as port_
 use crate::node_rings::{NodeRings, Settled};
 use crate::port::Port;
 use crate::posts::on_behalf;
+use crate::watch::Board;
 use std::alloc::{AllocError, Global};
 use std::sync::Wait;
 use vlm_core::Core;
 use vlm_journal::entries::{Entry, Item, Part};
 use vlm_journal::journaled_core::JournaledCore;
-use vlm_watch::Board;
 use vlm_words::conditions::Cond;
 use vlm_words::steps::{Answer, Step};
 
@@ -155,7 +155,7 @@ impl Hub {
         ensures refused { OnErr result (IsAsWritten self.old self.new) }
     {
         self.journaled.reserve()?;
-        let answer = self.journaled.lose(node);
+        let answer = self.journaled.depart(node);
         Ok(condition_of(answer))
     }
 
@@ -318,7 +318,7 @@ impl Hub {
         let node = node_rings.node;
         let departure = Step::Leave(node);
         let step = on_behalf(node, node_rings.next_request(), &departure);
-        let answer = self.journaled.serve(node, step);
+        let answer = self.journaled.apply(node, step);
         node_rings.take_request();
         node_rings.tell(Item::Answer(answer));
         Ok(1)

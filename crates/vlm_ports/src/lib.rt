@@ -9,10 +9,11 @@ mod hub;
 mod node_rings;
 mod port;
 mod posts;
+mod watch;
 mod watched_hub;
 
 pub use hub::{Hub, Turn};
 pub use node_rings::Settled;
 pub use port::{Full, Port};
 pub use vlm_journal::entries::{Entry, Item, Part};
-pub use vlm_watch::{BoardFault, RootKey, Row, Told, Watcher};
+pub use watch::{BoardFault, RootKey, Row, Told, Watcher};

@@ -3,12 +3,12 @@
 ghost use Rattle.std.specs.Prelude.{◌≡◌, ◌<◌, ◌≤◌, ◌↔◌, [], All, IfOk, IsTrue, OnErr, OnOk, vec_len};
 
 use crate::hub::Hub;
+use crate::watch::{Board, BoardFault, RootKey, Told, Watcher};
 use std::alloc::{AllocError, Global};
 use std::sync::Wait;
-use vlm_watch::{Board, BoardFault, RootKey, Told, Watcher};
 
 impl Hub {
-    ghost use Rattle.vlm_watch.specs.Watching.{IsNew, told_board, told_changes};
+    ghost use Rattle.vlm_ports.specs.Watching.{IsNew, told_board, told_changes};
     ghost use Rattle.vlm_ports.specs.Watched.{HasPublished, IsSameHub, IsUnwatched, IsWatched, IsWatchedAsBefore, board_name, published, watched_keys};
 
     /// Whether it is watched: [`Hub::watch`] was Ok.

@@ -1,4 +1,4 @@
 pub mod Authorized
 pub mod Quotas
-pub mod Twice
-pub mod Written
+pub mod WrittenTwice
+pub mod WrittenProcesses

@@ -3,7 +3,7 @@ use Rattle.std.proofs.Common.{◌≡◌, ℕ, List, [], ◌∷◌, map, cond, re
 use Rattle.std.specs.Prelude.{◌==◌}
 use Rattle.std.specs.List.{sum_by}
 use Rattle.std.proofs.lemmas.List.Sums.{sum_by-cons}
-use Rattle.vlm_words.specs.declared.locks.LockRow.{LockRow}
+use Rattle.vlm_words.specs.declared.locks.LockState.{LockState}
 use Rattle.vlm_model.specs.Quotas.{locks_of, locks_on, rows_owned}
 use Rattle.vlm_store.specs.Plain.{plain_resource}
 use Rattle.vlm_store.specs.Records.{StoredLock, StoredResource, owned_among, owned_on, rows_of_locks}
@@ -16,7 +16,7 @@ among_same pid (k ∷ rest) =
       arith,
       among_same pid rest,
       sum_by-cons (λ (x : StoredLock). cond (x.row.pid == pid) 1 0) k rest,
-      sum_by-cons (λ (row : LockRow). cond (row.pid == pid) 1 0) k.row (rows_of_locks rest),
+      sum_by-cons (λ (row : LockState). cond (row.pid == pid) 1 0) k.row (rows_of_locks rest),
     )
 
 -- those on all resources

@@ -35,5 +35,5 @@ pub fn has_room(store: &Store, at: ProcAt) -> bool
         ≡ nat_lt (locks_of pid (plain_resources store.now))
         (quota_of (plain_processes store.now) pid) }
 {
-    store.lock_count(at) < usize::from(store.process_record(at).authorization.quota)
+    store.own_lock_count(at) < usize::from(store.process_record(at).authorization.quota)
 }

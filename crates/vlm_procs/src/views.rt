@@ -12,7 +12,7 @@ use vlm_words::ids::process_node;
 /// A process as it was declared, and how many ASTs are pending for it, without its locks.
 #[derive(Clone, Copy)]
 pub struct ProcessView {
-    /// Its identification.
+    /// Its ID.
     pub pid: u32,
     /// The node that declared it, 1 to 8.
     pub node: u16,

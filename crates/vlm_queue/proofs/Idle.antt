@@ -16,7 +16,8 @@ none_shown [] none = refl
 none_shown (k ∷ rest) none = cc
 
 -- a queue that is told to be empty has no locks
-empty_told : (queue : Queue) (o : Option StoredResource) → IfSome o (λ r. true ≡ is_empty (rows_of_locks (queued queue r))) → option_map_or (queued queue) o [] ≡ []
+empty_told : (queue : Queue) (o : Option StoredResource)
+    → IfSome o (λ r. true ≡ is_empty (rows_of_locks (queued queue r))) → option_map_or (queued queue) o [] ≡ []
 empty_told queue None told = refl
 empty_told queue (Some r) told = none_shown (queued queue r) (sym told)
 
@@ -30,6 +31,7 @@ idle_told res s granted converting waiting Waiting = empty_told Waiting (resourc
 pub busy_told : (res : ℕ) (s : Records) (queue : Queue) → HasResource res s → IsTold res s queue false → IsIdle res s → ⊥
 busy_told res s queue there told idle = of_found (resource_at res s.resources) there told (idle queue)
   where
-    of_found : (o : Option StoredResource) → IsSome o → IfSome o (λ r. false ≡ is_empty (rows_of_locks (queued queue r))) → option_map_or (queued queue) o [] ≡ [] → ⊥
+    of_found : (o : Option StoredResource) → IsSome o
+        → IfSome o (λ r. false ≡ is_empty (rows_of_locks (queued queue r))) → option_map_or (queued queue) o [] ≡ [] → ⊥
     of_found None there told empty = cc
     of_found (Some r) there told empty = let no : false ≡ true = told ∙ ap (λ locks. is_empty (rows_of_locks locks)) empty in cc

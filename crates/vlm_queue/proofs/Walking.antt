@@ -2,14 +2,16 @@
 use Rattle.std.proofs.Common.{◌≡◌, ◌<◌, ℕ, arith, length, List, [], ◌∷◌, map, Option, None, Some, IfSome, IsSome, refl, sym, ap, ◌∙◌, inl, inr, eq-eqb, ne_eqb}
 use Rattle.std.specs.Option.{ForSome, option_map, option_map_or}
 use Rattle.std.proofs.lemmas.Bool.{cases_eq}
-use Rattle.vlm_words.specs.declared.locks.LockRow.{LockRow}
+use Rattle.vlm_words.specs.declared.locks.LockState.{LockState}
 use Rattle.vlm_words.specs.declared.resources.Queue.{Queue}
 use Rattle.vlm_words.specs.declared.resources.Queue.TheVariants.{Granted, Conversion, Waiting}
 use Rattle.vlm_collections.specs.Lists.{IsIn}
 use Rattle.vlm_records.specs.declared.handles.Place.{Place}
 use Rattle.vlm_records.specs.declared.handles.Place.TheVariants.{Queued}
 use Rattle.vlm_store.specs.Plain.{plain_resource}
-use Rattle.vlm_store.specs.Records.{HasResource, IsSound, IsStored, Records, StoredLock, StoredResource, Stores, at_after, first_at, first_resource_at, locks_at, queued, resource_at, resource_at_after, rows_of_locks}
+use Rattle.vlm_store.specs.Records.{HasResource, IsSound, IsStored, Records, StoredLock, StoredResource, Stores}
+use Rattle.vlm_store.specs.Records.{at_after, first_at, first_resource_at, locks_at, queued, resource_at}
+use Rattle.vlm_store.specs.Records.{resource_at_after, rows_of_locks}
 use Rattle.vlm_store.proofs.Walks.{at_lock, at_resource, first-there, first_resource-there, locks_from, resources_from as stored_from}
 use Rattle.vlm_queue.specs.Views.{rows_in}
 use Rattle.vlm_queue.specs.Walks.{IsInQueue, plain_resource_at, resources_from, resources_left, rows_from, rows_to_walk, rows_queued}
@@ -45,7 +47,8 @@ pub one_left : (s : Records) (res : ℕ) → IsSound s → HasResource res s
 one_left s res sound there =
     let stands = at_resource res s.resources sound.resources_apart there in
     rw (ap (option_map plain_resource) stands.found)
-    (plain_from (Some res) s.resources ∙ ap (map plain_resource) stands.left ∙ ap (λ rs. plain_resource stands.r ∷ rs) (sym (plain_from (resource_at_after res s.resources) s.resources)))
+    (plain_from (Some res) s.resources ∙ ap (map plain_resource) stands.left
+    ∙ ap (λ rs. plain_resource stands.r ∷ rs) (sym (plain_from (resource_at_after res s.resources) s.resources)))
 
 -- a resource that is stored is there in the plain machine
 pub is_there : (res : ℕ) (s : Records) → HasResource res s → IsSome (plain_resource_at res s)
@@ -61,7 +64,9 @@ is_there res s there = of_some (resource_at res s.resources) there
 pub rows_plain : (res : ℕ) (queue : Queue) (s : Records) → IfSome (plain_resource_at res s) (λ r. rows_queued res queue s ≡ rows_in queue r)
 rows_plain res queue s = of_found (resource_at res s.resources) queue
   where
-    of_found : (o : Option StoredResource) (queue : Queue) → IfSome (option_map plain_resource o) (λ r. rows_of_locks (option_map_or (queued queue) o []) ≡ rows_in queue r)
+    of_found : (o : Option StoredResource) (queue : Queue)
+        → IfSome (option_map plain_resource o)
+        (λ r. rows_of_locks (option_map_or (queued queue) o []) ≡ rows_in queue r)
     of_found None queue = tt
     of_found (Some r) Granted = refl
     of_found (Some r) Conversion = refl
@@ -94,18 +99,18 @@ begins s res queue head first =
 
 -- a lock in its queue, with what a walk has left behind it
 pub record Passes (res : ℕ) (queue : Queue) (lock : ℕ) (next : Option ℕ) (s : Records) : Type 0 where
-  pub row : LockRow
+  pub row : LockState
   pub stored : Stores s lock row
   pub left : rows_to_walk res queue (Some lock) s ≡ row ∷ rows_to_walk res queue next s
   pub there : IsInQueue res queue next s
 
 -- fewer are left behind a row
-pub fewer_rows : (row : LockRow) (rest left : List LockRow) → left ≡ row ∷ rest → length rest < length left
+pub fewer_rows : (row : LockState) (rest left : List LockState) → left ≡ row ∷ rest → length rest < length left
 fewer_rows row rest left is = rw is (omega arith)
 
 -- a walk that has come to a lock goes on to the one that follows it
 pub passes : (s : Records) (res : ℕ) (queue : Queue) (lock : ℕ) (next : Option ℕ) → IsSound s → IsInQueue res queue (Some lock) s
-    → ((place : Place) (row : LockRow) → IsIn (record { at = lock; row = row }) (locks_at place s) → next ≡ at_after lock (locks_at place s))
+    → ((place : Place) (row : LockState) → IsIn (record { at = lock; row = row }) (locks_at place s) → next ≡ at_after lock (locks_at place s))
     → Passes res queue lock next s
 passes s res queue lock next sound come follows =
     let place = Queued res queue in

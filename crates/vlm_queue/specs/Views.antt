@@ -1,7 +1,7 @@
 -- Views of a resource and of a lock.
 use Rattle.std.specs.Prelude.{ℕ, List, ◌++◌, length, Option, None, Some, slice_get}
 use Rattle.std.specs.Option.{option_map}
-use Rattle.vlm_words.specs.declared.locks.LockRow.{LockRow}
+use Rattle.vlm_words.specs.declared.locks.LockState.{LockState}
 use Rattle.vlm_words.specs.declared.resources.Queue.{Queue}
 use Rattle.vlm_words.specs.declared.resources.Queue.TheVariants.{Granted, Conversion, Waiting}
 use Rattle.vlm_words.specs.Rows.{mode_asked}
@@ -35,13 +35,13 @@ usage r = record {
 }
 
 -- a queue of a resource
-abbrev pub rows_in : Queue → Resource → List LockRow
+abbrev pub rows_in : Queue → Resource → List LockState
 rows_in Granted r = r.granted
 rows_in Conversion r = r.converting
 rows_in Waiting r = r.waiting
 
 -- the view of a lock
-abbrev pub row_view : LockRow → RowView
+abbrev pub row_view : LockState → RowView
 row_view row = record { lkid = row.lkid; pid = row.pid; held = mode_asked row.held; want = mode_asked row.want }
 
 -- the lock at an index of a queue, if the resource and the lock exist

@@ -1,7 +1,7 @@
 -- Walks over all resources, and over the locks of a queue.
 use Rattle.std.specs.Prelude.{◌≡◌, ◌==◌, ℕ, List, [], ◌∷◌, map, Option, None, Some, slice_get, if◌then◌else◌}
 use Rattle.std.specs.Option.{ForSome, option_map}
-use Rattle.vlm_words.specs.declared.locks.LockRow.{LockRow}
+use Rattle.vlm_words.specs.declared.locks.LockState.{LockState}
 use Rattle.vlm_words.specs.declared.resources.Queue.{Queue}
 use Rattle.vlm_words.specs.State.{Resource}
 use Rattle.vlm_collections.specs.Lists.{IsIn}
@@ -35,22 +35,22 @@ resource_at_index index resources = option_map (λ r. r.at) (slice_get resources
 -- ---- locks
 
 -- the rows of a queue
-abbrev pub rows_queued : ℕ → Queue → Records → List LockRow
+abbrev pub rows_queued : ℕ → Queue → Records → List LockState
 rows_queued res queue s = rows_of_locks (locks_at (Queued res queue) s)
 
 -- the rows from this lock on
-abbrev pub rows_from : Option ℕ → List StoredLock → List LockRow
+abbrev pub rows_from : Option ℕ → List StoredLock → List LockState
 rows_from None locks = []
 rows_from (Some at) [] = []
 rows_from (Some at) (k ∷ rest) = if k.at == at then rows_of_locks (k ∷ rest) else rows_from (Some at) rest
 
 -- the rows that a walk of a queue still has to visit
-abbrev pub rows_to_walk : ℕ → Queue → Option ℕ → Records → List LockRow
+abbrev pub rows_to_walk : ℕ → Queue → Option ℕ → Records → List LockState
 rows_to_walk res queue next s = rows_from next (locks_at (Queued res queue) s)
 
 -- the walk is at a lock of the queue, or at its end
 abbrev pub IsInQueue : ℕ → Queue → Option ℕ → Records → Type 0
-IsInQueue res queue next s = ForSome next (λ at. (row : LockRow)
+IsInQueue res queue next s = ForSome next (λ at. (row : LockState)
     × IsIn (record { at = at; row = row }) (locks_at (Queued res queue) s))
 
 -- the handle of the lock at an index
@@ -58,13 +58,13 @@ abbrev pub lock_at_index : ℕ → List StoredLock → Option ℕ
 lock_at_index index locks = option_map (λ k. k.at) (slice_get locks index)
 
 -- the walk from this lock on gives these rows, one after another
-abbrev pub IsGivenFrom : List StoredLock → Option ℕ → List LockRow → Type 0
+abbrev pub IsGivenFrom : List StoredLock → Option ℕ → List LockState → Type 0
 IsGivenFrom locks first [] = first ≡ None
 IsGivenFrom locks first (row ∷ rows) =
     (at : ℕ) × ((first ≡ Some at) × IsIn (record { at = at; row = row }) locks
     × IsGivenFrom locks (at_after at locks) rows)
 
 -- the walk from the head of the queue gives these rows
-abbrev pub GivesInTurn : ℕ → Queue → List LockRow → Records → Type 0
+abbrev pub GivesInTurn : ℕ → Queue → List LockState → Records → Type 0
 GivesInTurn res queue rows s = IsGivenFrom (locks_at (Queued res queue) s)
     (first_at (locks_at (Queued res queue) s)) rows

@@ -3,7 +3,7 @@
 ghost use Rattle.std.specs.Prelude.{◌≡◌, IfNone, IfSome};
 ghost use Rattle.std.specs.Bool.{OnTrue, OnFalse};
 ghost use Rattle.std.specs.Option.{ForSome};
-ghost use Rattle.vlm_words.specs.declared.locks.LockRow.{LockRow};
+ghost use Rattle.vlm_words.specs.declared.locks.LockState.{LockState};
 ghost use Rattle.vlm_words.specs.Rows.{is_empty};
 ghost use Rattle.vlm_collections.specs.Lists.{IsIn};
 ghost use Rattle.vlm_records.specs.declared.handles.Place.{Place};
@@ -26,7 +26,7 @@ pub fn head(store: &Store, res: ResAt, queue: Queue) -> Option<LockAt>
 /// The next lock in the queue of this lock, if there is one.
 pub fn next(store: &Store, lock: LockAt) -> Option<LockAt>
     requires { IsStored lock store.now }
-    ensures { (place : Place) (row : LockRow)
+    ensures { (place : Place) (row : LockState)
         → IsIn (record { at = lock; row = row }) (locks_at place store.now)
         → result ≡ at_after lock (locks_at place store.now) }
 {
@@ -37,7 +37,7 @@ pub fn next(store: &Store, lock: LockAt) -> Option<LockAt>
 pub fn push_back(store: &mut Store, res: ResAt, queue: Queue, lock: LockAt)
     requires there { HasResource res store.old }
     requires loose { IsLoose lock store.old }
-    ensures pushed { (row : LockRow) → IsLooseRow store.old lock row
+    ensures pushed { (row : LockState) → IsLooseRow store.old lock row
         → store.new ≡ with_lock_pushed lock row (Place.Queued res queue) store.old }
     ensures sound { AreSound store.old store.new }
 {
@@ -47,7 +47,7 @@ pub fn push_back(store: &mut Store, res: ResAt, queue: Queue, lock: LockAt)
 /// Takes a lock out of its queue. It is then loose: `push_back` puts it into a queue.
 pub fn unlink(store: &mut Store, lock: LockAt)
     requires { IsStored lock store.old }
-    ensures unlinked { (row : LockRow) → Stores store.old lock row
+    ensures unlinked { (row : LockState) → Stores store.old lock row
         → store.new ≡ with_lock_unlinked lock row store.old }
     ensures sound { AreSound store.old store.new }
 {
@@ -58,7 +58,7 @@ pub fn unlink(store: &mut Store, lock: LockAt)
 pub fn pop_front(store: &mut Store, res: ResAt, queue: Queue) -> Option<LockAt>
     requires { HasResource res store.old }
     ensures first { result ≡ first_at (locks_at (Place.Queued res queue) store.old) }
-    ensures unlinked { IfSome result (λ lock. (row : LockRow) → Stores store.old lock row
+    ensures unlinked { IfSome result (λ lock. (row : LockState) → Stores store.old lock row
         → store.new ≡ with_lock_unlinked lock row store.old) }
     ensures empty { IfNone result (store.new ≡ store.old) }
     ensures sound { AreSound store.old store.new }

@@ -1,14 +1,14 @@
 //! Views of a resource and of a lock, as copies that outlive the next step.
 
 ghost use Rattle.std.specs.Prelude.{◌≡◌, IfSome};
-ghost use Rattle.vlm_words.specs.declared.locks.LockRow.{LockRow};
+ghost use Rattle.vlm_words.specs.declared.locks.LockState.{LockState};
 ghost use Rattle.vlm_words.specs.Resources.{key_name, key_parent};
 ghost use Rattle.vlm_store.specs.Records.{HasResource, IsStored, Stores};
 ghost use Rattle.vlm_queue.specs.Views.{resource_view, row_view, usage};
 ghost use Rattle.vlm_queue.specs.Walks.{plain_resource_at};
 
 use vlm_store::{LockAt, ResAt, Resource, Store};
-use vlm_words::locks::LockRow;
+use vlm_words::locks::LockState;
 use vlm_words::modes::Mode;
 use vlm_words::names::Name;
 use vlm_words::resources::{Domain, Queue};
@@ -37,7 +37,7 @@ pub struct ResourceView {
 /// A lock and its modes.
 #[derive(Clone, Copy)]
 pub struct RowView {
-    /// Its identification.
+    /// Its ID.
     pub lkid: u32,
     /// The process that owns it.
     pub pid: u32,
@@ -91,7 +91,7 @@ impl ResourceView {
 
 impl RowView {
     /// The view of a row.
-    pub fn of(row: &LockRow) -> RowView
+    pub fn of(row: &LockState) -> RowView
         ensures { result ≡ row_view row.now }
     {
         RowView {
@@ -114,7 +114,7 @@ pub fn resource_view(store: &Store, res: ResAt) -> ResourceView
 /// The view of a lock in the store.
 pub fn row_view(store: &Store, lock: LockAt) -> RowView
     requires { IsStored lock store.now }
-    ensures { (row : LockRow) → Stores store.now lock row → result ≡ row_view row }
+    ensures { (row : LockState) → Stores store.now lock row → result ≡ row_view row }
 {
     RowView::of(&store.lock_record(lock).row.row())
 }

@@ -16,7 +16,7 @@ use Rattle.vlm_collections.proofs.HandleLists.{IsIn-push_last, IsIn-without, IsI
 use Rattle.vlm_collections.proofs.Keeping.{relinked_same}
 use Rattle.vlm_collections.proofs.Rings.{kept-handles, kept-linked, no_list-linked}
 use Rattle.vlm_collections.proofs.Walks.{without_last}
-use Rattle.vlm_words.specs.declared.locks.LockRow.{LockRow}
+use Rattle.vlm_words.specs.declared.locks.LockState.{LockState}
 use Rattle.vlm_words.specs.declared.resources.Queue.{Queue}
 use Rattle.vlm_words.specs.declared.resources.Queue.TheVariants.{Granted, Conversion, Waiting}
 use Rattle.vlm_records.specs.declared.handles.Armed.{Armed}
@@ -26,13 +26,19 @@ use Rattle.vlm_records.specs.declared.handles.Place.TheVariants.{Queued}
 use Rattle.vlm_records.specs.declared.locks.Lock.{Lock}
 use Rattle.vlm_records.specs.declared.queues.Queues.{Queues}
 use Rattle.vlm_records.specs.declared.resources.Resource.{Resource}
-use Rattle.vlm_records.specs.Armed.{IsArmed, IsLast, StandsLast, armed_granted, armed_handles, armed_links, armed_list, armed_list_handles, armed_list_in, armed_on, armed_rank, floor, granted_on, is_listed, kind_of, list_of, other_list, with_armed_links, with_list}
+use Rattle.vlm_records.specs.Armed.{IsArmed, IsLast, StandsLast, armed_granted, armed_handles, armed_links, armed_list}
+use Rattle.vlm_records.specs.Armed.{armed_list_handles, armed_list_in, armed_on, armed_rank, floor, granted_on}
+use Rattle.vlm_records.specs.Armed.{is_listed, kind_of, list_of, other_list, with_armed_links, with_list}
 use Rattle.vlm_records.specs.Families.{IsFamily}
 use Rattle.vlm_records.specs.Kept.{KeepsPlaces, Rewrites}
-use Rattle.vlm_records.specs.Shown.{IsPlaced, IsTallied, IsThere, SameBut, but_armed, but_counted, but_in_armed, but_kin, but_lists, but_queued, but_queues, but_requeued, but_tally, handles_at, handles_but, is_loose_in, list_at, list_in, noted_in, queue_links, row_in, rows, tally_in}
+use Rattle.vlm_records.specs.Shown.{IsPlaced, IsTallied, IsThere, SameBut, but_armed, but_counted, but_in_armed}
+use Rattle.vlm_records.specs.Shown.{but_kin, but_lists, but_queued, but_queues, but_requeued, but_tally, handles_at}
+use Rattle.vlm_records.specs.Shown.{handles_but, is_loose_in, list_at, list_in, noted_in, queue_links, row_in, rows}
+use Rattle.vlm_records.specs.Shown.{tally_in}
 use Rattle.vlm_records.specs.Tallies.{how_many, weight_of}
 use Rattle.vlm_records.proofs.Families.{family-put_here, family-put_others, family-put, family-taken, family-taken_handles}
-use Rattle.vlm_records.proofs.Places.{loose_unlisted, by_part, there_by_part, kept_handles, kept_placed, place_cases, stands_there, there_through, through}
+use Rattle.vlm_records.proofs.PlacesOnLists.{loose_unlisted, by_part, there_by_part, kept_handles, kept_placed}
+use Rattle.vlm_records.proofs.PlacesOnLists.{place_cases, stands_there, there_through, through}
 use Rattle.vlm_records.proofs.OwnLocks.{written_same}
 use Rattle.vlm_records.proofs.Rooms.{room_relinked, room_written}
 
@@ -89,11 +95,15 @@ module _ (l : Lock) (pair : Links) where
   relinked-prev AboveNl = refl
   relinked-prev AboveCr = refl
 
-  relinked-next_other : (which : Armed) → next_in (armed_links (other_list which)) (Some (with_armed_links which l pair)) ≡ next_in (armed_links (other_list which)) (Some l)
+  relinked-next_other : (which : Armed)
+      → next_in (armed_links (other_list which)) (Some (with_armed_links which l pair)) ≡ next_in
+      (armed_links (other_list which)) (Some l)
   relinked-next_other AboveNl = refl
   relinked-next_other AboveCr = refl
 
-  relinked-prev_other : (which : Armed) → prev_in (armed_links (other_list which)) (Some (with_armed_links which l pair)) ≡ prev_in (armed_links (other_list which)) (Some l)
+  relinked-prev_other : (which : Armed)
+      → prev_in (armed_links (other_list which)) (Some (with_armed_links which l pair)) ≡ prev_in
+      (armed_links (other_list which)) (Some l)
   relinked-prev_other AboveNl = refl
   relinked-prev_other AboveCr = refl
 
@@ -179,11 +189,13 @@ twice_last at ks = without_last (without at ks) at (λ found. (IsIn-without at a
 
 -- ---- a lock goes to the end of a list
 
-module _ (q q' : Queues) (at : ℕ) (to : Place) (here : handles_at q' to ≡ without at (handles_at q to) ++ at ∷ []) (elsewhere : (other : Place) → other ≢ to → handles_at q' other ≡ without at (handles_at q other)) where
+module _ (q q' : Queues) (at : ℕ) (to : Place) (here : handles_at q' to ≡ without at (handles_at q to) ++ at ∷ [])
+    (elsewhere : (other : Place) → other ≢ to → handles_at q' other ≡ without at (handles_at q other)) where
   without_same : (p : Place) → without at (handles_at q' p) ≡ without at (handles_at q p)
   without_same p =
       elim (place_cases p to) [
-        | inl is ↦ ap (λ x. without at (handles_at q' x)) is ∙ ap (without at) here ∙ twice_last at (handles_at q to) ∙ ap (λ x. without at (handles_at q x)) (sym is)
+        | inl is ↦ ap (λ x. without at (handles_at q' x)) is ∙ ap (without at) here ∙ twice_last at (handles_at q to)
+            ∙ ap (λ x. without at (handles_at q x)) (sym is)
         | inr differs ↦ ap (without at) (elsewhere p differs) ∙ without-twice at (handles_at q p)
       ]
 
@@ -200,7 +212,8 @@ module _ (q q' : Queues) (at : ℕ) (unlisted : (p : Place) → ¬ IsIn at (hand
   comes_elsewhere : ((p : Place) → p ≢ to → handles_at q' p ≡ handles_at q p) → (p : Place) → p ≢ to → handles_at q' p ≡ without at (handles_at q p)
   comes_elsewhere elsewhere p differs = elsewhere p differs ∙ sym (without_absent at (handles_at q p) (unlisted p))
 
-  pub added_last : handles_at q' to ≡ handles_at q to ++ at ∷ [] → ((p : Place) → p ≢ to → handles_at q' p ≡ handles_at q p) → IsPlaced q' None → StandsLast q' at
+  pub added_last : handles_at q' to ≡ handles_at q to ++ at ∷ []
+      → ((p : Place) → p ≢ to → handles_at q' p ≡ handles_at q p) → IsPlaced q' None → StandsLast q' at
   added_last here elsewhere = requeued_last q q' at to (comes_here here) (comes_elsewhere elsewhere)
 
 -- where nothing changes, all stays
@@ -226,7 +239,7 @@ tally-armed (Some r) = refl
 module _ (which : Armed) where
   -- ---- handles whose rows are armed
 
-  module _ (rows : ℕ → LockRow) where
+  module _ (rows : ℕ → LockState) where
     -- one of them is one of all, and armed
     pub armed-in : (at : ℕ) (ks : List ℕ) → IsIn at (armed_handles which rows ks) → IsIn at ks × (is_listed which (rows at) ≡ true)
     armed-in at [] found = absurd found
@@ -251,7 +264,8 @@ module _ (which : Armed) where
         ]
 
     -- one more at the end
-    pub armed-push : (at : ℕ) (ks : List ℕ) → is_listed which (rows at) ≡ true → armed_handles which rows (ks ++ at ∷ []) ≡ armed_handles which rows ks ++ at ∷ []
+    pub armed-push : (at : ℕ) (ks : List ℕ) → is_listed which (rows at) ≡ true
+        → armed_handles which rows (ks ++ at ∷ []) ≡ armed_handles which rows ks ++ at ∷ []
     armed-push at ks is = filter-append (λ k. is_listed which (rows k)) ks (at ∷ []) ∙ ap (λ b. armed_handles which rows ks ++ cond b (at ∷ []) []) is
 
     first_armed : (k : ℕ) (ks : List ℕ) → is_listed which (rows k) ≡ true → armed_handles which rows (k ∷ ks) ≡ k ∷ armed_handles which rows ks
@@ -282,7 +296,8 @@ module _ (which : Armed) where
         ]
 
     -- one that is not armed is none of them
-    pub armed-but : (at : ℕ) (ks : List ℕ) → (IsIn at ks → is_listed which (rows at) ≡ false) → armed_handles which rows (without at ks) ≡ armed_handles which rows ks
+    pub armed-but : (at : ℕ) (ks : List ℕ) → (IsIn at ks → is_listed which (rows at) ≡ false)
+        → armed_handles which rows (without at ks) ≡ armed_handles which rows ks
     armed-but at ks unarmed =
         armed-without at ks
         ∙ without_absent at (armed_handles which rows ks) (λ found.
@@ -292,15 +307,17 @@ module _ (which : Armed) where
         cc)
 
   -- the rows of these stay
-  pub armed-kept : (rows rows' : ℕ → LockRow) (ks : List ℕ) → ((k : ℕ) → IsIn k ks → rows' k ≡ rows k) → armed_handles which rows' ks ≡ armed_handles which rows ks
+  pub armed-kept : (rows rows' : ℕ → LockState) (ks : List ℕ) → ((k : ℕ) → IsIn k ks → rows' k ≡ rows k)
+      → armed_handles which rows' ks ≡ armed_handles which rows ks
   armed-kept rows rows' [] same = refl
   armed-kept rows rows' (k ∷ ks) same =
-      ap (λ (r : LockRow). cond (is_listed which r) (k ∷ armed_handles which rows' ks) (armed_handles which rows' ks)) (same k (inl refl))
+      ap (λ (r : LockState). cond (is_listed which r) (k ∷ armed_handles which rows' ks) (armed_handles which rows' ks)) (same k (inl refl))
       ∙ ap (λ rest. cond (is_listed which (rows k)) (k ∷ rest) rest) (armed-kept rows rows' ks (λ x h. same x (inr h)))
 
   -- ---- where a lock is granted and armed
 
-  pub armed_there : (slot : Option Lock) (res : ℕ) → (armed_on which) slot ≡ Some res → (noted_in slot ≡ Some (Queued res Granted)) × (is_listed which (row_in slot) ≡ true)
+  pub armed_there : (slot : Option Lock) (res : ℕ) → (armed_on which) slot ≡ Some res
+      → (noted_in slot ≡ Some (Queued res Granted)) × (is_listed which (row_in slot) ≡ true)
   armed_there None res is = absurd (none-some res is)
   armed_there (Some l) res is =
       elim (cases_Bool l.loose) [
@@ -311,7 +328,8 @@ module _ (which : Armed) where
         ]
       ]
 
-  pub there_armed : (slot : Option Lock) (res : ℕ) → noted_in slot ≡ Some (Queued res Granted) → is_listed which (row_in slot) ≡ true → (armed_on which) slot ≡ Some res
+  pub there_armed : (slot : Option Lock) (res : ℕ) → noted_in slot ≡ Some (Queued res Granted)
+      → is_listed which (row_in slot) ≡ true → (armed_on which) slot ≡ Some res
   there_armed None res is is_armed = absurd (none-some (Queued res Granted) is)
   there_armed (Some l) res is is_armed =
       elim (cases_Bool l.loose) [
@@ -330,7 +348,9 @@ module _ (which : Armed) where
       stands = λ res at differs is.
           let there = armed_there (get q.locks at) res is in
           subst (IsIn at) (sym (armed.order res))
-          (in-armed (rows q) at (handles_but q out (Queued res Granted)) (in_but q out (Queued res Granted) at differs (placed.stands (Queued res Granted) at (λ e. none-some at (sym e)) there.0)) there.1);
+          (in-armed (rows q) at (handles_but q out (Queued res Granted))
+          (in_but q out (Queued res Granted) at differs
+          (placed.stands (Queued res Granted) at (λ e. none-some at (sym e)) there.0)) there.1);
       gone = λ res at is found.
           but_gone q out (Queued res Granted) at is (armed-in (rows q) at (handles_but q out (Queued res Granted)) (subst (IsIn at) (armed.order res) found)).0;
     }
@@ -376,7 +396,8 @@ module _ (which : Armed) where
 
   -- they stay as one lock changes that is in none of them
   pub armed_but_one : (q q' : Queues) (out out' : Option ℕ) (at : ℕ) → IsArmed which q out → ((res : ℕ) → ¬ IsIn at (armed_list_handles which q res))
-      → ((res : ℕ) → armed_list which q' res ≡ armed_list which q res) → ((k : ℕ) → k ≢ at → option_map but_requeued (get q'.locks k) ≡ option_map but_requeued (get q.locks k))
+      → ((res : ℕ) → armed_list which q' res ≡ armed_list which q res)
+      → ((k : ℕ) → k ≢ at → option_map but_requeued (get q'.locks k) ≡ option_map but_requeued (get q.locks k))
       → ((res : ℕ) → armed_granted which q' out' res ≡ armed_granted which q out res) → IsArmed which q' out'
   armed_but_one q q' out out' at armed unlisted lists kin same =
       armed_stays q q' out out' armed lists
@@ -390,10 +411,13 @@ module _ (which : Armed) where
   -- the one that is taken out is in none
   pub out_unlisted : (q : Queues) (at : ℕ) → IsArmed which q (Some at) → (res : ℕ) → ¬ IsIn at (armed_list_handles which q res)
   out_unlisted q at armed res found =
-      (IsIn-without at at (handles_at q (Queued res Granted)) (armed-in (rows q) at (without at (handles_at q (Queued res Granted))) (subst (IsIn at) (armed.order res) found)).0).1 refl
+      (IsIn-without at at (handles_at q (Queued res Granted))
+      (armed-in (rows q) at (without at (handles_at q (Queued res Granted)))
+      (subst (IsIn at) (armed.order res) found)).0).1 refl
 
   -- the lists of armed locks stay as queues and counts change
-  pub armed_lists : (old new : Slab Resource) → SameBut but_counted old new → (res : ℕ) → (armed_list_in which) (get new res) ≡ (armed_list_in which) (get old res)
+  pub armed_lists : (old new : Slab Resource) → SameBut but_counted old new → (res : ℕ)
+      → (armed_list_in which) (get new res) ≡ (armed_list_in which) (get old res)
   armed_lists = through but_counted (armed_list_in which) (list-counted which)
 
   module _ (q q' : Queues) (at : ℕ) (same : (k : ℕ) → k ≢ at → rows q' k ≡ rows q k) where
@@ -401,21 +425,30 @@ module _ (which : Armed) where
     others_armed ks = armed-kept (rows q) (rows q') (without at ks) (λ k found. same k (IsIn-without at k ks found).1)
 
     -- it is put at the end of a list
-    module _ (to : Place) (here : handles_at q' to ≡ without at (handles_at q to) ++ at ∷ []) (elsewhere : (other : Place) → other ≢ to → handles_at q' other ≡ without at (handles_at q other)) where
+    module _ (to : Place) (here : handles_at q' to ≡ without at (handles_at q to) ++ at ∷ [])
+        (elsewhere : (other : Place) → other ≢ to → handles_at q' other ≡ without at (handles_at q other)) where
       pub requeued_granted : (res : ℕ) → armed_granted which q' (Some at) res ≡ armed_granted which q (Some at) res
-      requeued_granted res = ap (armed_handles which (rows q')) (without_same q q' at to here elsewhere (Queued res Granted)) ∙ others_armed (handles_at q (Queued res Granted))
+      requeued_granted res =
+          ap (armed_handles which (rows q')) (without_same q q' at to here elsewhere (Queued res Granted))
+          ∙ others_armed (handles_at q (Queued res Granted))
 
     -- it is armed no more
-    pub disarmed_granted : ((p : Place) → handles_at q' p ≡ handles_at q p) → is_listed which (rows q' at) ≡ false → (res : ℕ) → armed_granted which q' None res ≡ armed_granted which q (Some at) res
+    pub disarmed_granted : ((p : Place) → handles_at q' p ≡ handles_at q p) → is_listed which (rows q' at) ≡ false
+        → (res : ℕ) → armed_granted which q' None res ≡ armed_granted which q (Some at) res
     disarmed_granted handles unarmed res =
-        ap (armed_handles which (rows q')) (handles (Queued res Granted)) ∙ sym (armed-but (rows q') at (handles_at q (Queued res Granted)) (λ found. unarmed)) ∙ others_armed (handles_at q (Queued res Granted))
+        ap (armed_handles which (rows q')) (handles (Queued res Granted))
+        ∙ sym (armed-but (rows q') at (handles_at q (Queued res Granted)) (λ found. unarmed))
+        ∙ others_armed (handles_at q (Queued res Granted))
 
     -- it is gone
-    pub removed_granted : ((p : Place) → handles_at q' p ≡ without at (handles_at q p)) → (res : ℕ) → armed_granted which q' None res ≡ armed_granted which q (Some at) res
+    pub removed_granted : ((p : Place) → handles_at q' p ≡ without at (handles_at q p)) → (res : ℕ)
+        → armed_granted which q' None res ≡ armed_granted which q (Some at) res
     removed_granted handles res = ap (armed_handles which (rows q')) (handles (Queued res Granted)) ∙ others_armed (handles_at q (Queued res Granted))
 
     -- it has come, to the end of a list
-    module _ (unlisted : (p : Place) → ¬ IsIn at (handles_at q p)) (to : Place) (here : handles_at q' to ≡ handles_at q to ++ at ∷ []) (elsewhere : (p : Place) → p ≢ to → handles_at q' p ≡ handles_at q p) where
+    module _ (unlisted : (p : Place) → ¬ IsIn at (handles_at q p)) (to : Place)
+        (here : handles_at q' to ≡ handles_at q to ++ at ∷ []) (elsewhere : (p : Place) → p ≢ to
+        → handles_at q' p ≡ handles_at q p) where
       pub added_granted : (res : ℕ) → armed_granted which q' (Some at) res ≡ armed_granted which q None res
       added_granted res =
           requeued_granted to (comes_here q q' at unlisted to here) (comes_elsewhere q q' at unlisted to elsewhere) res
@@ -425,25 +458,34 @@ module _ (which : Armed) where
 
   -- resources do, but for the heads of the lists
   pub armed_resources : (q : Queues) (resources : Slab Resource) → ((res : ℕ) → (armed_list_in which) (get resources res) ≡ armed_list which q res)
-      → ((p : Place) → handles_at (record q { resources = resources }) p ≡ handles_at q p) → IsArmed which q None → IsArmed which (record q { resources = resources }) None
+      → ((p : Place) → handles_at (record q { resources = resources }) p ≡ handles_at q p) → IsArmed which q None
+      → IsArmed which (record q { resources = resources }) None
   armed_resources q resources lists handles armed =
       armed_stays q (record q { resources = resources }) None None armed lists (λ res k _. refl) (λ res k _. refl) (λ res k _ there. there)
       (λ res. ap (armed_handles which (rows q)) (handles (Queued res Granted)))
 
   -- room is made for locks
-  pub armed_reserved : (q : Queues) (locks : Slab Lock) → ((k : ℕ) → get locks k ≡ get q.locks k) → ((p : Place) → handles_at (record q { locks = locks }) p ≡ handles_at q p) → IsArmed which q None
+  pub armed_reserved : (q : Queues) (locks : Slab Lock) → ((k : ℕ) → get locks k ≡ get q.locks k)
+      → ((p : Place) → handles_at (record q { locks = locks }) p ≡ handles_at q p) → IsArmed which q None
       → IsArmed which (record q { locks = locks }) None
   armed_reserved q locks same handles armed =
-      armed_stays q (record q { locks = locks }) None None armed (λ res. refl) (λ res k _. ap (next_in (armed_links which)) (same k)) (λ res k _. ap (prev_in (armed_links which)) (same k)) (λ res k _ there. rw (same k) there)
-      (λ res. ap (armed_handles which (rows (record q { locks = locks }))) (handles (Queued res Granted)) ∙ armed-kept (rows q) (rows (record q { locks = locks })) (handles_at q (Queued res Granted)) (λ k _. ap row_in (same k)))
+      armed_stays q (record q { locks = locks }) None None armed (λ res. refl)
+      (λ res k _. ap (next_in (armed_links which)) (same k)) (λ res k _. ap (prev_in (armed_links which)) (same k))
+      (λ res k _ there. rw (same k) there)
+      (λ res. ap (armed_handles which (rows (record q { locks = locks }))) (handles (Queued res Granted))
+      ∙ armed-kept (rows q) (rows (record q { locks = locks })) (handles_at q (Queued res Granted))
+      (λ k _. ap row_in (same k)))
 
   -- locks join and leave their processes and parents
   pub armed_kin : (q : Queues) (locks : Slab Lock) → SameBut but_kin q.locks locks → ((p : Place) → handles_at (record q { locks = locks }) p ≡ handles_at q p)
       → ((k : ℕ) → row_in (get locks k) ≡ row_in (get q.locks k)) → IsArmed which q None → IsArmed which (record q { locks = locks }) None
   armed_kin q locks same handles rows_same armed =
-      armed_stays q (record q { locks = locks }) None None armed (λ res. refl) (λ res k _. through but_kin (next_in (armed_links which)) (next-kin which) q.locks locks same k)
+      armed_stays q (record q { locks = locks }) None None armed (λ res. refl)
+      (λ res k _. through but_kin (next_in (armed_links which)) (next-kin which) q.locks locks same k)
       (λ res k _. through but_kin (prev_in (armed_links which)) (prev-kin which) q.locks locks same k) (λ res k _. there_through but_kin q.locks locks same k)
-      (λ res. ap (armed_handles which (rows (record q { locks = locks }))) (handles (Queued res Granted)) ∙ armed-kept (rows q) (rows (record q { locks = locks })) (handles_at q (Queued res Granted)) (λ k _. rows_same k))
+      (λ res. ap (armed_handles which (rows (record q { locks = locks }))) (handles (Queued res Granted))
+      ∙ armed-kept (rows q) (rows (record q { locks = locks })) (handles_at q (Queued res Granted))
+      (λ k _. rows_same k))
 
   -- nothing is there
   pub empty_armed : (q : Queues) → ((r : ℕ) → get q.resources r ≡ None) → ((p : Place) → handles_at q p ≡ []) → IsArmed which q None
@@ -451,19 +493,22 @@ module _ (which : Armed) where
       let no_lists : (res : ℕ) → IsNoList (armed_list which q res) = λ res. rw (none res) (record { no_first = refl; no_last = refl; no_handles = refl }) in
       record {
         linked = λ res. (no_list-linked (armed_links which) q.locks (armed_list which q res) (no_lists res)).0;
-        order = λ res. (no_list-linked (armed_links which) q.locks (armed_list which q res) (no_lists res)).1 ∙ sym (ap (armed_handles which (rows q)) (empty (Queued res Granted)));
+        order = λ res. (no_list-linked (armed_links which) q.locks (armed_list which q res) (no_lists res)).1
+            ∙ sym (ap (armed_handles which (rows q)) (empty (Queued res Granted)));
       }
 
   -- ---- a lock leaves a list, or joins it
 
-  module _ (q : Queues) (locks1 : Slab Lock) (res : ℕ) (was : Resource) (now : Resource) (here : get q.resources res ≡ Some was) (written : now ≡ with_list which (list_of which now) was)
+  module _ (q : Queues) (locks1 : Slab Lock) (res : ℕ) (was : Resource) (now : Resource)
+      (here : get q.resources res ≡ Some was) (written : now ≡ with_list which (list_of which now) was)
       (relinks : Relinks (with_armed_links which) q.locks locks1) where
     -- the records once the list of one resource is written
     abbrev pub relisted : Queues
     relisted = record q { locks = locks1; resources = with_value q.resources res now }
 
     pub relisted_rest : SameBut but_armed q.resources relisted.resources
-    relisted_rest = written_same q.resources res was now (option_map but_armed) here (ap (λ r. option_map but_armed (Some r)) written ∙ relisted-rest was which (list_of which now))
+    relisted_rest = written_same q.resources res was now (option_map but_armed) here
+        (ap (λ r. option_map but_armed (Some r)) written ∙ relisted-rest was which (list_of which now))
 
     pub relisted_kin : SameBut but_in_armed q.locks locks1
     relisted_kin = relinked_same (with_armed_links which) (option_map but_in_armed) (λ l pair. relinked-kin l pair which) q.locks locks1 relinks
@@ -480,19 +525,29 @@ module _ (which : Armed) where
     module _ (placed : IsPlaced q None) where
       pub relisted_handles : (p : Place) → handles_at relisted p ≡ handles_at q p
       relisted_handles =
-          kept_handles q None placed relisted queues_stay (relinked_same (with_armed_links which) (next_in queue_links) (λ l pair. relinked-next l pair which) q.locks locks1 relinks)
-          (relinked_same (with_armed_links which) (prev_in queue_links) (λ l pair. relinked-prev l pair which) q.locks locks1 relinks) (there_through but_in_armed q.locks locks1 relisted_kin)
+          kept_handles q None placed relisted queues_stay
+          (relinked_same (with_armed_links which) (next_in queue_links)
+          (λ l pair. relinked-next l pair which) q.locks locks1 relinks)
+          (relinked_same (with_armed_links which) (prev_in queue_links)
+          (λ l pair. relinked-prev l pair which) q.locks locks1 relinks)
+          (there_through but_in_armed q.locks locks1 relisted_kin)
 
       pub relisted_placed : IsPlaced relisted None
       relisted_placed =
-          kept_placed q None placed relisted queues_stay (relinked_same (with_armed_links which) (next_in queue_links) (λ l pair. relinked-next l pair which) q.locks locks1 relinks)
-          (relinked_same (with_armed_links which) (prev_in queue_links) (λ l pair. relinked-prev l pair which) q.locks locks1 relinks) (there_through but_in_armed q.locks locks1 relisted_kin)
+          kept_placed q None placed relisted queues_stay
+          (relinked_same (with_armed_links which) (next_in queue_links)
+          (λ l pair. relinked-next l pair which) q.locks locks1 relinks)
+          (relinked_same (with_armed_links which) (prev_in queue_links)
+          (λ l pair. relinked-prev l pair which) q.locks locks1 relinks)
+          (there_through but_in_armed q.locks locks1 relisted_kin)
           (relinked_same (with_armed_links which) noted_in (λ l pair. relinked-note l pair which) q.locks locks1 relinks)
 
       pub relisted_tallied : IsTallied q None → IsTallied relisted None
       relisted_tallied tallied = record {
         counts = λ count r mode.
-            ap (λ t. how_many count t mode) (through but_armed tally_in tally-armed q.resources relisted.resources relisted_rest r) ∙ tallied.counts count r mode
+            ap (λ t. how_many count t mode)
+            (through but_armed tally_in tally-armed q.resources relisted.resources relisted_rest r)
+            ∙ tallied.counts count r mode
             ∙ sym (shares_same q relisted (weight_of count mode) None r relisted_handles (λ k _. rows_stay k));
       }
 
@@ -518,7 +573,9 @@ module _ (which : Armed) where
           let updates = Updates-with_value q.resources res now there in
           elim (cases_eq r res) [
             | inl same ↦
-                ap (λ x. armed_list_in (other_list which) (get relisted.resources x)) same ∙ ap (armed_list_in (other_list which)) updates.changed ∙ ap (list_of (other_list which)) written ∙ other-put was which (list_of which now)
+                ap (λ x. armed_list_in (other_list which) (get relisted.resources x)) same
+                ∙ ap (armed_list_in (other_list which)) updates.changed ∙ ap (list_of (other_list which)) written
+                ∙ other-put was which (list_of which now)
                 ∙ sym (ap (λ x. armed_list_in (other_list which) (get q.resources x)) same ∙ ap (armed_list_in (other_list which)) here)
             | inr differs ↦ ap (armed_list_in (other_list which)) (updates.others r differs)
           ]
@@ -527,29 +584,36 @@ module _ (which : Armed) where
       relisted_other out armed = record {
         linked = λ r.
             subst (IsLinked (armed_links (other_list which)) locks1) (sym (other_lists r))
-            (kept-linked (armed_links (other_list which)) q.locks locks1 (armed_list (other_list which) q r) (armed.linked r) (λ k _. nexts k) (λ k _. prevs k) (λ k _ there. present k there));
+            (kept-linked (armed_links (other_list which)) q.locks locks1 (armed_list (other_list which) q r)
+            (armed.linked r) (λ k _. nexts k) (λ k _. prevs k) (λ k _ there. present k there));
         order = λ r.
             ap (handles_of (armed_links (other_list which)) locks1) (other_lists r)
-            ∙ kept-handles (armed_links (other_list which)) q.locks locks1 (armed_list (other_list which) q r) (armed.linked r) (λ k _. nexts k) (λ k _. prevs k) (λ k _ there. present k there)
+            ∙ kept-handles (armed_links (other_list which)) q.locks locks1 (armed_list (other_list which) q r)
+            (armed.linked r) (λ k _. nexts k) (λ k _. prevs k) (λ k _ there. present k there)
             ∙ armed.order r ∙ sym (granted_stays out r);
       }
         where
           nexts : (k : ℕ) → next_in (armed_links (other_list which)) (get locks1 k) ≡ next_in (armed_links (other_list which)) (get q.locks k)
-          nexts = relinked_same (with_armed_links which) (next_in (armed_links (other_list which))) (λ l pair. relinked-next_other l pair which) q.locks locks1 relinks
+          nexts = relinked_same (with_armed_links which) (next_in (armed_links (other_list which)))
+              (λ l pair. relinked-next_other l pair which) q.locks locks1 relinks
 
           prevs : (k : ℕ) → prev_in (armed_links (other_list which)) (get locks1 k) ≡ prev_in (armed_links (other_list which)) (get q.locks k)
-          prevs = relinked_same (with_armed_links which) (prev_in (armed_links (other_list which))) (λ l pair. relinked-prev_other l pair which) q.locks locks1 relinks
+          prevs = relinked_same (with_armed_links which) (prev_in (armed_links (other_list which)))
+              (λ l pair. relinked-prev_other l pair which) q.locks locks1 relinks
 
           present : (k : ℕ) → ContainsKey q.locks k → ContainsKey locks1 k
           present k there = there_through but_in_armed q.locks locks1 relisted_kin k there
 
           rows_same : (ks : List ℕ) → armed_handles (other_list which) (rows relisted) ks ≡ armed_handles (other_list which) (rows q) ks
-          rows_same ks = ap (λ (f : ℕ → LockRow). armed_handles (other_list which) f ks) (fun_ext rows_stay)
+          rows_same ks = ap (λ (f : ℕ → LockState). armed_handles (other_list which) f ks) (fun_ext rows_stay)
 
           granted_stays : (out : Option ℕ) (r : ℕ) → armed_granted (other_list which) relisted out r ≡ armed_granted (other_list which) q out r
-          granted_stays None r = ap (armed_handles (other_list which) (rows relisted)) (relisted_handles (Queued r Granted)) ∙ rows_same (handles_at q (Queued r Granted))
+          granted_stays None r =
+              ap (armed_handles (other_list which) (rows relisted)) (relisted_handles (Queued r Granted))
+              ∙ rows_same (handles_at q (Queued r Granted))
           granted_stays (Some k) r =
-              ap (λ ks. armed_handles (other_list which) (rows relisted) (without k ks)) (relisted_handles (Queued r Granted)) ∙ rows_same (without k (handles_at q (Queued r Granted)))
+              ap (λ ks. armed_handles (other_list which) (rows relisted) (without k ks))
+              (relisted_handles (Queued r Granted)) ∙ rows_same (without k (handles_at q (Queued r Granted)))
 
       granted_same : (ks ks' : List ℕ) → ks' ≡ ks → armed_handles which (rows relisted) ks' ≡ armed_handles which (rows q) ks
       granted_same ks ks' is = ap (armed_handles which (rows relisted)) is ∙ armed-kept (rows q) (rows relisted) ks (λ k _. rows_stay k)
@@ -568,7 +632,9 @@ module _ (which : Armed) where
       head = sym (ap (armed_list_in which) here)
 
       module _ (at : ℕ) (linked1 : IsLinked (armed_links which) locks1 (list_of which now)) (is : (armed_on which) (get q.locks at) ≡ Some res) where
-        module _ (armed : IsArmed which q None) (handles1 : handles_of (armed_links which) locks1 (list_of which now) ≡ without at (handles_of (armed_links which) q.locks (list_of which was)))
+        module _ (armed : IsArmed which q None)
+            (handles1 : handles_of (armed_links which) locks1 (list_of which now) ≡ without at
+            (handles_of (armed_links which) q.locks (list_of which was)))
             (others1 : (other : ℕ) → ¬ IsIn other (handles_of (armed_links which) q.locks (list_of which was)) → get locks1 other ≡ get q.locks other) where
           left_handles1 : handles_of (armed_links which) locks1 (list_of which now) ≡ without at (armed_list_handles which q res)
           left_handles1 = handles1 ∙ ap (λ l. without at (handles_of (armed_links which) q.locks l)) head
@@ -578,22 +644,31 @@ module _ (which : Armed) where
 
           left_handles : (j : ℕ) → armed_list_handles which relisted j ≡ without at (armed_list_handles which q j)
           left_handles =
-              family-taken_handles (armed_links which) (armed_on which) cases_eq q.locks locks1 locks1 (armed_list which q) (armed_list which relisted) (list_of which now) at res (λ k. refl) (λ k. refl) (λ k h. h) linked1 list_here list_elsewhere
+              family-taken_handles (armed_links which) (armed_on which) cases_eq q.locks locks1 locks1
+              (armed_list which q) (armed_list which relisted) (list_of which now) at res (λ k. refl) (λ k. refl)
+              (λ k h. h) linked1 list_here list_elsewhere
               (armed_family q None placed armed) is left_handles1 left_others1
 
           pub relisted_left : IsArmed which relisted (Some at)
           relisted_left =
-              let left = family-taken (armed_links which) (armed_on which) cases_eq q.locks locks1 locks1 (armed_list which q) (armed_list which relisted) (list_of which now) at res (λ k. refl) (λ k. refl) (λ k h. h) linked1 list_here list_elsewhere
+              let left = family-taken (armed_links which) (armed_on which) cases_eq q.locks locks1 locks1
+              (armed_list which q) (armed_list which relisted) (list_of which now) at res (λ k. refl) (λ k. refl)
+              (λ k h. h) linked1 list_here list_elsewhere
               (armed_family q None placed armed) is left_handles1 left_others1 notes_stay in
               record {
                 linked = left.linked;
                 order = λ j.
                     left_handles j ∙ ap (without at) (armed.order j) ∙ sym (armed-without (rows q) at (handles_at q (Queued j Granted)))
-                    ∙ sym (granted_same (without at (handles_at q (Queued j Granted))) (without at (handles_at relisted (Queued j Granted))) (ap (without at) (relisted_handles (Queued j Granted))));
+                    ∙ sym (granted_same (without at (handles_at q (Queued j Granted)))
+                    (without at (handles_at relisted (Queued j Granted)))
+                    (ap (without at) (relisted_handles (Queued j Granted))));
               }
 
-        module _ (armed : IsArmed which q (Some at)) (handles1 : handles_of (armed_links which) locks1 (list_of which now) ≡ handles_of (armed_links which) q.locks (list_of which was) ++ at ∷ [])
-            (others1 : (other : ℕ) → ¬ IsIn other (handles_of (armed_links which) q.locks (list_of which was)) → other ≢ at → get locks1 other ≡ get q.locks other) (last : StandsLast q at) where
+        module _ (armed : IsArmed which q (Some at))
+            (handles1 : handles_of (armed_links which) locks1 (list_of which now) ≡ handles_of
+            (armed_links which) q.locks (list_of which was) ++ at ∷ [])
+            (others1 : (other : ℕ) → ¬ IsIn other (handles_of (armed_links which) q.locks (list_of which was))
+            → other ≢ at → get locks1 other ≡ get q.locks other) (last : StandsLast q at) where
           joined_handles1 : handles_of (armed_links which) locks1 (list_of which now) ≡ armed_list_handles which q res ++ at ∷ []
           joined_handles1 = handles1 ∙ ap (λ l. handles_of (armed_links which) q.locks l ++ at ∷ []) head
 
@@ -602,12 +677,16 @@ module _ (which : Armed) where
 
           joined_here : armed_list_handles which relisted res ≡ armed_list_handles which q res ++ at ∷ []
           joined_here =
-              family-put_here (armed_links which) (armed_on which) cases_eq q.locks locks1 locks1 (armed_list which q) (armed_list which relisted) (list_of which now) at res (λ k. refl) (λ k. refl) (λ k h. h) linked1 list_here list_elsewhere
+              family-put_here (armed_links which) (armed_on which) cases_eq q.locks locks1 locks1 (armed_list which q)
+              (armed_list which relisted) (list_of which now) at res (λ k. refl) (λ k. refl)
+              (λ k h. h) linked1 list_here list_elsewhere
               (armed_family q (Some at) placed armed) joined_handles1 joined_others1
 
           joined_elsewhere : (j : ℕ) → j ≢ res → armed_list_handles which relisted j ≡ armed_list_handles which q j
           joined_elsewhere =
-              family-put_others (armed_links which) (armed_on which) cases_eq q.locks locks1 locks1 (armed_list which q) (armed_list which relisted) (list_of which now) at res (λ k. refl) (λ k. refl) (λ k h. h) linked1 list_here list_elsewhere
+              family-put_others (armed_links which) (armed_on which) cases_eq q.locks locks1 locks1 (armed_list which q)
+              (armed_list which relisted) (list_of which now) at res (λ k. refl) (λ k. refl)
+              (λ k h. h) linked1 list_here list_elsewhere
               (armed_family q (Some at) placed armed) joined_handles1 joined_others1
 
           all_granted : (j : ℕ) → armed_granted which q None j ≡ armed_granted which relisted None j
@@ -623,12 +702,16 @@ module _ (which : Armed) where
           order_elsewhere j differs =
               joined_elsewhere j differs ∙ armed.order j
               ∙ armed-but (rows q) at (handles_at q (Queued j Granted)) (λ found.
-              absurd (differs (same_Some j res (sym (there_armed (get q.locks at) j (placed.listed (Queued j Granted) at found) (armed_there (get q.locks at) res is).1) ∙ is))))
+              absurd (differs (same_Some j res
+              (sym (there_armed (get q.locks at) j (placed.listed (Queued j Granted) at found)
+              (armed_there (get q.locks at) res is).1) ∙ is))))
               ∙ all_granted j
 
           pub relisted_joined : IsArmed which relisted None
           relisted_joined =
-              let joined = family-put (armed_links which) (armed_on which) cases_eq q.locks locks1 locks1 (armed_list which q) (armed_list which relisted) (list_of which now) at res (λ k. refl) (λ k. refl) (λ k h. h) linked1 list_here list_elsewhere
+              let joined = family-put (armed_links which) (armed_on which) cases_eq q.locks locks1 locks1
+              (armed_list which q) (armed_list which relisted) (list_of which now) at res (λ k. refl) (λ k. refl)
+              (λ k h. h) linked1 list_here list_elsewhere
               (armed_family q (Some at) placed armed) joined_handles1 joined_others1 (notes_stay at ∙ is) (λ k _. notes_stay k) in
               record {
                 linked = joined.linked;
@@ -639,27 +722,32 @@ module _ (which : Armed) where
               }
 
   -- ---- a lock has another row where it stands, listed as it was
-  armed_flags : (rows rows' : ℕ → LockRow) (ks : List ℕ) → ((k : ℕ) → is_listed which (rows' k) ≡ is_listed which (rows k)) → armed_handles which rows' ks ≡ armed_handles which rows ks
+  armed_flags : (rows rows' : ℕ → LockState) (ks : List ℕ)
+      → ((k : ℕ) → is_listed which (rows' k) ≡ is_listed which (rows k))
+      → armed_handles which rows' ks ≡ armed_handles which rows ks
   armed_flags rows rows' ks same = ap (λ (listed : ℕ → Bool). filter listed ks) (fun_ext same)
 
-  pub armed_rewritten : (q q' : Queues) (at : ℕ) (now : LockRow) → Rewrites at now q q' → armed_rank (rows q at) ≡ armed_rank now → IsArmed which q None → IsArmed which q' None
+  pub armed_rewritten : (q q' : Queues) (at : ℕ) (now : LockState) → Rewrites at now q q'
+      → armed_rank (rows q at) ≡ armed_rank now → IsArmed which q None → IsArmed which q' None
   armed_rewritten q q' at now rewrites same armed =
       armed_stays q q' None None armed (armed_lists q.resources q'.resources rewrites.kept.rest)
       (λ res k _. by_part but_requeued (next_in (armed_links which)) (next-requeued which) (get q'.locks k) (get q.locks k) (rewrites.kept.kin k))
       (λ res k _. by_part but_requeued (prev_in (armed_links which)) (prev-requeued which) (get q'.locks k) (get q.locks k) (rewrites.kept.kin k))
       (λ res k _ there. there_by_part but_requeued (get q'.locks k) (get q.locks k) (rewrites.kept.kin k) there)
-      (λ res. ap (armed_handles which (rows q')) (rewrites.handles (Queued res Granted)) ∙ armed_flags (rows q) (rows q') (handles_at q (Queued res Granted)) flags)
+      (λ res. ap (armed_handles which (rows q')) (rewrites.handles (Queued res Granted))
+      ∙ armed_flags (rows q) (rows q') (handles_at q (Queued res Granted)) flags)
     where
       flags : (k : ℕ) → is_listed which (rows q' k) ≡ is_listed which (rows q k)
       flags k = elim (cases_eq k at) [
-        | inl here ↦ ap (λ x. is_listed which (rows q' x)) here ∙ ap (is_listed which) rewrites.row ∙ sym (ap (nat_lt (floor which)) same) ∙ sym (ap (λ x. is_listed which (rows q x)) here)
+        | inl here ↦ ap (λ x. is_listed which (rows q' x)) here ∙ ap (is_listed which) rewrites.row
+            ∙ sym (ap (nat_lt (floor which)) same) ∙ sym (ap (λ x. is_listed which (rows q x)) here)
         | inr differs ↦ ap (is_listed which) (rewrites.rows k differs)
       ]
 
 -- ---- rows that are not armed
 
 -- none of them is listed
-pub unarmed_unlisted : (which : Armed) (row : LockRow) → row.armed ≡ false → is_listed which row ≡ false
+pub unarmed_unlisted : (which : Armed) (row : LockState) → row.armed ≡ false → is_listed which row ≡ false
 unarmed_unlisted AboveNl row unarmed = rw unarmed refl
 unarmed_unlisted AboveCr row unarmed = rw unarmed refl
 
@@ -673,9 +761,11 @@ unarmed_none which (Some l) unarmed = rw (unarmed_unlisted which l.row unarmed) 
     neither false = refl
 
 -- a loose lock is in no list of armed locks
-pub loose_unarmed : (which : Armed) (q : Queues) (at : ℕ) → IsPlaced q None → IsArmed which q None → is_loose_in (get q.locks at) ≡ true → (res : ℕ) → ¬ IsIn at (armed_list_handles which q res)
+pub loose_unarmed : (which : Armed) (q : Queues) (at : ℕ) → IsPlaced q None → IsArmed which q None
+    → is_loose_in (get q.locks at) ≡ true → (res : ℕ) → ¬ IsIn at (armed_list_handles which q res)
 loose_unarmed which q at placed armed loose res found =
-    loose_unlisted q at placed loose (Queued res Granted) (armed-in which (rows q) at (handles_at q (Queued res Granted)) (subst (IsIn at) (armed.order res) found)).0
+    loose_unlisted q at placed loose (Queued res Granted)
+    (armed-in which (rows q) at (handles_at q (Queued res Granted)) (subst (IsIn at) (armed.order res) found)).0
 
 -- ---- what stays twice stays
 pub keeps_twice : (a b c : Queues) → KeepsPlaces a b → KeepsPlaces b c → KeepsPlaces a c

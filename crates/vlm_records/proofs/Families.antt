@@ -47,20 +47,27 @@ module _ {I Kind : Type 0} (links : Lock → Links) (noted : Option Lock → Opt
       }
 
     -- a record that stands in no list is none of those that stand in one
-    pub other_handle : (at : ℕ) → ((i : I) → ¬ IsIn at (handles_of links locks (lists i))) → (i : I) (k : ℕ) → IsIn k (handles_of links locks (lists i)) → k ≢ at
+    pub other_handle : (at : ℕ) → ((i : I) → ¬ IsIn at (handles_of links locks (lists i))) → (i : I) (k : ℕ)
+        → IsIn k (handles_of links locks (lists i)) → k ≢ at
     other_handle at unlisted i k found is = unlisted i (subst (λ x. IsIn x (handles_of links locks (lists i))) is found)
 
     -- one record changes, comes or goes that stands in no list
-    module _ (locks' : Slab Lock) (lists' : I → LinkedList Kind) (same : (i : I) → lists' i ≡ lists i) (at : ℕ) (unlisted : (i : I) → ¬ IsIn at (handles_of links locks (lists i)))
-        (nexts : (k : ℕ) → k ≢ at → next_in links (get locks' k) ≡ next_in links (get locks k)) (prevs : (k : ℕ) → k ≢ at → prev_in links (get locks' k) ≡ prev_in links (get locks k))
+    module _ (locks' : Slab Lock) (lists' : I → LinkedList Kind) (same : (i : I)
+        → lists' i ≡ lists i) (at : ℕ) (unlisted : (i : I) → ¬ IsIn at (handles_of links locks (lists i)))
+        (nexts : (k : ℕ) → k ≢ at → next_in links (get locks' k) ≡ next_in links (get locks k)) (prevs : (k : ℕ)
+        → k ≢ at → prev_in links (get locks' k) ≡ prev_in links (get locks k))
         (there : (k : ℕ) → k ≢ at → ContainsKey locks k → ContainsKey locks' k) where
       pub family-other_handles : AllStay locks lists locks' lists'
       family-other_handles =
-          family-handles locks' lists' same (λ i k found. nexts k (other_handle at unlisted i k found)) (λ i k found. prevs k (other_handle at unlisted i k found)) (λ i k found. there k (other_handle at unlisted i k found))
+          family-handles locks' lists' same (λ i k found. nexts k (other_handle at unlisted i k found))
+          (λ i k found. prevs k (other_handle at unlisted i k found))
+          (λ i k found. there k (other_handle at unlisted i k found))
 
       other_linked : (i : I) → IsLinked links locks' (lists' i)
       other_linked =
-          linked_still locks' lists' same (λ i k found. nexts k (other_handle at unlisted i k found)) (λ i k found. prevs k (other_handle at unlisted i k found)) (λ i k found. there k (other_handle at unlisted i k found))
+          linked_still locks' lists' same (λ i k found. nexts k (other_handle at unlisted i k found))
+          (λ i k found. prevs k (other_handle at unlisted i k found))
+          (λ i k found. there k (other_handle at unlisted i k found))
 
       module _ (notes : (k : ℕ) → k ≢ at → noted (get locks' k) ≡ noted (get locks k)) where
         -- the record is new
@@ -92,20 +99,25 @@ module _ {I Kind : Type 0} (links : Lock → Links) (noted : Option Lock → Opt
         }
 
     -- a record comes or goes that stands in no list
-    module _ (locks' : Slab Lock) (lists' : I → LinkedList Kind) (same : (i : I) → lists' i ≡ lists i) (at : ℕ) (slot : Option Lock) (updates : Updates locks locks' at slot)
+    module _ (locks' : Slab Lock) (lists' : I → LinkedList Kind) (same : (i : I)
+        → lists' i ≡ lists i) (at : ℕ) (slot : Option Lock) (updates : Updates locks locks' at slot)
         (unlisted : (i : I) → ¬ IsIn at (handles_of links locks (lists i))) where
       pub family-added : out ≡ None → IsFamily links noted locks' lists' (Some at)
       family-added =
-          family-grown locks' lists' same at unlisted (λ k differs. ap (next_in links) (updates.others k differs)) (λ k differs. ap (prev_in links) (updates.others k differs))
+          family-grown locks' lists' same at unlisted (λ k differs. ap (next_in links) (updates.others k differs))
+          (λ k differs. ap (prev_in links) (updates.others k differs))
           (λ k differs here. rw (updates.others k differs) here) (λ k differs. ap noted (updates.others k differs))
 
       pub family-removed : ((i : I) → noted slot ≢ Some i) → out ≡ Some at → IsFamily links noted locks' lists' None
       family-removed none =
-          family-shrunk locks' lists' same at unlisted (λ k differs. ap (next_in links) (updates.others k differs)) (λ k differs. ap (prev_in links) (updates.others k differs))
-          (λ k differs here. rw (updates.others k differs) here) (λ k differs. ap noted (updates.others k differs)) (λ i is. none i (ap noted (sym updates.changed) ∙ is))
+          family-shrunk locks' lists' same at unlisted (λ k differs. ap (next_in links) (updates.others k differs))
+          (λ k differs. ap (prev_in links) (updates.others k differs))
+          (λ k differs here. rw (updates.others k differs) here) (λ k differs. ap noted (updates.others k differs))
+          (λ i is. none i (ap noted (sym updates.changed) ∙ is))
 
   -- no lock is there
-  pub family-empty : (locks : Slab Lock) (lists : I → LinkedList Kind) → ((i : I) → IsNoList (lists i)) → ((k : ℕ) → get locks k ≡ None) → ((i : I) → noted None ≢ Some i) → IsFamily links noted locks lists None
+  pub family-empty : (locks : Slab Lock) (lists : I → LinkedList Kind) → ((i : I) → IsNoList (lists i))
+      → ((k : ℕ) → get locks k ≡ None) → ((i : I) → noted None ≢ Some i) → IsFamily links noted locks lists None
   family-empty locks lists empty none unnoted = record {
     linked = λ i. (no_list-linked links locks (lists i) (empty i)).0;
     listed = λ i k found. absurd (subst (IsIn k) ((no_list-linked links locks (lists i) (empty i)).1) found);
@@ -114,7 +126,9 @@ module _ {I Kind : Type 0} (links : Lock → Links) (noted : Option Lock → Opt
   }
 
   -- a lock that notes no list is out of all
-  pub family-unnoted : (locks : Slab Lock) (lists : I → LinkedList Kind) (at : ℕ) → IsFamily links noted locks lists None → ((i : I) → noted (get locks at) ≢ Some i) → IsFamily links noted locks lists (Some at)
+  pub family-unnoted : (locks : Slab Lock) (lists : I → LinkedList Kind) (at : ℕ)
+      → IsFamily links noted locks lists None → ((i : I) → noted (get locks at) ≢ Some i)
+      → IsFamily links noted locks lists (Some at)
   family-unnoted locks lists at family none = record {
     linked = family.linked;
     listed = family.listed;
@@ -123,8 +137,10 @@ module _ {I Kind : Type 0} (links : Lock → Links) (noted : Option Lock → Opt
   }
 
   -- a lock is taken off its list
-  module _ (cases : (i j : I) → (i ≡ j) ⊎ (i ≢ j)) (locks locks1 locks' : Slab Lock) (lists lists' : I → LinkedList Kind) (list1 : LinkedList Kind) (at : ℕ) (i : I)
-      (nexts : (k : ℕ) → next_in links (get locks' k) ≡ next_in links (get locks1 k)) (prevs : (k : ℕ) → prev_in links (get locks' k) ≡ prev_in links (get locks1 k))
+  module _ (cases : (i j : I) → (i ≡ j) ⊎ (i ≢ j)) (locks locks1 locks' : Slab Lock) (lists lists' : I
+      → LinkedList Kind) (list1 : LinkedList Kind) (at : ℕ) (i : I)
+      (nexts : (k : ℕ) → next_in links (get locks' k) ≡ next_in links (get locks1 k)) (prevs : (k : ℕ)
+      → prev_in links (get locks' k) ≡ prev_in links (get locks1 k))
       (there : (k : ℕ) → ContainsKey locks1 k → ContainsKey locks' k) (linked1 : IsLinked links locks1 list1) (here : lists' i ≡ list1)
       (elsewhere : (j : I) → j ≢ i → lists' j ≡ lists j) where
     -- the other lists keep their records
@@ -146,10 +162,13 @@ module _ {I Kind : Type 0} (links : Lock → Links) (noted : Option Lock → Opt
       all_linked j =
           elim (cases j i) [
             | inl same ↦ rw (same, here) (kept-linked links locks1 locks' list1 linked1 (λ k _. nexts k) (λ k _. prevs k) (λ k _. there k))
-            | inr differs ↦ rw (elsewhere j differs) (kept-linked links locks1 locks' (lists j) (other_linked1 j differs) (λ k _. nexts k) (λ k _. prevs k) (λ k _. there k))
+            | inr differs ↦ rw (elsewhere j differs)
+                (kept-linked links locks1 locks' (lists j) (other_linked1 j differs) (λ k _. nexts k) (λ k _. prevs k)
+                (λ k _. there k))
           ]
 
-    module _ (family : IsFamily links noted locks lists None) (is : noted (get locks at) ≡ Some i) (handles1 : handles_of links locks1 list1 ≡ without at (handles_of links locks (lists i)))
+    module _ (family : IsFamily links noted locks lists None) (is : noted (get locks at) ≡ Some i)
+        (handles1 : handles_of links locks1 list1 ≡ without at (handles_of links locks (lists i)))
         (others1 : (other : ℕ) → ¬ IsIn other (handles_of links locks (lists i)) → get locks1 other ≡ get locks other) where
       stood : IsIn at (handles_of links locks (lists i))
       stood = family.stands i at (λ e. none-some at (sym e)) is
@@ -180,7 +199,8 @@ module _ {I Kind : Type 0} (links : Lock → Links) (noted : Option Lock → Opt
       unlisted j = family.gone j at refl
 
       pub family-put_here : handles_of links locks' (lists' i) ≡ handles_of links locks (lists i) ++ at ∷ []
-      family-put_here = ap (handles_of links locks') here ∙ kept-handles links locks1 locks' list1 linked1 (λ k _. nexts k) (λ k _. prevs k) (λ k _. there k) ∙ handles1
+      family-put_here = ap (handles_of links locks') here
+          ∙ kept-handles links locks1 locks' list1 linked1 (λ k _. nexts k) (λ k _. prevs k) (λ k _. there k) ∙ handles1
 
       others_but : (other : ℕ) → ¬ IsIn other (handles_of links locks (lists i)) → Some other ≢ Some at → get locks1 other ≡ get locks other
       others_but other absent differs = others1 other absent (λ same. differs (ap Some same))
@@ -188,7 +208,8 @@ module _ {I Kind : Type 0} (links : Lock → Links) (noted : Option Lock → Opt
       pub family-put_others : OthersStay locks lists locks' lists' i
       family-put_others = handles_elsewhere (Some at) family others_but
 
-      pub family-put : noted (get locks' at) ≡ Some i → ((k : ℕ) → k ≢ at → noted (get locks' k) ≡ noted (get locks k)) → IsFamily links noted locks' lists' None
+      pub family-put : noted (get locks' at) ≡ Some i → ((k : ℕ) → k ≢ at → noted (get locks' k) ≡ noted (get locks k))
+          → IsFamily links noted locks' lists' None
       family-put note notes = record {
         linked = all_linked (Some at) family others_but;
         listed = λ j k found. elim (cases j i) [
@@ -203,13 +224,17 @@ module _ {I Kind : Type 0} (links : Lock → Links) (noted : Option Lock → Opt
           | inl same ↦
               let is_list : i ≡ j = same_Some i j (sym note ∙ ap (λ x. noted (get locks' x)) (sym same) ∙ noted_so) in
               subst (λ x. IsIn k (handles_of links locks' (lists' x))) is_list
-              (subst (IsIn k) (sym family-put_here) (subst (λ x. IsIn x (handles_of links locks (lists i) ++ at ∷ [])) (sym same) (IsIn-push_last at (handles_of links locks (lists i)))))
+              (subst (IsIn k) (sym family-put_here)
+              (subst (λ x. IsIn x (handles_of links locks (lists i) ++ at ∷ [])) (sym same)
+              (IsIn-push_last at (handles_of links locks (lists i)))))
           | inr differs ↦
               let was = family.stands j k (λ same. differs (same_Some k at same)) (sym (notes k differs) ∙ noted_so) in
               elim (cases j i) [
                 | inl same ↦
                     subst (λ x. IsIn k (handles_of links locks' (lists' x))) (sym same)
-                    (subst (IsIn k) (sym family-put_here) (IsIn-push_kept at k (handles_of links locks (lists i)) (subst (λ x. IsIn k (handles_of links locks (lists x))) same was)))
+                    (subst (IsIn k) (sym family-put_here)
+                    (IsIn-push_kept at k (handles_of links locks (lists i))
+                    (subst (λ x. IsIn k (handles_of links locks (lists x))) same was)))
                 | inr apart ↦ subst (IsIn k) (sym (family-put_others j apart)) was
               ]
         ];

@@ -1,3 +1,5 @@
+pub mod NodesMarked
+pub mod NodesCleared
 pub mod ModesThatFit
 pub mod Totals
 pub mod Arming
@@ -8,7 +10,7 @@ pub mod WaitLists
 pub mod Making
 pub mod OwnLocks
 pub mod Packing
-pub mod Places
-pub mod Relisted
+pub mod PlacesOnLists
+pub mod WrittenQueue
 pub mod Rooms
-pub mod Staying
+pub mod LastStaysLast

@@ -6,7 +6,7 @@ use Rattle.std.specs.List.{list_all}
 use Rattle.std.proofs.lemmas.Bool.{and_parts, or_left, or_right}
 use Rattle.std.proofs.lemmas.Bool.Decides.{nat_tests}
 use Rattle.vlm_words.specs.declared.locks.Request.{Request}
-use Rattle.vlm_words.specs.declared.locks.LockRow.{LockRow}
+use Rattle.vlm_words.specs.declared.locks.LockState.{LockState}
 use Rattle.vlm_words.specs.declared.modes.Mode.{Mode}
 use Rattle.vlm_words.specs.declared.modes.Mode.TheVariants.{Nl, Cr, Cw, Pr, Pw, Ex}
 use Rattle.vlm_words.specs.Modes.{is_compatible, rank}
@@ -85,9 +85,11 @@ module _ (test : Mode → Bool) where
       (h1.0, h2.0, h3.0, h4.0, h5.0, h5.1)
 
   each_free : (f : Mode → ℕ) → each_counted test f ≡ true → (m : Mode) → none_or test f m ≡ true
-  each_free f fit m = by_mode (six (none_or test f Nl) (none_or test f Cr) (none_or test f Cw) (none_or test f Pr) (none_or test f Pw) (none_or test f Ex) fit) m
+  each_free f fit m = by_mode (six (none_or test f Nl) (none_or test f Cr) (none_or test f Cw) (none_or test f Pr)
+      (none_or test f Pw) (none_or test f Ex) fit) m
     where
-      by_mode : (none_or test f Nl ≡ true) × (none_or test f Cr ≡ true) × (none_or test f Cw ≡ true) × (none_or test f Pr ≡ true) × (none_or test f Pw ≡ true) × (none_or test f Ex ≡ true)
+      by_mode : (none_or test f Nl ≡ true) × (none_or test f Cr ≡ true) × (none_or test f Cw ≡ true)
+          × (none_or test f Pr ≡ true) × (none_or test f Pw ≡ true) × (none_or test f Ex ≡ true)
           → (m : Mode) → none_or test f m ≡ true
       by_mode all Nl = all.0
       by_mode all Cr = all.1
@@ -99,12 +101,13 @@ module _ (test : Mode → Bool) where
   all_free : (f : Mode → ℕ) → ((m : Mode) → none_or test f m ≡ true) → each_counted test f ≡ true
   all_free f free = rw (free Nl, free Cr, free Cw, free Pr, free Pw, free Ex) refl
 
-  module _ (asked : LockRow → Option Request) (rows : ℕ → LockRow) where
+  module _ (asked : LockState → Option Request) (rows : ℕ → LockState) where
     -- how many of the rows ask for a mode
     abbrev except : List ℕ → Mode → ℕ
     except ks m = total (λ row. one_if (is_mode m (asked row))) rows ks
 
-    passes_first : (request : Option Request) (count : Mode → ℕ) → ((m : Mode) → none_or test (λ x. one_if (is_mode x request) + count x) m ≡ true) → passes test request ≡ true
+    passes_first : (request : Option Request) (count : Mode → ℕ)
+        → ((m : Mode) → none_or test (λ x. one_if (is_mode x request) + count x) m ≡ true) → passes test request ≡ true
     passes_first None count free = refl
     passes_first (Some request) count free =
         let h = free request.mode in rw (same_rank request.mode, more_than_zero (count request.mode)) at h
@@ -137,7 +140,9 @@ module _ (test : Mode → Bool) where
         ] refl
 
     -- the modes that are counted pass exactly where each row asks for a mode that does
-    pub each_counted-rows : (ks : List ℕ) → each_counted test (λ x. total (λ row. one_if (is_mode x (asked row))) rows ks) ≡ list_all (λ k. passes test (asked (rows k))) ks
+    pub each_counted-rows : (ks : List ℕ)
+        → each_counted test (λ x. total (λ row. one_if (is_mode x (asked row))) rows ks) ≡ list_all
+        (λ k. passes test (asked (rows k))) ks
     each_counted-rows ks =
         same_test _ _ (λ fit. all_pass ks (each_free (except ks) fit)) (λ pass. all_free (except ks) (free_all ks pass))
 
@@ -147,7 +152,9 @@ beside_is mode None = refl
 beside_is mode (Some held) = refl
 
 -- the counts fit exactly where the mode is compatible with what each lock holds
-pub counts_fit-rows : (mode : Mode) (rows : ℕ → LockRow) (ks : List ℕ) → counts_fit mode (λ x. total (λ row. one_if (is_mode x row.held)) rows ks) ≡ list_all (λ k. is_beside mode (rows k).held) ks
+pub counts_fit-rows : (mode : Mode) (rows : ℕ → LockState) (ks : List ℕ)
+    → counts_fit mode (λ x. total (λ row. one_if (is_mode x row.held)) rows ks) ≡ list_all
+    (λ k. is_beside mode (rows k).held) ks
 unfolding counts_fit
 counts_fit-rows mode rows ks =
     each_counted-rows (is_compatible mode) (λ row. row.held) rows ks ∙ ap (λ test. list_all test ks) (fun_ext (λ k. beside_is mode (rows k).held))

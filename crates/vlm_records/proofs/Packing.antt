@@ -1,7 +1,7 @@
--- A row that is kept is shown as it was.
+-- A lock state is the same after it was packed and unpacked.
 use Rattle.std.proofs.Common.{◌≡◌, ◌∙◌, ℕ, Option, None, Some, ap, refl}
 use Rattle.vlm_words.specs.declared.locks.Request.{Request}
-use Rattle.vlm_words.specs.declared.locks.LockRow.{LockRow}
+use Rattle.vlm_words.specs.declared.locks.LockState.{LockState}
 use Rattle.vlm_records.specs.Requests.{packed_terms, tag_of, named_routines, packed_number, request_shown, routine_kept, packed_routines}
 use Rattle.vlm_records.specs.Rows.{IsPacked, packed, row_shown}
 
@@ -22,11 +22,16 @@ request_same None = refl
 request_same (Some request) = named_shown request request.completion request.blocking
 
 -- a row that is kept is shown as it was
-pub row_same : (row : LockRow) → row_shown (packed row) ≡ row
+pub row_same : (row : LockState) → row_shown (packed row) ≡ row
 row_same row =
-    ap (λ held. record row { held = held; want = request_shown (tag_of row.want) (packed_number row.want) (packed_routines row.want) (packed_terms row.want) }) (request_same row.held)
+    ap (λ held. record row {
+      held = held;
+      want =
+          request_shown (tag_of row.want) (packed_number row.want) (packed_routines row.want) (packed_terms row.want);
+    })
+    (request_same row.held)
     ∙ ap (λ want. record row { want = want }) (request_same row.want)
 
 -- what a row is kept in shows just that row
-pub packed_packed : (row : LockRow) → IsPacked (packed row)
+pub packed_packed : (row : LockState) → IsPacked (packed row)
 packed_packed row = ap packed (row_same row)

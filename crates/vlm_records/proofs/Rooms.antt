@@ -1,5 +1,6 @@
 -- What becomes of the room of a slab.
-use Rattle.std.proofs.Common.{◌≡◌, ℕ, suc, ◌+◌, ◌-◌, ◌<◌, ◌≤◌, List, [], ◌∷◌, true, false, Option, None, Some, IsSome, filter, length, slice_index_or, refl, sym, ap, ◌∙◌, inl, inr, arith}
+use Rattle.std.proofs.Common.{◌≡◌, ℕ, suc, ◌+◌, ◌-◌, ◌<◌, ◌≤◌, List, [], ◌∷◌, true, false, Option, None, Some, IsSome}
+use Rattle.std.proofs.Common.{filter, length, slice_index_or, refl, sym, ap, ◌∙◌, inl, inr, arith}
 use Rattle.std.specs.Prelude.{is_some}
 use Rattle.std.proofs.lemmas.Bool.{cases_eq}
 use Rattle.std.proofs.lemmas.List.Sums.{length-filter}
@@ -11,7 +12,9 @@ use Rattle.vlm_records.specs.Shown.{room_in}
 
 module _ {T : Type 0} where
   -- the same slots have a value
-  same_slots : (xs ys : List (Option T)) → ((k : ℕ) → is_some (slice_index_or xs k None) ≡ is_some (slice_index_or ys k None)) → length (filter is_some xs) ≡ length (filter is_some ys)
+  same_slots : (xs ys : List (Option T))
+      → ((k : ℕ) → is_some (slice_index_or xs k None) ≡ is_some (slice_index_or ys k None))
+      → length (filter is_some xs) ≡ length (filter is_some ys)
   same_slots [] [] same = refl
   same_slots [] (None ∷ ys) same = same_slots [] ys (λ k. same (suc k))
   same_slots [] (Some y ∷ ys) same = let never : false ≡ true = same 0 in cc
@@ -31,7 +34,8 @@ module _ {T : Type 0} where
   room_is nodes = refl
 
   -- the room stays where the same handles have a record
-  pub room_same : (old new : Slab T) → ((k : ℕ) → is_some (get new k) ≡ is_some (get old k)) → new.capacity ≡ old.capacity → new.vacant_key ≡ old.vacant_key → room_in new ≡ room_in old
+  pub room_same : (old new : Slab T) → ((k : ℕ) → is_some (get new k) ≡ is_some (get old k))
+      → new.capacity ≡ old.capacity → new.vacant_key ≡ old.vacant_key → room_in new ≡ room_in old
   room_same old new same capacity next =
       room_is new
       ∙ ap (λ n. (new.capacity - n, new.vacant_key)) (same_len old new same)
@@ -48,7 +52,8 @@ module _ {T : Type 0} where
       let updates = Updates-with_value nodes handle value there in
       room_same nodes (with_value nodes handle value)
       (λ k. elim (cases_eq k handle) [
-        | inl same ↦ ap (λ x. is_some (get (with_value nodes handle value) x)) same ∙ ap is_some updates.changed ∙ sym (ap (λ x. is_some (get nodes x)) same ∙ is_there (get nodes handle) there)
+        | inl same ↦ ap (λ x. is_some (get (with_value nodes handle value) x)) same ∙ ap is_some updates.changed
+            ∙ sym (ap (λ x. is_some (get nodes x)) same ∙ is_there (get nodes handle) there)
         | inr differs ↦ ap is_some (updates.others k differs)
       ]) refl refl
 
@@ -58,7 +63,9 @@ module _ {T : Type 0} where
 
   -- and where records are linked
   pub room_relinked : (with_links : T → Links → T) (old new : Slab T) → Relinks with_links old new → room_in new ≡ room_in old
-  room_relinked with_links old new relinks = room_same old new (λ k. relinked_there with_links (get old k) (get new k) (relinks.records k)) relinks.capacity relinks.vacant_key
+  room_relinked with_links old new relinks =
+      room_same old new (λ k. relinked_there with_links (get old k) (get new k)
+      (relinks.records k)) relinks.capacity relinks.vacant_key
 
   -- a record is taken in
   pub room_taken : (old new : Slab T) → HasRoomFor old 1 → slab_len new ≡ slab_len old + 1 → new.capacity ≡ old.capacity → (room_in new).0 + 1 ≡ (room_in old).0
@@ -68,14 +75,16 @@ module _ {T : Type 0} where
       omega arith
 
   -- a record is removed
-  pub room_given_back : (old new : Slab T) (handle : ℕ) → HasRoomFor new 1 → slab_len new + 1 ≡ slab_len old → new.capacity ≡ old.capacity → new.vacant_key ≡ handle → room_in new ≡ ((room_in old).0 + 1, handle)
+  pub room_given_back : (old new : Slab T) (handle : ℕ) → HasRoomFor new 1 → slab_len new + 1 ≡ slab_len old
+      → new.capacity ≡ old.capacity → new.vacant_key ≡ handle → room_in new ≡ ((room_in old).0 + 1, handle)
   room_given_back old new handle room len capacity next =
       let is : (room_in old).0 ≡ old.capacity - slab_len old = ap (λ (p : ℕ × ℕ). p.0) (room_is old) in
       let slots : new.capacity - slab_len new ≡ (room_in old).0 + 1 = omega arith in
       room_is new ∙ ap (λ n. (n, new.vacant_key)) slots ∙ ap (λ k. ((room_in old).0 + 1, k)) next
 
   -- room is made
-  pub room_reserved : (old new : Slab T) → new ≡ record old { capacity = new.capacity } → old.capacity ≤ new.capacity → ((room_in old).0 ≤ (room_in new).0) × ((room_in new).1 ≡ (room_in old).1)
+  pub room_reserved : (old new : Slab T) → new ≡ record old { capacity = new.capacity } → old.capacity ≤ new.capacity
+      → ((room_in old).0 ≤ (room_in new).0) × ((room_in new).1 ≡ (room_in old).1)
   room_reserved old new is more =
       let was : (room_in old).0 ≡ old.capacity - slab_len old = ap (λ (p : ℕ × ℕ). p.0) (room_is old) in
       let len : slab_len new ≡ slab_len old = ap slab_len is in

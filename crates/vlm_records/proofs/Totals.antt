@@ -1,24 +1,24 @@
--- What rows weigh together, and what no rows do.
+-- Sums over several locks, and the sum over none.
 use Rattle.std.proofs.Common.{◌≡◌, ℕ, ◌+◌, ◌≤◌, List, [], ◌∷◌, ◌++◌, length, refl, arith}
 use Rattle.std.specs.Prelude.{replicate}
-use Rattle.vlm_words.specs.declared.locks.LockRow.{LockRow}
+use Rattle.vlm_words.specs.declared.locks.LockState.{LockState}
 use Rattle.vlm_words.specs.declared.modes.Mode.{Mode}
 use Rattle.vlm_words.specs.declared.modes.Mode.TheVariants.{Nl, Cr, Cw, Pr, Pw, Ex}
 use Rattle.vlm_records.specs.Tallies.{Count, by_mode, count_of, how_many, no_tally, total}
 use Rattle.vlm_records.specs.Tallies.Count.{of_held, of_wanted}
 
 -- the rows of two lists
-pub total-both : (weight : LockRow → ℕ) (rows : ℕ → LockRow) (xs ys : List ℕ) → total weight rows (xs ++ ys) ≡ total weight rows xs + total weight rows ys
+pub total-both : (weight : LockState → ℕ) (rows : ℕ → LockState) (xs ys : List ℕ) → total weight rows (xs ++ ys) ≡ total weight rows xs + total weight rows ys
 total-both weight rows [] ys = omega arith
 total-both weight rows (x ∷ xs) ys = omega (arith, total-both weight rows xs ys)
 
 -- rows that weigh nothing
-pub total-nothing : (rows : ℕ → LockRow) (xs : List ℕ) → total (λ row. 0) rows xs ≡ 0
+pub total-nothing : (rows : ℕ → LockState) (xs : List ℕ) → total (λ row. 0) rows xs ≡ 0
 total-nothing rows [] = refl
 total-nothing rows (x ∷ xs) = omega (arith, total-nothing rows xs)
 
 -- rows that weigh one at most
-pub total-length : (weight : LockRow → ℕ) (rows : ℕ → LockRow) → ((row : LockRow) → weight row ≤ 1) → (xs : List ℕ) → total weight rows xs ≤ length xs
+pub total-length : (weight : LockState → ℕ) (rows : ℕ → LockState) → ((row : LockState) → weight row ≤ 1) → (xs : List ℕ) → total weight rows xs ≤ length xs
 total-length weight rows one [] = omega arith
 total-length weight rows one (x ∷ xs) = omega (arith, one (rows x), total-length weight rows one xs)
 

@@ -46,10 +46,12 @@ pub unqueued_here : (slot : Option Lock) (place : Place) → noted_in slot ≡ S
 unqueued_here slot place notes is = noted_wait_list slot place notes ∙ unqueued_noted place is
 
 -- one that is not is none of them
-pub unqueued_left : (locks : Slab Lock) (wait_list : LinkedList InWaitList) (at : ℕ) → IsWaitList locks wait_list None → wait_list_in (get locks at) ≡ None → IsWaitList locks wait_list (Some at)
+pub unqueued_left : (locks : Slab Lock) (wait_list : LinkedList InWaitList) (at : ℕ) → IsWaitList locks wait_list None
+    → wait_list_in (get locks at) ≡ None → IsWaitList locks wait_list (Some at)
 unqueued_left locks wait_list at is none = family-unnoted wait_list_links wait_list_in locks (λ i. wait_list) at is (λ i noted. none-some i (sym none ∙ noted))
 
-pub unqueued_joined : (locks : Slab Lock) (wait_list : LinkedList InWaitList) (at : ℕ) → IsWaitList locks wait_list (Some at) → wait_list_in (get locks at) ≡ None → IsWaitList locks wait_list None
+pub unqueued_joined : (locks : Slab Lock) (wait_list : LinkedList InWaitList) (at : ℕ)
+    → IsWaitList locks wait_list (Some at) → wait_list_in (get locks at) ≡ None → IsWaitList locks wait_list None
 unqueued_joined locks wait_list at is none = record {
   linked = is.linked;
   listed = is.listed;
@@ -57,7 +59,8 @@ unqueued_joined locks wait_list at is none = record {
   gone = λ i k e found. none-some k (sym e);
 }
 
-module _ (locks locks1 : Slab Lock) (wait_list wait_list1 : LinkedList InWaitList) (at : ℕ) (relinks : Relinks with_wait_list_links locks locks1) (linked1 : IsLinked wait_list_links locks1 wait_list1)
+module _ (locks locks1 : Slab Lock) (wait_list wait_list1 : LinkedList InWaitList) (at : ℕ)
+    (relinks : Relinks with_wait_list_links locks locks1) (linked1 : IsLinked wait_list_links locks1 wait_list1)
     (is : wait_list_in (get locks at) ≡ Some tt) where
   notes : (k : ℕ) → wait_list_in (get locks1 k) ≡ wait_list_in (get locks k)
   notes = relinked_same with_wait_list_links wait_list_in (λ l pair. refl) locks locks1 relinks
@@ -68,11 +71,15 @@ module _ (locks locks1 : Slab Lock) (wait_list wait_list1 : LinkedList InWaitLis
   pub wait_list_left : IsWaitList locks wait_list None → wait_list_handles locks1 wait_list1 ≡ without at (wait_list_handles locks wait_list)
       → ((other : ℕ) → ¬ IsIn other (wait_list_handles locks wait_list) → get locks1 other ≡ get locks other) → IsWaitList locks1 wait_list1 (Some at)
   wait_list_left family handles1 others1 =
-      family-taken wait_list_links wait_list_in one_wait_list locks locks1 locks1 (λ i. wait_list) (λ i. wait_list1) wait_list1 at tt (λ k. refl) (λ k. refl) (λ k h. h) linked1 refl (λ j differs. absurd (differs refl))
+      family-taken wait_list_links wait_list_in one_wait_list locks locks1 locks1 (λ i. wait_list)
+      (λ i. wait_list1) wait_list1 at tt (λ k. refl) (λ k. refl) (λ k h. h) linked1 refl
+      (λ j differs. absurd (differs refl))
       family is handles1 others1 notes
 
   pub wait_list_joined : IsWaitList locks wait_list (Some at) → wait_list_handles locks1 wait_list1 ≡ wait_list_handles locks wait_list ++ at ∷ []
       → ((other : ℕ) → ¬ IsIn other (wait_list_handles locks wait_list) → other ≢ at → get locks1 other ≡ get locks other) → IsWaitList locks1 wait_list1 None
   wait_list_joined family handles1 others1 =
-      family-put wait_list_links wait_list_in one_wait_list locks locks1 locks1 (λ i. wait_list) (λ i. wait_list1) wait_list1 at tt (λ k. refl) (λ k. refl) (λ k h. h) linked1 refl (λ j differs. absurd (differs refl))
+      family-put wait_list_links wait_list_in one_wait_list locks locks1 locks1 (λ i. wait_list)
+      (λ i. wait_list1) wait_list1 at tt (λ k. refl) (λ k. refl) (λ k h. h) linked1 refl
+      (λ j differs. absurd (differs refl))
       family handles1 others1 (notes at ∙ is) (λ k _. notes k)

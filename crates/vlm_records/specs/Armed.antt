@@ -5,7 +5,7 @@ use Rattle.vlm_collections.specs.declared.link.Links.{Links}
 use Rattle.vlm_collections.specs.declared.lists.LinkedList.{LinkedList}
 use Rattle.vlm_collections.specs.Lists.{IsLinked, handles_of, without}
 use Rattle.vlm_words.specs.declared.locks.Request.{Request}
-use Rattle.vlm_words.specs.declared.locks.LockRow.{LockRow}
+use Rattle.vlm_words.specs.declared.locks.LockState.{LockState}
 use Rattle.vlm_words.specs.declared.resources.Queue.TheVariants.{Granted, Conversion, Waiting}
 use Rattle.vlm_words.specs.Modes.{rank}
 use Rattle.vlm_records.specs.declared.handles.Armed.{Armed}
@@ -32,11 +32,11 @@ held_rank None = 0
 held_rank (Some held) = rank held.mode
 
 -- the rank of the held mode if the row is armed, else 0
-abbrev pub armed_rank : LockRow → ℕ
+abbrev pub armed_rank : LockState → ℕ
 armed_rank row = if row.armed then held_rank row.held else 0
 
 -- a granted lock with this row is in the list
-abbrev pub is_listed : Armed → LockRow → Bool
+abbrev pub is_listed : Armed → LockState → Bool
 is_listed which row = nat_lt (floor which) (armed_rank row)
 
 -- ---- the list of a resource
@@ -92,7 +92,7 @@ armed_on which None = None
 armed_on which (Some l) = armed_of which l
 
 -- the handles whose rows are listed, in their order
-abbrev pub armed_handles : Armed → (ℕ → LockRow) → List ℕ → List ℕ
+abbrev pub armed_handles : Armed → (ℕ → LockState) → List ℕ → List ℕ
 armed_handles which rows handles = filter (λ k. is_listed which (rows k)) handles
 
 -- the handle is the last one, and is there only once

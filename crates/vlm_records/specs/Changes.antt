@@ -5,7 +5,7 @@ use Rattle.slab.specs.Slab.{Slab, get}
 use Rattle.vlm_collections.specs.declared.link.TheConstants.{LAST_HANDLE}
 use Rattle.vlm_collections.specs.declared.lists.LinkedList.{LinkedList}
 use Rattle.vlm_collections.specs.Lists.{IsLinked, Relinks, handles_of, without}
-use Rattle.vlm_words.specs.declared.locks.LockRow.{LockRow}
+use Rattle.vlm_words.specs.declared.locks.LockState.{LockState}
 use Rattle.vlm_records.specs.declared.handles.Place.{Place}
 use Rattle.vlm_records.specs.declared.locks.Lock.{Lock}
 use Rattle.vlm_records.specs.declared.processes.Process.{Process}
@@ -13,7 +13,8 @@ use Rattle.vlm_records.specs.declared.queues.Queues.{Queues}
 use Rattle.vlm_records.specs.declared.resources.InOrder.{InOrder}
 use Rattle.vlm_records.specs.Armed.{IsLaidOut}
 use Rattle.vlm_records.specs.Kept.{ComesLast, HandlesStay, Keeps, LeavesElsewhere, LooseStay}
-use Rattle.vlm_records.specs.Kin.{IsBelow, IsOwned, below_handles, but_below, but_order, but_own, own_handles, owner_in, parent_in, process_links, with_own_links}
+use Rattle.vlm_records.specs.Kin.{IsBelow, IsOwned, below_handles, but_below, but_order, but_own, own_handles, owner_in}
+use Rattle.vlm_records.specs.Kin.{parent_in, process_links, with_own_links}
 use Rattle.vlm_records.specs.Shown.{Face, SameBut, but_queued, but_queues, face_of, handles_at, is_loose_in, order_links, room_in, rows}
 use Rattle.vlm_records.specs.WaitList.{wait_list_links}
 
@@ -27,7 +28,7 @@ abbrev pub OtherRowsStay : ℕ → Queues → Queues → Type 0
 OtherRowsStay at old new = (other : ℕ) → other ≢ at → rows new other ≡ rows old other
 
 -- a lock has another row, and is at the end of a queue
-pub record Moves (at : ℕ) (now : LockRow) (to : Place) (old new : Queues) : Type 0 where
+pub record Moves (at : ℕ) (now : LockState) (to : Place) (old new : Queues) : Type 0 where
   pub laid_out : IsLaidOut new
   pub here : ComesLast at to old new
   pub elsewhere : LeavesElsewhere at to old new
@@ -38,7 +39,7 @@ pub record Moves (at : ℕ) (now : LockRow) (to : Place) (old new : Queues) : Ty
   pub wait_list : SameBut wait_list_links old.locks new.locks
 
 -- a new lock with this row, process and parent lock is at the end of a queue
-pub record Adds (at : ℕ) (now : LockRow) (made : Lock) (to : Place) (old new : Queues) : Type 0 where
+pub record Adds (at : ℕ) (now : LockState) (made : Lock) (to : Place) (old new : Queues) : Type 0 where
   pub within : at ≤ LAST_HANDLE
   pub fresh : get old.locks at ≡ None
   pub laid_out : IsLaidOut new

@@ -2,14 +2,15 @@
 use Rattle.std.specs.Prelude.{◌≡◌, ◌≢◌, ◌+◌, ℕ, None, [], ◌∷◌, ◌++◌}
 use Rattle.slab.specs.Slab.{Slab, get}
 use Rattle.vlm_collections.specs.Lists.{without}
-use Rattle.vlm_words.specs.declared.locks.LockRow.{LockRow}
+use Rattle.vlm_words.specs.declared.locks.LockState.{LockState}
 use Rattle.vlm_words.specs.declared.modes.Mode.{Mode}
 use Rattle.vlm_records.specs.Tallies.{Count, how_many, weight_of}
 use Rattle.vlm_records.specs.declared.handles.Place.{Place}
 use Rattle.vlm_records.specs.declared.locks.Lock.{Lock}
 use Rattle.vlm_records.specs.declared.queues.Queues.{Queues}
 use Rattle.vlm_records.specs.declared.resources.Resource.{Resource}
-use Rattle.vlm_records.specs.Shown.{IsPlaced, IsTallied, SameBut, but_armed, but_counted, but_in_armed, but_requeued, but_tally, handles_at, is_loose_in, room_in, rows, share_of, tally_in}
+use Rattle.vlm_records.specs.Shown.{IsPlaced, IsTallied, SameBut, but_armed, but_counted, but_in_armed, but_requeued}
+use Rattle.vlm_records.specs.Shown.{but_tally, handles_at, is_loose_in, room_in, rows, share_of, tally_in}
 
 -- these parts of locks and resources stay, and the room stays
 pub record Keeps (of_lock : Lock → Lock) (of_resource : Resource → Resource) (old new : Queues) : Type 0 where
@@ -41,7 +42,7 @@ pub record WritesCounts (old new : Queues) : Type 0 where
   pub resources_room : room_in new.resources ≡ room_in old.resources
 
 -- a lock in this queue is counted with another row
-pub record Recounts (place : Place) (was now : LockRow) (old new : Slab Resource) : Type 0 where
+pub record Recounts (place : Place) (was now : LockState) (old new : Slab Resource) : Type 0 where
   pub change : (count : Count) (mode : Mode) (res : ℕ)
       → how_many count (tally_in (get new res)) mode + share_of (weight_of count mode) place res was
       ≡ how_many count (tally_in (get old res)) mode + share_of (weight_of count mode) place res now
@@ -54,7 +55,7 @@ pub record WritesLock (at : ℕ) (old new : Queues) : Type 0 where
   pub locks_room : room_in new.locks ≡ room_in old.locks
 
 -- one lock has another row and keeps its place
-pub record Rewrites (at : ℕ) (now : LockRow) (old new : Queues) : Type 0 where
+pub record Rewrites (at : ℕ) (now : LockState) (old new : Queues) : Type 0 where
   pub placed : IsPlaced new None
   pub tallied : IsTallied new None
   pub handles : HandlesStay old new
@@ -71,7 +72,7 @@ abbrev pub LeavesElsewhere : ℕ → Place → Queues → Queues → Type 0
 LeavesElsewhere at to old new = (other : Place) → other ≢ to → handles_at new other ≡ without at (handles_at old other)
 
 -- one lock has another row and is at the end of a queue
-pub record Requeues (at : ℕ) (now : LockRow) (to : Place) (old new : Queues) : Type 0 where
+pub record Requeues (at : ℕ) (now : LockState) (to : Place) (old new : Queues) : Type 0 where
   pub placed : IsPlaced new None
   pub tallied : IsTallied new None
   pub here : ComesLast at to old new

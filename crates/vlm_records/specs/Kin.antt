@@ -69,7 +69,7 @@ but_order p = record p { in_order = no_links }
 abbrev pub but_below : Lock → Lock
 but_below l = record l { of_parent = no_links; sublocks = no_list }
 
--- what never changes in a lock: its identification, its owner and its parent lock
+-- what never changes in a lock: its ID, its owner and its parent lock
 abbrev pub lasting_part : Lock → Lock
 lasting_part l = but_kin (but_queued l)
 
@@ -84,7 +84,7 @@ plain_process p = record {
   asts = p.asts.pending;
 }
 
--- the identification of a process
+-- the ID of a process
 abbrev pub pid_of : Process → ℕ
 pid_of p = p.pid
 
@@ -112,7 +112,7 @@ IsOwned processes locks out = IsFamily own_links owner_in locks (own_list proces
 abbrev pub IsBelow : Slab Lock → Option ℕ → Type 0
 IsBelow locks out = IsFamily below_links parent_in locks (below_list locks) out
 
--- the handle is the lock with this identification; without a handle the identification is 0
+-- the handle is the lock with this ID; without a handle the ID is 0
 abbrev pub NamesParent : Slab Lock → Option ℕ → ℕ → Type 0
 NamesParent locks None lkid = lkid ≡ 0
 NamesParent locks (Some at) lkid = option_map lkid_of (get locks at) ≡ Some lkid
@@ -132,6 +132,6 @@ pub record IsNamed (processes : Slab Process) (locks : Slab Lock) : Type 0 where
   pub owners : (at : ℕ) → OwnerFits processes (get locks at)
   pub parents : (at : ℕ) → ParentFits locks (get locks at)
 
--- the identification of the process with this handle
+-- the ID of the process with this handle
 abbrev pub pid_at : Slab Process → ℕ → Option ℕ
 pid_at processes at = option_map pid_of (get processes at)

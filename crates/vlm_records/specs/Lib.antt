@@ -1,3 +1,6 @@
+pub mod AstRings
+pub mod AstQueues
+pub mod NodeMarks
 pub mod Tallies
 pub mod Armed
 pub mod Changes

@@ -1,6 +1,6 @@
 -- The mark of a process with a pending AST.
 use Rattle.std.specs.Prelude.{◌≡◌, ℕ, ◌/◌, ◌&&◌, Bool, nat_lt, length, List}
-use Rattle.vlm_collections.specs.Nodes.{HasRoomFor, OthersStay, is_marked, is_node}
+use Rattle.vlm_records.specs.NodeMarks.{HasRoomFor, OthersStay, is_marked, is_node}
 use Rattle.vlm_records.specs.declared.processes.Process.{Process}
 
 -- the process is of a node from 1 to 8, and has a pending AST

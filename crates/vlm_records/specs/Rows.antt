@@ -1,11 +1,11 @@
 -- The parts of a packed row.
 use Rattle.std.specs.Prelude.{◌≡◌}
-use Rattle.vlm_words.specs.declared.locks.LockRow.{LockRow}
-use Rattle.vlm_records.specs.declared.rows.StoredRow.TheInside.{Inside}
+use Rattle.vlm_words.specs.declared.locks.LockState.{LockState}
+use Rattle.vlm_records.specs.declared.rows.StoredState.TheInside.{Inside}
 use Rattle.vlm_records.specs.Requests.{packed_terms, tag_of, packed_number, request_shown, packed_routines}
 
 -- the row that the parts show
-abbrev pub row_shown : Inside → LockRow
+abbrev pub row_shown : Inside → LockState
 row_shown r = record {
   lkid = r.lkid;
   pid = r.pid;
@@ -16,7 +16,7 @@ row_shown r = record {
 }
 
 -- the packed form of a row
-abbrev pub packed : LockRow → Inside
+abbrev pub packed : LockState → Inside
 packed row = record {
   held_number = packed_number row.held;
   want_number = packed_number row.want;

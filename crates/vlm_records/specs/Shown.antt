@@ -6,7 +6,7 @@ use Rattle.slab.specs.Slab.{Slab, get, slab_len, ContainsKey}
 use Rattle.vlm_collections.specs.declared.link.Links.{Links}
 use Rattle.vlm_collections.specs.declared.lists.LinkedList.{LinkedList}
 use Rattle.vlm_collections.specs.Lists.{handles_of, without}
-use Rattle.vlm_words.specs.declared.locks.LockRow.{LockRow}
+use Rattle.vlm_words.specs.declared.locks.LockState.{LockState}
 use Rattle.vlm_words.specs.declared.modes.Mode.{Mode}
 use Rattle.vlm_words.specs.declared.resources.Domain.{Domain}
 use Rattle.vlm_words.specs.declared.resources.Domain.TheVariants.{System}
@@ -45,7 +45,7 @@ with_queue_list Conversion list r = record r { converting = list }
 with_queue_list Waiting list r = record r { waiting = list }
 
 -- the row of a missing lock
-abbrev pub no_row : LockRow
+abbrev pub no_row : LockState
 no_row = record { lkid = 0; pid = 0; parent = 0; held = None; want = None; armed = false }
 
 -- the place of a lock whose place is left out
@@ -53,7 +53,7 @@ abbrev pub no_place : Place
 no_place = Queued 0 Granted
 
 -- the row of the lock in a place of the slab
-abbrev pub row_in : Option Lock → LockRow
+abbrev pub row_in : Option Lock → LockState
 row_in None = no_row
 row_in (Some l) = l.row
 
@@ -68,7 +68,7 @@ is_loose_in None = false
 is_loose_in (Some l) = l.loose
 
 -- the row of the lock in a place of the slab, if the lock is loose
-abbrev pub loose_in : Option Lock → Option LockRow
+abbrev pub loose_in : Option Lock → Option LockState
 loose_in None = None
 loose_in (Some l) = if l.loose then Some l.row else None
 
@@ -122,7 +122,7 @@ but_armed r = record r { armed_above_nl = no_list; armed_above_cr = no_list }
 abbrev pub but_queues : Resource → Resource
 but_queues r = but_armed (but_counted r)
 
--- the identification of a lock
+-- the ID of a lock
 abbrev pub lkid_of : Lock → ℕ
 lkid_of l = l.row.lkid
 
@@ -139,7 +139,7 @@ abbrev pub no_links : Links
 no_links = record { prev = None; next = None }
 
 -- what never changes in a row: lock, process and parent lock
-abbrev pub named_row : LockRow → LockRow
+abbrev pub named_row : LockState → LockState
 named_row row = record no_row { lkid = row.lkid; pid = row.pid; parent = row.parent }
 
 -- the lock without its queue and the changing part of its row
@@ -163,7 +163,7 @@ abbrev pub but_kin : Lock → Lock
 but_kin l = but_in_wait_list (record l { of_process = no_links; of_parent = no_links; sublocks = no_list })
 
 -- a new lock that is in no list, without the changing part of its row
-abbrev pub new_lock : LockRow → ℕ → Option ℕ → Lock
+abbrev pub new_lock : LockState → ℕ → Option ℕ → Lock
 new_lock row owner parent = record {
   row = named_row row;
   place = no_place;
@@ -193,7 +193,7 @@ IsThere resources (Queued res queue) = ContainsKey resources res
 
 module _ (q : Queues) where
   -- the row of the lock with this handle
-  abbrev pub rows : ℕ → LockRow
+  abbrev pub rows : ℕ → LockState
   rows at = row_in (get q.locks at)
 
   -- the place that the lock with this handle notes
@@ -218,7 +218,7 @@ module _ (q : Queues) where
   IsPlaced out = IsFamily queue_links noted_in q.locks list_at out
 
   -- the sum of a weight over the locks of a resource, except one lock
-  abbrev pub shares : (Queue → LockRow → ℕ) → Option ℕ → ℕ → ℕ
+  abbrev pub shares : (Queue → LockState → ℕ) → Option ℕ → ℕ → ℕ
   shares weight out res =
       total (weight Granted) rows (handles_but out (Queued res Granted))
       + (total (weight Conversion) rows (handles_but out (Queued res Conversion))
@@ -230,16 +230,16 @@ module _ (q : Queues) where
         → how_many count (tally_in (get q.resources res)) mode ≡ shares (weight_of count mode) out res
 
 -- the mode is compatible with the held mode of each of these locks
-abbrev pub handles_fit : Mode → (ℕ → LockRow) → List ℕ → List ℕ → Bool
+abbrev pub handles_fit : Mode → (ℕ → LockState) → List ℕ → List ℕ → Bool
 handles_fit mode rows granted converting =
     list_all (λ k. is_beside mode (rows k).held) granted && list_all (λ k. is_beside mode (rows k).held) converting
 
 -- what a lock at this place adds to the count of a resource
-abbrev pub share_of : (Queue → LockRow → ℕ) → Place → ℕ → LockRow → ℕ
+abbrev pub share_of : (Queue → LockState → ℕ) → Place → ℕ → LockState → ℕ
 share_of weight (Queued at queue) res row = if at == res then weight queue row else 0
 
 -- what a lock adds to the count of a resource; a loose lock adds nothing
-abbrev pub own_share : (Queue → LockRow → ℕ) → ℕ → Lock → ℕ
+abbrev pub own_share : (Queue → LockState → ℕ) → ℕ → Lock → ℕ
 own_share weight res l = if l.loose then 0 else share_of weight l.place res l.row
 
 -- a resource without its lists and counts

@@ -1,7 +1,7 @@
 -- Counts of a resource's locks by mode.
 use Rattle.std.specs.Prelude.{ℕ, Bool, false, ◌==◌, ◌+◌, ◌-◌, ◌&&◌, ◌||◌, List, [], ◌∷◌, Option, None, Some, cond, replicate, slice_index_or}
 use Rattle.vlm_words.specs.declared.locks.Request.{Request}
-use Rattle.vlm_words.specs.declared.locks.LockRow.{LockRow}
+use Rattle.vlm_words.specs.declared.locks.LockState.{LockState}
 use Rattle.vlm_words.specs.declared.modes.Mode.{Mode}
 use Rattle.vlm_words.specs.declared.modes.Mode.TheVariants.{Nl, Cr, Cw, Pr, Pw, Ex}
 use Rattle.vlm_words.specs.declared.resources.Queue.{Queue}
@@ -41,7 +41,7 @@ abbrev pub by_mode : (Mode → ℕ) → List ℕ
 by_mode counts = counts Nl ∷ counts Cr ∷ counts Cw ∷ counts Pr ∷ counts Pw ∷ counts Ex ∷ []
 
 -- the request by which a lock in a queue is counted; a waiting lock holds nothing, and a granted lock wants nothing
-abbrev pub counted_request : Count → Queue → LockRow → Option Request
+abbrev pub counted_request : Count → Queue → LockState → Option Request
 counted_request of_held Granted row = row.held
 counted_request of_held Conversion row = row.held
 counted_request of_held Waiting row = None
@@ -50,7 +50,7 @@ counted_request of_wanted Conversion row = row.want
 counted_request of_wanted Waiting row = row.want
 
 -- what a lock in a queue adds to the count of a mode
-abbrev pub weight_of : Count → Mode → Queue → LockRow → ℕ
+abbrev pub weight_of : Count → Mode → Queue → LockState → ℕ
 weight_of count mode queue row = one_if (is_mode mode (counted_request count queue row))
 
 -- the counts of no locks
@@ -58,7 +58,7 @@ abbrev pub no_tally : Tally
 no_tally = record { held = replicate 6 0; wanted = replicate 6 0 }
 
 -- the sum of a weight over these rows
-abbrev pub total : (LockRow → ℕ) → (ℕ → LockRow) → List ℕ → ℕ
+abbrev pub total : (LockState → ℕ) → (ℕ → LockState) → List ℕ → ℕ
 total weight rows [] = 0
 total weight rows (k ∷ ks) = weight (rows k) + total weight rows ks
 

@@ -1,4 +1,8 @@
 //! Locks join and leave the lists of armed locks of their resource.
+//!
+//! A step that warns must not walk over locks that block nobody. Two lists are enough for that. NL blocks no request,
+//! and CR blocks only one for EX. So a request for EX is blocked by each armed lock above NL. Any other request that
+//! waits is blocked by each armed lock above CR: all locks that are held together above CR hold the same mode.
 
 ghost use Rattle.std.specs.Prelude.{◌≤◌, ℕ, IsSome, None, Option, Some};
 ghost use Rattle.slab.specs.Slab.{ContainsKey};

@@ -14,7 +14,7 @@ ghost use Rattle.vlm_records.specs.Shown.{IsPlaced, IsTallied, handles_but, hand
 use crate::handles::{LockAt, ResAt};
 use crate::locks::Lock;
 use crate::queues::Queues;
-use crate::rows::StoredRow;
+use crate::rows::StoredState;
 use vlm_words::locks::Request;
 use vlm_words::modes::Mode;
 use vlm_words::resources::Queue;
@@ -61,7 +61,7 @@ impl Queues {
         self.resources[res.slot()].tally.add(queue, &row.row());
     }
 
-    pub(crate) fn recount(&mut self, at: usize, row: &StoredRow)
+    pub(crate) fn recount(&mut self, at: usize, row: &StoredState)
         requires placed { IsPlaced self.old None }
         requires present { ContainsKey self.old.locks at }
         requires in_queue { IsSome (noted self.old at) }

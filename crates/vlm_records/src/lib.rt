@@ -20,6 +20,14 @@
 //! in, and joins the armed locks again if it is armed. One case is shorter: a granted lock that is last in its queue,
 //! and goes to the end of that queue with the same armed rank, keeps its links. Only its row and the counts change.
 //!
+//! # Queues with reserved room
+//!
+//! A process keeps its ASTs in an `AstQueue`. Room is reserved when a request is accepted (`owe`). Only that call may
+//! need memory: an AST is queued into room that is there, and cannot fail. Room that no AST will need is given back
+//! (`forgive`). `NodeMarks` are sets of processes, one for each node, whose least member is found at once.
+//!
+//! # What links what
+//!
 //! `Queues` has the slabs of locks and resources, and links the lists of a resource (`queues`, `counts`, `armed`).
 //! The store has the slab of processes, the wait list, and the two orders of making, so functions beside `Queues` link
 //! their lists and the sublocks (`kin`, `wait_list`). Nothing here takes memory or looks up a record: the caller made
@@ -27,10 +35,13 @@
 #![tactic(auto)]
 
 mod armed;
+mod ast_queues;
+mod ast_rings;
 mod counts;
 mod handles;
 mod kin;
 mod locks;
+mod node_marks;
 mod process_asts;
 mod processes;
 mod queues;
@@ -39,11 +50,13 @@ mod rows;
 mod tallies;
 mod wait_list;
 
+pub use ast_queues::AstQueue;
 pub use handles::{Armed, LockAt, LockKind, Place, ProcAt, ProcessKind, ResAt, ResourceKind};
 pub use kin::{join_parent, join_process, leave_parent, leave_process};
 pub use locks::{InAboveCr, InAboveNl, InQueue, InWaitList, Lock, OfParent, OfProcess};
+pub use node_marks::NodeMarks;
 pub use processes::{Authorization, Process, put_in, take_out};
 pub use queues::Queues;
 pub use resources::{InOrder, Resource};
-pub use rows::StoredRow;
+pub use rows::StoredState;
 pub use wait_list::{join_wait_list, leave_wait_list};

@@ -3,7 +3,7 @@
 ghost use Rattle.std.specs.Prelude.{◌≡◌, false, refl};
 
 use crate::handles::{Armed, LockKind, ProcAt, ResAt, StoredPlace};
-use crate::rows::StoredRow;
+use crate::rows::StoredState;
 use vlm_collections::{Linked, LinkedList, Links, MaybeAt};
 use vlm_words::resources::Queue;
 
@@ -34,7 +34,7 @@ pub struct Lock {
     pub(crate) loose: bool,
     // its neighbours in its queue; each other pair is for another list
     pub(crate) in_queue: Links,
-    pub row: StoredRow,
+    pub row: StoredState,
     pub parent: MaybeAt<LockKind>,
     /// Its sublocks, the direct ones only.
     pub sublocks: LinkedList<OfParent>,

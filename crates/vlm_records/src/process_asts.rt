@@ -3,8 +3,8 @@
 ghost use Rattle.std.specs.Prelude.{◌≡◌, ◌<◌, ◌-◌, ◌++◌, ◌∷◌, [], drop, slice_get};
 ghost use Rattle.vlm_records.specs.Pending.{IsToldOf, OtherMarksStay};
 
+use crate::node_marks::NodeMarks;
 use crate::processes::Process;
-use vlm_collections::NodeMarks;
 use vlm_words::asts::Ast;
 
 impl Process {

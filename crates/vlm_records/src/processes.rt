@@ -10,10 +10,11 @@ ghost use Rattle.vlm_records.specs.Shown.{room_in};
 ghost use Rattle.vlm_records.specs.StatusBlocks.{requested, with_changed_block, with_status};
 ghost use Rattle.vlm_records.specs.Changes.{AddsProcess};
 
+use crate::ast_queues::AstQueue;
 use crate::locks::OfProcess;
 use crate::resources::InOrder;
 use slab::Slab;
-use vlm_collections::{AstQueue, LAST_HANDLE, Linked, LinkedList, Links};
+use vlm_collections::{LAST_HANDLE, Linked, LinkedList, Links};
 use vlm_words::blocks::Block;
 use vlm_words::steps::Declaration;
 
@@ -31,7 +32,7 @@ pub struct Authorization {
 /// The record of a living process.
 #[derive(Drop)]
 pub struct Process {
-    /// Its identification, node x 65,536 + ordinal.
+    /// Its ID, node x 65,536 + ordinal.
     pub pid: u32,
     pub authorization: Authorization,
     /// Its status blocks. Block n is at index n - 1.

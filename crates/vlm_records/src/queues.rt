@@ -15,7 +15,7 @@ ghost use Rattle.vlm_records.specs.Changes.{Adds, Moves, PushesBack, Removes, Un
 use crate::handles::{LockAt, Place, ProcAt, StoredPlace};
 use crate::locks::{InQueue, Lock};
 use crate::resources::Resource;
-use crate::rows::StoredRow;
+use crate::rows::StoredState;
 use slab::Slab;
 use vlm_collections::{LAST_HANDLE, LinkedList, Links, MaybeAt};
 use vlm_words::resources::Queue;
@@ -102,7 +102,7 @@ impl Queues {
         self.locks[at].place = StoredPlace::of(place);
     }
 
-    fn write_row(&mut self, at: usize, row: &StoredRow)
+    fn write_row(&mut self, at: usize, row: &StoredState)
         requires present { ContainsKey self.old.locks at }
         requires named { named_row (rows self.old at) ≡ named_row row.now }
         ensures here { rows self.new at ≡ row.now }
@@ -124,7 +124,7 @@ impl Queues {
 
     // Whether a move changes no link: the lock is granted and last in its queue, goes to the end of that queue, and
     // keeps its armed rank.
-    fn stays(&self, at: usize, row: &StoredRow, to: &Place) -> bool
+    fn stays(&self, at: usize, row: &StoredState, to: &Place) -> bool
         requires placed { IsPlaced self.now None }
         requires present { ContainsKey self.now.locks at }
         requires in_queue { IsSome (noted self.now at) }
@@ -143,7 +143,7 @@ impl Queues {
     }
 
     // Gives a lock another row in its place. The lists of armed locks must not change.
-    fn rewrite(&mut self, at: usize, row: &StoredRow)
+    fn rewrite(&mut self, at: usize, row: &StoredState)
         requires placed { IsPlaced self.old None }
         requires tallied { IsTallied self.old None }
         requires present { ContainsKey self.old.locks at }
@@ -156,7 +156,7 @@ impl Queues {
     }
 
     // Gives a lock another row and moves it to the end of a queue. The lock is in no list of armed locks.
-    fn requeue(&mut self, at: usize, row: &StoredRow, to: Place)
+    fn requeue(&mut self, at: usize, row: &StoredState, to: Place)
         requires placed { IsPlaced self.old None }
         requires tallied { IsTallied self.old None }
         requires present { ContainsKey self.old.locks at }
@@ -174,7 +174,7 @@ impl Queues {
     }
 
     /// Gives a lock another row and moves it to the end of a queue, which may be its own.
-    pub fn move_to(&mut self, at: usize, row: &StoredRow, to: Place)
+    pub fn move_to(&mut self, at: usize, row: &StoredState, to: Place)
         requires laid_out { IsLaidOut self.old }
         requires present { ContainsKey self.old.locks at }
         requires in_queue { IsSome (noted self.old at) }
@@ -214,7 +214,7 @@ impl Queues {
     /// and the wait list.
     pub fn add(
         &mut self,
-        row: &StoredRow,
+        row: &StoredState,
         owner: ProcAt,
         parent: Option<LockAt>,
         to: Place,

@@ -1,4 +1,4 @@
-//! The row of a lock in packed form.
+//! The state of a lock in packed form.
 
 ghost use Rattle.std.specs.Prelude.{◌≡◌, ℕ, None, false};
 ghost use Rattle.vlm_words.specs.Rows.{wanting_row, granted_row, is_arming};
@@ -11,7 +11,7 @@ ghost use Rattle.vlm_records.specs.Requests.{packed_terms, blocking_shown, compl
 use bitflags::Flags;
 use std::marker::Model;
 use vlm_words::flags::EnqFlags;
-use vlm_words::locks::{LockRow, Request};
+use vlm_words::locks::{LockState, Request};
 use vlm_words::modes::Mode;
 
 // Which routines a request names; `Nothing` if there is no request. Every number is a valid routine, so no number can
@@ -40,11 +40,11 @@ struct RequestTerms {
     block: u8,
 }
 
-/// The row of a lock in 64 bytes. A `LockRow` with its two requests takes 96 bytes, and each function that hands it on
-/// copies it. Here the parts of both requests are grouped by size, so that there is no padding between them, and a
+/// The state of a lock in 64 bytes. A `LockState` with its two requests takes 96 bytes, and each function that hands it
+/// on copies it. Here the parts of both requests are grouped by size, so that there is no padding between them, and a
 /// caller can read a single field.
 #[derive(Clone, Copy)]
-pub struct StoredRow {
+pub struct StoredState {
     // the numbers of the two requests; 0 without a request
     held_number: u64,
     want_number: u64,
@@ -64,10 +64,10 @@ pub struct StoredRow {
     armed: bool,
 }
 
-impl Model for StoredRow {
-    ghost use Rattle.vlm_words.specs.declared.locks.LockRow.{LockRow};
+impl Model for StoredState {
+    ghost use Rattle.vlm_words.specs.declared.locks.LockState.{LockState};
 
-    ghost Value = { LockRow };
+    ghost Value = { LockState };
 
     ghost use Rattle.vlm_records.specs.Rows.{IsPacked, packed, row_shown};
 
@@ -189,11 +189,11 @@ fn is_arming(kept: RequestTag) -> bool
     }
 }
 
-impl StoredRow {
-    pub fn of(row: &LockRow) -> Self
+impl StoredState {
+    pub fn of(row: &LockState) -> Self
         ensures { result ≡ row.now }
     {
-        StoredRow {
+        StoredState {
             held_number: packed_number(&row.held),
             want_number: packed_number(&row.want),
             held_routines: packed_routines(&row.held),
@@ -209,10 +209,10 @@ impl StoredRow {
         }
     }
 
-    pub fn row(&self) -> LockRow
+    pub fn row(&self) -> LockState
         ensures { result ≡ self.now }
     {
-        LockRow {
+        LockState {
             lkid: self.lkid,
             pid: self.pid,
             parent: self.parent,
@@ -295,7 +295,7 @@ impl StoredRow {
     pub fn granted(&self) -> Self
         ensures { result ≡ granted_row self.now }
     {
-        StoredRow {
+        StoredState {
             held_number: self.want_number,
             held_routines: self.want_routines,
             held_terms: self.want_terms,
@@ -309,7 +309,7 @@ impl StoredRow {
         ensures { result ≡ wanting_row self.now request.now }
     {
         let want = Some(*request);
-        StoredRow {
+        StoredState {
             want_number: packed_number(&want),
             want_routines: packed_routines(&want),
             want_terms: packed_terms(&want),
@@ -321,7 +321,7 @@ impl StoredRow {
     pub fn without_want(&self) -> Self
         ensures { result ≡ record self.now { want = None } }
     {
-        StoredRow {
+        StoredState {
             want_number: packed_number(&None),
             want_routines: packed_routines(&None),
             want_terms: packed_terms(&None),
@@ -334,7 +334,7 @@ impl StoredRow {
     pub fn disarmed(&self) -> Self
         ensures { result ≡ record self.now { armed = false } }
     {
-        StoredRow {
+        StoredState {
             armed: false,
             ..*self
         }

@@ -6,7 +6,7 @@ ghost use Rattle.vlm_words.specs.Modes.{is_compatible};
 ghost use Rattle.vlm_records.specs.Tallies.{Count, by_mode, count_of, counts_fit, held_beside, how_many, is_mode, none_or, one_if, weight_of};
 ghost use Rattle.vlm_records.specs.Tallies.Count.{of_held, of_wanted};
 
-use vlm_words::locks::{LockRow, Request};
+use vlm_words::locks::{LockState, Request};
 use vlm_words::modes::{Mode, compatible};
 use vlm_words::resources::Queue;
 
@@ -73,7 +73,7 @@ impl Tally {
     }
 
     /// Counts a lock in, with its queue and its row.
-    pub fn add(&mut self, queue: Queue, row: &LockRow)
+    pub fn add(&mut self, queue: Queue, row: &LockState)
         requires { (count : Count) (mode : Mode) → how_many count self.old mode + 1 < 2 ^ 32 }
         ensures { (count : Count) (mode : Mode) → how_many count self.new mode
             ≡ how_many count self.old mode + weight_of count mode queue row.now }
@@ -89,7 +89,7 @@ impl Tally {
     }
 
     /// Counts a lock out, with the queue and the row by which it was counted in.
-    pub fn remove(&mut self, queue: Queue, row: &LockRow)
+    pub fn remove(&mut self, queue: Queue, row: &LockState)
         requires { (count : Count) (mode : Mode) → weight_of count mode queue row.now
             ≤ how_many count self.old mode }
         ensures { (count : Count) (mode : Mode) → how_many count self.new mode

@@ -1,5 +1,6 @@
 -- The steps of the lines so far, before the steps of the lines that are left.
-use Rattle.std.proofs.Common.{◌≡◌, ℕ, ◌+◌, All, List, [], ◌∷◌, ◌++◌, length, IfSome, Option, None, Some, Result, Ok, Err, append_assoc, append-nil, refl, sym, ap, subst, ◌∙◌}
+use Rattle.std.proofs.Common.{◌≡◌, ℕ, ◌+◌, All, List, [], ◌∷◌, ◌++◌, length, IfSome, Option, None, Some, Result, Ok}
+use Rattle.std.proofs.Common.{Err, append_assoc, append-nil, refl, sym, ap, subst, ◌∙◌}
 use Rattle.std.proofs.lemmas.List.Elements.{All-push}
 use Rattle.vlm_lines.specs.declared.faults.LineFault.{LineFault}
 use Rattle.vlm_lines.specs.Lines.{line_read}
@@ -22,7 +23,8 @@ pub all-collected : (got : List ScriptStep) (all : Result (List ScriptStep) (ℕ
 all-collected got all is = sym is ∙ ap Ok (append-nil got)
 
 -- what comes of the lines from one on, where that is known of the line itself
-from_line : (nodes : ℕ) (s : Shares) (count : ℕ) (bytes : List ℕ) (lines : List (List ℕ)) (shared : Result Shares LineFault) → line_shared nodes s (line_read bytes) ≡ shared
+from_line : (nodes : ℕ) (s : Shares) (count : ℕ) (bytes : List ℕ) (lines : List (List ℕ))
+    (shared : Result Shares LineFault) → line_shared nodes s (line_read bytes) ≡ shared
     → steps_out nodes s count (bytes ∷ lines)
     ≡ then_shares shared (count + 1) (λ more. in_front (numbered (count + 1) (read_step s (line_read bytes))) (steps_out nodes more (count + 1) lines))
 from_line nodes s count bytes lines shared is =
@@ -31,7 +33,8 @@ from_line nodes s count bytes lines shared is =
 module _ (nodes : ℕ) (s : Shares) (count : ℕ) (bytes : List ℕ) (lines : List (List ℕ)) (got : List ScriptStep) where
   -- the line is shared, and its step is collected
   pub collected-more : (more : Shares) → line_shared nodes s (line_read bytes) ≡ Ok more
-      → in_front (got ++ numbered (count + 1) (read_step s (line_read bytes))) (steps_out nodes more (count + 1) lines) ≡ in_front got (steps_out nodes s count (bytes ∷ lines))
+      → in_front (got ++ numbered (count + 1) (read_step s (line_read bytes)))
+      (steps_out nodes more (count + 1) lines) ≡ in_front got (steps_out nodes s count (bytes ∷ lines))
   collected-more more is =
       in_front-more got (numbered (count + 1) (read_step s (line_read bytes))) (steps_out nodes more (count + 1) lines)
       ∙ ap (in_front got) (sym (from_line nodes s count bytes lines (Ok more) is))

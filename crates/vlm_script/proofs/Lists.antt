@@ -1,5 +1,7 @@
 -- The steps of nodes in their lists, and the names that are bound to their processes.
-use Rattle.std.proofs.Common.{◌≡◌, ℕ, ◌+◌, ◌-◌, ◌*◌, ◌<◌, inl, inr, Bool, true, false, cond, List, [], ◌∷◌, ◌++◌, length, map, get_or, set, find, All, nat_le, nat_lt, is_some, Option, None, Some, option_map, refl, sym, ap, subst, ◌∙◌, arith}
+use Rattle.std.proofs.Common.{◌≡◌, ℕ, ◌+◌, ◌-◌, ◌*◌, ◌<◌, inl, inr, Bool, true, false, cond, List, [], ◌∷◌, ◌++◌}
+use Rattle.std.proofs.Common.{length, map, get_or, set, find, All, nat_le, nat_lt, is_some, Option, None, Some}
+use Rattle.std.proofs.Common.{option_map, refl, sym, ap, subst, ◌∙◌, arith}
 use Rattle.std.proofs.Math.Seq.{map-set_same}
 use Rattle.std.proofs.lemmas.Bool.{and_parts, cases_eq, leb-true, ltb-true}
 use Rattle.std.proofs.lemmas.Grind.{get_or-set_at}
@@ -60,7 +62,8 @@ node_of_next node count below = omega arith
 
 -- what a declare line binds, counts and puts is its share
 pub shares-declared : (old : Shares) (name : List ℕ) (d : Declaration) (names : List Binding) (declared : List ℕ) (lists : List (List Step)) (pid : ℕ)
-    → names ≡ old.names ++ record { name = name; pid = pid } ∷ [] → pid ≡ next_process old d.node → declared ≡ set old.declared (d.node - 1) (declared_by old d.node + 1)
+    → names ≡ old.names ++ record { name = name; pid = pid } ∷ [] → pid ≡ next_process old d.node
+    → declared ≡ set old.declared (d.node - 1) (declared_by old d.node + 1)
     → lists ≡ with_step old.lists d.node (declare_step d) → record { names = names; declared = declared; lists = lists } ≡ share_declaration old name d
 unfolding share_declaration
 shares-declared old name d names declared lists pid bound is counted put = rw (bound, is, counted, put) refl
@@ -89,7 +92,8 @@ listed-with_step lists node step there of_node listed k below =
 
 module _ (nodes : ℕ) where
   -- a bound name is bound to a process of one of the nodes
-  pub bound_node : (names : List Binding) (name : List ℕ) (pid : ℕ) → AreOfNodes nodes names → bound_to names name ≡ Some pid → IsOneOfNodes nodes (node_of_pid pid)
+  pub bound_node : (names : List Binding) (name : List ℕ) (pid : ℕ) → AreOfNodes nodes names
+      → bound_to names name ≡ Some pid → IsOneOfNodes nodes (node_of_pid pid)
   bound_node [] name pid all is = cc
   bound_node (b ∷ names) name pid all is = first (is_text b.name name) is (bound_node names name pid all.1)
     where
@@ -105,7 +109,8 @@ module _ (nodes : ℕ) where
 
 module _ (names : List Binding) (declared : List ℕ) (lists : List (List Step)) (node : ℕ) (step : Step) where
   -- a step of a node goes to its list
-  pub sharing-with_step : IsSharing names declared lists → IsOneOfNodes (length lists) node → IsListed node step → IsSharing names declared (with_step lists node step)
+  pub sharing-with_step : IsSharing names declared lists → IsOneOfNodes (length lists) node → IsListed node step
+      → IsSharing names declared (with_step lists node step)
   sharing-with_step s there of_node = record {
     counted = s.counted ∙ sym (length-with_step lists node step);
     bound = subst (λ nodes. AreOfNodes nodes names) (sym (length-with_step lists node step)) s.bound;
@@ -113,7 +118,8 @@ module _ (names : List Binding) (declared : List ℕ) (lists : List (List Step))
   }
 
   -- a declare line does so too, and binds its name to a process of the node
-  pub sharing-declared : (b : Binding) (count : ℕ) → IsSharing names declared lists → IsOneOfNodes (length lists) node → IsListed node step → node_of_pid b.pid ≡ node
+  pub sharing-declared : (b : Binding) (count : ℕ) → IsSharing names declared lists → IsOneOfNodes (length lists) node
+      → IsListed node step → node_of_pid b.pid ≡ node
       → IsSharing (names ++ b ∷ []) (set declared (node - 1) count) (with_step lists node step)
   sharing-declared b count s there of_node is =
       let more = bound_more (length lists) names b s.bound (subst (IsOneOfNodes (length lists)) (sym is) there) in

@@ -1,5 +1,7 @@
 -- How far the run of a script has come, and what follows once it stops.
-use Rattle.std.proofs.Common.{◌≡◌, ℕ, zero, suc, ◌+◌, ◌≤◌, List, [], ◌∷◌, ◌++◌, length, take, drop, Option, None, Some, Result, Ok, Err, IfErr, OnErr, OnOk, refl, sym, ap, ◌∙◌, add-one, append_assoc, ◌^◌, ◌⊎◌, inl, inr, IfSome, length-append, length-drop, arith}
+use Rattle.std.proofs.Common.{◌≡◌, ℕ, zero, suc, ◌+◌, ◌≤◌, List, [], ◌∷◌, ◌++◌, length, take, drop, Option, None, Some}
+use Rattle.std.proofs.Common.{Result, Ok, Err, IfErr, OnErr, OnOk, refl, sym, ap, ◌∙◌, add-one, append_assoc, ◌^◌, ◌⊎◌}
+use Rattle.std.proofs.Common.{inl, inr, IfSome, length-append, length-drop, arith}
 use Rattle.std.proofs.lemmas.List.{append-nil, take-append-drop}
 use Rattle.std.specs.Io.KnownBytes.{Appends, Consumes}
 use Rattle.vlm_lines.specs.Lines.{lines_of}
@@ -124,7 +126,8 @@ module _ (input : List ℕ) (count : ℕ) (begun now : Option (List ℕ)) where
 
   -- no line is left, and what waited is written, or only a part of it
   pub ends : (later : Option (List ℕ)) (waiting : List ℕ) (last : Session) (result : Result (Unit {0}) PlayFault) → Reached input count begun now waiting last
-      → drop count (lines_of input) ≡ [] → OnOk result (Appends now later waiting) → OnErr result (PassesPart now later waiting) → IfErr result (λ fault. fault ≡ Write)
+      → drop count (lines_of input) ≡ [] → OnOk result (Appends now later waiting)
+      → OnErr result (PassesPart now later waiting) → IfErr result (λ fault. fault ≡ Write)
       → Wrote begun later (Plays input result)
   ends later waiting last (Ok done) reached none whole part is =
       let all = reached-written later waiting last reached whole in

@@ -1,5 +1,7 @@
 -- A script for several nodes: the steps of each node's list, and which fault is the first.
-use Rattle.std.specs.Prelude.{◌≡◌, ℕ, ◌+◌, ◌-◌, ◌*◌, ◌<◌, Bool, true, false, ◌&&◌, nat_le, nat_lt, List, [], ◌∷◌, ◌++◌, length, replicate, slice_index, slice_index_or, slice_set, Option, None, Some, Result, Ok, Err, IsOkAnd, if◌then◌else◌}
+use Rattle.std.specs.Prelude.{◌≡◌, ℕ, ◌+◌, ◌-◌, ◌*◌, ◌<◌, Bool, true, false, ◌&&◌, nat_le, nat_lt, List, [], ◌∷◌, ◌++◌}
+use Rattle.std.specs.Prelude.{length, replicate, slice_index, slice_index_or, slice_set, Option, None, Some, Result, Ok}
+use Rattle.std.specs.Prelude.{Err, IsOkAnd, if◌then◌else◌}
 use Rattle.std.specs.List.{All}
 use Rattle.vlm_lines.specs.declared.lines.Line.TheVariants.{Empty, Declare, Set, Enq, Cvt, Deq, End, Leave, Search, Ast, Block, Tail, Show, Tails}
 use Rattle.vlm_lines.specs.declared.lines.Line.{Line}
@@ -7,7 +9,9 @@ use Rattle.vlm_lines.specs.declared.faults.LineFault.TheVariants.{UnknownCommand
 use Rattle.vlm_lines.specs.declared.faults.LineFault.{LineFault}
 use Rattle.vlm_lines.specs.Lines.{line_read, lines_of, unnamed_process}
 use Rattle.vlm_words.specs.declared.steps.Declaration.{Declaration}
-use Rattle.vlm_words.specs.declared.steps.Step.TheVariants.{Declare as declare_step, SetValue as set_step, Enq as enq_step, Convert as convert_step, Deq as deq_step, Rundown, Leave as leave_step, Search as search_step, Take}
+use Rattle.vlm_words.specs.declared.steps.Step.TheVariants.{Declare as declare_step, SetValue as set_step}
+use Rattle.vlm_words.specs.declared.steps.Step.TheVariants.{Enq as enq_step, Convert as convert_step, Deq as deq_step}
+use Rattle.vlm_words.specs.declared.steps.Step.TheVariants.{Rundown, Leave as leave_step, Search as search_step, Take}
 use Rattle.vlm_words.specs.declared.steps.Step.{Step}
 use Rattle.vlm_words.specs.Steps.{node_of, node_of_pid}
 use Rattle.vlm_script.specs.Scripts.{Binding, bound_to, of_process, unknown_fault, used_fault}

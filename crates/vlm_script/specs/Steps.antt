@@ -4,7 +4,9 @@ use Rattle.vlm_lines.specs.declared.lines.Line.TheVariants.{Empty, Declare, Set,
 use Rattle.vlm_lines.specs.declared.lines.Line.{Line}
 use Rattle.vlm_lines.specs.declared.faults.LineFault.{LineFault}
 use Rattle.vlm_lines.specs.Lines.{line_read, lines_of, unnamed_process}
-use Rattle.vlm_words.specs.declared.steps.Step.TheVariants.{Declare as declare_step, SetValue as set_step, Enq as enq_step, Convert as convert_step, Deq as deq_step, Rundown, Leave as leave_step, Search as search_step}
+use Rattle.vlm_words.specs.declared.steps.Step.TheVariants.{Declare as declare_step, SetValue as set_step}
+use Rattle.vlm_words.specs.declared.steps.Step.TheVariants.{Enq as enq_step, Convert as convert_step, Deq as deq_step}
+use Rattle.vlm_words.specs.declared.steps.Step.TheVariants.{Rundown, Leave as leave_step, Search as search_step}
 use Rattle.vlm_words.specs.declared.steps.Step.{Step}
 use Rattle.vlm_words.specs.Steps.{node_of}
 use Rattle.vlm_script.specs.Scripts.{bound_to, of_process}

@@ -1,7 +1,7 @@
 -- The texts that a script's run prints, of several lines or beside a script.
 use Rattle.std.specs.Prelude.{ℕ, List, [], ◌∷◌, ◌++◌, codes, decimal, flat_map}
 use Rattle.vlm_words.specs.declared.asts.Ast.{Ast}
-use Rattle.vlm_words.specs.declared.locks.LockRow.{LockRow}
+use Rattle.vlm_words.specs.declared.locks.LockState.{LockState}
 use Rattle.vlm_words.specs.declared.resources.Queue.{Queue}
 use Rattle.vlm_words.specs.declared.resources.Queue.TheVariants.{Granted, Conversion, Waiting}
 use Rattle.vlm_words.specs.declared.steps.Answer.{Answer}
@@ -30,7 +30,7 @@ unfoldable pub journal_line : ℕ → List ℕ
 journal_line entries = codes "journal " ++ decimal entries ++ line_feed
 
 -- the lines of a queue, in queue order
-abbrev pub queue_lines : Queue → List LockRow → List ℕ
+abbrev pub queue_lines : Queue → List LockState → List ℕ
 queue_lines queue rows = flat_map (λ row. row_line queue (row_view row)) rows
 
 -- a resource with its three queues

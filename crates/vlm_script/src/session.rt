@@ -117,7 +117,7 @@ impl Session {
             (λ stop. StopsName self.old.names name stop) }
     {
         let pid = process_of(&self.names, &name)?;
-        let answer = self.core.make_step(&of_process(pid, step));
+        let answer = self.core.apply(&of_process(pid, step));
         out.extend_from_slice(&answer_line(name.bytes(), answer))?;
         Ok(())
     }

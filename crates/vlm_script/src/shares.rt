@@ -19,7 +19,7 @@ use vlm_words::steps::Step;
 /// for each node, node 1 first.
 ///
 /// A declare line is a step of its node. It binds its name to a process, whether or not the declaration will be
-/// accepted: the identification is 65,536 times the node plus the number of the line among the node's declare lines,
+/// accepted: the ID is 65,536 times the node plus the number of the line among the node's declare lines,
 /// from 1. A set, enq, cvt, deq or end line is a step of the process of its name, in the list of that process's node. A
 /// leave or search line is a step of its node.
 ///

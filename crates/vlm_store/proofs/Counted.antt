@@ -1,5 +1,6 @@
 -- How many locks a process has: as many handles as it has locks of its own.
-use Rattle.std.proofs.Common.{◌≡◌, ◌≢◌, ◌≤◌, ℕ, true, false, cond, List, [], ◌∷◌, ◌++◌, length, map, filter, Some, refl, sym, ap, ◌∙◌, subst, inl, inr, arith, eq-eqb, ne_eqb, length-append}
+use Rattle.std.proofs.Common.{◌≡◌, ◌≢◌, ◌≤◌, ℕ, true, false, cond, List, [], ◌∷◌, ◌++◌, length, map, filter, Some, refl}
+use Rattle.std.proofs.Common.{sym, ap, ◌∙◌, subst, inl, inr, arith, eq-eqb, ne_eqb, length-append}
 use Rattle.std.specs.Prelude.{◌==◌, sum_by}
 use Rattle.std.specs.Option.{option_map_or}
 use Rattle.std.proofs.lemmas.Bool.{cases_eq}
@@ -8,13 +9,16 @@ use Rattle.std.proofs.lemmas.List.Sums.{length-filter, sum_by-cons}
 use Rattle.vlm_collections.specs.Lists.{IsApart, IsIn, without}
 use Rattle.vlm_collections.proofs.Images.{IsIn-image, IsIn-of_image}
 use Rattle.vlm_collections.proofs.HandleLists.{IsApart-without, IsIn-without_kept, length-without}
-use Rattle.vlm_words.specs.declared.locks.LockRow.{LockRow}
+use Rattle.vlm_words.specs.declared.locks.LockState.{LockState}
 use Rattle.vlm_words.specs.declared.resources.Queue.{Queue}
 use Rattle.vlm_words.specs.declared.resources.Queue.TheVariants.{Granted, Conversion, Waiting}
 use Rattle.vlm_records.specs.declared.handles.Place.{Place}
 use Rattle.vlm_records.specs.declared.handles.Place.TheVariants.{Queued}
-use Rattle.vlm_store.specs.Records.{AreApart, AreOwnApart, AreProcessesApart, AreResourcesApart, IsProcess, IsSound, OwnLock, Records, StoredLock, StoredProcess, StoredResource, Stores, locks_at, own_at, owned_among, owned_by, owned_on, process_at, queued, resource_at, NoneIsLoose}
-use Rattle.vlm_store.proofs.Plain.{process_at-stored}
+use Rattle.vlm_store.specs.Records.{AreApart, AreOwnApart, AreProcessesApart, AreResourcesApart, IsProcess, IsSound}
+use Rattle.vlm_store.specs.Records.{OwnLock, Records, StoredLock, StoredProcess, StoredResource, Stores, locks_at}
+use Rattle.vlm_store.specs.Records.{own_at, owned_among, owned_by, owned_on, process_at, queued, resource_at}
+use Rattle.vlm_store.specs.Records.{NoneIsLoose}
+use Rattle.vlm_store.proofs.PlainProcesses.{process_at-stored}
 use Rattle.vlm_records.proofs.Counting.{IsApart-append, IsIn-append}
 use Rattle.vlm_store.proofs.Records.{queue_at, in_a_queue}
 
@@ -70,7 +74,8 @@ module _ (pid : ℕ) where
       length-map (filter (λ (k : StoredLock). k.row.pid == pid) locks) (λ (k : StoredLock). k.at) ∙ length-filter (λ (k : StoredLock). k.row.pid == pid) locks
 
   -- the lock of a handle
-  among_handles : (locks : List StoredLock) (at : ℕ) → IsIn at (handles_among locks) → (row : LockRow) × (IsIn (record { at = at; row = row }) locks × (row.pid ≡ pid))
+  among_handles : (locks : List StoredLock) (at : ℕ) → IsIn at (handles_among locks) → (row : LockState)
+      × (IsIn (record { at = at; row = row }) locks × (row.pid ≡ pid))
   among_handles [] at found = absurd found
   among_handles (k ∷ rest) at found =
       elim (cases_eq k.row.pid pid) [
@@ -88,7 +93,10 @@ module _ (pid : ℕ) where
       elim among [
         | inl here ↦ rw (eq-eqb k.row.pid pid (ap (λ (x : StoredLock). x.row.pid) here ∙ is)) (inl (ap (λ (x : StoredLock). x.at) here))
         | inr there ↦
-            elim (k.row.pid == pid) as (λ b. IsIn lock.at (map (λ (x : StoredLock). x.at) (cond b (k ∷ filter (λ (x : StoredLock). x.row.pid == pid) rest) (filter (λ (x : StoredLock). x.row.pid == pid) rest)))) [
+            elim (k.row.pid == pid) as
+            (λ b. IsIn lock.at (map (λ (x : StoredLock). x.at)
+            (cond b (k ∷ filter (λ (x : StoredLock). x.row.pid == pid) rest)
+            (filter (λ (x : StoredLock). x.row.pid == pid) rest)))) [
               | true ↦ inr (under_handle_among rest lock there is)
               | false ↦ under_handle_among rest lock there is
             ]
@@ -97,7 +105,10 @@ module _ (pid : ℕ) where
   handles_among-apart : (locks : List StoredLock) → AreApart locks → IsApart (handles_among locks)
   handles_among-apart [] apart = tt
   handles_among-apart (k ∷ rest) apart =
-      elim (k.row.pid == pid) as (λ b. IsApart (map (λ (x : StoredLock). x.at) (cond b (k ∷ filter (λ (x : StoredLock). x.row.pid == pid) rest) (filter (λ (x : StoredLock). x.row.pid == pid) rest)))) [
+      elim (k.row.pid == pid) as
+      (λ b. IsApart (map (λ (x : StoredLock). x.at)
+      (cond b (k ∷ filter (λ (x : StoredLock). x.row.pid == pid) rest)
+      (filter (λ (x : StoredLock). x.row.pid == pid) rest)))) [
         | true ↦ (λ found. let other = among_handles rest k.at found in apart.0 other.0 other.1.0, handles_among-apart rest apart.1)
         | false ↦ handles_among-apart rest apart.1
       ]
@@ -117,10 +128,14 @@ module _ (pid : ℕ) where
         handles_among-length r.waiting,
       )
 
-  in_queue : (r : StoredResource) (at : ℕ) → IsIn at (handles_on r) → (queue : Queue) × (row : LockRow) × (IsIn (record { at = at; row = row }) (queued queue r) × (row.pid ≡ pid))
+  in_queue : (r : StoredResource) (at : ℕ) → IsIn at (handles_on r) → (queue : Queue) × (row : LockState)
+      × (IsIn (record { at = at; row = row }) (queued queue r) × (row.pid ≡ pid))
   in_queue r at found =
-      IsIn-append at (handles_among r.granted) (handles_among r.converting ++ handles_among r.waiting) _ (λ here. let lock = among_handles r.granted at here in (Granted, lock.0, lock.1))
-      (λ later. IsIn-append at (handles_among r.converting) (handles_among r.waiting) _ (λ here. let lock = among_handles r.converting at here in (Conversion, lock.0, lock.1)) (λ here. let lock = among_handles r.waiting at here in (Waiting, lock.0, lock.1)) later) found
+      IsIn-append at (handles_among r.granted) (handles_among r.converting ++ handles_among r.waiting) _
+      (λ here. let lock = among_handles r.granted at here in (Granted, lock.0, lock.1))
+      (λ later. IsIn-append at (handles_among r.converting) (handles_among r.waiting) _
+      (λ here. let lock = among_handles r.converting at here in (Conversion, lock.0, lock.1))
+      (λ here. let lock = among_handles r.waiting at here in (Waiting, lock.0, lock.1)) later) found
 
   queue_in : (r : StoredResource) (queue : Queue) (at : ℕ) → IsIn at (handles_among (queued queue r)) → IsIn at (handles_on r)
   queue_in r Granted at found = IsIn-first at (handles_among r.granted) _ found
@@ -139,20 +154,25 @@ module _ (pid : ℕ) where
   in_resource : (rs : List StoredResource) (at : ℕ) → IsIn at (handles_in rs) → (r : StoredResource) × (IsIn r rs × IsIn at (handles_on r))
   in_resource [] at found = absurd found
   in_resource (r ∷ rest) at found =
-      IsIn-append at (handles_on r) (handles_in rest) _ (λ here. (r, (inl refl, here))) (λ later. let there = in_resource rest at later in (there.0, (inr there.1.0, there.1.1))) found
+      IsIn-append at (handles_on r) (handles_in rest) _ (λ here. (r, (inl refl, here))) (λ later. let there =
+      in_resource rest at later in (there.0, (inr there.1.0, there.1.1))) found
 
-  resource_in : (rs : List StoredResource) (res : ℕ) (queue : Queue) (lock : StoredLock) → IsIn lock (option_map_or (queued queue) (resource_at res rs) []) → lock.row.pid ≡ pid → IsIn lock.at (handles_in rs)
+  resource_in : (rs : List StoredResource) (res : ℕ) (queue : Queue) (lock : StoredLock)
+      → IsIn lock (option_map_or (queued queue) (resource_at res rs) []) → lock.row.pid ≡ pid
+      → IsIn lock.at (handles_in rs)
   resource_in [] res queue lock among is = absurd among
   resource_in (r ∷ rest) res queue lock among is =
       elim (cases_eq r.at res) [
-        | inl same ↦ IsIn-first lock.at (handles_on r) (handles_in rest) (queue_in r queue lock.at (under_handle_among (queued queue r) lock (rw (eq-eqb r.at res same) at among) is))
+        | inl same ↦ IsIn-first lock.at (handles_on r) (handles_in rest)
+            (queue_in r queue lock.at
+            (under_handle_among (queued queue r) lock (rw (eq-eqb r.at res same) at among) is))
         | inr differs ↦ IsIn-second lock.at (handles_on r) (handles_in rest) (resource_in rest res queue lock (rw (ne_eqb r.at res differs) at among) is)
       ]
 
   module _ (s : Records) (sound : IsSound s) where
     -- a handle of a resource is that of a lock in one of its queues
     stands_on : (r : StoredResource) → IsIn r s.resources → (at : ℕ) → IsIn at (handles_on r)
-        → (queue : Queue) × (row : LockRow) × (IsIn (record { at = at; row = row }) (locks_at (Queued r.at queue) s) × (row.pid ≡ pid))
+        → (queue : Queue) × (row : LockState) × (IsIn (record { at = at; row = row }) (locks_at (Queued r.at queue) s) × (row.pid ≡ pid))
     stands_on r among at found =
         let stands = in_queue r at found in
         (stands.0, stands.1, (subst (IsIn (record { at = at; row = stands.1 })) (sym (queue_at s sound r among stands.0)) stands.2.0, stands.2.1))
@@ -161,31 +181,39 @@ module _ (pid : ℕ) where
     queue_apart : (r : StoredResource) → IsIn r s.resources → (queue : Queue) → IsApart (handles_among (queued queue r))
     queue_apart r among queue = handles_among-apart (queued queue r) (subst AreApart (queue_at s sound r among queue) (sound.locks_apart (Queued r.at queue)))
 
-    queues_apart : (r : StoredResource) → IsIn r s.resources → (a b : Queue) → Queued r.at a ≢ Queued r.at b → (k : ℕ) → IsIn k (handles_among (queued a r)) → ¬ IsIn k (handles_among (queued b r))
+    queues_apart : (r : StoredResource) → IsIn r s.resources → (a b : Queue) → Queued r.at a ≢ Queued r.at b → (k : ℕ)
+        → IsIn k (handles_among (queued a r)) → ¬ IsIn k (handles_among (queued b r))
     queues_apart r among a b differs k here there =
         let one = among_handles (queued a r) k here in
         let other = among_handles (queued b r) k there in
         differs (
-        sound.one_place k one.0 other.0 (Queued r.at a) (Queued r.at b) (subst (IsIn (record { at = k; row = one.0 })) (sym (queue_at s sound r among a)) one.1.0)
+        sound.one_place k one.0 other.0 (Queued r.at a) (Queued r.at b)
+        (subst (IsIn (record { at = k; row = one.0 })) (sym (queue_at s sound r among a)) one.1.0)
         (subst (IsIn (record { at = k; row = other.0 })) (sym (queue_at s sound r among b)) other.1.0)
         )
 
     handles_on-apart : (r : StoredResource) → IsIn r s.resources → IsApart (handles_on r)
     handles_on-apart r among =
         IsApart-append (handles_among r.granted) (handles_among r.converting ++ handles_among r.waiting) (queue_apart r among Granted)
-        (IsApart-append (handles_among r.converting) (handles_among r.waiting) (queue_apart r among Conversion) (queue_apart r among Waiting) (queues_apart r among Conversion Waiting (λ e. cc)))
+        (IsApart-append (handles_among r.converting) (handles_among r.waiting) (queue_apart r among Conversion)
+        (queue_apart r among Waiting) (queues_apart r among Conversion Waiting (λ e. cc)))
         (λ k here there.
-        IsIn-append k (handles_among r.converting) (handles_among r.waiting) ⊥ (queues_apart r among Granted Conversion (λ e. cc) k here) (queues_apart r among Granted Waiting (λ e. cc) k here) there)
+        IsIn-append k (handles_among r.converting) (handles_among r.waiting) ⊥
+        (queues_apart r among Granted Conversion (λ e. cc) k here)
+        (queues_apart r among Granted Waiting (λ e. cc) k here) there)
 
     handles_in-apart : (rs : List StoredResource) → AreResourcesApart rs → ((r : StoredResource) → IsIn r rs → IsIn r s.resources) → IsApart (handles_in rs)
     handles_in-apart [] apart within = tt
     handles_in-apart (r ∷ rest) apart within =
-        IsApart-append (handles_on r) (handles_in rest) (handles_on-apart r (within r (inl refl))) (handles_in-apart rest apart.1 (λ x there. within x (inr there)))
+        IsApart-append (handles_on r) (handles_in rest) (handles_on-apart r (within r (inl refl)))
+        (handles_in-apart rest apart.1 (λ x there. within x (inr there)))
         (λ k here there.
         let one = stands_on r (within r (inl refl)) k here in
         let other = in_resource rest k there in
         let later = stands_on other.0 (within other.0 (inr other.1.0)) k other.1.1 in
-        apart.0 other.0 other.1.0 (sym (same_resource r.at other.0.at one.0 later.0 (sound.one_place k one.1 later.1 (Queued r.at one.0) (Queued other.0.at later.0) one.2.0 later.2.0))))
+        apart.0 other.0 other.1.0
+        (sym (same_resource r.at other.0.at one.0 later.0
+        (sound.one_place k one.1 later.1 (Queued r.at one.0) (Queued other.0.at later.0) one.2.0 later.2.0))))
       where
         same_resource : (a b : ℕ) (p q : Queue) → Queued a p ≡ Queued b q → a ≡ b
         same_resource a b p q same = cc
@@ -200,19 +228,19 @@ module _ (pid : ℕ) where
     handles_by-apart : IsApart handles_by
     handles_by-apart = handles_in-apart s.resources sound.resources_apart (λ r among. among)
 
-    stored_handle : (at : ℕ) (row : LockRow) → Stores s at row → row.pid ≡ pid → IsIn at handles_by
+    stored_handle : (at : ℕ) (row : LockState) → Stores s at row → row.pid ≡ pid → IsIn at handles_by
     stored_handle at row stored is = by_place stored.0 stored.1
       where
         by_place : (place : Place) → IsIn (record { at = at; row = row }) (locks_at place s) → IsIn at handles_by
         by_place (Queued res queue) among = resource_in s.resources res queue (record { at = at; row = row }) among is
 
-    handle_stored : (at : ℕ) → IsIn at handles_by → (row : LockRow) × (Stores s at row × (row.pid ≡ pid))
+    handle_stored : (at : ℕ) → IsIn at handles_by → (row : LockState) × (Stores s at row × (row.pid ≡ pid))
     handle_stored at found =
         let on = in_resource s.resources at found in
         let stands = stands_on on.0 on.1.0 at on.1.1 in
         (stands.1, ((Queued on.0.at stands.0, stands.2.0), stands.2.1))
 
--- two processes with one identification are one
+-- two processes with one ID are one
 pub one_process : (ps : List StoredProcess) → AreProcessesApart ps → (p q : StoredProcess) → IsIn p ps → IsIn q ps → p.process.pid ≡ q.process.pid → p ≡ q
 one_process [] apart p q here there same = absurd here
 one_process (x ∷ ps) apart p q here there same =
@@ -231,7 +259,8 @@ one_process (x ∷ ps) apart p q here there same =
 pub count_is : (s : Records) (p : StoredProcess) → IsSound s → NoneIsLoose s → IsIn p s.processes → length p.own ≡ owned_by p.process.pid s
 count_is s p sound none among =
     sym (length-map p.own (λ (o : OwnLock). o.at))
-    ∙ as_long (own_handles p.own) (handles_by p.process.pid s sound) (own_handles-apart p.own (sound.own_apart p among)) (handles_by-apart p.process.pid s sound)
+    ∙ as_long (own_handles p.own) (handles_by p.process.pid s sound) (own_handles-apart p.own (sound.own_apart p among))
+    (handles_by-apart p.process.pid s sound)
     (λ k found.
     let own = own_handle p.own k found in
     let stored = sound.owned.owns p own.0 among own.1.0 in
@@ -240,7 +269,8 @@ count_is s p sound none among =
     let stored = handle_stored p.process.pid s sound k found in
     let owned = sound.owned.owned k stored.0 (inl stored.1.0) in
     let same = one_process s.processes sound.processes_apart owned.0 p owned.2.0 among (owned.2.1 ∙ stored.1.1) in
-    subst (λ (x : StoredProcess). IsIn k (own_handles x.own)) same (subst (λ x. IsIn x (own_handles owned.0.own)) owned.2.3 (own_under_handle owned.0.own owned.1 owned.2.2)))
+    subst (λ (x : StoredProcess). IsIn k (own_handles x.own)) same
+    (subst (λ x. IsIn x (own_handles owned.0.own)) owned.2.3 (own_under_handle owned.0.own owned.1 owned.2.2)))
     ∙ handles_by-length p.process.pid s sound
 
 pub own_count : (s : Records) (at pid : ℕ) → IsSound s → NoneIsLoose s → IsProcess at pid s → length (own_at at s) ≡ owned_by pid s

@@ -4,7 +4,7 @@ use Rattle.std.specs.Prelude.{◌&&◌, nat_lt}
 use Rattle.std.proofs.lemmas.Bool.{cases_eq}
 use Rattle.slab.specs.Slab.{get}
 use Rattle.vlm_collections.specs.Lists.{IsIn}
-use Rattle.vlm_collections.specs.Nodes.{IsFirstMarked, is_marked, is_node}
+use Rattle.vlm_records.specs.NodeMarks.{IsFirstMarked, is_marked, is_node}
 use Rattle.vlm_words.specs.State.{Process as PlainProcess}
 use Rattle.vlm_records.specs.declared.processes.Process.{Process}
 use Rattle.vlm_store.specs.declared.store.Store.TheInside.{Inside}
@@ -12,8 +12,8 @@ use Rattle.vlm_store.specs.Holdings.{process_face_in}
 use Rattle.vlm_store.specs.Kept.{IsKept, records_shown}
 use Rattle.vlm_store.specs.Pending.{IsFirst, IsFirstLiving, IsFirstPending, IsMarked, is_of_nodes, lives_on, waits_in, waits_on}
 use Rattle.vlm_store.specs.Records.{StoredProcess}
-use Rattle.vlm_store.proofs.Living.{finds_process, process_named, shown_among}
-use Rattle.vlm_store.proofs.Marked.{and_true, no_and}
+use Rattle.vlm_store.proofs.LivingProcesses.{finds_process, process_named, shown_among}
+use Rattle.vlm_store.proofs.MarkedProcesses.{and_true, no_and}
 
 -- the process is of one of the eight nodes, and has an AST pending
 abbrev waits : PlainProcess → Bool
@@ -45,8 +45,10 @@ named_told : (slot : Option Process) → IsSome slot → is_of_nodes slot ≡ is
 named_told None there = cc
 named_told (Some p) there = refl
 
-module _ (s : Inside) (kept : IsKept s) (tells : Option Process → Bool) (told : PlainProcess → Bool) (on : ℕ → PlainProcess → Bool) (marks : List (List Bool)) (marked : IsMarked tells s.processes marks)
-    (by_slot : (slot : Option Process) → IsSome slot → tells slot ≡ told (process_face_in slot).plain) (here : (node : ℕ) (p : PlainProcess) → p.pid / 65536 ≡ node → on node p ≡ told p)
+module _ (s : Inside) (kept : IsKept s) (tells : Option Process → Bool) (told : PlainProcess → Bool) (on : ℕ
+    → PlainProcess → Bool) (marks : List (List Bool)) (marked : IsMarked tells s.processes marks)
+    (by_slot : (slot : Option Process) → IsSome slot → tells slot ≡ told (process_face_in slot).plain)
+    (here : (node : ℕ) (p : PlainProcess) → p.pid / 65536 ≡ node → on node p ≡ told p)
     (elsewhere : (node : ℕ) (p : PlainProcess) → p.pid / 65536 ≢ node → on node p ≡ false) where
   -- a process that a caller sees is marked where this is to be told of it
   marked_as : (p : StoredProcess) → IsIn p (records_shown s).processes → is_marked marks p.process.pid ≡ told p.process

@@ -18,10 +18,12 @@ use Rattle.vlm_words.specs.Keys.{is_same_key-Decides}
 use Rattle.vlm_store.specs.Store.{key_at}
 
 -- a label with this key has its hash too
-label_hashed : (hash : Key → ℕ) (label : Option HashedKey) (key : Key) → ((k : HashedKey) → label ≡ Some k → k.hash ≡ hash k.key) → option_map (λ (k : HashedKey). k.key) label ≡ Some key
+label_hashed : (hash : Key → ℕ) (label : Option HashedKey) (key : Key)
+    → ((k : HashedKey) → label ≡ Some k → k.hash ≡ hash k.key) → option_map (λ (k : HashedKey). k.key) label ≡ Some key
     → label ≡ Some (hashed hash key)
 label_hashed hash None key hashes is = absurd (none-some key is)
-label_hashed hash (Some k) key hashes is = ap (λ (n : ℕ). Some (record k { hash = n })) (hashes k refl) ∙ ap (λ (x : Key). Some (hashed hash x)) (same_Some k.key key is)
+label_hashed hash (Some k) key hashes is = ap (λ (n : ℕ). Some (record k { hash = n })) (hashes k refl)
+    ∙ ap (λ (x : Key). Some (hashed hash x)) (same_Some k.key key is)
 
 key_labelled : (slot : Option Resource) → option_map (λ (r : Resource). r.key) slot ≡ option_map (λ (k : HashedKey). k.key) (option_map hashed_in slot)
 key_labelled None = refl
@@ -46,7 +48,8 @@ module _ (hash : Key → ℕ) (x : KeyIndex) (q : Queues) (kept : IsHashed hash 
       of_other : other_of x (hashed hash key) ≡ Some at → key_at q at ≡ Some key
       of_other is = key_labelled (get q.resources at) ∙ ap (option_map (λ (k : HashedKey). k.key)) (kept.indexed.other_is (hashed hash key) at is).0
 
-      of_test : (first : ℕ) (its : Bool) → has_key key (get q.resources first) ≡ its → cond its (Some first) (other_of x (hashed hash key)) ≡ Some at → key_at q at ≡ Some key
+      of_test : (first : ℕ) (its : Bool) → has_key key (get q.resources first) ≡ its
+          → cond its (Some first) (other_of x (hashed hash key)) ≡ Some at → key_at q at ≡ Some key
       of_test first true its told = ap (key_at q) (sym (same_Some first at told)) ∙ slot_key key (get q.resources first) its
       of_test first false its told = of_other told
 
@@ -63,8 +66,11 @@ module _ (hash : Key → ℕ) (x : KeyIndex) (q : Queues) (kept : IsHashed hash 
         | inr other ↦ of_last other (last_of x (hash key))
       ]
     where
-      of_test : other_of x (hashed hash key) ≡ Some at → (first : ℕ) (its : Bool) → has_key key (get q.resources first) ≡ its → cond its (Some first) (other_of x (hashed hash key)) ≡ Some at
-      of_test other first true its = ap Some (kept.indexed.apart first at (hashed hash key) (labelled key first (slot_key key (get q.resources first) its)) (labelled key at is))
+      of_test : other_of x (hashed hash key) ≡ Some at → (first : ℕ) (its : Bool)
+          → has_key key (get q.resources first) ≡ its → cond its (Some first) (other_of x (hashed hash key)) ≡ Some at
+      of_test other first true its =
+          ap Some (kept.indexed.apart first at (hashed hash key)
+          (labelled key first (slot_key key (get q.resources first) its)) (labelled key at is))
       of_test other first false its = other
 
       of_last : other_of x (hashed hash key) ≡ Some at → (last : Option ℕ) → if_its q.resources key last (other_of x (hashed hash key)) ≡ Some at
@@ -75,7 +81,8 @@ module _ (hash : Key → ℕ) (x : KeyIndex) (q : Queues) (kept : IsHashed hash 
   by_keys = record { sound = key_found; complete = found_key }
 
 -- where no resource is found under a key, none has it with its hash
-pub fresh_label : (hash : Key → ℕ) (x : KeyIndex) (q : Queues) → IsHashed hash x (hashed_at q) → (key : Key) → found_by x q.resources (hashed hash key) ≡ None → (b : ℕ) → hashed_at q b ≢ Some (hashed hash key)
+pub fresh_label : (hash : Key → ℕ) (x : KeyIndex) (q : Queues) → IsHashed hash x (hashed_at q) → (key : Key)
+    → found_by x q.resources (hashed hash key) ≡ None → (b : ℕ) → hashed_at q b ≢ Some (hashed hash key)
 fresh_label hash x q kept key none b is =
     none-some b (sym none ∙ (by_keys hash x q kept).complete key b (key_labelled (get q.resources b) ∙ ap (option_map (λ (k : HashedKey). k.key)) is))
 
@@ -99,7 +106,8 @@ hashed_by_face None (Some r) same = cc
 hashed_by_face (Some r) None same = cc
 hashed_by_face (Some r) (Some r') same = ap (λ (f : Face). Some (record { key = f.key; hash = f.hash })) (same_Some (face_of r) (face_of r') same)
 
-pub hashed_is : (slot : Option Resource) (face : Face) → option_map face_of slot ≡ Some face → option_map hashed_in slot ≡ Some (record { key = face.key; hash = face.hash })
+pub hashed_is : (slot : Option Resource) (face : Face) → option_map face_of slot ≡ Some face
+    → option_map hashed_in slot ≡ Some (record { key = face.key; hash = face.hash })
 hashed_is None face is = cc
 hashed_is (Some r) face is = ap (λ (f : Face). Some (record { key = f.key; hash = f.hash })) (same_Some (face_of r) face is)
 
@@ -116,11 +124,13 @@ hashed_empty hash x label nothing none = record {
 }
 
 -- what is found and what is recorded stays
-pub index_same : (hash : Key → ℕ) (x x' : KeyIndex) (label label' : ℕ → Option HashedKey) → IsSame x x' → ((at : ℕ) → label' at ≡ label at) → IsHashed hash x label → IsHashed hash x' label'
+pub index_same : (hash : Key → ℕ) (x x' : KeyIndex) (label label' : ℕ → Option HashedKey) → IsSame x x'
+    → ((at : ℕ) → label' at ≡ label at) → IsHashed hash x label → IsHashed hash x' label'
 index_same hash x x' label label' same labels kept = record {
   indexed = record {
     last_is = λ n at is. (let was = kept.indexed.last_is n at (sym (same.last n) ∙ is) in (was.0, (labels at ∙ was.1.0, was.1.1)));
-    other_is = λ k at is. (let was = kept.indexed.other_is k at (sym (same.other k) ∙ is) in (labels at ∙ was.0, λ last. was.1 (sym (same.last k.hash) ∙ last)));
+    other_is = λ k at is. (let was = kept.indexed.other_is k at (sym (same.other k) ∙ is) in
+        (labels at ∙ was.0, λ last. was.1 (sym (same.last k.hash) ∙ last)));
     listed = λ at k is. elim (kept.indexed.listed at k (sym (labels at) ∙ is)) [
       | inl last ↦ inl (same.last k.hash ∙ last)
       | inr other ↦ inr (same.other k ∙ other)
@@ -130,7 +140,8 @@ index_same hash x x' label label' same labels kept = record {
   hashes = λ at k is. kept.hashes at k (sym (labels at) ∙ is);
 }
 
-pub labels_same : (hash : Key → ℕ) (x : KeyIndex) (label label' : ℕ → Option HashedKey) → ((at : ℕ) → label' at ≡ label at) → IsHashed hash x label → IsHashed hash x label'
+pub labels_same : (hash : Key → ℕ) (x : KeyIndex) (label label' : ℕ → Option HashedKey)
+    → ((at : ℕ) → label' at ≡ label at) → IsHashed hash x label → IsHashed hash x label'
 labels_same hash x label label' = index_same hash x x label label' (record { last = λ n. refl; other = λ k. refl })
 
 -- what the tests tell apart differs
@@ -147,14 +158,16 @@ hashed_cases k j = by_test (is_same_hashed k j) refl
     by_test true is = inl (sym ((is_same_hashed-Decides k j).0 is))
     by_test false is = inr is
 
-module _ (hash : Key → ℕ) (x x' : KeyIndex) (label label' : ℕ → Option HashedKey) (at : ℕ) (k : HashedKey) (rest : (other : ℕ) → other ≢ at → label' other ≡ label other) (kept : IsHashed hash x label) where
+module _ (hash : Key → ℕ) (x x' : KeyIndex) (label label' : ℕ → Option HashedKey) (at : ℕ) (k : HashedKey)
+    (rest : (other : ℕ) → other ≢ at → label' other ≡ label other) (kept : IsHashed hash x label) where
   -- what has a label that another has not is another
   differs : (label : ℕ → Option HashedKey) (b : ℕ) (j : HashedKey) → label at ≡ None → label b ≡ Some j → b ≢ at
   differs label b j none is same = none-some j (sym none ∙ ap label (sym same) ∙ is)
 
   -- ---- a resource comes
 
-  module _ (resources : Slab Resource) (enters : Enters resources at k.hash x x') (labels : (b : ℕ) → option_map hashed_in (get resources b) ≡ label' b) (was : label at ≡ None) where
+  module _ (resources : Slab Resource) (enters : Enters resources at k.hash x x') (labels : (b : ℕ)
+      → option_map hashed_in (get resources b) ≡ label' b) (was : label at ≡ None) where
     -- what the last with the same hash becomes
     record IsMoved : Type 0 where
       from : (j : HashedKey) (b : ℕ) → other_of x' j ≡ Some b → (other_of x j ≡ Some b) ⊎ ((last_of x k.hash ≡ Some b) × (label b ≡ Some j))
@@ -266,7 +279,8 @@ module _ (hash : Key → ℕ) (x x' : KeyIndex) (label label' : ℕ → Option H
     }
       where
         apart' : (a b : ℕ) (j : HashedKey) → label' a ≡ Some j → label' b ≡ Some j → a ≡ b
-        apart' a b j here there = kept.indexed.apart a b j (sym (rest a (differs label' a j gone here)) ∙ here) (sym (rest b (differs label' b j gone there)) ∙ there)
+        apart' a b j here there = kept.indexed.apart a b j (sym (rest a (differs label' a j gone here))
+            ∙ here) (sym (rest b (differs label' b j gone there)) ∙ there)
 
         -- what has another label is another
         other_one : (b : ℕ) (j : HashedKey) → label b ≡ Some j → j ≢ k → b ≢ at

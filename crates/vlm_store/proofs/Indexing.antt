@@ -7,14 +7,16 @@ use Rattle.std.proofs.lemmas.Option.{none-some, same_Some}
 use Rattle.vlm_collections.specs.Parts.{Parts, Writes, handle_in}
 use Rattle.vlm_store.specs.Index.{Indexes}
 
-pub Indexes-same : {K : Type 0} (found found' : K → Option ℕ) (label label' : ℕ → Option K) → ((k : K) → found' k ≡ found k) → ((at : ℕ) → label' at ≡ label at) → Indexes found label → Indexes found' label'
+pub Indexes-same : {K : Type 0} (found found' : K → Option ℕ) (label label' : ℕ → Option K)
+    → ((k : K) → found' k ≡ found k) → ((at : ℕ) → label' at ≡ label at) → Indexes found label → Indexes found' label'
 Indexes-same found found' label label' finds labels indexes = record {
   sound = λ k at is. labels at ∙ indexes.sound k at (sym (finds k) ∙ is);
   complete = λ k at is. finds k ∙ indexes.complete k at (sym (labels at) ∙ is);
 }
 
 -- what is found of one key changes, as its record comes or goes
-module _ {K : Type 0} (eq : K → K → Bool) (decides : (a b : K) → Decides (eq a b) (a ≡ b)) (found found' : K → Option ℕ) (key : K) (label label' : ℕ → Option K) (at : ℕ)
+module _ {K : Type 0} (eq : K → K → Bool) (decides : (a b : K) → Decides (eq a b) (a ≡ b)) (found found' : K
+    → Option ℕ) (key : K) (label label' : ℕ → Option K) (at : ℕ)
     (rest : (k : K) → eq key k ≡ false → found' k ≡ found k) (others : (other : ℕ) → other ≢ at → label' other ≡ label other) where
   key_cases : (k : K) → (k ≡ key) ⊎ (eq key k ≡ false)
   key_cases k = by_test (eq key k) refl
@@ -74,7 +76,9 @@ module _ {K : Type 0} (eq : K → K → Bool) (decides : (a b : K) → Decides (
       true_false e = cc
 
 -- what is found of the other numbers, by the test that tells them apart
-others_apart : (found found' : ℕ → Option ℕ) (number : ℕ) → ((other : ℕ) → ¬ (other ≡ number) → found' other ≡ found other) → (k : ℕ) → nat_eq number k ≡ false → found' k ≡ found k
+others_apart : (found found' : ℕ → Option ℕ) (number : ℕ)
+    → ((other : ℕ) → ¬ (other ≡ number) → found' other ≡ found other) → (k : ℕ) → nat_eq number k ≡ false
+    → found' k ≡ found k
 others_apart found found' number others k differs = others k (λ same. true_false (sym ((unsigned_Decides number k).1 (sym same)) ∙ differs))
   where
     true_false : true ≡ false → ⊥
@@ -82,12 +86,15 @@ others_apart found found' number others k differs = others k (λ same. true_fals
 
 -- in an index in parts
 module _ (parts parts' : Parts) (number : ℕ) (label label' : ℕ → Option ℕ) (at : ℕ) where
-  pub Indexes-added : Writes number (Some at) parts parts' → label at ≡ None → label' at ≡ Some number → ((other : ℕ) → other ≢ at → label' other ≡ label other) → handle_in parts number ≡ None
+  pub Indexes-added : Writes number (Some at) parts parts' → label at ≡ None → label' at ≡ Some number
+      → ((other : ℕ) → other ≢ at → label' other ≡ label other) → handle_in parts number ≡ None
       → Indexes (handle_in parts) label → Indexes (handle_in parts') label'
   Indexes-added writes was is others =
-      found_added nat_eq unsigned_Decides (handle_in parts) (handle_in parts') number label label' at (others_apart (handle_in parts) (handle_in parts') number writes.others) others writes.this was is
+      found_added nat_eq unsigned_Decides (handle_in parts) (handle_in parts') number label label' at
+      (others_apart (handle_in parts) (handle_in parts') number writes.others) others writes.this was is
 
   pub Indexes-removed : Writes number None parts parts' → label at ≡ Some number → label' at ≡ None → ((other : ℕ) → other ≢ at → label' other ≡ label other)
       → Indexes (handle_in parts) label → Indexes (handle_in parts') label'
   Indexes-removed writes was is others =
-      found_removed nat_eq unsigned_Decides (handle_in parts) (handle_in parts') number label label' at (others_apart (handle_in parts) (handle_in parts') number writes.others) others writes.this was is
+      found_removed nat_eq unsigned_Decides (handle_in parts) (handle_in parts') number label label' at
+      (others_apart (handle_in parts) (handle_in parts') number writes.others) others writes.this was is

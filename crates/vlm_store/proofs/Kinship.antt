@@ -10,22 +10,25 @@ use Rattle.vlm_collections.specs.declared.lists.LinkedList.{LinkedList}
 use Rattle.vlm_collections.specs.Lists.{IsIn, IsLinked, Relinks, handles_of, next_in, prev_in}
 use Rattle.vlm_collections.proofs.Keeping.{relinked_same}
 use Rattle.vlm_collections.proofs.Rings.{kept-handles, kept-linked}
-use Rattle.vlm_words.specs.declared.locks.LockRow.{LockRow}
+use Rattle.vlm_words.specs.declared.locks.LockState.{LockState}
 use Rattle.vlm_records.specs.declared.handles.Place.{Place}
 use Rattle.vlm_records.specs.declared.locks.Lock.{Lock}
 use Rattle.vlm_records.specs.declared.processes.Process.{Process}
 use Rattle.vlm_records.specs.declared.queues.Queues.{Queues}
 use Rattle.vlm_records.specs.declared.resources.InOrder.{InOrder}
 use Rattle.vlm_store.specs.Records.{IsSameLock, StoredProcess}
-use Rattle.vlm_records.specs.Shown.{IsPlaced, IsTallied, SameBut, but_kin, but_queued, handles_at, lkid_of, named_row, noted_in, queue_links, row_in, is_loose_in, loose_in}
-use Rattle.vlm_records.specs.Kin.{IsBelow, IsNamed, IsOwned, NamesParent, OwnerFits, ParentFits, below_in, below_handles, below_links, below_list, but_below, but_own, lasting_part, own_handles, own_links, own_list, owner_in, parent_in, pid_of, process_links, with_own_links}
+use Rattle.vlm_records.specs.Shown.{IsPlaced, IsTallied, SameBut, but_kin, but_queued, handles_at, lkid_of, named_row}
+use Rattle.vlm_records.specs.Shown.{noted_in, queue_links, row_in, is_loose_in, loose_in}
+use Rattle.vlm_records.specs.Kin.{IsBelow, IsNamed, IsOwned, NamesParent, OwnerFits, ParentFits, below_in}
+use Rattle.vlm_records.specs.Kin.{below_handles, below_links, below_list, but_below, but_own, lasting_part, own_handles}
+use Rattle.vlm_records.specs.Kin.{own_links, own_list, owner_in, parent_in, pid_of, process_links, with_own_links}
 use Rattle.vlm_store.specs.Holdings.{holding, process_face_in, processes_of}
 use Rattle.vlm_store.specs.Store.{Beside, Layout, records_of, tables}
 use Rattle.vlm_records.specs.Tallies.{weight_of}
 use Rattle.vlm_records.proofs.Counting.{shares_same}
 use Rattle.vlm_records.proofs.Families.{family-kept, family-handles}
 use Rattle.vlm_store.proofs.Members.{processes_same}
-use Rattle.vlm_records.proofs.Places.{by_part, kept_handles, kept_placed, lists_same, lkid_told, named-queued, there_through, through}
+use Rattle.vlm_records.proofs.PlacesOnLists.{by_part, kept_handles, kept_placed, lists_same, lkid_told, named-queued, there_through, through}
 
 -- the processes that a caller sees
 pub records_processes : (l : Layout) → (records_of l).processes ≡ l.processes
@@ -37,8 +40,14 @@ unfolding records_of
 records_keys l = refl
 
 -- the processes change, and nothing else
-pub processes_changed : (q : Queues) (order : LinkedList InOrder) (old new : Beside) (changed : List StoredProcess → List StoredProcess) → new.processes ≡ changed old.processes
-    → new.keys ≡ old.keys → records_of (tables q order new) ≡ record (records_of (tables q order old)) { processes = changed (records_of (tables q order old)).processes; room = (records_of (tables q order new)).room }
+pub processes_changed : (q : Queues) (order : LinkedList InOrder) (old new : Beside) (changed : List StoredProcess
+    → List StoredProcess) → new.processes ≡ changed old.processes
+    → new.keys ≡ old.keys
+    → records_of (tables q order new) ≡ record (records_of (tables q order old)) {
+      processes =
+          changed (records_of (tables q order old)).processes;
+      room = (records_of (tables q order new)).room;
+    }
 unfolding records_of
 processes_changed q order old new changed is keys =
     ap (λ ps. records_of (tables q order (record { processes = ps; room = new.room; keys = new.keys }))) is
@@ -81,7 +90,9 @@ lkid-queued (Some l) = refl
 -- ---- what the row of a lock names
 
 -- what fits one record fits another that tells the same names
-pub owner_fits : (processes processes' : Slab Process) → ((p : ℕ) → option_map pid_of (get processes' p) ≡ option_map pid_of (get processes p)) → (a b : Option Lock) → option_map lasting_part a ≡ option_map lasting_part b
+pub owner_fits : (processes processes' : Slab Process)
+    → ((p : ℕ) → option_map pid_of (get processes' p) ≡ option_map pid_of (get processes p)) → (a b : Option Lock)
+    → option_map lasting_part a ≡ option_map lasting_part b
     → OwnerFits processes b → OwnerFits processes' a
 owner_fits processes processes' pids None b same fits = tt
 owner_fits processes processes' pids (Some l) None same fits = cc
@@ -89,11 +100,14 @@ owner_fits processes processes' pids (Some l) (Some l') same fits =
     let is : lasting_part l ≡ lasting_part l' = same_Some (lasting_part l) (lasting_part l') same in
     pids l.owner ∙ ap (λ (x : Lock). option_map pid_of (get processes x.owner)) is ∙ fits ∙ sym (ap (λ (x : Lock). Some x.row.pid) is)
 
-names_parent : (locks locks' : Slab Lock) (parent : Option ℕ) (lkid : ℕ) → ((k : ℕ) → parent ≡ Some k → option_map lkid_of (get locks' k) ≡ option_map lkid_of (get locks k)) → NamesParent locks parent lkid → NamesParent locks' parent lkid
+names_parent : (locks locks' : Slab Lock) (parent : Option ℕ) (lkid : ℕ)
+    → ((k : ℕ) → parent ≡ Some k → option_map lkid_of (get locks' k) ≡ option_map lkid_of (get locks k))
+    → NamesParent locks parent lkid → NamesParent locks' parent lkid
 names_parent locks locks' None lkid same names = names
 names_parent locks locks' (Some k) lkid same names = same k refl ∙ names
 
-pub parent_fits : (locks locks' : Slab Lock) (a b : Option Lock) → option_map lasting_part a ≡ option_map lasting_part b → ((k : ℕ) → parent_in b ≡ Some k → option_map lkid_of (get locks' k) ≡ option_map lkid_of (get locks k))
+pub parent_fits : (locks locks' : Slab Lock) (a b : Option Lock) → option_map lasting_part a ≡ option_map lasting_part b
+    → ((k : ℕ) → parent_in b ≡ Some k → option_map lkid_of (get locks' k) ≡ option_map lkid_of (get locks k))
     → ParentFits locks b → ParentFits locks' a
 parent_fits locks locks' None b same lkids fits = tt
 parent_fits locks locks' (Some l) None same lkids fits = cc
@@ -108,7 +122,9 @@ lkid-named (Some l) = refl
 pub lkids_named : (locks locks' : Slab Lock) → SameBut lasting_part locks locks' → SameBut lkid_of locks locks'
 lkids_named locks locks' same k = by_part lasting_part (option_map lkid_of) lkid-named (get locks' k) (get locks k) (same k)
 
-pub named-kept : (processes processes' : Slab Process) (locks locks' : Slab Lock) → ((p : ℕ) → option_map pid_of (get processes' p) ≡ option_map pid_of (get processes p)) → SameBut lasting_part locks locks'
+pub named-kept : (processes processes' : Slab Process) (locks locks' : Slab Lock)
+    → ((p : ℕ) → option_map pid_of (get processes' p) ≡ option_map pid_of (get processes p))
+    → SameBut lasting_part locks locks'
     → IsNamed processes locks → IsNamed processes' locks'
 named-kept processes processes' locks locks' pids same named = record {
   owners = λ at. owner_fits processes processes' pids (get locks' at) (get locks at) (same at) (named.owners at);
@@ -116,7 +132,8 @@ named-kept processes processes' locks locks' pids same named = record {
 }
 
 -- a lock comes that names a process and a parent that are there
-pub named-added : (processes : Slab Process) (locks locks' : Slab Lock) (at : ℕ) → get locks at ≡ None → ((k : ℕ) → k ≢ at → option_map lasting_part (get locks' k) ≡ option_map lasting_part (get locks k))
+pub named-added : (processes : Slab Process) (locks locks' : Slab Lock) (at : ℕ) → get locks at ≡ None
+    → ((k : ℕ) → k ≢ at → option_map lasting_part (get locks' k) ≡ option_map lasting_part (get locks k))
     → OwnerFits processes (get locks' at) → ParentFits locks' (get locks' at) → IsNamed processes locks → IsNamed processes locks'
 named-added processes locks locks' at fresh same owner parent named = record {
   owners = λ k. elim (cases k) [
@@ -125,7 +142,8 @@ named-added processes locks locks' at fresh same owner parent named = record {
   ];
   parents = λ k. elim (cases k) [
     | inl is ↦ subst (λ x. ParentFits locks' (get locks' x)) (sym is) parent
-    | inr differs ↦ parent_fits locks locks' (get locks' k) (get locks k) (same k differs) (λ up noted. lkid_stays up (was_there (get locks k) up (named.parents k) noted)) (named.parents k)
+    | inr differs ↦ parent_fits locks locks' (get locks' k) (get locks k) (same k differs)
+        (λ up noted. lkid_stays up (was_there (get locks k) up (named.parents k) noted)) (named.parents k)
   ];
 }
   where
@@ -142,8 +160,10 @@ named-added processes locks locks' at fresh same owner parent named = record {
         (same up (λ is. let nothing : IsSome {T = Lock} None = rw (ap (get locks) is ∙ fresh) at there in absurd (cc)))
 
 -- a lock goes below which no other stands
-pub named-removed : (processes processes' : Slab Process) (locks locks' : Slab Lock) (at : ℕ) → get locks' at ≡ None → ((p : ℕ) → option_map pid_of (get processes' p) ≡ option_map pid_of (get processes p))
-    → ((k : ℕ) → k ≢ at → option_map lasting_part (get locks' k) ≡ option_map lasting_part (get locks k)) → ((k : ℕ) → parent_in (get locks k) ≢ Some at) → IsNamed processes locks → IsNamed processes' locks'
+pub named-removed : (processes processes' : Slab Process) (locks locks' : Slab Lock) (at : ℕ) → get locks' at ≡ None
+    → ((p : ℕ) → option_map pid_of (get processes' p) ≡ option_map pid_of (get processes p))
+    → ((k : ℕ) → k ≢ at → option_map lasting_part (get locks' k) ≡ option_map lasting_part (get locks k))
+    → ((k : ℕ) → parent_in (get locks k) ≢ Some at) → IsNamed processes locks → IsNamed processes' locks'
 named-removed processes processes' locks locks' at gone pids same childless named = record {
   owners = λ k. elim (cases_eq k at) [
     | inl is ↦ subst (OwnerFits processes') (sym (ap (get locks') is ∙ gone)) tt
@@ -153,7 +173,8 @@ named-removed processes processes' locks locks' at gone pids same childless name
     | inl is ↦ subst (ParentFits locks') (sym (ap (get locks') is ∙ gone)) tt
     | inr differs ↦
         parent_fits locks locks' (get locks' k) (get locks k) (same k differs)
-        (λ up noted. by_part lasting_part (option_map lkid_of) lkid-named (get locks' up) (get locks up) (same up (λ is. childless k (noted ∙ ap Some is)))) (named.parents k)
+        (λ up noted. by_part lasting_part (option_map lkid_of) lkid-named (get locks' up) (get locks up)
+        (same up (λ is. childless k (noted ∙ ap Some is)))) (named.parents k)
   ];
 }
 
@@ -170,34 +191,46 @@ module _ (processes : Slab Process) (locks locks' : Slab Lock) (same : SameBut b
   module _ (out : Option ℕ) where
     pub queued_owned : IsOwned processes locks out → IsOwned processes locks' out
     queued_owned owned =
-        family-kept own_links owner_in locks (own_list processes) out owned locks' (own_list processes) (λ p. refl) (λ i k _. through but_queued (next_in own_links) own_next-queued locks locks' same k)
-        (λ i k _. through but_queued (prev_in own_links) own_prev-queued locks locks' same k) (λ i k _. there_through but_queued locks locks' same k) (through but_queued owner_in owner-queued locks locks' same)
+        family-kept own_links owner_in locks (own_list processes) out owned locks' (own_list processes) (λ p. refl)
+        (λ i k _. through but_queued (next_in own_links) own_next-queued locks locks' same k)
+        (λ i k _. through but_queued (prev_in own_links) own_prev-queued locks locks' same k)
+        (λ i k _. there_through but_queued locks locks' same k)
+        (through but_queued owner_in owner-queued locks locks' same)
 
     pub queued_below : IsBelow locks out → IsBelow locks' out
     queued_below below =
-        family-kept below_links parent_in locks (below_list locks) out below locks' (below_list locks') below_lists (λ i k _. through but_queued (next_in below_links) below_next-queued locks locks' same k)
-        (λ i k _. through but_queued (prev_in below_links) below_prev-queued locks locks' same k) (λ i k _. there_through but_queued locks locks' same k) (through but_queued parent_in parent-queued locks locks' same)
+        family-kept below_links parent_in locks (below_list locks) out below locks' (below_list locks') below_lists
+        (λ i k _. through but_queued (next_in below_links) below_next-queued locks locks' same k)
+        (λ i k _. through but_queued (prev_in below_links) below_prev-queued locks locks' same k)
+        (λ i k _. there_through but_queued locks locks' same k)
+        (through but_queued parent_in parent-queued locks locks' same)
 
     pub queued_own_handles : IsOwned processes locks out → (p : ℕ) → own_handles processes locks' p ≡ own_handles processes locks p
     queued_own_handles owned =
-        family-handles own_links owner_in locks (own_list processes) out owned locks' (own_list processes) (λ p. refl) (λ i k _. through but_queued (next_in own_links) own_next-queued locks locks' same k)
+        family-handles own_links owner_in locks (own_list processes) out owned locks' (own_list processes) (λ p. refl)
+        (λ i k _. through but_queued (next_in own_links) own_next-queued locks locks' same k)
         (λ i k _. through but_queued (prev_in own_links) own_prev-queued locks locks' same k) (λ i k _. there_through but_queued locks locks' same k)
 
     pub queued_below_handles : IsBelow locks out → (k : ℕ) → below_handles locks' k ≡ below_handles locks k
     queued_below_handles below =
-        family-handles below_links parent_in locks (below_list locks) out below locks' (below_list locks') below_lists (λ i k _. through but_queued (next_in below_links) below_next-queued locks locks' same k)
+        family-handles below_links parent_in locks (below_list locks) out below locks' (below_list locks') below_lists
+        (λ i k _. through but_queued (next_in below_links) below_next-queued locks locks' same k)
         (λ i k _. through but_queued (prev_in below_links) below_prev-queued locks locks' same k) (λ i k _. there_through but_queued locks locks' same k)
 
   pub queued_named : IsNamed processes locks → IsNamed processes locks'
-  queued_named = named-kept processes processes locks locks' (λ p. refl) (λ k. by_part but_queued (option_map lasting_part) named-queued (get locks' k) (get locks k) (same k))
+  queued_named = named-kept processes processes locks locks' (λ p. refl)
+      (λ k. by_part but_queued (option_map lasting_part) named-queued (get locks' k) (get locks k) (same k))
 
   pub queued_lkids : SameBut lkid_of locks locks'
   queued_lkids = through but_queued (option_map lkid_of) lkid-queued locks locks' same
 
   -- a caller sees the same of processes
-  pub queued_processes : (order : LinkedList InOrder) → ((k : ℕ) → loose_in (get locks' k) ≡ loose_in (get locks k)) → IsOwned processes locks None → IsBelow locks None → processes_of (holding processes locks' order) ≡ processes_of (holding processes locks order)
+  pub queued_processes : (order : LinkedList InOrder) → ((k : ℕ) → loose_in (get locks' k) ≡ loose_in (get locks k))
+      → IsOwned processes locks None → IsBelow locks None
+      → processes_of (holding processes locks' order) ≡ processes_of (holding processes locks order)
   queued_processes order loose owned below =
-      processes_same (holding processes locks order) (holding processes locks' order) (queued_below_handles None below) loose (λ p. refl) (queued_own_handles None owned) refl
+      processes_same (holding processes locks order) (holding processes locks' order)
+      (queued_below_handles None below) loose (λ p. refl) (queued_own_handles None owned) refl
 
 -- ---- loose locks
 
@@ -228,7 +261,7 @@ noted_not_loose (Some l) place notes = of_flag l.loose notes
     of_flag false is = refl
 
 -- a loose lock is there, with its row
-pub loose_told : (slot : Option Lock) (row : LockRow) → loose_in slot ≡ Some row → IsSome slot × (is_loose_in slot ≡ true) × (row_in slot ≡ row)
+pub loose_told : (slot : Option Lock) (row : LockState) → loose_in slot ≡ Some row → IsSome slot × (is_loose_in slot ≡ true) × (row_in slot ≡ row)
 loose_told None row is = absurd (none-some row is)
 loose_told (Some l) row is = of_flag l.loose is
   where
@@ -237,10 +270,12 @@ loose_told (Some l) row is = of_flag l.loose is
     of_flag false is = absurd (none-some row is)
 
 -- where one lock changes that is not loose
-pub loose_but : (old new : Slab Lock) (at : ℕ) → ((k : ℕ) → is_loose_in (get new k) ≡ is_loose_in (get old k)) → is_loose_in (get old at) ≡ false → ((k : ℕ) → k ≢ at → row_in (get new k) ≡ row_in (get old k))
+pub loose_but : (old new : Slab Lock) (at : ℕ) → ((k : ℕ) → is_loose_in (get new k) ≡ is_loose_in (get old k))
+    → is_loose_in (get old at) ≡ false → ((k : ℕ) → k ≢ at → row_in (get new k) ≡ row_in (get old k))
     → (k : ℕ) → loose_in (get new k) ≡ loose_in (get old k)
 loose_but old new at flags queued rows k =
-    loose_still (get new k) (get old k) (flags k) (λ loose. rows k (λ same. let clash : true ≡ false = sym loose ∙ ap (λ x. is_loose_in (get old x)) same ∙ queued in absurd (cc)))
+    loose_still (get new k) (get old k) (flags k) (λ loose. rows k (λ same. let clash : true ≡ false = sym loose
+    ∙ ap (λ x. is_loose_in (get old x)) same ∙ queued in absurd (cc)))
 
 pub loose_there : (slot : Option Lock) → is_loose_in slot ≡ true → loose_in slot ≡ Some (row_in slot)
 loose_there slot loose = loose_as slot ∙ ap (λ b. cond b (Some (row_in slot)) None) loose
@@ -287,17 +322,22 @@ module _ (q : Queues) (locks' : Slab Lock) (same : SameBut but_kin q.locks locks
   module _ (placed : IsPlaced q None) where
     pub kin_handles : (p : Place) → handles_at (record q { locks = locks' }) p ≡ handles_at q p
     kin_handles =
-        kept_handles q None placed (record q { locks = locks' }) (lists_same q (record q { locks = locks' }) refl) (through but_kin (next_in queue_links) next-kin q.locks locks' same)
+        kept_handles q None placed (record q { locks = locks' }) (lists_same q (record q { locks = locks' }) refl)
+        (through but_kin (next_in queue_links) next-kin q.locks locks' same)
         (through but_kin (prev_in queue_links) prev-kin q.locks locks' same) (there_through but_kin q.locks locks' same)
 
     pub kin_placed : IsPlaced (record q { locks = locks' }) None
     kin_placed =
-        kept_placed q None placed (record q { locks = locks' }) (lists_same q (record q { locks = locks' }) refl) (through but_kin (next_in queue_links) next-kin q.locks locks' same)
-        (through but_kin (prev_in queue_links) prev-kin q.locks locks' same) (there_through but_kin q.locks locks' same) (through but_kin noted_in noted-kin q.locks locks' same)
+        kept_placed q None placed (record q { locks = locks' }) (lists_same q (record q { locks = locks' }) refl)
+        (through but_kin (next_in queue_links) next-kin q.locks locks' same)
+        (through but_kin (prev_in queue_links) prev-kin q.locks locks' same) (there_through but_kin q.locks locks' same)
+        (through but_kin noted_in noted-kin q.locks locks' same)
 
     pub kin_tallied : IsTallied q None → IsTallied (record q { locks = locks' }) None
     kin_tallied tallied = record {
-      counts = λ count r mode. tallied.counts count r mode ∙ sym (shares_same q (record q { locks = locks' }) (weight_of count mode) None r kin_handles (λ k _. kin_rows k));
+      counts = λ count r mode. tallied.counts count r mode
+          ∙ sym (shares_same q (record q { locks = locks' }) (weight_of count mode) None r kin_handles
+          (λ k _. kin_rows k));
     }
 
 -- the locks of a process are relinked
@@ -320,12 +360,14 @@ module _ (locks locks' : Slab Lock) (relinks : Relinks with_own_links locks lock
   module _ (out : Option ℕ) (below : IsBelow locks out) where
     pub own_below : IsBelow locks' out
     own_below =
-        family-kept below_links parent_in locks (below_list locks) out below locks' (below_list locks') below_heads (λ i k _. below_next k) (λ i k _. below_prev k) (λ i k _. there_through but_kin locks locks' own_kin k)
+        family-kept below_links parent_in locks (below_list locks) out below locks' (below_list locks') below_heads
+        (λ i k _. below_next k) (λ i k _. below_prev k) (λ i k _. there_through but_kin locks locks' own_kin k)
         (relinked_same with_own_links parent_in (λ l pair. refl) locks locks' relinks)
 
     pub own_below_handles : (k : ℕ) → below_handles locks' k ≡ below_handles locks k
     own_below_handles =
-        family-handles below_links parent_in locks (below_list locks) out below locks' (below_list locks') below_heads (λ i k _. below_next k) (λ i k _. below_prev k) (λ i k _. there_through but_kin locks locks' own_kin k)
+        family-handles below_links parent_in locks (below_list locks) out below locks' (below_list locks') below_heads
+        (λ i k _. below_next k) (λ i k _. below_prev k) (λ i k _. there_through but_kin locks locks' own_kin k)
 
 -- the locks below a parent are relinked
 own_next-below : (slot : Option Lock) → next_in own_links (option_map but_below slot) ≡ next_in own_links slot
@@ -358,12 +400,16 @@ module _ (processes : Slab Process) (locks locks' : Slab Lock) (same : SameBut b
   module _ (out : Option ℕ) (owned : IsOwned processes locks out) where
     pub below_owned : IsOwned processes locks' out
     below_owned =
-        family-kept own_links owner_in locks (own_list processes) out owned locks' (own_list processes) (λ p. refl) (λ i k _. through but_below (next_in own_links) own_next-below locks locks' same k)
-        (λ i k _. through but_below (prev_in own_links) own_prev-below locks locks' same k) (λ i k _. there_through but_below locks locks' same k) (through but_below owner_in owner-below locks locks' same)
+        family-kept own_links owner_in locks (own_list processes) out owned locks' (own_list processes) (λ p. refl)
+        (λ i k _. through but_below (next_in own_links) own_next-below locks locks' same k)
+        (λ i k _. through but_below (prev_in own_links) own_prev-below locks locks' same k)
+        (λ i k _. there_through but_below locks locks' same k)
+        (through but_below owner_in owner-below locks locks' same)
 
     pub below_own_handles : (p : ℕ) → own_handles processes locks' p ≡ own_handles processes locks p
     below_own_handles =
-        family-handles own_links owner_in locks (own_list processes) out owned locks' (own_list processes) (λ p. refl) (λ i k _. through but_below (next_in own_links) own_next-below locks locks' same k)
+        family-handles own_links owner_in locks (own_list processes) out owned locks' (own_list processes) (λ p. refl)
+        (λ i k _. through but_below (next_in own_links) own_next-below locks locks' same k)
         (λ i k _. through but_below (prev_in own_links) own_prev-below locks locks' same k) (λ i k _. there_through but_below locks locks' same k)
 
 -- processes keep their order where their locks are written
@@ -375,7 +421,8 @@ process_prev-own : (slot : Option Process) → prev_in process_links (option_map
 process_prev-own None = refl
 process_prev-own (Some p) = refl
 
-module _ (processes processes' : Slab Process) (same : SameBut but_own processes processes') (order : LinkedList InOrder) (linked : IsLinked process_links processes order) where
+module _ (processes processes' : Slab Process) (same : SameBut but_own processes processes')
+    (order : LinkedList InOrder) (linked : IsLinked process_links processes order) where
   pub own_process_handles : handles_of process_links processes' order ≡ handles_of process_links processes order
   own_process_handles =
       kept-handles process_links processes processes' order linked (λ p _. through but_own (next_in process_links) process_next-own processes processes' same p)
@@ -386,8 +433,11 @@ module _ (processes processes' : Slab Process) (same : SameBut but_own processes
       kept-linked process_links processes processes' order linked (λ p _. through but_own (next_in process_links) process_next-own processes processes' same p)
       (λ p _. through but_own (prev_in process_links) process_prev-own processes processes' same p) (λ p _. there_through but_own processes processes' same p)
 
-  pub own_process_whole : ((p : ℕ) → ContainsKey processes p → IsIn p (handles_of process_links processes order)) → (p : ℕ) → ContainsKey processes' p → IsIn p (handles_of process_links processes' order)
-  own_process_whole ordered p there = subst (IsIn p) (sym own_process_handles) (ordered p (there_through but_own processes' processes (λ k. sym (same k)) p there))
+  pub own_process_whole : ((p : ℕ) → ContainsKey processes p → IsIn p (handles_of process_links processes order))
+      → (p : ℕ) → ContainsKey processes' p → IsIn p (handles_of process_links processes' order)
+  own_process_whole ordered p there =
+      subst (IsIn p) (sym own_process_handles)
+      (ordered p (there_through but_own processes' processes (λ k. sym (same k)) p there))
 
 -- what processes tell stays where their locks are written
 face-own : (slot : Option Process) → process_face_in (option_map but_own slot) ≡ process_face_in slot
@@ -406,5 +456,5 @@ module _ (processes processes' : Slab Process) (same : SameBut but_own processes
   own_pids = through but_own (option_map pid_of) pid-own processes processes' same
 
 -- two rows of one lock name the same
-pub named_same : (a b : LockRow) → IsSameLock a b → named_row a ≡ named_row b
+pub named_same : (a b : LockState) → IsSameLock a b → named_row a ≡ named_row b
 named_same a b same = rw (same.lkid, same.pid, same.parent) refl

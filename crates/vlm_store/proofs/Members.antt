@@ -1,5 +1,6 @@
 -- What a caller sees of the processes and their locks, and how it changes as the tables do.
-use Rattle.std.proofs.Common.{◌≡◌, ◌≢◌, ℕ, true, false, cond, List, [], ◌∷◌, ◌++◌, map, filter, not, Option, None, Some, IsSome, slice_get, refl, sym, ap, ◌∙◌, subst, inl, inr, eq-eqb, ne_eqb, ◌⊎◌}
+use Rattle.std.proofs.Common.{◌≡◌, ◌≢◌, ℕ, true, false, cond, List, [], ◌∷◌, ◌++◌, map, filter, not, Option, None, Some}
+use Rattle.std.proofs.Common.{IsSome, slice_get, refl, sym, ap, ◌∙◌, subst, inl, inr, eq-eqb, ne_eqb, ◌⊎◌}
 use Rattle.std.specs.Prelude.{◌==◌, if◌then◌else◌}
 use Rattle.std.proofs.lemmas.Bool.{cases_eq}
 use Rattle.std.specs.Option.{option_map}
@@ -7,9 +8,11 @@ use Rattle.std.proofs.lemmas.Option.{same_Some, slice_get-map}
 use Rattle.vlm_collections.specs.Lists.{IsApart, IsIn, first_handle, handle_after, without}
 use Rattle.vlm_collections.proofs.Images.{IsIn-image, IsIn-told}
 use Rattle.vlm_collections.proofs.HandleLists.{without_head, without_past}
-use Rattle.vlm_store.specs.Records.{AreProcessesApart, OwnLock, StoredProcess, new_own, on_stored, process_after, process_at, process_with_lock, process_without_lock, with_sublock, without_process, without_sublock, process_with_loose, with_loose}
+use Rattle.vlm_store.specs.Records.{AreProcessesApart, OwnLock, StoredProcess, new_own, on_stored, process_after}
+use Rattle.vlm_store.specs.Records.{process_at, process_with_lock, process_without_lock, with_sublock, without_process}
+use Rattle.vlm_store.specs.Records.{without_sublock, process_with_loose, with_loose}
 use Rattle.vlm_store.specs.Holdings.{Holding, faced, own_of, process_under, processes_of}
-use Rattle.vlm_words.specs.declared.locks.LockRow.{LockRow}
+use Rattle.vlm_words.specs.declared.locks.LockState.{LockState}
 
 -- ---- what is seen
 
@@ -56,13 +59,16 @@ process_seen h at found = among_process h h.order at found
 -- the locks of a process that a caller sees
 pub own_among : (h : Holding) (ks : List ℕ) (own : OwnLock) → IsIn own (map (own_of h) ks)
     → IsIn own.at ks × (h.below own.at ≡ own.sublocks) × (h.loose own.at ≡ own.loose)
-own_among h ks own found = let of = IsIn-told (own_of h) (λ (x : OwnLock). x.at) (λ k. refl) ks own found in (of.0, ap (λ (x : OwnLock). x.sublocks) of.1, ap (λ (x : OwnLock). x.loose) of.1)
+own_among h ks own found = let of = IsIn-told (own_of h) (λ (x : OwnLock). x.at) (λ k. refl) ks own found in
+    (of.0, ap (λ (x : OwnLock). x.sublocks) of.1, ap (λ (x : OwnLock). x.loose) of.1)
 
 pub among_own : (h : Holding) (ks : List ℕ) (at : ℕ) → IsIn at ks → IsIn (own_of h at) (map (own_of h) ks)
 among_own h = IsIn-image (own_of h)
 
--- handles and identifications are apart
-processes_apart : (h : Holding) (ps : List ℕ) → IsApart ps → ((a b : ℕ) → IsIn a ps → IsIn b ps → (h.faces a).plain.pid ≡ (h.faces b).plain.pid → a ≡ b) → AreProcessesApart (map (process_under h) ps)
+-- handles and IDs are apart
+processes_apart : (h : Holding) (ps : List ℕ) → IsApart ps
+    → ((a b : ℕ) → IsIn a ps → IsIn b ps → (h.faces a).plain.pid ≡ (h.faces b).plain.pid → a ≡ b)
+    → AreProcessesApart (map (process_under h) ps)
 processes_apart h [] apart pids = tt
 processes_apart h (x ∷ ps) apart pids = (
   λ other found.
@@ -72,13 +78,16 @@ processes_apart h (x ∷ ps) apart pids = (
   processes_apart h ps apart.1 (λ a b here there. pids a b (inr here) (inr there)),
 )
 
-pub AreProcessesApart-processes_of : (h : Holding) → IsApart h.order → ((a b : ℕ) → IsIn a h.order → IsIn b h.order → (h.faces a).plain.pid ≡ (h.faces b).plain.pid → a ≡ b) → AreProcessesApart (processes_of h)
+pub AreProcessesApart-processes_of : (h : Holding) → IsApart h.order
+    → ((a b : ℕ) → IsIn a h.order → IsIn b h.order → (h.faces a).plain.pid ≡ (h.faces b).plain.pid → a ≡ b)
+    → AreProcessesApart (processes_of h)
 unfolding processes_of
 AreProcessesApart-processes_of h apart pids = processes_apart h h.order apart pids
 
 -- ---- how it changes
 
-own_map : (old new : Holding) → ((k : ℕ) → new.below k ≡ old.below k) → ((k : ℕ) → new.loose k ≡ old.loose k) → (ks : List ℕ) → map (own_of new) ks ≡ map (own_of old) ks
+own_map : (old new : Holding) → ((k : ℕ) → new.below k ≡ old.below k) → ((k : ℕ) → new.loose k ≡ old.loose k)
+    → (ks : List ℕ) → map (own_of new) ks ≡ map (own_of old) ks
 own_map old new below loose [] = refl
 own_map old new below loose (k ∷ ks) =
     ap (λ b. record { at = k; sublocks = b; loose = new.loose k } ∷ map (own_of new) ks) (below k)
@@ -101,7 +110,8 @@ module _ (old new : Holding) (below : (k : ℕ) → new.below k ≡ old.below k)
       each (p ∷ ps) = ap (λ x. x ∷ map (process_under new) ps) (process_same p (faces p) (own p)) ∙ ap (λ rest. process_under old p ∷ rest) (each ps)
 
   -- a process is made
-  pub process_made : (at : ℕ) (made : StoredProcess) → ((p : ℕ) → p ≢ at → new.faces p ≡ old.faces p) → ((p : ℕ) → p ≢ at → new.own p ≡ old.own p) → ¬ IsIn at old.order
+  pub process_made : (at : ℕ) (made : StoredProcess) → ((p : ℕ) → p ≢ at → new.faces p ≡ old.faces p)
+      → ((p : ℕ) → p ≢ at → new.own p ≡ old.own p) → ¬ IsIn at old.order
       → new.order ≡ old.order ++ at ∷ [] → process_under new at ≡ made → processes_of new ≡ processes_of old ++ made ∷ []
   unfolding processes_of
   process_made at made faces own absent order is = ap (map (process_under new)) order ∙ each old.order absent
@@ -110,10 +120,12 @@ module _ (old new : Holding) (below : (k : ℕ) → new.below k ≡ old.below k)
       each [] absent = ap (λ x. x ∷ []) is
       each (p ∷ ps) absent =
           let differs : p ≢ at = λ same. absent (inl same) in
-          ap (λ x. x ∷ map (process_under new) (ps ++ at ∷ [])) (process_same p (faces p differs) (own p differs)) ∙ ap (λ rest. process_under old p ∷ rest) (each ps (λ there. absent (inr there)))
+          ap (λ x. x ∷ map (process_under new) (ps ++ at ∷ [])) (process_same p (faces p differs) (own p differs))
+          ∙ ap (λ rest. process_under old p ∷ rest) (each ps (λ there. absent (inr there)))
 
   -- a process is removed
-  pub process_removed : (at : ℕ) → ((p : ℕ) → p ≢ at → new.faces p ≡ old.faces p) → ((p : ℕ) → p ≢ at → new.own p ≡ old.own p) → new.order ≡ without at old.order
+  pub process_removed : (at : ℕ) → ((p : ℕ) → p ≢ at → new.faces p ≡ old.faces p)
+      → ((p : ℕ) → p ≢ at → new.own p ≡ old.own p) → new.order ≡ without at old.order
       → processes_of new ≡ without_process at (processes_of old)
   unfolding processes_of
   process_removed at faces own order = ap (map (process_under new)) order ∙ each old.order
@@ -126,19 +138,24 @@ module _ (old new : Holding) (below : (k : ℕ) → new.below k ≡ old.below k)
             | inr differs ↦
                 ap (map (process_under new)) (without_past at p ps differs)
                 ∙ rw (ne_eqb p at differs)
-                (ap (λ x. x ∷ map (process_under new) (without at ps)) (process_same p (faces p differs) (own p differs)) ∙ ap (λ rest. process_under old p ∷ rest) (each ps))
+                (ap (λ x. x ∷ map (process_under new) (without at ps))
+                (process_same p (faces p differs) (own p differs))
+                ∙ ap (λ rest. process_under old p ∷ rest) (each ps))
           ]
 
   -- what a process shows is written
-  pub process_written : (at : ℕ) (change : StoredProcess → StoredProcess) → ((locks : List OwnLock) → faced at (new.faces at) locks ≡ change (faced at (old.faces at) locks))
-      → ((p : ℕ) → p ≢ at → new.faces p ≡ old.faces p) → ((p : ℕ) → new.own p ≡ old.own p) → new.order ≡ old.order → processes_of new ≡ on_stored at change (processes_of old)
+  pub process_written : (at : ℕ) (change : StoredProcess → StoredProcess)
+      → ((locks : List OwnLock) → faced at (new.faces at) locks ≡ change (faced at (old.faces at) locks))
+      → ((p : ℕ) → p ≢ at → new.faces p ≡ old.faces p) → ((p : ℕ) → new.own p ≡ old.own p) → new.order ≡ old.order
+      → processes_of new ≡ on_stored at change (processes_of old)
   unfolding processes_of
   process_written at change here others own order = ap (map (process_under new)) order ∙ each old.order
     where
       written : (p : ℕ) → p ≡ at → process_under new p ≡ change (process_under old p)
       written p same =
           ap (faced p (new.faces p)) (ap (map (own_of new)) (own p) ∙ own_map old new below loose (old.own p))
-          ∙ subst (λ x. faced x (new.faces x) (map (own_of old) (old.own p)) ≡ change (faced x (old.faces x) (map (own_of old) (old.own p)))) (sym same) (here (map (own_of old) (old.own p)))
+          ∙ subst (λ x. faced x (new.faces x) (map (own_of old) (old.own p)) ≡ change
+          (faced x (old.faces x) (map (own_of old) (old.own p)))) (sym same) (here (map (own_of old) (old.own p)))
 
       each : (ps : List ℕ) → map (process_under new) ps ≡ on_stored at change (map (process_under old) ps)
       each [] = refl
@@ -147,7 +164,9 @@ module _ (old new : Holding) (below : (k : ℕ) → new.below k ≡ old.below k)
             | inl same ↦
                 rw (eq-eqb p at same) (ap (λ x. x ∷ map (process_under new) ps) (written p same) ∙ ap (λ rest. change (process_under old p) ∷ rest) (each ps))
             | inr differs ↦
-                rw (ne_eqb p at differs) (ap (λ x. x ∷ map (process_under new) ps) (process_same p (others p differs) (own p)) ∙ ap (λ rest. process_under old p ∷ rest) (each ps))
+                rw (ne_eqb p at differs)
+                (ap (λ x. x ∷ map (process_under new) ps) (process_same p (others p differs) (own p))
+                ∙ ap (λ rest. process_under old p ∷ rest) (each ps))
           ]
 
 map_append_one : (h : Holding) (ks : List ℕ) (at : ℕ) → map (own_of h) (ks ++ at ∷ []) ≡ map (own_of h) ks ++ own_of h at ∷ []
@@ -163,7 +182,7 @@ module _ (old new : Holding) (owner : ℕ) (parent : Option ℕ) (at : ℕ) (fac
     (own_here : new.own owner ≡ old.own owner ++ at ∷ []) (own_others : (p : ℕ) → p ≢ owner → new.own p ≡ old.own p) (childless : new.below at ≡ [])
     (below_here : (k : ℕ) → parent ≡ Some k → new.below k ≡ old.below k ++ at ∷ []) (below_others : (k : ℕ) → parent ≢ Some k → new.below k ≡ old.below k)
     (loose : (k : ℕ) → new.loose k ≡ old.loose k) (queued : new.loose at ≡ None) where
-  abbrev own_with : ℕ → List ℕ → Option LockRow → OwnLock
+  abbrev own_with : ℕ → List ℕ → Option LockState → OwnLock
   own_with k below row = record { at = k; sublocks = below; loose = row }
 
   same_loose : (k : ℕ) (below : List ℕ) → own_with k below (new.loose k) ≡ own_with k below (old.loose k)
@@ -173,8 +192,12 @@ module _ (old new : Holding) (owner : ℕ) (parent : Option ℕ) (at : ℕ) (fac
   sublock_of k None is = ap (λ b. record { at = k; sublocks = b; loose = new.loose k }) (below_others k (λ e. cc)) ∙ same_loose k (old.below k)
   sublock_of k (Some up) is =
       elim (cases_eq k up) [
-        | inl same ↦ rw (eq-eqb k up same) (ap (λ b. record { at = k; sublocks = b; loose = new.loose k }) (below_here k (is ∙ ap Some (sym same))) ∙ same_loose k (old.below k ++ at ∷ []))
-        | inr differs ↦ rw (ne_eqb k up differs) (ap (λ b. record { at = k; sublocks = b; loose = new.loose k }) (below_others k (λ e. differs (sym (same_Some up k (sym is ∙ e))))) ∙ same_loose k (old.below k))
+        | inl same ↦ rw (eq-eqb k up same)
+            (ap (λ b. record { at = k; sublocks = b; loose = new.loose k }) (below_here k (is ∙ ap Some (sym same)))
+            ∙ same_loose k (old.below k ++ at ∷ []))
+        | inr differs ↦ rw (ne_eqb k up differs)
+            (ap (λ b. record { at = k; sublocks = b; loose = new.loose k })
+            (below_others k (λ e. differs (sym (same_Some up k (sym is ∙ e))))) ∙ same_loose k (old.below k))
       ]
 
   each_own : (ks : List ℕ) → map (own_of new) ks ≡ map (with_sublock parent at) (map (own_of old) ks)
@@ -207,7 +230,8 @@ module _ (old new : Holding) (owner : ℕ) (parent : Option ℕ) (at : ℕ) (fac
       each (p ∷ ps) = ap (λ x. x ∷ map (process_under new) ps) (one p) ∙ ap (λ rest. process_with_lock owner parent at (process_under old p) ∷ rest) (each ps)
 
 -- a lock is gone
-module _ (old new : Holding) (at : ℕ) (faces : (p : ℕ) → new.faces p ≡ old.faces p) (order : new.order ≡ old.order) (own : (p : ℕ) → new.own p ≡ without at (old.own p))
+module _ (old new : Holding) (at : ℕ) (faces : (p : ℕ) → new.faces p ≡ old.faces p) (order : new.order ≡ old.order)
+    (own : (p : ℕ) → new.own p ≡ without at (old.own p))
     (below : (k : ℕ) → k ≢ at → new.below k ≡ without at (old.below k)) (loose : (k : ℕ) → k ≢ at → new.loose k ≡ old.loose k) where
   each_left : (ks : List ℕ) → map (own_of new) (without at ks) ≡ map (without_sublock at) (filter (λ (o : OwnLock). not (o.at == at)) (map (own_of old) ks))
   each_left [] = refl
@@ -218,7 +242,9 @@ module _ (old new : Holding) (at : ℕ) (faces : (p : ℕ) → new.faces p ≡ o
             ap (map (own_of new)) (without_past at k ks differs)
             ∙ rw (ne_eqb k at differs)
             (ap (λ b. record { at = k; sublocks = b; loose = new.loose k } ∷ map (own_of new) (without at ks)) (below k differs)
-            ∙ ap (λ x. record { at = k; sublocks = without at (old.below k); loose = x } ∷ map (own_of new) (without at ks)) (loose k differs) ∙ ap (λ rest. without_sublock at (own_of old k) ∷ rest) (each_left ks))
+            ∙ ap (λ x. record { at = k; sublocks = without at (old.below k); loose = x } ∷ map (own_of new)
+            (without at ks)) (loose k differs)
+            ∙ ap (λ rest. without_sublock at (own_of old k) ∷ rest) (each_left ks))
       ]
 
   pub lock_left : processes_of new ≡ map (process_without_lock at) (processes_of old)
@@ -235,7 +261,8 @@ module _ (old new : Holding) (at : ℕ) (faces : (p : ℕ) → new.faces p ≡ o
       each (p ∷ ps) = ap (λ x. x ∷ map (process_under new) ps) (one p) ∙ ap (λ rest. process_without_lock at (process_under old p) ∷ rest) (each ps)
 
 -- a lock is loose, or is loose no more
-module _ (old new : Holding) (at : ℕ) (row : Option LockRow) (faces : (p : ℕ) → new.faces p ≡ old.faces p) (order : new.order ≡ old.order) (own : (p : ℕ) → new.own p ≡ old.own p)
+module _ (old new : Holding) (at : ℕ) (row : Option LockState) (faces : (p : ℕ)
+    → new.faces p ≡ old.faces p) (order : new.order ≡ old.order) (own : (p : ℕ) → new.own p ≡ old.own p)
     (below : (k : ℕ) → new.below k ≡ old.below k) (here : new.loose at ≡ row) (others : (k : ℕ) → k ≢ at → new.loose k ≡ old.loose k) where
   each_loose : (ks : List ℕ) → map (own_of new) ks ≡ map (with_loose at row) (map (own_of old) ks)
   each_loose [] = refl
@@ -265,13 +292,17 @@ module _ (old new : Holding) (at : ℕ) (row : Option LockRow) (faces : (p : ℕ
 after_under : (h : Holding) (at : ℕ) (ps : List ℕ) → process_after at (map (process_under h) ps) ≡ option_map (λ k. (h.faces k).plain) (handle_after at ps)
 after_under h at [] = refl
 after_under h at (p ∷ rest) =
-    elim (p == at) as (λ b. cond b (option_map (λ (x : StoredProcess). x.process) (slice_get (map (process_under h) rest) 0)) (process_after at (map (process_under h) rest))
+    elim (p == at) as (λ b. cond b
+    (option_map (λ (x : StoredProcess). x.process) (slice_get (map (process_under h) rest) 0))
+    (process_after at (map (process_under h) rest))
     ≡ option_map (λ k. (h.faces k).plain) (cond b (first_handle rest) (handle_after at rest))) [
       | true ↦ first_under rest
       | false ↦ after_under h at rest
     ]
   where
-    first_under : (ks : List ℕ) → option_map (λ (x : StoredProcess). x.process) (slice_get (map (process_under h) ks) 0) ≡ option_map (λ k. (h.faces k).plain) (first_handle ks)
+    first_under : (ks : List ℕ)
+        → option_map (λ (x : StoredProcess). x.process) (slice_get (map (process_under h) ks) 0) ≡ option_map
+        (λ k. (h.faces k).plain) (first_handle ks)
     first_under [] = refl
     first_under (k ∷ ks) = refl
 
@@ -280,7 +311,9 @@ unfolding processes_of
 process_after-is h at = after_under h at h.order
 
 -- the process at an index is what stands under the handle at that index
-pub process_at-index : (h : Holding) (index : ℕ) → slice_get (map (λ (p : StoredProcess). p.process) (processes_of h)) index ≡ option_map (λ at. (h.faces at).plain) (slice_get h.order index)
+pub process_at-index : (h : Holding) (index : ℕ)
+    → slice_get (map (λ (p : StoredProcess). p.process) (processes_of h)) index ≡ option_map (λ at. (h.faces at).plain)
+    (slice_get h.order index)
 unfolding processes_of
 process_at-index h index =
     slice_get-map (λ (p : StoredProcess). p.process) (map (process_under h) h.order) index

@@ -11,7 +11,7 @@ use Rattle.vlm_records.specs.declared.handles.Place.TheVariants.{Queued}
 use Rattle.vlm_records.specs.declared.locks.Lock.{Lock}
 use Rattle.vlm_records.specs.WaitList.{is_queued, wait_list_handles, wait_list_in, queued_wait_list}
 use Rattle.vlm_records.proofs.WaitLists.{queued_noted}
-use Rattle.vlm_records.proofs.Places.{stands_there}
+use Rattle.vlm_records.proofs.PlacesOnLists.{stands_there}
 use Rattle.vlm_records.specs.Shown.{IsThere, handles_at, noted_in, rows}
 use Rattle.vlm_store.specs.declared.store.Store.TheInside.{Inside}
 use Rattle.vlm_store.specs.Kept.{IsKept, beside_shown, records_shown}
@@ -65,7 +65,8 @@ listed_at (Some l) is = by_flag l.loose is
     of_place (Queued res Conversion) is = refl
     of_place (Queued res Waiting) is = refl
 
-    by_flag : (b : Bool) → cond b None (queued_wait_list l.place) ≡ Some tt → (place : Place) × ((cond b None (Some l.place) ≡ Some place) × (is_queued place ≡ true))
+    by_flag : (b : Bool) → cond b None (queued_wait_list l.place) ≡ Some tt → (place : Place)
+        × ((cond b None (Some l.place) ≡ Some place) × (is_queued place ≡ true))
     by_flag true is = absurd (none-some tt is)
     by_flag false is = (l.place, (refl, of_place l.place is))
 
@@ -78,12 +79,20 @@ module _ (s : Inside) (kept : IsKept s) where
   listed_queued at found =
       let l = tables s.queues s.order (beside_shown s) in
       let place = listed_at (get s.queues.locks at) (kept.wait_list.listed tt at found) in
-      let stands = kept.placed.stands place.0 at (λ e. none-some at (sym e)) place.1.0 in
-      (place.0, rows s.queues at, (place.1.1, rw (locks_at-seen l place.0 (seen place.0 (stands_there s.queues place.0 at stands))) (among-under_handle (rows s.queues) (handles_at s.queues place.0) at stands)))
+      let stands = kept.placed.stands place.0 at (λ e. none-some at (sym e)) place.1.0 in (
+        place.0,
+        rows s.queues at,
+        (
+          place.1.1,
+          rw (locks_at-seen l place.0 (seen place.0 (stands_there s.queues place.0 at stands)))
+              (among-under_handle (rows s.queues) (handles_at s.queues place.0) at stands),
+        ),
+      )
 
   -- and the other way
   pub queued_listed : (at : ℕ) → IsQueued at (records_shown s) → IsIn at (wait_list_handles s.queues.locks s.wait_list)
   queued_listed at queued =
       let place = queued.0 in
       let stands = (locks_at-among (tables s.queues s.order (beside_shown s)) place (record { at = at; row = queued.1 }) queued.2.1).0 in
-      kept.wait_list.stands tt at (λ e. none-some at (sym e)) (wait_list_noted (get s.queues.locks at) ∙ ap wait_list_at (kept.placed.listed place at stands) ∙ queued_noted place queued.2.0)
+      kept.wait_list.stands tt at (λ e. none-some at (sym e)) (wait_list_noted (get s.queues.locks at)
+      ∙ ap wait_list_at (kept.placed.listed place at stands) ∙ queued_noted place queued.2.0)

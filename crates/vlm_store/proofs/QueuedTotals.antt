@@ -11,7 +11,7 @@ use Rattle.vlm_records.specs.declared.handles.Place.{Place}
 use Rattle.vlm_records.specs.declared.handles.Place.TheVariants.{Queued}
 use Rattle.vlm_records.specs.WaitList.{is_queued, wait_list_handles}
 use Rattle.vlm_records.specs.Shown.{handles_at, order_links}
-use Rattle.vlm_records.proofs.Places.{one_place, stands_there}
+use Rattle.vlm_records.proofs.PlacesOnLists.{one_place, stands_there}
 use Rattle.vlm_records.proofs.WaitLists.{queued_noted}
 use Rattle.vlm_store.specs.declared.store.Store.TheInside.{Inside}
 use Rattle.vlm_store.specs.Kept.{IsKept, beside_shown, records_shown}
@@ -80,7 +80,8 @@ module _ (s : Inside) (kept : IsKept s) where
       let in_queue = in_resource queued_handles found.0 k found.1.1 in
       let place = Queued found.0 in_queue.0 in
       let was = was_queued (handles_at s.queues) place k in_queue.1 in
-      kept.wait_list.stands tt k (λ e. none-some k (sym e)) (wait_list_noted (get s.queues.locks k) ∙ ap wait_list_at (kept.placed.listed place k was.0) ∙ queued_noted place was.1)
+      kept.wait_list.stands tt k (λ e. none-some k (sym e)) (wait_list_noted (get s.queues.locks k)
+      ∙ ap wait_list_at (kept.placed.listed place k was.0) ∙ queued_noted place was.1)
 
   back : (k : ℕ) → IsIn k (wait_list_handles s.queues.locks s.wait_list) → IsIn k (of_all queued_handles in_order)
   back k listed =
@@ -96,5 +97,6 @@ module _ (s : Inside) (kept : IsKept s) where
   pub queued_counted : queued_total (records_shown s) ≡ length (wait_list_handles s.queues.locks s.wait_list)
   queued_counted =
       total_shown (tables s.queues s.order (beside_shown s))
-      ∙ as_long (of_all queued_handles in_order) (wait_list_handles s.queues.locks s.wait_list) (all_apart queued_handles each_apart one in_order kept.linked.apart)
+      ∙ as_long (of_all queued_handles in_order) (wait_list_handles s.queues.locks s.wait_list)
+      (all_apart queued_handles each_apart one in_order kept.linked.apart)
       (kept.wait_list.linked tt).apart there back

@@ -3,13 +3,15 @@ use Rattle.std.proofs.Common.{◌≡◌, ◌≢◌, ℕ, Bool, List, [], ◌∷�
 use Rattle.std.specs.Prelude.{◌==◌}
 use Rattle.std.specs.Option.{option_map_or}
 use Rattle.std.proofs.lemmas.Bool.{cases_eq}
-use Rattle.vlm_words.specs.declared.locks.LockRow.{LockRow}
+use Rattle.vlm_words.specs.declared.locks.LockState.{LockState}
 use Rattle.vlm_words.specs.declared.resources.Queue.{Queue}
 use Rattle.vlm_words.specs.declared.resources.Queue.TheVariants.{Granted, Conversion, Waiting}
 use Rattle.vlm_collections.specs.Lists.{IsIn}
 use Rattle.vlm_records.specs.declared.handles.Place.{Place}
 use Rattle.vlm_records.specs.declared.handles.Place.TheVariants.{Queued}
-use Rattle.vlm_store.specs.Records.{AreResourcesApart, IsSound, Records, StoredLock, StoredResource, is_place, is_queue, joined_by, joining, locks_at, on_resource, queued, resource_at, resource_with, with_lists, without_lock, HasLock, NoneIsLoose, Stores}
+use Rattle.vlm_store.specs.Records.{AreResourcesApart, IsSound, Records, StoredLock, StoredResource, is_place, is_queue}
+use Rattle.vlm_store.specs.Records.{joined_by, joining, locks_at, on_resource, queued, resource_at, resource_with}
+use Rattle.vlm_store.specs.Records.{with_lists, without_lock, HasLock, NoneIsLoose, Stores}
 use Rattle.std.proofs.lemmas.Option.{none-some}
 
 -- ---- places
@@ -43,7 +45,7 @@ is_place-other (Queued a p) (Queued b q) differs =
 -- ---- locks and resources
 
 -- a list without a lock that it does not have stays
-pub without_absent : (at : ℕ) (locks : List StoredLock) → ((row : LockRow) → ¬ IsIn (record { at = at; row = row }) locks) → without_lock at locks ≡ locks
+pub without_absent : (at : ℕ) (locks : List StoredLock) → ((row : LockState) → ¬ IsIn (record { at = at; row = row }) locks) → without_lock at locks ≡ locks
 without_absent at [] absent = refl
 without_absent at (k ∷ rest) absent =
     elim (cases_eq k.at at) [
@@ -71,14 +73,17 @@ queue_at s sound r among queue = ap (λ o. option_map_or (queued queue) o []) (r
 
 -- a queue without a lock that does not stand there stays
 pub queue_without : (s : Records) → IsSound s → (at : ℕ) (r : StoredResource) → IsIn r s.resources
-    → ((queue : Queue) (row : LockRow) → ¬ IsIn (record { at = at; row = row }) (locks_at (Queued r.at queue) s)) → (queue : Queue) → without_lock at (queued queue r) ≡ queued queue r
+    → ((queue : Queue) (row : LockState) → ¬ IsIn (record { at = at; row = row }) (locks_at (Queued r.at queue) s))
+    → (queue : Queue) → without_lock at (queued queue r) ≡ queued queue r
 queue_without s sound at r among absent queue =
-    without_absent at (queued queue r) (λ row found. absent queue row (subst (IsIn (record { at = at; row = row })) (sym (queue_at s sound r among queue)) found))
+    without_absent at (queued queue r)
+    (λ row found. absent queue row
+    (subst (IsIn (record { at = at; row = row })) (sym (queue_at s sound r among queue)) found))
 
 -- ---- a lock moves
 
 -- a lock that stands at one place leaves the lists of no other
-module _ (s : Records) (at : ℕ) (row : LockRow) (from : Place) (sound : IsSound s) (stands : IsIn (record { at = at; row = row }) (locks_at from s)) where
+module _ (s : Records) (at : ℕ) (row : LockState) (from : Place) (sound : IsSound s) (stands : IsIn (record { at = at; row = row }) (locks_at from s)) where
   pub unmoved : (p : Place) → p ≢ from → without_lock at (locks_at p s) ≡ locks_at p s
   unmoved p differs = without_absent at (locks_at p s) (λ other found. differs (sound.one_place at other row p from found stands))
 
@@ -94,7 +99,13 @@ module _ (lock : StoredLock) (res : ℕ) (to : Queue) where
   joins_one x = by_queue to (x.at == res)
     where
       by_queue : (queue : Queue) (here : Bool)
-          → record x { granted = with_joined lock (here && is_queue Granted queue) x.granted; converting = with_joined lock (here && is_queue Conversion queue) x.converting; waiting = with_joined lock (here && is_queue Waiting queue) x.waiting }
+          → record x {
+            granted = with_joined lock (here && is_queue Granted queue) x.granted;
+            converting =
+                with_joined lock (here && is_queue Conversion queue) x.converting;
+            waiting =
+                with_joined lock (here && is_queue Waiting queue) x.waiting;
+          }
           ≡ cond here (joined_by queue lock x) x
       by_queue Granted true = refl
       by_queue Conversion true = refl
@@ -104,9 +115,11 @@ module _ (lock : StoredLock) (res : ℕ) (to : Queue) where
   -- a new lock joins the queue of its resource, and nothing else changes
   pub joins_queue : (s : Records) → with_lists (joining (Queued res to) lock) s ≡ record s { resources = on_resource res (joined_by to lock) s.resources }
   joins_queue s =
-      ap (λ x. record s { resources = x }) (map_on (resource_with (joining (Queued res to) lock)) (λ x. cond (x.at == res) (joined_by to lock x) x) s.resources (λ x _. joins_one x))
+      ap (λ x. record s { resources = x })
+      (map_on (resource_with (joining (Queued res to) lock))
+      (λ x. cond (x.at == res) (joined_by to lock x) x) s.resources (λ x _. joins_one x))
 
 -- where no lock is loose, each is in a queue
-pub in_a_queue : (s : Records) → NoneIsLoose s → (at : ℕ) (row : LockRow) → HasLock s at row → Stores s at row
+pub in_a_queue : (s : Records) → NoneIsLoose s → (at : ℕ) (row : LockState) → HasLock s at row → Stores s at row
 in_a_queue s none at row (inl stored) = stored
 in_a_queue s none at row (inr loose) = absurd (none-some row (sym (none loose.0 loose.1 loose.2.0 loose.2.1) ∙ loose.2.3))

@@ -26,7 +26,7 @@ use Rattle.vlm_store.specs.Store.{Layout, lkid_at, records_of, room_of, tables}
 use Rattle.vlm_store.specs.Holdings.{holding, processes_of}
 use Rattle.vlm_store.specs.Kept.{IsKept, processes_shown, records_shown, rooms_shown}
 use Rattle.vlm_store.proofs.Indexing.{Indexes-same}
-use Rattle.vlm_store.proofs.Kept.{reserved_handles, reserved_placed, reserved_tallied}
+use Rattle.vlm_store.proofs.KeptRecords.{reserved_handles, reserved_placed, reserved_tallied}
 use Rattle.vlm_records.proofs.Arming.{armed_reserved, armed_resources}
 use Rattle.vlm_records.proofs.Making.{reserved_lists, resources_handles, resources_placed, resources_tallied}
 use Rattle.vlm_store.proofs.Kinship.{queued_below, queued_named, queued_owned}
@@ -40,7 +40,8 @@ module _ {T : Type 0} where
   pub room_of_same : (old new : Slab T) (finds : List ℕ) → room_in new ≡ room_in old → room_of new finds ≡ room_of old finds
   room_of_same old new finds same = ap (λ (p : ℕ × ℕ). record { slots = p.0; next_handle = p.1; finds = finds }) same
 
-  pub room_of_less : (old new : Slab T) (had finds : List ℕ) → new ≡ record old { capacity = new.capacity } → old.capacity ≤ new.capacity → KeepsSpares had finds → IsNoLess (room_of old had) (room_of new finds)
+  pub room_of_less : (old new : Slab T) (had finds : List ℕ) → new ≡ record old { capacity = new.capacity }
+      → old.capacity ≤ new.capacity → KeepsSpares had finds → IsNoLess (room_of old had) (room_of new finds)
   room_of_less old new had finds is more finds_more =
       let made = room_reserved old new is more in
       record { slots = made.0; next_handle = made.1; finds = finds_more }
@@ -77,16 +78,29 @@ shown_room P l fact = fact
 module _ (s : Inside) where
   -- what is shown with other slabs of the same records, and with other room
   abbrev with_locks : Rooms → Slab Lock → Records
-  with_locks room locks = records_of (tables (record s.queues { locks = locks }) s.order (record { processes = processes_of (holding s.processes locks s.process_order); room = room; keys = s.keys }))
+  with_locks room locks =
+      records_of (tables (record s.queues { locks = locks }) s.order
+      (record { processes = processes_of (holding s.processes locks s.process_order); room = room; keys = s.keys }))
 
   abbrev with_resources : Rooms → Slab Resource → Records
-  with_resources room resources = records_of (tables (record s.queues { resources = resources }) s.order (record { processes = processes_shown s; room = room; keys = s.keys }))
+  with_resources room resources =
+      records_of (tables (record s.queues { resources = resources }) s.order
+      (record { processes = processes_shown s; room = room; keys = s.keys }))
 
   abbrev with_processes : Rooms → Slab Process → Records
-  with_processes room processes = records_of (tables s.queues s.order (record { processes = processes_of (holding processes s.queues.locks s.process_order); room = room; keys = s.keys }))
+  with_processes room processes =
+      records_of (tables s.queues s.order
+      (record {
+        processes = processes_of (holding processes s.queues.locks s.process_order);
+        room = room;
+        keys =
+            s.keys;
+      }))
 
   -- where room is made, a caller sees nothing else
-  pub lock_room_made : (locks : Slab Lock) (finds : List ℕ) → locks ≡ record s.queues.locks { capacity = locks.capacity } → s.queues.locks.capacity ≤ locks.capacity → KeepsSpares (spares_of s.lock_index) finds
+  pub lock_room_made : (locks : Slab Lock) (finds : List ℕ)
+      → locks ≡ record s.queues.locks { capacity = locks.capacity } → s.queues.locks.capacity ≤ locks.capacity
+      → KeepsSpares (spares_of s.lock_index) finds
       → IsUnchanged (records_shown s) (with_locks (record (rooms_shown s) { locks = room_of locks finds }) locks)
   unfolding records_of
   lock_room_made locks finds is more finds_more = record {
@@ -101,8 +115,12 @@ module _ (s : Inside) where
   unfolding records_of
   lock_room_only locks finds is = ap (with_locks (record (rooms_shown s) { locks = room_of locks finds })) is
 
-  pub resource_room_made : (resources : Slab Resource) (finds : List ℕ) → resources ≡ record s.queues.resources { capacity = resources.capacity } → s.queues.resources.capacity ≤ resources.capacity
-      → KeepsSpares (spares_in s.resource_index) finds → IsUnchanged (records_shown s) (with_resources (record (rooms_shown s) { resources = room_of resources finds }) resources)
+  pub resource_room_made : (resources : Slab Resource) (finds : List ℕ)
+      → resources ≡ record s.queues.resources { capacity = resources.capacity }
+      → s.queues.resources.capacity ≤ resources.capacity
+      → KeepsSpares (spares_in s.resource_index) finds
+      → IsUnchanged (records_shown s)
+      (with_resources (record (rooms_shown s) { resources = room_of resources finds }) resources)
   unfolding records_of
   resource_room_made resources finds is more finds_more = record {
     same = ap (with_resources (record (rooms_shown s) { resources = room_of resources finds })) is;
@@ -112,11 +130,14 @@ module _ (s : Inside) where
   }
 
   pub resource_room_only : (resources : Slab Resource) (finds : List ℕ) → resources ≡ record s.queues.resources { capacity = resources.capacity }
-      → (let new = with_resources (record (rooms_shown s) { resources = room_of resources finds }) resources in new ≡ with_resource_room new.room.resources (records_shown s))
+      → (let new = with_resources (record (rooms_shown s) { resources = room_of resources finds }) resources in
+      new ≡ with_resource_room new.room.resources (records_shown s))
   unfolding records_of
   resource_room_only resources finds is = ap (with_resources (record (rooms_shown s) { resources = room_of resources finds })) is
 
-  pub process_room_made : (processes : Slab Process) (finds : List ℕ) → processes ≡ record s.processes { capacity = processes.capacity } → s.processes.capacity ≤ processes.capacity → KeepsSpares (spares_by s.process_index) finds
+  pub process_room_made : (processes : Slab Process) (finds : List ℕ)
+      → processes ≡ record s.processes { capacity = processes.capacity } → s.processes.capacity ≤ processes.capacity
+      → KeepsSpares (spares_by s.process_index) finds
       → IsUnchanged (records_shown s) (with_processes (record (rooms_shown s) { processes = room_of processes finds }) processes)
   unfolding records_of
   process_room_made processes finds is more finds_more = record {
@@ -127,12 +148,16 @@ module _ (s : Inside) where
   }
 
 -- the room stays where the queues keep it
-pub queues_room : (s : Inside) (q' : Queues) → room_in q'.locks ≡ room_in s.queues.locks → room_in q'.resources ≡ room_in s.queues.resources → rooms_shown (record s { queues = q' }) ≡ rooms_shown s
+pub queues_room : (s : Inside) (q' : Queues) → room_in q'.locks ≡ room_in s.queues.locks
+    → room_in q'.resources ≡ room_in s.queues.resources → rooms_shown (record s { queues = q' }) ≡ rooms_shown s
 queues_room s q' locks resources =
-    rooms_are _ _ _ _ _ _ (room_of_same s.queues.locks q'.locks (spares_of s.lock_index) locks) (room_of_same s.queues.resources q'.resources (spares_in s.resource_index) resources) refl
+    rooms_are _ _ _ _ _ _ (room_of_same s.queues.locks q'.locks (spares_of s.lock_index) locks)
+    (room_of_same s.queues.resources q'.resources (spares_in s.resource_index) resources) refl
 
 -- a record is taken in where room was made for it
-pub is_taken : {T : Type 0} (old roomy new : Slab T) (had left : List ℕ) → roomy ≡ record old { capacity = roomy.capacity } → old.capacity ≤ roomy.capacity → (room_in new).0 + 1 ≡ (room_in roomy).0
+pub is_taken : {T : Type 0} (old roomy new : Slab T) (had left : List ℕ)
+    → roomy ≡ record old { capacity = roomy.capacity } → old.capacity ≤ roomy.capacity
+    → (room_in new).0 + 1 ≡ (room_in roomy).0
     → UsesOneSpare had left → IsTaken (room_of old had) (room_of new left)
 is_taken old roomy new had left is more taken used =
     let made = room_reserved old roomy is more in
@@ -140,7 +165,9 @@ is_taken old roomy new had left is more taken used =
     record { slots = omega arith; finds = used }
 
 -- a record is removed
-pub is_given_back : {T : Type 0} (old new : Slab T) (handle : ℕ) (had has : List ℕ) → room_in new ≡ ((room_in old).0 + 1, handle) → handle ≤ LAST_HANDLE → KeepsSpares had has → IsGivenBack (room_of old had) (room_of new has)
+pub is_given_back : {T : Type 0} (old new : Slab T) (handle : ℕ) (had has : List ℕ)
+    → room_in new ≡ ((room_in old).0 + 1, handle) → handle ≤ LAST_HANDLE → KeepsSpares had has
+    → IsGivenBack (room_of old had) (room_of new has)
 is_given_back old new handle had has back low finds =
     record { slots = ap (λ (p : ℕ × ℕ). p.0) back; next_handle = subst (λ k. k ≤ LAST_HANDLE) (sym (ap (λ (p : ℕ × ℕ). p.1) back)) low; finds = finds }
 
@@ -156,7 +183,8 @@ has_room nodes finds number room =
     (slot.0, slot.1, room.find)
 
 -- more room for locks leaves all that the fields keep
-pub lock_room_kept : (s : Inside) → IsKept s → (locks : Slab Lock) (index : Parts) → locks ≡ record s.queues.locks { capacity = locks.capacity } → FindsSame s.lock_index index
+pub lock_room_kept : (s : Inside) → IsKept s → (locks : Slab Lock) (index : Parts)
+    → locks ≡ record s.queues.locks { capacity = locks.capacity } → FindsSame s.lock_index index
     → IsKept (record s { queues = record s.queues { locks = locks }; lock_index = index })
 lock_room_kept s kept locks index is finds =
     let same : (k : ℕ) → get locks k ≡ get s.queues.locks k = λ k. ap (λ x. get x k) is in
@@ -181,7 +209,8 @@ lock_room_kept s kept locks index is finds =
     }
 
 -- more room for resources does so too
-pub resource_room_kept : (s : Inside) → IsKept s → (resources : Slab Resource) (index : KeyIndex) → resources ≡ record s.queues.resources { capacity = resources.capacity } → IsSame s.resource_index index
+pub resource_room_kept : (s : Inside) → IsKept s → (resources : Slab Resource) (index : KeyIndex)
+    → resources ≡ record s.queues.resources { capacity = resources.capacity } → IsSame s.resource_index index
     → IsKept (record s { queues = record s.queues { resources = resources }; resource_index = index })
 resource_room_kept s kept resources index is finds =
     let same : (r : ℕ) → get resources r ≡ get s.queues.resources r = λ r. ap (λ x. get x r) is in
@@ -189,10 +218,13 @@ resource_room_kept s kept resources index is finds =
     record {
       placed = resources_placed s.queues resources kept.placed lists;
       tallied = resources_tallied s.queues resources kept.placed lists (λ r. ap tally_in (same r)) kept.tallied;
-      armed = λ which. armed_resources which s.queues resources (λ r. ap (armed_list_in which) (same r)) (resources_handles s.queues resources kept.placed lists) (kept.armed which);
+      armed = λ which. armed_resources which s.queues resources (λ r. ap (armed_list_in which) (same r))
+          (resources_handles s.queues resources kept.placed lists) (kept.armed which);
       wait_list = kept.wait_list;
       linked = same-linked order_links s.queues.resources resources s.order kept.linked (λ r _. same r);
-      ordered = λ r there. rw (same-handles order_links s.queues.resources resources s.order kept.linked (λ x _. same x)) (kept.ordered r (rw (same r) at there));
+      ordered = λ r there. rw
+          (same-handles order_links s.queues.resources resources s.order kept.linked (λ x _. same x))
+          (kept.ordered r (rw (same r) at there));
       locks = kept.locks;
       resources = index_same (hash_key s.keys) s.resource_index index (hashed_at s.queues) (hashed_at (record s.queues { resources = resources })) finds
           (λ r. ap (option_map hashed_in) (same r)) kept.resources;
@@ -207,7 +239,9 @@ resource_room_kept s kept resources index is finds =
     }
 
 -- a caller sees the room that was made
-pub has_reserved : {A E T : Type 0} (r : Result A E) (nodes : Slab T) (finds : List ℕ) (number : ℕ) → OnOk r (HasRoomFor nodes 1) → OnOk r (nodes.vacant_key ≤ LAST_HANDLE) → OnOk r (0 < spare_for finds number) → OnOk r (HasRoom number (room_of nodes finds))
+pub has_reserved : {A E T : Type 0} (r : Result A E) (nodes : Slab T) (finds : List ℕ) (number : ℕ)
+    → OnOk r (HasRoomFor nodes 1) → OnOk r (nodes.vacant_key ≤ LAST_HANDLE) → OnOk r (0 < spare_for finds number)
+    → OnOk r (HasRoom number (room_of nodes finds))
 has_reserved (Ok x) nodes finds number slot handle find = record {
   slot = record { slot = room_slot nodes slot; handle = subst (λ k. k ≤ LAST_HANDLE) (sym (room_handle nodes)) handle };
   find = find;

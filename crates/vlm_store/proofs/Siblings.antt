@@ -14,7 +14,7 @@ use Rattle.vlm_store.specs.Kept.{IsKept, records_shown}
 use Rattle.vlm_records.specs.Shown.{rows}
 use Rattle.vlm_store.specs.Holdings.{Holding, own_of}
 use Rattle.vlm_records.specs.Kin.{below_in, below_handles, below_links, own_in, own_handles, own_links, owner_in, parent_in}
-use Rattle.vlm_store.proofs.Living.{are_owned, held, own_among_shown, own_is, there_has}
+use Rattle.vlm_store.proofs.LivingProcesses.{are_owned, held, own_among_shown, own_is, there_has}
 use Rattle.vlm_records.proofs.OwnLocks.{parent_there}
 
 -- ---- the locks of all processes
@@ -36,7 +36,8 @@ own_either own (x ∷ xs) ys among =
     ]
 
 -- a lock of a process is one of all
-pub own_of_all : (p : StoredProcess) (own : OwnLock) (ps : List StoredProcess) → IsIn p ps → IsIn own p.own → IsIn own (flat_map (λ (q : StoredProcess). q.own) ps)
+pub own_of_all : (p : StoredProcess) (own : OwnLock) (ps : List StoredProcess) → IsIn p ps → IsIn own p.own
+    → IsIn own (flat_map (λ (q : StoredProcess). q.own) ps)
 own_of_all p own [] among has = absurd among
 own_of_all p own (q ∷ ps) among has =
     elim among [
@@ -45,7 +46,8 @@ own_of_all p own (q ∷ ps) among has =
     ]
 
 -- and one of all is a lock of a process
-pub all_of_own : (own : OwnLock) (ps : List StoredProcess) → IsIn own (flat_map (λ (q : StoredProcess). q.own) ps) → (p : StoredProcess) × (IsIn p ps × IsIn own p.own)
+pub all_of_own : (own : OwnLock) (ps : List StoredProcess) → IsIn own (flat_map (λ (q : StoredProcess). q.own) ps)
+    → (p : StoredProcess) × (IsIn p ps × IsIn own p.own)
 all_of_own own [] among = absurd among
 all_of_own own (q ∷ ps) among =
     elim (own_either own q.own _ among) [
@@ -55,7 +57,8 @@ all_of_own own (q ∷ ps) among =
 
 -- a lock is found by its handle, or none of these has it
 pub own_found : (at : ℕ) (owns : List OwnLock)
-    → ((own : OwnLock) × ((own_of_handle at owns ≡ Some own) × IsIn own owns × (own.at ≡ at))) ⊎ ((own_of_handle at owns ≡ None) × ((own : OwnLock) → IsIn own owns → ¬ (own.at ≡ at)))
+    → ((own : OwnLock) × ((own_of_handle at owns ≡ Some own) × IsIn own owns × (own.at ≡ at)))
+    ⊎ ((own_of_handle at owns ≡ None) × ((own : OwnLock) → IsIn own owns → ¬ (own.at ≡ at)))
 own_found at [] = inr (refl, λ own among. absurd among)
 own_found at (x ∷ owns) =
     elim (cases_eq x.at at) [
@@ -108,10 +111,12 @@ module _ (s : Inside) (kept : IsKept s) where
 
   -- the locks below a lock that is found
   sublocks_found : (at : ℕ) (own : OwnLock) → own_of_handle at (flat_map (λ (q : StoredProcess). q.own) (records_shown s).processes) ≡ Some own
-      → IsIn own (flat_map (λ (q : StoredProcess). q.own) (records_shown s).processes) → own.at ≡ at → sublocks_at at (records_shown s) ≡ below_handles s.queues.locks at
+      → IsIn own (flat_map (λ (q : StoredProcess). q.own) (records_shown s).processes) → own.at ≡ at
+      → sublocks_at at (records_shown s) ≡ below_handles s.queues.locks at
   sublocks_found at own is among same =
       let of = all_of_own own (records_shown s).processes among in
-      ap (λ o. option_map_or (λ (x : OwnLock). x.sublocks) o []) is ∙ sym (own_among_shown s kept of.0 own of.1.0 of.1.1).0.1 ∙ ap (below_handles s.queues.locks) same
+      ap (λ o. option_map_or (λ (x : OwnLock). x.sublocks) o []) is
+      ∙ sym (own_among_shown s kept of.0 own of.1.0 of.1.1).0.1 ∙ ap (below_handles s.queues.locks) same
 
   -- the locks below a lock
   pub sublocks_is : (at : ℕ) → IsLock at (records_shown s) → sublocks_at at (records_shown s) ≡ below_handles s.queues.locks at
@@ -130,7 +135,9 @@ module _ (s : Inside) (kept : IsKept s) where
         | inr none ↦ absurd (subst (IsIn k) (ap (λ o. option_map_or (λ (x : OwnLock). x.sublocks) o []) none.0) found)
       ]
 
-  pub below_of_lock : (k up parent : ℕ) → parent_in (get s.queues.locks k) ≡ Some up → IsIn k (sublocks_at parent (records_shown s)) → below_handles s.queues.locks up ≡ sublocks_at parent (records_shown s)
+  pub below_of_lock : (k up parent : ℕ) → parent_in (get s.queues.locks k) ≡ Some up
+      → IsIn k (sublocks_at parent (records_shown s))
+      → below_handles s.queues.locks up ≡ sublocks_at parent (records_shown s)
   below_of_lock k up parent notes found =
       let is = sublocks_here parent k found in
       let noted = kept.below.listed parent k (subst (IsIn k) is found) in

@@ -16,9 +16,11 @@ unfolding spare_for
 spare_is x hash = least_at (spare x.others) (spares_of x.last) (part_of hash)
 
 -- both keep their room
-pub both_kept : (old new : KeyIndex) → spare old.others ≤ spare new.others → KeepsSpares (spares_of old.last) (spares_of new.last) → KeepsSpares (spares_in old) (spares_in new)
+pub both_kept : (old new : KeyIndex) → spare old.others ≤ spare new.others
+    → KeepsSpares (spares_of old.last) (spares_of new.last) → KeepsSpares (spares_in old) (spares_in new)
 both_kept old new others last hash = omega (arith, spare_is old hash, spare_is new hash, others, last hash)
 
 -- each takes one fewer at most
-pub both_used : (old new : KeyIndex) → spare old.others ≤ spare new.others + 1 → UsesOneSpare (spares_of old.last) (spares_of new.last) → UsesOneSpare (spares_in old) (spares_in new)
+pub both_used : (old new : KeyIndex) → spare old.others ≤ spare new.others + 1
+    → UsesOneSpare (spares_of old.last) (spares_of new.last) → UsesOneSpare (spares_in old) (spares_in new)
 both_used old new others last hash = omega (arith, spare_is old hash, spare_is new hash, others, last hash)

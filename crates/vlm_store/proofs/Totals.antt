@@ -1,5 +1,6 @@
 -- As many locks stand in the queues as the slab has.
-use Rattle.std.proofs.Common.{◌≡◌, ◌≢◌, ◌+◌, ℕ, zero, suc, Bool, true, false, cond, List, [], ◌∷◌, ◌++◌, map, length, length-append, get_or, set, Option, None, Some, inl, inr, refl, sym, subst, ◌∙◌, arith}
+use Rattle.std.proofs.Common.{◌≡◌, ◌≢◌, ◌+◌, ℕ, zero, suc, Bool, true, false, cond, List, [], ◌∷◌, ◌++◌, map, length}
+use Rattle.std.proofs.Common.{length-append, get_or, set, Option, None, Some, inl, inr, refl, sym, subst, ◌∙◌, arith}
 use Rattle.std.specs.Prelude.{◌==◌, is_some, IsSome, count_by}
 use Rattle.std.specs.List.{flat_map, sum_by}
 use Rattle.std.proofs.lemmas.Bool.{eqb-false, eqb-true}
@@ -21,7 +22,7 @@ use Rattle.vlm_store.specs.Store.{Beside, Layout, records_of, resource_of, table
 use Rattle.std.proofs.lemmas.Option.{none-some}
 use Rattle.vlm_collections.proofs.HandleLists.{in_ahead, in_behind, in_either}
 use Rattle.vlm_records.proofs.Counting.{IsApart-append}
-use Rattle.vlm_records.proofs.Places.{noted_there, one_place, stands_there}
+use Rattle.vlm_records.proofs.PlacesOnLists.{noted_there, one_place, stands_there}
 
 -- ---- handles that are apart, and all that is there
 
@@ -74,7 +75,8 @@ as_many {T} (h ∷ hs) slots apart there all =
       where
         of_test : (b : Bool) → (k == h) ≡ b → IsIn k hs
         of_test true same =
-            absurd (absent (get_or (set slots h None) h None) (cleared_is slots h) (subst (λ n. IsSome (get_or (set slots h None) n None)) (eqb-true k h same) is))
+            absurd (absent (get_or (set slots h None) h None) (cleared_is slots h)
+            (subst (λ n. IsSome (get_or (set slots h None) n None)) (eqb-true k h same) is))
         of_test false differs =
             elim (all k (subst IsSome (get_or-set_other slots h k None None (eqb-false k h differs)) is)) [
               | inl first ↦ absurd (eqb-false k h differs (sym first))
@@ -171,7 +173,8 @@ unfolding records_of
 total_shown l = shown_length l l.order
 
 module _ (q : Queues) (order : LinkedList InOrder) (beside : Beside) (placed : IsPlaced q None) (linked : IsLinked order_links q.resources order)
-    (ordered : (r : ℕ) → ContainsKey q.resources r → IsIn r (handles_of order_links q.resources order)) (none_loose : (k : ℕ) → ContainsKey q.locks k → is_loose_in (get q.locks k) ≡ false) where
+    (ordered : (r : ℕ) → ContainsKey q.resources r → IsIn r (handles_of order_links q.resources order))
+    (none_loose : (k : ℕ) → ContainsKey q.locks k → is_loose_in (get q.locks k) ≡ false) where
   abbrev in_order : List ℕ
   in_order = handles_of order_links q.resources order
 

@@ -1,22 +1,28 @@
 -- A removal undoes an addition.
-use Rattle.std.proofs.Common.{◌≡◌, ◌≢◌, ℕ, List, [], ◌∷◌, ◌++◌, map, filter, true, false, not, cond, Option, None, Some, IsSome, refl, ap, ◌∙◌, subst, inl, inr, eq-eqb, ne_eqb, append-nil}
+use Rattle.std.proofs.Common.{◌≡◌, ◌≢◌, ℕ, List, [], ◌∷◌, ◌++◌, map, filter, true, false, not, cond, Option, None, Some}
+use Rattle.std.proofs.Common.{IsSome, refl, ap, ◌∙◌, subst, inl, inr, eq-eqb, ne_eqb, append-nil}
 use Rattle.std.specs.Prelude.{◌==◌}
 use Rattle.std.proofs.lemmas.Bool.{cases_eq}
 use Rattle.vlm_collections.specs.Lists.{IsIn, without}
 use Rattle.vlm_collections.proofs.HandleLists.{without_absent as handle_absent, without_head, without_past}
-use Rattle.vlm_words.specs.declared.locks.LockRow.{LockRow}
+use Rattle.vlm_words.specs.declared.locks.LockState.{LockState}
 use Rattle.vlm_words.specs.declared.steps.Declaration.{Declaration}
 use Rattle.vlm_words.specs.declared.resources.Queue.TheVariants.{Granted, Conversion, Waiting}
 use Rattle.vlm_words.specs.declared.resources.Site.{Site}
 use Rattle.vlm_records.specs.declared.handles.Place.{Place}
 use Rattle.vlm_records.specs.declared.handles.Place.TheVariants.{Queued}
-use Rattle.vlm_store.specs.Records.{HasProcess, HasResource, OwnLock, StoredProcess, new_own, new_stored_process, process_at, process_with_lock, process_without_lock, with_new_lock, with_sublock, without_process, without_stored_lock, without_sublock, IsSound, Records, StoredLock, StoredResource, is_place, joining, leaving, new_stored_resource, resource_at, resource_with, without_lock, without_resource, HasLock, IsLock}
+use Rattle.vlm_store.specs.Records.{HasProcess, HasResource, OwnLock, StoredProcess, new_own, new_stored_process}
+use Rattle.vlm_store.specs.Records.{process_at, process_with_lock, process_without_lock, with_new_lock, with_sublock}
+use Rattle.vlm_store.specs.Records.{without_process, without_stored_lock, without_sublock, IsSound, Records, StoredLock}
+use Rattle.vlm_store.specs.Records.{StoredResource, is_place, joining, leaving, new_stored_resource, resource_at}
+use Rattle.vlm_store.specs.Records.{resource_with, without_lock, without_resource, HasLock, IsLock}
 use Rattle.vlm_store.proofs.Records.{queue_without}
 
-without_last : (at : ℕ) (row : LockRow) (locks : List StoredLock) → without_lock at (locks ++ record { at = at; row = row } ∷ []) ≡ without_lock at locks
+without_last : (at : ℕ) (row : LockState) (locks : List StoredLock) → without_lock at (locks ++ record { at = at; row = row } ∷ []) ≡ without_lock at locks
 without_last at row [] = rw (eq-eqb at at refl) refl
 without_last at row (k ∷ rest) =
-    elim (k.at == at) as (λ b. cond (not b) (k ∷ without_lock at (rest ++ record { at = at; row = row } ∷ [])) (without_lock at (rest ++ record { at = at; row = row } ∷ []))
+    elim (k.at == at) as (λ b. cond (not b) (k ∷ without_lock at (rest ++ record { at = at; row = row } ∷ []))
+    (without_lock at (rest ++ record { at = at; row = row } ∷ []))
     ≡ cond (not b) (k ∷ without_lock at rest) (without_lock at rest)) [
       | true ↦ without_last at row rest
       | false ↦ ap (λ xs. k ∷ xs) (without_last at row rest)
@@ -30,14 +36,16 @@ handles_last at (k ∷ rest) absent =
 own_last : (at : ℕ) (own : List OwnLock) → filter (λ (o : OwnLock). not (o.at == at)) (own ++ new_own at) ≡ filter (λ (o : OwnLock). not (o.at == at)) own
 own_last at [] = rw (eq-eqb at at refl) refl
 own_last at (o ∷ rest) =
-    elim (o.at == at) as (λ b. cond (not b) (o ∷ filter (λ (x : OwnLock). not (x.at == at)) (rest ++ new_own at)) (filter (λ (x : OwnLock). not (x.at == at)) (rest ++ new_own at))
+    elim (o.at == at) as (λ b. cond (not b) (o ∷ filter (λ (x : OwnLock). not (x.at == at)) (rest ++ new_own at))
+    (filter (λ (x : OwnLock). not (x.at == at)) (rest ++ new_own at))
     ≡ cond (not b) (o ∷ filter (λ (x : OwnLock). not (x.at == at)) rest) (filter (λ (x : OwnLock). not (x.at == at)) rest)) [
       | true ↦ own_last at rest
       | false ↦ ap (λ xs. o ∷ xs) (own_last at rest)
     ]
 
 -- a process that is added and removed again
-pub process_undone : (s : Records) (at pid : ℕ) (d : Declaration) → ¬ HasProcess at s → record s { processes = without_process at (s.processes ++ new_stored_process at pid d ∷ []) } ≡ s
+pub process_undone : (s : Records) (at pid : ℕ) (d : Declaration) → ¬ HasProcess at s
+    → record s { processes = without_process at (s.processes ++ new_stored_process at pid d ∷ []) } ≡ s
 process_undone s at pid d absent = ap (λ x. record s { processes = x }) (each s.processes absent)
   where
     each : (ps : List StoredProcess) → ¬ IsSome (process_at at ps) → without_process at (ps ++ new_stored_process at pid d ∷ []) ≡ ps
@@ -81,12 +89,16 @@ module _ (s : Records) (at : ℕ) (sound : IsSound s) (absent : ¬ IsLock at s) 
   process_same : (p : StoredProcess) → IsIn p s.processes → (owner : ℕ) (parent : Option ℕ) → process_without_lock at (process_with_lock owner parent at p) ≡ p
   process_same p among owner parent =
       ap (λ x. record p { own = x })
-      (elim (p.at == owner) as (λ b. map (without_sublock at) (filter (λ (o : OwnLock). not (o.at == at)) (map (with_sublock parent at) p.own ++ cond b (new_own at) [])) ≡ p.own) [
+      (elim (p.at == owner) as
+      (λ b. map (without_sublock at)
+      (filter (λ (o : OwnLock). not (o.at == at))
+      (map (with_sublock parent at) p.own ++ cond b (new_own at) [])) ≡ p.own) [
         | true ↦ ap (map (without_sublock at)) (own_last at (map (with_sublock parent at) p.own)) ∙ own_same p among parent p.own (λ o here. here)
-        | false ↦ ap (λ xs. map (without_sublock at) (filter (λ (o : OwnLock). not (o.at == at)) xs)) (append-nil (map (with_sublock parent at) p.own)) ∙ own_same p among parent p.own (λ o here. here)
+        | false ↦ ap (λ xs. map (without_sublock at) (filter (λ (o : OwnLock). not (o.at == at)) xs))
+            (append-nil (map (with_sublock parent at) p.own)) ∙ own_same p among parent p.own (λ o here. here)
       ])
 
-  module _ (row : LockRow) (to : Place) where
+  module _ (row : LockState) (to : Place) where
     -- no list shows it, once it has left
     left_joined : (place : Place) (locks : List StoredLock) → without_lock at (joining to (record { at = at; row = row }) place locks) ≡ without_lock at locks
     left_joined place locks =
@@ -106,21 +118,25 @@ module _ (s : Records) (at : ℕ) (sound : IsSound s) (absent : ¬ IsLock at s) 
         → map (resource_with (leaving at)) (map (resource_with (joining to (record { at = at; row = row }))) rs) ≡ rs
     resources_same [] within = refl
     resources_same (r ∷ rest) within =
-        ap (λ x. x ∷ map (resource_with (leaving at)) (map (resource_with (joining to (record { at = at; row = row }))) rest)) (joined_same r (within r (inl refl)))
+        ap (λ x. x ∷ map (resource_with (leaving at))
+        (map (resource_with (joining to (record { at = at; row = row }))) rest))
+        (joined_same r (within r (inl refl)))
         ∙ ap (λ xs. r ∷ xs) (resources_same rest (λ x there. within x (inr there)))
 
-  pub lock_undone : (row : LockRow) (owner : ℕ) (parent : Option ℕ) (to : Place) → without_stored_lock at (with_new_lock at row owner parent to s) ≡ s
+  pub lock_undone : (row : LockState) (owner : ℕ) (parent : Option ℕ) (to : Place) → without_stored_lock at (with_new_lock at row owner parent to s) ≡ s
   lock_undone row owner parent to =
       ap (λ x. record (without_stored_lock at (with_new_lock at row owner parent to s)) { resources = x }) (resources_same row to s.resources (λ r here. here))
       ∙ ap (λ x. record s { processes = x }) (each s.processes (λ p here. here))
     where
-      each : (ps : List StoredProcess) → ((p : StoredProcess) → IsIn p ps → IsIn p s.processes) → map (process_without_lock at) (map (process_with_lock owner parent at) ps) ≡ ps
+      each : (ps : List StoredProcess) → ((p : StoredProcess) → IsIn p ps → IsIn p s.processes)
+          → map (process_without_lock at) (map (process_with_lock owner parent at) ps) ≡ ps
       each [] within = refl
       each (p ∷ rest) within =
           ap (λ x. x ∷ map (process_without_lock at) (map (process_with_lock owner parent at) rest)) (process_same p (within p (inl refl)) owner parent)
           ∙ ap (λ xs. p ∷ xs) (each rest (λ x there. within x (inr there)))
 
-pub resource_undone : (s : Records) (res serial : ℕ) (site : Site) → ¬ HasResource res s → record s { resources = without_resource res (s.resources ++ new_stored_resource res serial site ∷ []) } ≡ s
+pub resource_undone : (s : Records) (res serial : ℕ) (site : Site) → ¬ HasResource res s
+    → record s { resources = without_resource res (s.resources ++ new_stored_resource res serial site ∷ []) } ≡ s
 resource_undone s res serial site absent = ap (λ x. record s { resources = x }) (each s.resources absent)
   where
     each : (rs : List StoredResource) → ¬ IsSome (resource_at res rs) → without_resource res (rs ++ new_stored_resource res serial site ∷ []) ≡ rs

@@ -1,12 +1,14 @@
 -- Walks from one resource to the next, and from one lock of a queue to the next: for callers.
-use Rattle.std.proofs.Common.{◌≡◌, ℕ, ◌<◌, List, [], ◌∷◌, ◌++◌, length, Option, None, Some, IsSome, refl, sym, ap, ◌∙◌, subst, inl, inr, append_assoc, eq-eqb, ne_eqb, arith}
+use Rattle.std.proofs.Common.{◌≡◌, ℕ, ◌<◌, List, [], ◌∷◌, ◌++◌, length, Option, None, Some, IsSome, refl, sym, ap, ◌∙◌}
+use Rattle.std.proofs.Common.{subst, inl, inr, append_assoc, eq-eqb, ne_eqb, arith}
 use Rattle.std.specs.Prelude.{◌==◌, if◌then◌else◌}
 use Rattle.std.specs.Option.{ForSome}
 use Rattle.std.proofs.lemmas.Bool.{cases_eq}
 use Rattle.std.proofs.lemmas.Option.{same_Some}
-use Rattle.vlm_words.specs.declared.locks.LockRow.{LockRow}
+use Rattle.vlm_words.specs.declared.locks.LockState.{LockState}
 use Rattle.vlm_collections.specs.Lists.{IsIn}
-use Rattle.vlm_store.specs.Records.{AreApart, AreResourcesApart, StoredLock, StoredResource, at_after, first_at, first_resource_at, resource_at, resource_at_after}
+use Rattle.vlm_store.specs.Records.{AreApart, AreResourcesApart, StoredLock, StoredResource, at_after, first_at}
+use Rattle.vlm_store.specs.Records.{first_resource_at, resource_at, resource_at_after}
 
 -- ---- resources
 
@@ -26,7 +28,8 @@ resource_differs : (x r : StoredResource) (before rest : List StoredResource) �
 resource_differs x r before rest apart same = apart.0 r (resource_among r before rest) (sym same)
 
 -- a resource is found by its handle, wherever it stands
-pub resource_at-among : (r : StoredResource) (before rest : List StoredResource) → AreResourcesApart (before ++ r ∷ rest) → resource_at r.at (before ++ r ∷ rest) ≡ Some r
+pub resource_at-among : (r : StoredResource) (before rest : List StoredResource)
+    → AreResourcesApart (before ++ r ∷ rest) → resource_at r.at (before ++ r ∷ rest) ≡ Some r
 resource_at-among r [] rest apart = rw (eq-eqb r.at r.at refl) refl
 resource_at-among r (x ∷ before) rest apart = rw (ne_eqb x.at r.at (resource_differs x r before rest apart)) (resource_at-among r before rest apart.1)
 
@@ -43,12 +46,14 @@ resources_from-among r [] rest apart = rw (eq-eqb r.at r.at refl) refl
 resources_from-among r (x ∷ before) rest apart = rw (ne_eqb x.at r.at (resource_differs x r before rest apart)) (resources_from-among r before rest apart.1)
 
 -- at the first of the last resources, these are left
-pub resources_from-first : (before rest : List StoredResource) → AreResourcesApart (before ++ rest) → resources_from (first_resource_at rest) (before ++ rest) ≡ rest
+pub resources_from-first : (before rest : List StoredResource) → AreResourcesApart (before ++ rest)
+    → resources_from (first_resource_at rest) (before ++ rest) ≡ rest
 resources_from-first before [] apart = refl
 resources_from-first before (r ∷ rest) apart = resources_from-among r before rest apart
 
 -- the first of the last resources is there
-pub first_resource-there : (before rest : List StoredResource) → AreResourcesApart (before ++ rest) → ForSome (first_resource_at rest) (λ res. IsSome (resource_at res (before ++ rest)))
+pub first_resource-there : (before rest : List StoredResource) → AreResourcesApart (before ++ rest)
+    → ForSome (first_resource_at rest) (λ res. IsSome (resource_at res (before ++ rest)))
 first_resource-there before [] apart res is = cc
 first_resource-there before (r ∷ rest) apart res is =
     subst (λ k. IsSome (resource_at k (before ++ r ∷ rest))) (same_Some r.at res is) (rw (resource_at-among r before rest apart) refl)
@@ -103,7 +108,8 @@ at_resource res rs apart there =
     (subst (λ xs. IsAtResource split.r.at xs) split.split (at_among split.r split.before split.rest (subst AreResourcesApart (sym split.split) apart)))
 
 -- fewer resources are left behind one than from it on
-pub resources_left-fewer : (res : ℕ) (rs : List StoredResource) → IsAtResource res rs → length (resources_from (resource_at_after res rs) rs) < length (resources_from (Some res) rs)
+pub resources_left-fewer : (res : ℕ) (rs : List StoredResource) → IsAtResource res rs
+    → length (resources_from (resource_at_after res rs) rs) < length (resources_from (Some res) rs)
 resources_left-fewer res rs at = rw at.left (omega arith)
 
 -- ---- locks
@@ -141,7 +147,7 @@ locks_from-first before (k ∷ rest) apart = locks_from-among k before rest apar
 
 -- a lock of this handle is one of these
 abbrev pub HasLock : ℕ → List StoredLock → Type 0
-HasLock at ks = (row : LockRow) × IsIn (record { at = at; row = row }) ks
+HasLock at ks = (row : LockState) × IsIn (record { at = at; row = row }) ks
 
 -- the first of the last locks is there
 pub first-there : (before rest : List StoredLock) → ForSome (first_at rest) (λ at. HasLock at (before ++ rest))
@@ -150,7 +156,7 @@ first-there before (k ∷ rest) at is = subst (λ x. HasLock x (before ++ k ∷ 
 
 -- a walk stands at a lock: it is among the others, it is the first of what is left, and the next one is there
 pub record IsAtLock (at : ℕ) (ks : List StoredLock) : Type 0 where
-  pub row : LockRow
+  pub row : LockState
   pub among : IsIn (record { at = at; row = row }) ks
   pub left : locks_from (Some at) ks ≡ record { at = at; row = row } ∷ locks_from (at_after at ks) ks
   pub next : ForSome (at_after at ks) (λ after. HasLock after ks)

@@ -1,7 +1,7 @@
 -- The lists of armed locks of a resource, in the order of the granted queue.
 use Rattle.std.specs.Prelude.{ℕ, List, filter}
 use Rattle.vlm_collections.specs.Lists.{IsIn}
-use Rattle.vlm_words.specs.declared.locks.LockRow.{LockRow}
+use Rattle.vlm_words.specs.declared.locks.LockState.{LockState}
 use Rattle.vlm_words.specs.declared.resources.Queue.TheVariants.{Granted}
 use Rattle.vlm_records.specs.declared.handles.Armed.{Armed}
 use Rattle.vlm_records.specs.declared.handles.Place.TheVariants.{Queued}
@@ -18,4 +18,4 @@ armed_at which res s = armed_among which (locks_at (Queued res Granted) s)
 
 -- the lock with this handle is in the list
 abbrev pub IsArmedAt : Armed → ℕ → ℕ → Records → Type 0
-IsArmedAt which res at s = (row : LockRow) × IsIn (record { at = at; row = row }) (armed_at which res s)
+IsArmedAt which res at s = (row : LockState) × IsIn (record { at = at; row = row }) (armed_at which res s)

@@ -4,7 +4,7 @@ use Rattle.slab.specs.Slab.{Slab, get}
 use Rattle.vlm_collections.specs.declared.lists.LinkedList.{LinkedList}
 use Rattle.vlm_collections.specs.Lists.{handles_of}
 use Rattle.vlm_words.specs.State.{Process as PlainProcess}
-use Rattle.vlm_words.specs.declared.locks.LockRow.{LockRow}
+use Rattle.vlm_words.specs.declared.locks.LockState.{LockState}
 use Rattle.vlm_records.specs.declared.locks.Lock.{Lock}
 use Rattle.vlm_records.specs.declared.processes.Process.{Process}
 use Rattle.vlm_records.specs.declared.resources.InOrder.{InOrder}
@@ -39,7 +39,7 @@ pub record Holding : Type 0 where
   pub faces : ℕ → ProcessFace
   pub own : ℕ → List ℕ
   pub below : ℕ → List ℕ
-  pub loose : ℕ → Option LockRow
+  pub loose : ℕ → Option LockState
   pub order : List ℕ
 
 -- a lock of a process, with its sublocks, and with its row if it is loose

@@ -5,11 +5,11 @@ use Rattle.vlm_collections.specs.declared.hashers.HashKeys.{HashKeys}
 use Rattle.vlm_collections.specs.declared.hashers.HashSpread.{HashSpread}
 use Rattle.vlm_collections.specs.Hashing.{hash_of}
 use Rattle.vlm_words.specs.declared.resources.Key.{Key}
-use Rattle.vlm_words.specs.NameWords.{hashed_words}
+use Rattle.vlm_words.specs.NameWords.{hash_input}
 
 -- the hash of a resource's key under the keys of the store
 abbrev pub hash_key : HashKeys → Key → ℕ
-hash_key keys key = hash_of keys (hashed_words key)
+hash_key keys key = hash_of keys (hash_input key)
 
 -- every find is right, and every labelled record is found
 pub record Indexes {K : Type 0} (found : K → Option ℕ) (label : ℕ → Option K) : Type 0 where

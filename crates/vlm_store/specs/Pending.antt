@@ -2,7 +2,7 @@
 use Rattle.std.specs.Prelude.{◌≡◌, ℕ, ◌/◌, ◌≤◌, ◌&&◌, Bool, true, false, List, Option, None, Some}
 use Rattle.slab.specs.Slab.{Slab, get}
 use Rattle.vlm_collections.specs.Lists.{IsIn}
-use Rattle.vlm_collections.specs.Nodes.{HasRoomFor, is_marked, is_node}
+use Rattle.vlm_records.specs.NodeMarks.{HasRoomFor, is_marked, is_node}
 use Rattle.vlm_words.specs.State.{Process as PlainProcess}
 use Rattle.vlm_words.specs.Processes.{is_pending_on}
 use Rattle.vlm_words.specs.Steps.{is_of_node}
@@ -37,17 +37,17 @@ waits_on node p = is_node node && is_pending_on node p
 abbrev pub lives_on : ℕ → PlainProcess → Bool
 lives_on node p = is_node node && is_of_node node p.pid
 
--- the least identification of these processes, or there is no such process
+-- the least ID of these processes, or there is no such process
 abbrev pub IsFirst : (PlainProcess → Bool) → List StoredProcess → Option ℕ → Type 0
 IsFirst is_one processes None = (p : StoredProcess) → IsIn p processes → is_one p.process ≡ false
 IsFirst is_one processes (Some pid) =
     ((p : StoredProcess) × (IsIn p processes × (p.process.pid ≡ pid) × (is_one p.process ≡ true)))
     × ((p : StoredProcess) → IsIn p processes → is_one p.process ≡ true → pid ≤ p.process.pid)
 
--- the least identification of the node's processes with a pending AST, or there is no such process
+-- the least ID of the node's processes with a pending AST, or there is no such process
 abbrev pub IsFirstPending : ℕ → List StoredProcess → Option ℕ → Type 0
 IsFirstPending node = IsFirst (waits_on node)
 
--- the least identification of the node's living processes, or there is no such process
+-- the least ID of the node's living processes, or there is no such process
 abbrev pub IsFirstLiving : ℕ → List StoredProcess → Option ℕ → Type 0
 IsFirstLiving node = IsFirst (lives_on node)

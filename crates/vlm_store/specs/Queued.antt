@@ -4,7 +4,7 @@ use Rattle.std.specs.Option.{ForSome}
 use Rattle.slab.specs.Slab.{Slab}
 use Rattle.vlm_collections.specs.declared.lists.LinkedList.{LinkedList}
 use Rattle.vlm_collections.specs.Lists.{IsIn, IsLinked}
-use Rattle.vlm_words.specs.declared.locks.LockRow.{LockRow}
+use Rattle.vlm_words.specs.declared.locks.LockState.{LockState}
 use Rattle.vlm_records.specs.declared.handles.Place.{Place}
 use Rattle.vlm_records.specs.declared.locks.InWaitList.{InWaitList}
 use Rattle.vlm_records.specs.declared.locks.Lock.{Lock}
@@ -13,7 +13,7 @@ use Rattle.vlm_store.specs.Records.{Records, locks_at}
 
 -- the lock with this handle is in a conversion queue or a waiting queue
 abbrev pub IsQueued : ℕ → Records → Type 0
-IsQueued at s = (place : Place) × (row : LockRow) × ((is_queued place ≡ true)
+IsQueued at s = (place : Place) × (row : LockState) × ((is_queued place ≡ true)
     × IsIn (record { at = at; row = row }) (locks_at place s))
 
 -- each of these handles is a queued lock

@@ -1,10 +1,12 @@
 -- What the store shows to a caller: resources with their queues of locks, and processes with their own locks, each
 -- with its handle.
-use Rattle.std.specs.Prelude.{◌≡◌, ◌⊎◌, ◌<◌, ◌≤◌, ◌/◌, ℕ, Bool, true, false, not, ◌==◌, ◌&&◌, ◌+◌, ◌-◌, count_by, sum_by, List, [], ◌∷◌, ◌++◌, map, filter, slice_get, find, flat_map, Option, None, Some, IsSome, if◌then◌else◌}
+use Rattle.std.specs.Prelude.{◌≡◌, ◌⊎◌, ◌<◌, ◌≤◌, ◌/◌, ℕ, Bool, true, false, not, ◌==◌, ◌&&◌, ◌+◌, ◌-◌, count_by}
+use Rattle.std.specs.Prelude.{sum_by, List, [], ◌∷◌, ◌++◌, map, filter, slice_get, find, flat_map, Option, None, Some}
+use Rattle.std.specs.Prelude.{IsSome, if◌then◌else◌}
 use Rattle.std.specs.Option.{option_map, option_map_or}
 use Rattle.vlm_collections.specs.declared.hashers.HashKeys.{HashKeys}
 use Rattle.vlm_words.specs.declared.asts.Ast.{Ast}
-use Rattle.vlm_words.specs.declared.locks.LockRow.{LockRow}
+use Rattle.vlm_words.specs.declared.locks.LockState.{LockState}
 use Rattle.vlm_words.specs.declared.modes.Mode.{Mode}
 use Rattle.vlm_words.specs.declared.resources.Domain.{Domain}
 use Rattle.vlm_words.specs.declared.resources.Queue.{Queue}
@@ -27,7 +29,7 @@ use Rattle.vlm_words.specs.declared.resources.ValueBlock.{ValueBlock}
 -- a lock with its handle
 pub record StoredLock : Type 0 where
   pub at : ℕ
-  pub row : LockRow
+  pub row : LockState
 
 -- a resource with its handle and its three queues
 pub record StoredResource : Type 0 where
@@ -45,7 +47,7 @@ pub record StoredResource : Type 0 where
 pub record OwnLock : Type 0 where
   pub at : ℕ
   pub sublocks : List ℕ
-  pub loose : Option LockRow
+  pub loose : Option LockState
 
 -- a process with its handle, the number of its due ASTs, and its locks in the order of making; due are the ASTs that
 -- it may still get, without those that are pending
@@ -126,50 +128,50 @@ abbrev pub locks_at : Place → Records → List StoredLock
 locks_at (Queued res queue) s = option_map_or (queued queue) (resource_at res s.resources) []
 
 -- a lock with this handle and row is in a queue
-abbrev pub Stores : Records → ℕ → LockRow → Type 0
+abbrev pub Stores : Records → ℕ → LockState → Type 0
 Stores s at row = (place : Place) × IsIn (record { at = at; row = row }) (locks_at place s)
 
 -- a lock with this handle is in a queue
 abbrev pub IsStored : ℕ → Records → Type 0
-IsStored at s = (row : LockRow) × Stores s at row
+IsStored at s = (row : LockState) × Stores s at row
 
 -- a lock with this handle and row is loose: its process has it, and it is in no queue
-abbrev pub IsLooseRow : Records → ℕ → LockRow → Type 0
+abbrev pub IsLooseRow : Records → ℕ → LockState → Type 0
 IsLooseRow s at row = (p : StoredProcess) × (own : OwnLock)
     × (IsIn p s.processes × IsIn own p.own × (own.at ≡ at) × (own.loose ≡ Some row))
 
 -- a lock with this handle is loose
 abbrev pub IsLoose : ℕ → Records → Type 0
-IsLoose at s = (row : LockRow) × IsLooseRow s at row
+IsLoose at s = (row : LockState) × IsLooseRow s at row
 
 -- a lock with this handle and row exists, in a queue or loose
-abbrev pub HasLock : Records → ℕ → LockRow → Type 0
+abbrev pub HasLock : Records → ℕ → LockState → Type 0
 HasLock s at row = Stores s at row ⊎ IsLooseRow s at row
 
 -- a lock with this handle exists
 abbrev pub IsLock : ℕ → Records → Type 0
-IsLock at s = (row : LockRow) × HasLock s at row
+IsLock at s = (row : LockState) × HasLock s at row
 
 -- each lock is in a queue
 abbrev pub NoneIsLoose : Records → Type 0
 NoneIsLoose s = (p : StoredProcess) (own : OwnLock) → IsIn p s.processes → IsIn own p.own → own.loose ≡ None
 
 -- both rows are of one lock
-pub record IsSameLock (a b : LockRow) : Type 0 where
+pub record IsSameLock (a b : LockState) : Type 0 where
   pub lkid : a.lkid ≡ b.lkid
   pub pid : a.pid ≡ b.pid
   pub parent : a.parent ≡ b.parent
 
 -- the handle is a lock, and the row is of the same lock
-abbrev pub IsRowOf : ℕ → LockRow → Records → Type 0
-IsRowOf at row s = (was : LockRow) × (Stores s at was × IsSameLock was row)
+abbrev pub IsRowOf : ℕ → LockState → Records → Type 0
+IsRowOf at row s = (was : LockState) × (Stores s at was × IsSameLock was row)
 
--- the handle of the lock with this identification, or there is no such lock
+-- the handle of the lock with this ID, or there is no such lock
 abbrev pub FindsLock : Records → ℕ → Option ℕ → Type 0
-FindsLock s lkid None = (at : ℕ) (row : LockRow) → HasLock s at row → ¬ (row.lkid ≡ lkid)
-FindsLock s lkid (Some at) = (row : LockRow) × (HasLock s at row × (row.lkid ≡ lkid))
+FindsLock s lkid None = (at : ℕ) (row : LockState) → HasLock s at row → ¬ (row.lkid ≡ lkid)
+FindsLock s lkid (Some at) = (row : LockState) × (HasLock s at row × (row.lkid ≡ lkid))
 
--- no lock has this identification
+-- no lock has this ID
 abbrev pub IsNewLock : ℕ → Records → Type 0
 IsNewLock lkid s = FindsLock s lkid None
 
@@ -261,7 +263,7 @@ at_after at [] = None
 at_after at (k ∷ rest) = if k.at == at then first_at rest else at_after at rest
 
 -- the rows of the locks
-abbrev pub rows_of_locks : List StoredLock → List LockRow
+abbrev pub rows_of_locks : List StoredLock → List LockState
 rows_of_locks locks = map (λ k. k.row) locks
 
 -- the locks except the asking one
@@ -310,16 +312,16 @@ HasProcess at s = IsSome (process_at at s.processes)
 abbrev pub authorization_of : Process → Authorization
 authorization_of p = record { group = p.group; quota = p.quota; syslck = p.syslck }
 
--- the handle is the living process with this identification
+-- the handle is the living process with this ID
 abbrev pub IsProcess : ℕ → ℕ → Records → Type 0
 IsProcess at pid s = (p : StoredProcess) × (IsIn p s.processes × (p.at ≡ at) × (p.process.pid ≡ pid))
 
--- the handle of the living process with this identification, or there is no such process
+-- the handle of the living process with this ID, or there is no such process
 abbrev pub FindsProcess : Records → ℕ → Option ℕ → Type 0
 FindsProcess s pid None = (p : StoredProcess) → IsIn p s.processes → ¬ (p.process.pid ≡ pid)
 FindsProcess s pid (Some at) = IsProcess at pid s
 
--- no living process has this identification
+-- no living process has this ID
 abbrev pub IsNewProcess : ℕ → Records → Type 0
 IsNewProcess pid s = FindsProcess s pid None
 
@@ -382,7 +384,7 @@ process_without_lock lock p = record p {
 }
 
 -- the records with a new lock at the end of a queue, of its owner's locks and of its parent's sublocks
-abbrev pub with_new_lock : ℕ → LockRow → ℕ → Option ℕ → Place → Records → Records
+abbrev pub with_new_lock : ℕ → LockState → ℕ → Option ℕ → Place → Records → Records
 with_new_lock at row owner parent to s =
     record (with_lists (joining to (record { at = at; row = row })) s) {
       processes = map (process_with_lock owner parent at) s.processes;
@@ -396,21 +398,21 @@ without_stored_lock at s = record s {
 }
 
 -- the lock with this handle is loose, with this row, or is loose no more
-abbrev pub with_loose : ℕ → Option LockRow → OwnLock → OwnLock
+abbrev pub with_loose : ℕ → Option LockState → OwnLock → OwnLock
 with_loose lock row own = if own.at == lock then record own { loose = row } else own
 
 -- the same change of the locks of a process
-abbrev pub process_with_loose : ℕ → Option LockRow → StoredProcess → StoredProcess
+abbrev pub process_with_loose : ℕ → Option LockState → StoredProcess → StoredProcess
 process_with_loose lock row p = record p { own = map (with_loose lock row) p.own }
 
 -- the records after a lock with this row left its queue
-abbrev pub with_lock_unlinked : ℕ → LockRow → Records → Records
+abbrev pub with_lock_unlinked : ℕ → LockState → Records → Records
 with_lock_unlinked at row s = record (with_lists (leaving at) s) {
   processes = map (process_with_loose at (Some row)) s.processes;
 }
 
 -- the records after a loose lock with this row joined a queue at its end
-abbrev pub with_lock_pushed : ℕ → LockRow → Place → Records → Records
+abbrev pub with_lock_pushed : ℕ → LockState → Place → Records → Records
 with_lock_pushed at row to s = record (with_lists (joining to (record { at = at; row = row })) s) {
   processes = map (process_with_loose at None) s.processes;
 }
@@ -421,9 +423,9 @@ HasNoSublocks at s = (p : StoredProcess) (own : OwnLock) → IsIn p s.processes 
     → own.at ≡ at → own.sublocks ≡ []
 
 -- the handle of the parent lock that the row names; without a handle the row names 0
-abbrev pub IsParentOf : Option ℕ → LockRow → Records → Type 0
+abbrev pub IsParentOf : Option ℕ → LockState → Records → Type 0
 IsParentOf None row s = row.parent ≡ 0
-IsParentOf (Some parent) row s = (up : LockRow) × (Stores s parent up × (up.lkid ≡ row.parent))
+IsParentOf (Some parent) row s = (up : LockState) × (Stores s parent up × (up.lkid ≡ row.parent))
 
 -- the locks of a process
 abbrev pub own_at : ℕ → Records → List OwnLock
@@ -476,7 +478,7 @@ pub record SameButNotices (old new : Records) : Type 0 where
   pub room : new.room ≡ old.room
   pub keys : new.keys ≡ old.keys
 
--- how many ASTs are due to the living process with this identification; 0 if it does not live
+-- how many ASTs are due to the living process with this ID; 0 if it does not live
 abbrev pub due_of : ℕ → Records → ℕ
 due_of pid s = option_map_or (λ p. p.due) (find (λ p. p.process.pid == pid) s.processes) 0
 
@@ -507,7 +509,7 @@ pub record HasRoom (number : ℕ) (room : Room) : Type 0 where
   pub slot : HasSlot room
   pub find : 0 < spare_for room.finds number
 
--- there is room for one more lock with this identification
+-- there is room for one more lock with this ID
 abbrev pub HasRoomForLock : ℕ → Records → Type 0
 HasRoomForLock lkid s = HasRoom lkid s.room.locks
 
@@ -566,7 +568,7 @@ with_process_room room s = record s { room = record s.room { processes = room } 
 -- no two locks have one handle
 abbrev pub AreApart : List StoredLock → Type 0
 AreApart [] = Unit {0}
-AreApart (k ∷ rest) = ((row : LockRow) → ¬ IsIn (record { at = k.at; row = row }) rest) × AreApart rest
+AreApart (k ∷ rest) = ((row : LockState) → ¬ IsIn (record { at = k.at; row = row }) rest) × AreApart rest
 
 -- the relation holds between each item and every earlier one
 abbrev pub EachTwo : {A : Type 0} → (A → A → Type 0) → List A → Type 0
@@ -577,7 +579,7 @@ EachTwo {A} R (first ∷ rest) = ((other : A) → IsIn other rest → R other fi
 abbrev pub AreResourcesApart : List StoredResource → Type 0
 AreResourcesApart = EachTwo (λ (other r : StoredResource). ¬ (other.at ≡ r.at))
 
--- no two processes have one handle or one identification
+-- no two processes have one handle or one ID
 abbrev pub AreProcessesApart : List StoredProcess → Type 0
 AreProcessesApart =
     EachTwo (λ (other p : StoredProcess). ¬ (other.at ≡ p.at) × ¬ (other.process.pid ≡ p.process.pid))
@@ -589,26 +591,26 @@ AreOwnApart = EachTwo (λ (other own : OwnLock). ¬ (other.at ≡ own.at))
 -- the locks of a process are those whose rows name it, and the sublocks of a lock are those whose rows name it as
 -- their parent; a loose lock is in no queue
 pub record AreOwned (s : Records) : Type 0 where
-  pub owned : (at : ℕ) (row : LockRow) → HasLock s at row
+  pub owned : (at : ℕ) (row : LockState) → HasLock s at row
       → (p : StoredProcess) × (own : OwnLock) × (IsIn p s.processes × (p.process.pid ≡ row.pid) × IsIn own p.own
       × (own.at ≡ at))
   pub owns : (p : StoredProcess) (own : OwnLock) → IsIn p s.processes → IsIn own p.own
-      → (row : LockRow) × (HasLock s own.at row × (row.pid ≡ p.process.pid))
+      → (row : LockState) × (HasLock s own.at row × (row.pid ≡ p.process.pid))
   pub below : (p : StoredProcess) (own : OwnLock) (at : ℕ) → IsIn p s.processes → IsIn own p.own → IsIn at own.sublocks
-      → (up : LockRow) × (row : LockRow) × (HasLock s own.at up × HasLock s at row × (row.parent ≡ up.lkid))
-  pub named : (at : ℕ) (row : LockRow) → HasLock s at row → ¬ (row.parent ≡ 0)
-      → (p : StoredProcess) × (own : OwnLock) × (up : LockRow)
+      → (up : LockState) × (row : LockState) × (HasLock s own.at up × HasLock s at row × (row.parent ≡ up.lkid))
+  pub named : (at : ℕ) (row : LockState) → HasLock s at row → ¬ (row.parent ≡ 0)
+      → (p : StoredProcess) × (own : OwnLock) × (up : LockState)
       × (IsIn p s.processes × IsIn own p.own × IsIn at own.sublocks × HasLock s own.at up × (up.lkid ≡ row.parent))
-  pub queued : (at : ℕ) (row other : LockRow) → Stores s at row → ¬ IsLooseRow s at other
+  pub queued : (at : ℕ) (row other : LockState) → Stores s at row → ¬ IsLooseRow s at other
 
--- what holds in any state: each handle is one record, no lock is at two places, identifications and keys are unique,
+-- what holds in any state: each handle is one record, no lock is at two places, IDs and keys are unique,
 -- and the locks of a process are those that name it
 pub record IsSound (s : Records) : Type 0 where
   pub resources_apart : AreResourcesApart s.resources
   pub locks_apart : (place : Place) → AreApart (locks_at place s)
-  pub one_place : (at : ℕ) (a b : LockRow) (p q : Place) → IsIn (record { at = at; row = a }) (locks_at p s)
+  pub one_place : (at : ℕ) (a b : LockState) (p q : Place) → IsIn (record { at = at; row = a }) (locks_at p s)
       → IsIn (record { at = at; row = b }) (locks_at q s) → p ≡ q
-  pub lkids_apart : (a b : ℕ) (x y : LockRow) → HasLock s a x → HasLock s b y → x.lkid ≡ y.lkid → a ≡ b
+  pub lkids_apart : (a b : ℕ) (x y : LockState) → HasLock s a x → HasLock s b y → x.lkid ≡ y.lkid → a ≡ b
   pub keys_apart : (a b : StoredResource) → IsIn a s.resources → IsIn b s.resources → a.key ≡ b.key → a.at ≡ b.at
   pub processes_apart : AreProcessesApart s.processes
   pub owned : AreOwned s

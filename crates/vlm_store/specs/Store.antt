@@ -5,7 +5,7 @@ use Rattle.slab.specs.Slab.{Slab, get}
 use Rattle.vlm_collections.specs.declared.hashers.HashKeys.{HashKeys}
 use Rattle.vlm_collections.specs.declared.lists.LinkedList.{LinkedList}
 use Rattle.vlm_collections.specs.Lists.{handles_of}
-use Rattle.vlm_words.specs.declared.locks.LockRow.{LockRow}
+use Rattle.vlm_words.specs.declared.locks.LockState.{LockState}
 use Rattle.vlm_words.specs.declared.resources.Queue.TheVariants.{Granted, Conversion, Waiting}
 use Rattle.vlm_words.specs.declared.resources.Key.{Key}
 use Rattle.vlm_records.specs.declared.handles.Place.{Place}
@@ -18,7 +18,7 @@ use Rattle.vlm_records.specs.Shown.{Face, face_in, handles_at, lkid_of, order_li
 -- the tables: rows and resources by handle, handles by place, the resources in the order of making, the processes,
 -- the room and the keys
 pub record Layout : Type 0 where
-  pub rows : ℕ → LockRow
+  pub rows : ℕ → LockState
   pub faces : ℕ → Face
   pub handles : Place → List ℕ
   pub order : List ℕ
@@ -37,7 +37,7 @@ abbrev pub room_of : {T : Type 0} → Slab T → List ℕ → Room
 room_of nodes finds = record { slots = (room_in nodes).0; next_handle = (room_in nodes).1; finds = finds }
 
 -- the lock with this handle
-abbrev pub under_handle : (ℕ → LockRow) → ℕ → StoredLock
+abbrev pub under_handle : (ℕ → LockState) → ℕ → StoredLock
 under_handle rows at = record { at = at; row = rows at }
 
 -- the resource with this handle
@@ -75,7 +75,7 @@ tables q order beside = record {
   keys = beside.keys;
 }
 
--- the identification of the lock with this handle
+-- the ID of the lock with this handle
 abbrev pub lkid_at : Queues → ℕ → Option ℕ
 lkid_at q at = option_map lkid_of (get q.locks at)
 

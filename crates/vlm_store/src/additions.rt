@@ -6,7 +6,7 @@ ghost use Rattle.vlm_store.specs.Records.{AreSound, HasPlace, HasResource, HasRo
 
 use crate::store::Store;
 use std::alloc::AllocError;
-use vlm_records::{LockAt, Place, ProcAt, ResAt, StoredRow};
+use vlm_records::{LockAt, Place, ProcAt, ResAt, StoredState};
 use vlm_words::resources::Site;
 
 impl Store {
@@ -14,7 +14,7 @@ impl Store {
     /// is changed, except that there may be more room.
     pub fn add_lock(
         &mut self,
-        row: &StoredRow,
+        row: &StoredState,
         owner: ProcAt,
         parent: Option<LockAt>,
         to: Place,

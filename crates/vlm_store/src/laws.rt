@@ -1,7 +1,7 @@
 //! Laws of the records, in any state. Each law is a function that does nothing: its contract is the law.
 
 ghost use Rattle.std.specs.Prelude.{◌≡◌, ℕ, Option, [], ◌∷◌, ◌++◌, map};
-ghost use Rattle.vlm_words.specs.declared.locks.LockRow.{LockRow};
+ghost use Rattle.vlm_words.specs.declared.locks.LockState.{LockState};
 ghost use Rattle.vlm_words.specs.declared.resources.Queue.{Queue};
 ghost use Rattle.vlm_words.specs.declared.resources.Site.{Site};
 ghost use Rattle.vlm_words.specs.declared.steps.Declaration.{Declaration};
@@ -10,7 +10,7 @@ ghost use Rattle.vlm_store.specs.Records.{Records, HasProcess, HasResource, IsLo
 
 /// A lock, resource or process that is added and removed again leaves the records as they were.
 pub fn law_removal_undoes_an_addition()
-    ensures lock { (s : Records) (at : ℕ) (row : LockRow) (owner : ℕ) (parent : Option ℕ) (to : Place)
+    ensures lock { (s : Records) (at : ℕ) (row : LockState) (owner : ℕ) (parent : Option ℕ) (to : Place)
         → IsSound s → ¬ IsLock at s
         → without_stored_lock at (with_new_lock at row owner parent to s) ≡ s }
     ensures resource { (s : Records) (res serial : ℕ) (site : Site) → ¬ HasResource res s
@@ -26,7 +26,7 @@ pub fn law_removal_undoes_an_addition()
 
 /// A new lock joins one queue at its end, and no other queue changes.
 pub fn law_a_new_lock_joins_one_queue()
-    ensures { (s : Records) (at : ℕ) (row : LockRow) (owner : ℕ) (parent : Option ℕ) (res : ℕ) (queue : Queue)
+    ensures { (s : Records) (at : ℕ) (row : LockState) (owner : ℕ) (parent : Option ℕ) (res : ℕ) (queue : Queue)
         → with_new_lock at row owner parent (Place.Queued res queue) s
         ≡ record s {
           resources = on_resource res (joined_by queue (record { at = at; row = row })) s.resources;

@@ -1,10 +1,10 @@
-//! The store of the lock machine: every record, found by its identification or its key.
+//! The store of the lock machine: every record, found by its ID or its key.
 //!
 //! # Implementation
 //!
 //! A `Store` has three slabs: locks, resources and processes. `vlm_records` has the records and the lists through
-//! them. Three indexes lead to handles: from the identification of a lock, from the key of a resource, and from the
-//! identification of a process. A caller sees no links: contracts speak of `Records`, plain lists of records with
+//! them. Three indexes lead to handles: from the ID of a lock, from the key of a resource, and from the
+//! ID of a process. A caller sees no links: contracts speak of `Records`, plain lists of records with
 //! their handles.
 //!
 //! Two sets of marks find the first living process of a node, and the first with a pending AST, without a walk.
@@ -30,6 +30,6 @@ pub use store::Store;
 pub use vlm_collections::HashKeys;
 pub use vlm_records::{
     Armed, Authorization, Lock, LockAt, LockKind, Place, ProcAt, Process, ProcessKind, ResAt,
-    Resource, ResourceKind, StoredRow,
+    Resource, ResourceKind, StoredState,
 };
 pub use wait_list::QueuedLocks;

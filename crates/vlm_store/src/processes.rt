@@ -20,7 +20,7 @@ use vlm_words::ids::process_ordinal;
 use vlm_words::steps::Declaration;
 
 impl Store {
-    /// The living process with this identification, if there is one.
+    /// The living process with this ID, if there is one.
     pub fn process(&self, pid: u32) -> Option<ProcAt>
         ensures found { FindsProcess self.now pid result }
         ensures there { IfSome result (λ at. HasProcess at self.now) }
@@ -35,7 +35,7 @@ impl Store {
         }
     }
 
-    /// The first living process of a node: the least identification. Nodes are 1 to 8.
+    /// The first living process of a node: the least ID. Nodes are 1 to 8.
     pub fn first_of(&self, node: u8) -> Option<u32>
         ensures first { IsFirstLiving node self.now.processes result }
         ensures sound { IsSound self.now }
@@ -217,7 +217,7 @@ impl Store {
     }
 
     /// How many locks a process has, waiting ones included.
-    pub fn lock_count(&self, at: ProcAt) -> usize
+    pub fn own_lock_count(&self, at: ProcAt) -> usize
         requires { HasProcess at self.now }
         ensures own { result ≡ length (own_at at self.now) }
         ensures owned { NoneIsLoose self.now → (pid : ℕ) → IsProcess at pid self.now

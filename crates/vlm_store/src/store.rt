@@ -4,7 +4,7 @@ ghost use Rattle.std.specs.Prelude.{◌≡◌, ◌||◌, [], ◌∷◌, ◌++◌
 ghost use Rattle.std.specs.List.{list_any};
 ghost use Rattle.std.specs.Bool.{OnFalse, OnTrue};
 ghost use Rattle.std.specs.Option.{ForSome};
-ghost use Rattle.vlm_words.specs.declared.locks.LockRow.{LockRow};
+ghost use Rattle.vlm_words.specs.declared.locks.LockState.{LockState};
 ghost use Rattle.vlm_collections.specs.Lists.{IsIn, handle_before};
 ghost use Rattle.vlm_records.specs.declared.handles.Place.{Place};
 ghost use Rattle.vlm_words.specs.Rows.{blocks_request};
@@ -18,10 +18,10 @@ use indexmap::IndexMap;
 use slab::Slab;
 use std::alloc::{AllocError, Global};
 use std::marker::Model;
-use vlm_collections::{HashKeys, HashSpread, LinkedList, NodeMarks, PartedIndex, reserve_slot};
+use vlm_collections::{HashKeys, HashSpread, LinkedList, PartedIndex, reserve_slot};
 use vlm_records::{
-    InOrder, InWaitList, Lock, LockAt, LockKind, Place, ProcAt, Process, Queues, ResAt, Resource,
-    StoredRow, join_parent, join_process, join_wait_list, leave_parent, leave_process,
+    InOrder, InWaitList, Lock, LockAt, LockKind, NodeMarks, Place, ProcAt, Process, Queues, ResAt,
+    Resource, StoredState, join_parent, join_process, join_wait_list, leave_parent, leave_process,
     leave_wait_list,
 };
 use vlm_words::modes::Mode;
@@ -40,7 +40,7 @@ pub struct Store {
     // the living processes
     pub(crate) processes: Slab<Process>,
     pub(crate) process_order: LinkedList<InOrder>,
-    // the indexes: of locks and of living processes by identification, of resources by key
+    // the indexes: of locks and of living processes by ID, of resources by key
     lock_index: PartedIndex<LockKind>,
     resource_index: KeyIndex,
     pub(crate) process_index: IndexMap<u32, ProcAt, HashSpread>,
@@ -119,7 +119,7 @@ impl Store {
         }
     }
 
-    /// The lock with this identification, if there is one.
+    /// The lock with this ID, if there is one.
     pub fn lock(&self, lkid: u32) -> Option<LockAt>
         ensures found { FindsLock self.now lkid result }
         ensures sound { IsSound self.now }
@@ -149,7 +149,7 @@ impl Store {
     pub fn lock_record(&self, lock: LockAt) -> &Lock
         requires { IsStored lock self.now }
         ensures row { Stores self.now lock result.now.row }
-        ensures only { (row : LockRow) → Stores self.now lock row → row ≡ result.now.row }
+        ensures only { (row : LockState) → Stores self.now lock row → row ≡ result.now.row }
         ensures stands { IsIn (record { at = lock; row = result.now.row })
             (locks_at result.now.place self.now) }
         ensures there { HasPlace result.now.place self.now }
@@ -159,7 +159,7 @@ impl Store {
         &self.queues.locks[lock.slot()]
     }
 
-    /// Makes room for one more lock with this identification, if there is no room.
+    /// Makes room for one more lock with this ID, if there is no room.
     pub fn reserve_lock(&mut self, lkid: u32) -> Result<(), AllocError>
         ensures unchanged { IsUnchanged self.old self.new }
         ensures only { self.new ≡ with_lock_room self.new.room.locks self.old }
@@ -174,7 +174,7 @@ impl Store {
     /// Adds a lock at the end of a queue, its process's locks and its parent's sublocks. `reserve_lock` made the room.
     pub fn add_lock_reserved(
         &mut self,
-        row: &StoredRow,
+        row: &StoredState,
         owner: ProcAt,
         parent: Option<LockAt>,
         to: Place,
@@ -211,7 +211,7 @@ impl Store {
     }
 
     /// Moves a lock to the end of a queue, and writes its row. The old and the new queue may be the same.
-    pub fn move_lock(&mut self, lock: LockAt, row: &StoredRow, to: Place)
+    pub fn move_lock(&mut self, lock: LockAt, row: &StoredState, to: Place)
         requires lock { IsRowOf lock row.now self.old }
         requires there { HasPlace to self.old }
         ensures moved { self.new
@@ -246,7 +246,7 @@ impl Store {
     /// Takes a lock out of its queue. It stays a lock of its process, and is loose: in no queue.
     pub fn unlink(&mut self, lock: LockAt)
         requires { IsStored lock self.old }
-        ensures unlinked { (row : LockRow) → Stores self.old lock row
+        ensures unlinked { (row : LockState) → Stores self.old lock row
             → self.new ≡ with_lock_unlinked lock row self.old }
         ensures sound { AreSound self.old self.new }
     {
@@ -260,7 +260,7 @@ impl Store {
     pub fn push_back(&mut self, lock: LockAt, to: Place)
         requires loose { IsLoose lock self.old }
         requires there { HasPlace to self.old }
-        ensures pushed { (row : LockRow) → IsLooseRow self.old lock row
+        ensures pushed { (row : LockState) → IsLooseRow self.old lock row
             → self.new ≡ with_lock_pushed lock row to self.old }
         ensures sound { AreSound self.old self.new }
     {
@@ -344,7 +344,7 @@ impl Store {
     /// The next lock in the queue of this lock, if there is one.
     pub fn next(&self, lock: LockAt) -> Option<LockAt>
         requires { IsStored lock self.now }
-        ensures { (place : Place) (row : LockRow)
+        ensures { (place : Place) (row : LockState)
             → IsIn (record { at = lock; row = row }) (locks_at place self.now)
             → result ≡ at_after lock (locks_at place self.now) }
     {
@@ -358,7 +358,7 @@ impl Store {
     /// The previous lock in the queue of this lock, if there is one.
     pub fn previous(&self, lock: LockAt) -> Option<LockAt>
         requires { IsStored lock self.now }
-        ensures { (place : Place) (row : LockRow)
+        ensures { (place : Place) (row : LockState)
             → IsIn (record { at = lock; row = row }) (locks_at place self.now)
             → result ≡ handle_before lock (map (λ k. k.at) (locks_at place self.now)) }
     {
@@ -377,14 +377,14 @@ impl Store {
     }
 
     /// How many locks exist, of all processes.
-    pub fn total_locks(&self) -> usize
+    pub fn lock_count(&self) -> usize
         ensures { NoneIsLoose self.now → result ≡ lock_total self.now }
     {
         self.queues.locks.len()
     }
 
     /// How many processes live.
-    pub fn total_processes(&self) -> usize
+    pub fn process_count(&self) -> usize
         ensures { result ≡ length self.now.processes }
     {
         self.process_order.len(&self.processes)

@@ -1,5 +1,6 @@
 -- The cells of texts are bytes, and four words have all the cells of 31.
-use Rattle.std.proofs.Common.{ℕ, ◌≡◌, ◌<◌, ◌≤◌, ◌+◌, ◌-◌, List, [], ◌∷◌, ◌++◌, length, take, replicate, get_or, zero, suc, ◌⊎◌, inl, inr, refl, sym, ap, ◌∙◌, subst, arith}
+use Rattle.std.proofs.Common.{ℕ, ◌≡◌, ◌<◌, ◌≤◌, ◌+◌, ◌-◌, List, [], ◌∷◌, ◌++◌, length, take, replicate, get_or, zero}
+use Rattle.std.proofs.Common.{suc, ◌⊎◌, inl, inr, refl, sym, ap, ◌∙◌, subst, arith}
 use Rattle.std.specs.Int.{w64, to_le_bytes}
 use Rattle.std.proofs.Math.Seq.{take-append_seam}
 use Rattle.std.proofs.lemmas.Bool.{cases_lt}
@@ -70,7 +71,8 @@ module _ (cells others : List ℕ) (bytes : AreBytes cells) (other_bytes : AreBy
   -- cells of four equal words are equal
   pub same_cells : length cells ≡ 31 → length others ≡ 31 → word_at cells 0 ≡ word_at others 0 → word_at cells 8 ≡ word_at others 8
       → word_at cells 16 ≡ word_at others 16 → word_at cells 23 ≡ word_at others 23 → cells ≡ others
-  same_cells len other_len first second third last = same_number_lists cells others (len ∙ sym other_len) (λ i below. at i (omega arith) (cases_lt i 8) (cases_lt i 16) (cases_lt i 23))
+  same_cells len other_len first second third last = same_number_lists cells others (len
+      ∙ sym other_len) (λ i below. at i (omega arith) (cases_lt i 8) (cases_lt i 16) (cases_lt i 23))
     where
       at : (i : ℕ) → i < 31 → (i < 8) ⊎ (8 ≤ i) → (i < 16) ⊎ (16 ≤ i) → (i < 23) ⊎ (23 ≤ i) → get_or cells i 0 ≡ get_or others i 0
       at i below (inl before) _ _ = same_from 0 i (omega arith) (omega arith) first

@@ -1,7 +1,11 @@
 -- The numbers and names of the conditions. The numbers are this project's own.
 use Rattle.std.specs.Prelude.{ℕ, List, codes}
 use Rattle.vlm_words.specs.declared.conditions.Cond.{Cond}
-use Rattle.vlm_words.specs.declared.conditions.Cond.TheVariants.{Normal, Synch, Notqueued, Abort, Cancel, Deadlock, Valnotvalid, Cancelgrant, Sublocks, Ivlockid, Cvtungrant, Parnotgrant, Exdepth, Exenqlm, Nolockid, Insfmem, Ivbuflen, Badparam, Unsupported, Nosyslck, Accvio, Nonexpr, Departed, Widenotvalid}
+use Rattle.vlm_words.specs.declared.conditions.Cond.TheVariants.{Normal, Synch, Notqueued, Abort, Cancel, Deadlock}
+use Rattle.vlm_words.specs.declared.conditions.Cond.TheVariants.{Valnotvalid, Cancelgrant, Sublocks, Ivlockid}
+use Rattle.vlm_words.specs.declared.conditions.Cond.TheVariants.{Cvtungrant, Parnotgrant, Exdepth, Exenqlm, Nolockid}
+use Rattle.vlm_words.specs.declared.conditions.Cond.TheVariants.{Insfmem, Ivbuflen, Badparam, Unsupported, Nosyslck}
+use Rattle.vlm_words.specs.declared.conditions.Cond.TheVariants.{Accvio, Nonexpr, Departed, Widenotvalid}
 
 -- the number of a condition, as a status block holds it
 abbrev pub condition_number : Cond → ℕ

@@ -37,5 +37,5 @@ word_count key =
     else 5
 
 -- the words that are hashed
-abbrev pub hashed_words : Key → List ℕ
-hashed_words key = take (word_count key) (key_words key)
+abbrev pub hash_input : Key → List ℕ
+hash_input key = take (word_count key) (key_words key)

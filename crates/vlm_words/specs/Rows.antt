@@ -3,7 +3,7 @@ use Rattle.std.specs.Prelude.{ℕ, Bool, true, false, not, ◌&&◌, ◌==◌, L
 use Rattle.std.specs.List.{list_all}
 use Rattle.std.specs.Option.{option_map}
 use Rattle.vlm_words.specs.declared.locks.Request.{Request}
-use Rattle.vlm_words.specs.declared.locks.LockRow.{LockRow}
+use Rattle.vlm_words.specs.declared.locks.LockState.{LockState}
 use Rattle.vlm_words.specs.declared.modes.Mode.{Mode}
 use Rattle.vlm_words.specs.Modes.{is_compatible}
 
@@ -12,19 +12,19 @@ abbrev pub mode_asked : Option Request → Option Mode
 mode_asked request = option_map (λ q. q.mode) request
 
 -- the row is this lock, and it is of this process
-abbrev pub is_lock_of : ℕ → ℕ → LockRow → Bool
+abbrev pub is_lock_of : ℕ → ℕ → LockState → Bool
 is_lock_of pid lkid row = (row.lkid == lkid) && (row.pid == pid)
 
 -- the rows of this lock
-abbrev pub rows_of : ℕ → List LockRow → List LockRow
+abbrev pub rows_of : ℕ → List LockState → List LockState
 rows_of lkid rows = filter (λ row. row.lkid == lkid) rows
 
 -- the rows except this lock's
-abbrev pub rows_without : ℕ → List LockRow → List LockRow
+abbrev pub rows_without : ℕ → List LockState → List LockState
 rows_without lkid rows = filter (λ row. not (row.lkid == lkid)) rows
 
 -- the queue has no lock
-abbrev pub is_empty : List LockRow → Bool
+abbrev pub is_empty : List LockState → Bool
 is_empty [] = true
 is_empty (row ∷ rows) = false
 
@@ -34,7 +34,7 @@ is_beside mode None = true
 is_beside mode (Some held) = is_compatible mode held.mode
 
 -- the mode fits: it is compatible with the held mode of each of these locks, granted or converting
-unfoldable pub fits : Mode → List LockRow → List LockRow → Bool
+unfoldable pub fits : Mode → List LockState → List LockState → Bool
 fits mode granted converting =
     list_all (λ row. is_beside mode row.held) granted
     && list_all (λ row. is_beside mode row.held) converting
@@ -45,11 +45,11 @@ is_arming None = false
 is_arming (Some request) = is_some request.blocking
 
 -- the row after its grant: it holds what it wanted
-abbrev pub granted_row : LockRow → LockRow
+abbrev pub granted_row : LockState → LockState
 granted_row row = record row { held = row.want; want = None; armed = is_arming row.want }
 
 -- the row wants the request, and holds what it held
-abbrev pub wanting_row : LockRow → Request → LockRow
+abbrev pub wanting_row : LockState → Request → LockState
 wanting_row row request = record row { want = Some request }
 
 -- the request cannot be granted beside this held mode

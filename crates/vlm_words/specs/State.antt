@@ -2,7 +2,7 @@
 use Rattle.std.specs.Prelude.{ℕ, Bool, false, List, [], Option, ◌==◌, ◌-◌, find, slice_index_or, replicate}
 use Rattle.vlm_words.specs.declared.asts.Ast.{Ast}
 use Rattle.vlm_words.specs.declared.blocks.Block.{Block}
-use Rattle.vlm_words.specs.declared.locks.LockRow.{LockRow}
+use Rattle.vlm_words.specs.declared.locks.LockState.{LockState}
 use Rattle.vlm_words.specs.declared.resources.Domain.{Domain}
 use Rattle.vlm_words.specs.declared.resources.ValueBlock.{ValueBlock}
 
@@ -15,9 +15,9 @@ pub record Resource : Type 0 where
   pub name : List ℕ
   pub level : ℕ
   pub value_block : ValueBlock
-  pub granted : List LockRow
-  pub converting : List LockRow
-  pub waiting : List LockRow
+  pub granted : List LockState
+  pub converting : List LockState
+  pub waiting : List LockState
 
 -- a living process; its ASTs are those that are pending, oldest first
 pub record Process : Type 0 where
@@ -62,6 +62,6 @@ start = record {
 abbrev pub node_at : List Node → ℕ → Node
 node_at nodes node = slice_index_or nodes (node - 1) new_node
 
--- the living process with this identification
+-- the living process with this ID
 abbrev pub process_of : List Process → ℕ → Option Process
 process_of processes pid = find (λ p. p.pid == pid) processes

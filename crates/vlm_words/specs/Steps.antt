@@ -3,7 +3,7 @@ use Rattle.std.specs.Prelude.{ℕ, Bool, ◌/◌, ◌==◌}
 use Rattle.vlm_words.specs.declared.steps.Step.{Step}
 use Rattle.vlm_words.specs.declared.steps.Step.TheVariants.{Declare, SetValue, Enq, Convert, Deq, Rundown, Leave, Search, Take}
 
--- the node of a process: the upper half of its identification
+-- the node of a process: the upper half of its ID
 abbrev pub node_of_pid : ℕ → ℕ
 node_of_pid pid = pid / 65536
 

@@ -24,7 +24,7 @@ pub enum Cond {
     Cancelgrant,
     /// The lock to be given up has sublocks.
     Sublocks,
-    /// The identification is not a lock of the caller.
+    /// The ID is not a lock of the caller.
     Ivlockid,
     /// The lock to be converted waits or converts already.
     Cvtungrant,
@@ -34,7 +34,7 @@ pub enum Cond {
     Exdepth,
     /// The process has as many locks as its quota (ENQLM).
     Exenqlm,
-    /// The identifications or the request numbers are used up.
+    /// The IDs or the request numbers are used up.
     Nolockid,
     /// Memory was refused, and nothing was changed.
     Insfmem,
@@ -48,7 +48,7 @@ pub enum Cond {
     Nosyslck,
     /// The process has no status block with this number.
     Accvio,
-    /// No living process has the identification.
+    /// No living process has the ID.
     Nonexpr,
     /// The node has departed (own).
     Departed,

@@ -1,4 +1,4 @@
-//! Nodes, and the identifications of their processes.
+//! Nodes, and the IDs of their processes.
 //!
 //! A node numbers its processes as it declares them, from 1. A process is known everywhere by the number of its node
 //! times 65,536, plus its own number there, the ordinal (this project's own).
@@ -11,7 +11,7 @@ pub const NODES: usize = 8;
 /// The last ordinal of a node, and so how many processes it may declare, ended ones included.
 pub const LAST_ORDINAL: u16 = 65_535;
 
-// How many identifications each node has.
+// How many IDs each node has.
 const ORDINALS: u32 = 65_536;
 
 /// The node of a process.
@@ -28,7 +28,7 @@ pub fn process_ordinal(pid: u32) -> u16
     (pid % ORDINALS) as u16
 }
 
-/// The identification of a process, by its node and its ordinal.
+/// The ID of a process, by its node and its ordinal.
 pub fn process_id(node: u8, ordinal: u16) -> u32
     ensures { result ≡ node * 65536 + ordinal }
 {

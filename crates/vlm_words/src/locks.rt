@@ -24,8 +24,8 @@ pub struct Request {
 
 /// The state of a lock. Each lock is in one queue of one resource.
 #[derive(Clone, Copy)]
-pub struct LockRow {
-    /// The identification of the lock.
+pub struct LockState {
+    /// The ID of the lock.
     pub lkid: u32,
     /// The process that owns the lock.
     pub pid: u32,

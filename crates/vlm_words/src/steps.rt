@@ -9,11 +9,11 @@ use crate::ids::process_node;
 use crate::modes::Mode;
 use crate::names::NameArg;
 
-/// A lock, named by its identification or by a status block of the caller. A block names the lock whose
-/// identification is in it when the step is made.
+/// A lock, named by its ID or by a status block of the caller. A block names the lock whose
+/// ID is in it when the step is made.
 #[derive(Clone, Copy)]
 pub enum Which {
-    /// Its identification.
+    /// Its ID.
     Id(u32),
     /// The number of a status block.
     Block(u8),
@@ -58,7 +58,7 @@ pub struct NewRequest {
     pub name: NameArg,
     /// The number of the status block, from 1.
     pub block: u8,
-    /// The parent lock. Identification 0 names no parent.
+    /// The parent lock. ID 0 names no parent.
     pub parent: Which,
     /// The flag bits, unknown ones included.
     pub flags: u16,
@@ -130,7 +130,7 @@ pub enum Step {
 }
 
 impl Step {
-    /// The node that makes the step: the named node, or the upper half of the caller's identification (own).
+    /// The node that makes the step: the named node, or the upper half of the caller's ID (own).
     pub fn node(&self) -> u16
         ensures { result ≡ node_of self.now }
     {

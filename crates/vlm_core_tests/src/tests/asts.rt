@@ -4,8 +4,8 @@ use crate::tests::steps::{DECLARATION, P};
 use std::alloc::{AllocError, Global};
 use std::process::Abort;
 use std::test::Fail;
-use vlm_collections::AstQueue;
 use vlm_core::Core;
+use vlm_records::AstQueue;
 use vlm_words::asts::{Ast, AstKind};
 use vlm_words::steps::{Answer, Step};
 

@@ -8,7 +8,7 @@ use std::mem::size_of;
 use std::process::Abort;
 use std::test::Fail;
 use vlm_store::{Lock, Resource, Store};
-use vlm_words::locks::LockRow;
+use vlm_words::locks::LockState;
 use vlm_words::resources::Key;
 use vlm_words::steps::Declaration;
 
@@ -26,11 +26,11 @@ fn a_resource_takes_at_most_240_bytes(rt: HostRuntime) {
     assert!(rt; size <= 240, "a resource takes {size} bytes");
 }
 
-fn row(lkid: u32, parent: u32) -> LockRow
+fn row(lkid: u32, parent: u32) -> LockState
     ensures lkid { result.lkid ≡ lkid }
     ensures parent { result.parent ≡ parent }
 {
-    LockRow {
+    LockState {
         lkid,
         pid: PID,
         parent,
@@ -66,7 +66,7 @@ fn check_locks(rt: &impl Abort, store: &Store, count: usize) {
     let second = stores::lock(rt, store, 2);
     assert!(rt; store.process_record(owner).authorization.group == 7);
     assert!(rt; store.lock_record(second).owner == owner);
-    assert!(rt; store.lock_count(owner) == count);
+    assert!(rt; store.own_lock_count(owner) == count);
 }
 
 #[test]

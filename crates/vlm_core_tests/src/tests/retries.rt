@@ -12,9 +12,9 @@ use std::alloc::AllocError;
 use std::process::Abort;
 use std::test::Fail;
 use vlm_queue::{head, is_idle, next};
-use vlm_store::{Armed, LockAt, Place, Store, StoredRow};
+use vlm_store::{Armed, LockAt, Place, Store, StoredState};
 use vlm_words::flags::EnqFlags;
-use vlm_words::locks::{LockRow, Request};
+use vlm_words::locks::{LockState, Request};
 use vlm_words::modes::Mode;
 use vlm_words::resources::{Key, Queue};
 use vlm_words::steps::Declaration;
@@ -31,10 +31,10 @@ fn request(mode: Mode) -> Request {
     }
 }
 
-fn row(lkid: u32, held: Option<Mode>, want: Option<Mode>) -> LockRow
+fn row(lkid: u32, held: Option<Mode>, want: Option<Mode>) -> LockState
     ensures { result.parent ≡ 0 }
 {
-    LockRow {
+    LockState {
         lkid,
         pid: 1,
         parent: 0,
@@ -77,18 +77,18 @@ fn open(rt: &impl Abort, store: &mut Store, serial: u32, key: &Key) -> Result<()
 
 // Adds a lock at the end of its queue, unless it is there. Where memory was refused once it is not there, and
 // is added again.
-fn enter(rt: &impl Abort, store: &mut Store, key: &Key, row: LockRow) -> Result<(), AllocError>
+fn enter(rt: &impl Abort, store: &mut Store, key: &Key, row: LockState) -> Result<(), AllocError>
     requires { row.parent ≡ 0 }
 {
     let owner = process(rt, store, row.pid);
-    let count = store.lock_count(owner);
+    let count = store.own_lock_count(owner);
     if stores::add(rt, store, key, row).is_err() {
         assert!(rt;
             store.lock(row.lkid).is_none(),
             "a refused lock is not there"
         );
         let owner = process(rt, store, row.pid);
-        assert_eq!(rt; store.lock_count(owner), count);
+        assert_eq!(rt; store.own_lock_count(owner), count);
         stores::add(rt, store, key, row)?;
     }
     Ok(())
@@ -118,14 +118,14 @@ fn serve(rt: &impl Abort, store: &mut Store, key: &Key, lkid: u32, mode: Mode) {
     let res = resource(rt, store, key);
     let lock = lock(rt, store, lkid);
     assert!(rt; head(store, res, Queue::Conversion) == Some(lock));
-    let row = LockRow {
+    let row = LockState {
         held: Some(request(mode)),
         want: None,
         ..store.lock_record(lock).row.row()
     };
     store.move_lock(
         lock,
-        &StoredRow::of(&row),
+        &StoredState::of(&row),
         Place::Queued(res, Queue::Granted),
     );
 }
@@ -211,12 +211,12 @@ fn a_served_lock_is_granted_and_holds_its_mode(rt: HostRuntime) -> Result<(), Fa
 fn arm(rt: &impl Abort, store: &mut Store, key: &Key, lkid: u32) {
     let res = resource(rt, store, key);
     let granted = lock(rt, store, lkid);
-    let row = LockRow {
+    let row = LockState {
         armed: true,
         ..store.lock_record(granted).row.row()
     };
     let to = Place::Queued(res, Queue::Granted);
-    store.move_lock(granted, &StoredRow::of(&row), to);
+    store.move_lock(granted, &StoredState::of(&row), to);
 }
 
 // The first lock of a list of armed locks of the resource.

@@ -6,8 +6,8 @@ ghost use Rattle.vlm_store.specs.Records.{HasPlace, HasProcess, HasResource, Has
 use std::alloc::AllocError;
 use std::process::Abort;
 use std::test::Fail;
-use vlm_store::{LockAt, Place, ProcAt, ResAt, Store, StoredRow};
-use vlm_words::locks::LockRow;
+use vlm_store::{LockAt, Place, ProcAt, ResAt, Store, StoredState};
+use vlm_words::locks::LockState;
 use vlm_words::names::Name;
 use vlm_words::resources::{Domain, Key, Queue, Site};
 use vlm_words::steps::Declaration;
@@ -89,7 +89,7 @@ pub fn open(store: &mut Store, serial: u32, key: &Key) -> Result<(), AllocError>
 }
 
 /// The queue of a resource for a lock with the row's held and wanted modes. The resource has to exist.
-pub fn place(rt: &impl Abort, store: &Store, key: &Key, row: &LockRow) -> Place
+pub fn place(rt: &impl Abort, store: &Store, key: &Key, row: &LockState) -> Place
     ensures { HasPlace result store.now }
 {
     let queue = match (row.held.is_some(), row.want.is_some()) {
@@ -101,7 +101,7 @@ pub fn place(rt: &impl Abort, store: &Store, key: &Key, row: &LockRow) -> Place
 }
 
 /// Adds a lock without a parent at the end of its queue of the resource, unless it is there.
-pub fn add(rt: &impl Abort, store: &mut Store, key: &Key, row: LockRow) -> Result<(), AllocError>
+pub fn add(rt: &impl Abort, store: &mut Store, key: &Key, row: LockState) -> Result<(), AllocError>
     requires { row.parent ≡ 0 }
 {
     let to = place(rt, store, key, &row);
@@ -109,14 +109,14 @@ pub fn add(rt: &impl Abort, store: &mut Store, key: &Key, row: LockRow) -> Resul
     match store.lock(row.lkid) {
         Some(_) => Ok(()),
         None => {
-            store.add_lock(&StoredRow::of(&row), owner, None, to)?;
+            store.add_lock(&StoredState::of(&row), owner, None, to)?;
             Ok(())
         }
     }
 }
 
 /// Adds a lock, unless it is there. There is room for it.
-pub fn add_reserved(rt: &impl Abort, store: &mut Store, row: LockRow, spot: Spot)
+pub fn add_reserved(rt: &impl Abort, store: &mut Store, row: LockState, spot: Spot)
     requires room { HasRoomForLock row.lkid store.old }
     requires parent { IsParentOf spot.parent row store.old }
     requires there { HasPlace spot.to store.old }
@@ -125,7 +125,7 @@ pub fn add_reserved(rt: &impl Abort, store: &mut Store, row: LockRow, spot: Spot
     match store.lock(row.lkid) {
         Some(_) => {}
         None => {
-            store.add_lock_reserved(&StoredRow::of(&row), owner, spot.parent, spot.to);
+            store.add_lock_reserved(&StoredState::of(&row), owner, spot.parent, spot.to);
         }
     }
 }

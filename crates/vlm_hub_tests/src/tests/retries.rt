@@ -80,7 +80,7 @@ fn a_turn_tells_of_want_of_memory(rt: HostRuntime) -> Result<(), Fail> {
     Ok(())
 }
 
-fn lose(pair: &mut Pair, node: Node) -> Result<Cond, AllocError> {
+fn depart(pair: &mut Pair, node: Node) -> Result<Cond, AllocError> {
     match pair.lost(node) {
         Ok(condition) => Ok(condition),
         Err(AllocError) => pair.lost(node),
@@ -111,7 +111,7 @@ fn a_hub_goes_on_without_memory(rt: HostRuntime) -> Result<(), Fail> {
     );
     turn(&rt, &mut pair, 1);
     assert!(&rt; is_ast(pair.take(First), P, AstKind::Blocking));
-    assert!(&rt; lose(&mut pair, First) == Ok(Cond::Normal));
+    assert!(&rt; depart(&mut pair, First) == Ok(Cond::Normal));
     turn(&rt, &mut pair, 1);
     assert!(&rt; is_ast(pair.take(Second), Q, AstKind::Completion));
     assert!(&rt; pair.turn() == Turn::Idle);

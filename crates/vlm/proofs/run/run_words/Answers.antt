@@ -11,9 +11,21 @@ use Rattle.vlm.proofs.run.run_words.Goals as goal
 pub returns-in-Err : goal.returns-in-Err
 returns-in-Err g c = record {
   ends = search rules;
-  play = λ name are. inr (refl, ends_by_memory (map g.S.AsStr.text c.args.words.now) _ _ _ _ (play_faultless name _ are) c.in-Err.ensures.fails c.refused.ensures);
-  cluster = λ name nodes least most are. inr (refl, ends_by_memory (map g.S.AsStr.text c.args.words.now) _ _ _ _ (all_known name nodes _ least most are).errors c.in-Err.ensures.fails c.refused.ensures);
-  watch = λ name res are. inr (refl, ends_by_memory (map g.S.AsStr.text c.args.words.now) _ _ _ _ (watch_faultless name res _ are) c.in-Err.ensures.fails c.refused.ensures);
+  play = λ name are. inr (
+    refl,
+    ends_by_memory (map g.S.AsStr.text c.args.words.now) _ _ _ _
+        (play_faultless name _ are) c.in-Err.ensures.fails c.refused.ensures,
+  );
+  cluster = λ name nodes least most are. inr (
+    refl,
+    ends_by_memory (map g.S.AsStr.text c.args.words.now) _ _ _ _
+        (all_known name nodes _ least most are).errors c.in-Err.ensures.fails c.refused.ensures,
+  );
+  watch = λ name res are. inr (
+    refl,
+    ends_by_memory (map g.S.AsStr.text c.args.words.now) _ _ _ _
+        (watch_faultless name res _ are) c.in-Err.ensures.fails c.refused.ensures,
+  );
 }
 
 pub returns-in-Ok-Cluster : goal.returns-in-Ok-Cluster
@@ -42,7 +54,9 @@ returns-in-Ok-Watch g c = record {
       λ name are. absurd (play_is_no_watch name _ are asked.command);
   cluster =
       let asked = rw c.in-Ok-Watch.field-0-is at c.in-Ok-Watch.ensures.asked in
-      λ name nodes least most are. absurd (cluster_is_no_watch (map g.S.AsStr.text c.args.words.now) (all_known name nodes _ least most are).named asked.command);
+      λ name nodes least most are. absurd
+      (cluster_is_no_watch (map g.S.AsStr.text c.args.words.now)
+      (all_known name nodes _ least most are).named asked.command);
   watch =
       let asked = rw c.in-Ok-Watch.field-0-is at c.in-Ok-Watch.ensures.asked in
       λ name res are.

@@ -5,4 +5,6 @@ use Rattle.vlm_capi.proofs.core_exports.lent_step.Goals as goal
 
 pub returns : goal.returns
 returns c =
-    lends_core _ (λ s r s'. Outcome s c.args.step s' r) (λ s r s' made. search rules) c.args.handle.now.slot.held c.with_core.result c.with_core.new.self.slot.held c.with_core.ensures
+    lends_core _ (λ s r s'. Outcome s c.args.step s' r)
+    (λ s r s' made. search rules) c.args.handle.now.slot.held c.with_core.result c.with_core.new.self.slot.held
+    c.with_core.ensures

@@ -11,7 +11,9 @@ loop-preserved g c =
       made = (let n = was.made in let m = c.push_reserved.ensures.len in omega arith);
       room = (let n = was.room in let m = c.push_reserved.ensures.capacity in omega arith);
       empty = λ k v below. subst (λ (xs : List Items). (get_or xs k v).items ≡ []) (sym c.push_reserved.ensures.items)
-          (all_more (λ m x. x.items ≡ []) items c.new.result (λ m x low. was.empty m x (omega (arith, low, long))) c.new.ensures.items k v (omega (arith, below, long)));
+          (all_more (λ m x. x.items ≡ []) items c.new.result
+          (λ m x low. was.empty m x (omega (arith, low, long))) c.new.ensures.items k v
+          (omega (arith, below, long)));
     }
 
 pub returns-clause-items : goal.returns-clause-items

@@ -72,7 +72,8 @@ pub finish-finished-requires-clause-ports : goal.finish-finished-requires-clause
 finish-finished-requires-clause-ports g c =
     let D = WorkerResult g.row.G.Denot in
     let ports : List Port = c.args.inputs.ports.items in let lists : List StepList = c.args.inputs.lists.items in
-    let children : List (PromisedHandle D (WorkerPromise g.row.G.Denot)) = c.start_all.new.children.items in let results : List D = c.join_all-2.new.results.items in
+    let children : List (PromisedHandle D (WorkerPromise g.row.G.Denot)) = c.start_all.new.children.items in
+    let results : List D = c.join_all-2.new.results.items in
     let op = c.args.inputs.ports.ok in let ol = c.args.inputs.lists.ok in let oc = c.start_all.new.children.ok in let od = c.join_all-2.new.results.ok in
     let ports_are : vec_len c.args.inputs.ports ≡ vec_len c.args.inputs.lists = c.requires.lens.0 in
     let few : vec_len c.start_all.new.children ≤ vec_len c.args.inputs.ports = c.start_all.ensures.few in
@@ -80,7 +81,9 @@ finish-finished-requires-clause-ports g c =
     let as_many : length ports ≡ length lists = omega arith in
     let fewer : length results ≤ length lists = omega arith in
     let works : AreWorks g.G.Gate.never_stops ports lists results =
-    works_of g.G.Gate.never_stops ports lists children results (vec_len c.start_all.new.children) c.start_all.ensures.each c.join_all-2.ensures.each (omega arith) (omega arith) in
+    works_of g.G.Gate.never_stops ports lists children results
+    (vec_len c.start_all.new.children) c.start_all.ensures.each c.join_all-2.ensures.each (omega arith)
+    (omega arith) in
     let all : length results ≤ length ports = omega arith in
     ports_of_works g.G.Gate.never_stops ports lists results c.serve.new.self.hub c.requires.new.0 works all fewer (c.serve.ensures.rings ∙ sym c.requires.new.1)
 
@@ -88,7 +91,8 @@ pub returns-then-finished-clause-serving : goal.returns-then-finished-clause-ser
 returns-then-finished-clause-serving g c =
     let D = WorkerResult g.row.G.Denot in
     let ports : List Port = c.args.inputs.ports.items in let lists : List StepList = c.args.inputs.lists.items in
-    let children : List (PromisedHandle D (WorkerPromise g.row.G.Denot)) = c.start_all.new.children.items in let results : List D = c.join_all-2.new.results.items in
+    let children : List (PromisedHandle D (WorkerPromise g.row.G.Denot)) = c.start_all.new.children.items in
+    let results : List D = c.join_all-2.new.results.items in
     let op = c.args.inputs.ports.ok in let ol = c.args.inputs.lists.ok in let oc = c.start_all.new.children.ok in let od = c.join_all-2.new.results.ok in
     let ports_are : vec_len c.args.inputs.ports ≡ vec_len c.args.inputs.lists = c.requires.lens.0 in
     let few : vec_len c.start_all.new.children ≤ vec_len c.args.inputs.ports = c.start_all.ensures.few in
@@ -96,8 +100,12 @@ returns-then-finished-clause-serving g c =
     let as_many : length ports ≡ length lists = omega arith in
     let fewer : length results ≤ length lists = omega arith in
     let works : AreWorks g.G.Gate.never_stops ports lists results =
-    works_of g.G.Gate.never_stops ports lists children results (vec_len c.start_all.new.children) c.start_all.ensures.each c.join_all-2.ensures.each (omega arith) (omega arith) in
-    let all : length results ≡ length lists = (let n = c.len-count.ensures in let m = c.len-started.ensures in let le = c.if-started-count.false in omega arith) in
+    works_of g.G.Gate.never_stops ports lists children results
+    (vec_len c.start_all.new.children) c.start_all.ensures.each c.join_all-2.ensures.each (omega arith)
+    (omega arith) in
+    let all : length results ≡ length lists =
+    (let n = c.len-count.ensures in let m = c.len-started.ensures in let le = c.if-started-count.false in
+    omega arith) in
     let r : Report = c.finish-finished.result.report in
     let oi = r.items.ok in let oq = r.posted.ok in let counts = c.finish-finished.ensures.counts in
     let items : length r.items.items ≡ length results = omega arith in
@@ -110,7 +118,8 @@ returns-then-finished-clause-serving g c =
           (λ k d v lt. c.finish-finished.ensures.whole c.if-finished.true k d v (omega arith));
       whole = λ never.
           all_posted g.G.Gate.never_stops ports lists results r c.requires.new.0 as_many fewer works noted all items posted
-          c.finish-finished.ensures.sound.legal c.finish-finished.ensures.sound.numbered c.finish-finished.ensures.sound.takes c.law_departed.ensures.answered never
+          c.finish-finished.ensures.sound.legal c.finish-finished.ensures.sound.numbered
+          c.finish-finished.ensures.sound.takes c.law_departed.ensures.answered never
           (λ k d v lt. c.finish-finished.ensures.whole c.if-finished.true k d v (omega arith));
       modes = c.law_modes_stay_compatible.ensures _ _ c.finish-finished.ensures.sound.legal;
       once = c.law_requests_end_once.ensures _ _ c.finish-finished.ensures.sound.legal;
@@ -122,7 +131,8 @@ pub returns-clause-serving : goal.returns-clause-serving
 returns-clause-serving g c =
     let D = WorkerResult g.row.G.Denot in
     let ports : List Port = c.args.inputs.ports.items in let lists : List StepList = c.args.inputs.lists.items in
-    let children : List (PromisedHandle D (WorkerPromise g.row.G.Denot)) = c.start_all.new.children.items in let results : List D = c.join_all-2.new.results.items in
+    let children : List (PromisedHandle D (WorkerPromise g.row.G.Denot)) = c.start_all.new.children.items in
+    let results : List D = c.join_all-2.new.results.items in
     let op = c.args.inputs.ports.ok in let ol = c.args.inputs.lists.ok in let oc = c.start_all.new.children.ok in let od = c.join_all-2.new.results.ok in
     let ports_are : vec_len c.args.inputs.ports ≡ vec_len c.args.inputs.lists = c.requires.lens.0 in
     let few : vec_len c.start_all.new.children ≤ vec_len c.args.inputs.ports = c.start_all.ensures.few in
@@ -130,8 +140,12 @@ returns-clause-serving g c =
     let as_many : length ports ≡ length lists = omega arith in
     let fewer : length results ≤ length lists = omega arith in
     let works : AreWorks g.G.Gate.never_stops ports lists results =
-    works_of g.G.Gate.never_stops ports lists children results (vec_len c.start_all.new.children) c.start_all.ensures.each c.join_all-2.ensures.each (omega arith) (omega arith) in
-    let all : length results ≡ length lists = (let n = c.len-count.ensures in let m = c.len-started.ensures in let le = c.if-started-count.false in omega arith) in
+    works_of g.G.Gate.never_stops ports lists children results
+    (vec_len c.start_all.new.children) c.start_all.ensures.each c.join_all-2.ensures.each (omega arith)
+    (omega arith) in
+    let all : length results ≡ length lists =
+    (let n = c.len-count.ensures in let m = c.len-started.ensures in let le = c.if-started-count.false in
+    omega arith) in
     let r : Report = c.finish-finished.result.report in
     let oi = r.items.ok in let oq = r.posted.ok in let counts = c.finish-finished.ensures.counts in
     let items : length r.items.items ≡ length results = omega arith in
@@ -153,7 +167,8 @@ pub returns-then-started-count-clause-serving : goal.returns-then-started-count-
 returns-then-started-count-clause-serving g c =
     let D = WorkerResult g.row.G.Denot in
     let ports : List Port = c.args.inputs.ports.items in let lists : List StepList = c.args.inputs.lists.items in
-    let children : List (PromisedHandle D (WorkerPromise g.row.G.Denot)) = c.start_all.new.children.items in let results : List D = c.join_all.new.results.items in
+    let children : List (PromisedHandle D (WorkerPromise g.row.G.Denot)) = c.start_all.new.children.items in
+    let results : List D = c.join_all.new.results.items in
     let op = c.args.inputs.ports.ok in let ol = c.args.inputs.lists.ok in let oc = c.start_all.new.children.ok in let od = c.join_all.new.results.ok in
     let ports_are : vec_len c.args.inputs.ports ≡ vec_len c.args.inputs.lists = c.requires.lens.0 in
     let few : vec_len c.start_all.new.children ≤ vec_len c.args.inputs.ports = c.start_all.ensures.few in
@@ -161,14 +176,18 @@ returns-then-started-count-clause-serving g c =
     let as_many : length ports ≡ length lists = omega arith in
     let fewer : length results ≤ length lists = omega arith in
     let works : AreWorks g.G.Gate.never_stops ports lists results =
-    works_of g.G.Gate.never_stops ports lists children results (vec_len c.start_all.new.children) c.start_all.ensures.each c.join_all.ensures.each (omega arith) (omega arith) in
+    works_of g.G.Gate.never_stops ports lists children results
+    (vec_len c.start_all.new.children) c.start_all.ensures.each c.join_all.ensures.each (omega arith)
+    (omega arith) in
     let r : Report = c.give_up-report.result in
     let oi = r.items.ok in let oq = r.posted.ok in let counts = c.give_up-report.ensures.counts in
     let now = c.as_slice.ensures.value in
     let long : length c.as_slice.result.now ≡ length results = ap (λ (xs : List D). length xs) now in
     let zeros : vec_len c.args.preallocated.space.posted ≡ vec_len c.args.inputs.lists =
     (let ok = c.args.preallocated.space.posted.ok in let n = ap (λ (xs : List ℕ). length xs) c.requires.posted in omega (arith, n, length-replicate {A = ℕ})) in
-    let noted : AreNoted results r.posted.items = λ k d lt. c.give_up-report.ensures.posted k d (omega (arith, long, lt)) ∙ ap (λ (xs : List D). (get_or xs k d).posted) now in
+    let noted : AreNoted results r.posted.items =
+    λ k d lt. c.give_up-report.ensures.posted k d (omega (arith, long, lt))
+    ∙ ap (λ (xs : List D). (get_or xs k d).posted) now in
     record {
       served = tt;
       whole = λ never. tt;
@@ -177,7 +196,9 @@ returns-then-started-count-clause-serving g c =
       order = tt;
       cut_short =
           given_up g.G.Gate.never_stops ports lists results r c.requires.new.0 as_many fewer works noted
-          c.give_up-report.ensures.entries (omega arith) (omega arith) c.give_up-report.ensures.sound.legal c.give_up-report.ensures.sound.numbered c.give_up-report.ensures.sound.takes c.law_departed.ensures.answered
+          c.give_up-report.ensures.entries (omega arith)
+          (omega arith) c.give_up-report.ensures.sound.legal c.give_up-report.ensures.sound.numbered
+          c.give_up-report.ensures.sound.takes c.law_departed.ensures.answered
           (λ k v lt. c.give_up-report.ensures.items k v (omega arith))
           (λ k above. c.give_up-report.ensures.others k (omega (arith, long, above)));
     }
@@ -200,8 +221,10 @@ returns-then-finished-clause-parts g c =
 pub returns-then-finished-clause-gated : goal.returns-then-finished-clause-gated
 returns-then-finished-clause-gated g c =
     let D = WorkerResult g.row.G.Denot in let M : Moves g.row.G.Denot = moves g.G.Gate.answers g.G.Gate.hears in
-    let gates : List g.row.G.Denot = c.args.inputs.gates.items in let ports : List Port = c.args.inputs.ports.items in let lists : List StepList = c.args.inputs.lists.items in
-    let children : List (PromisedHandle D (WorkerPromise g.row.G.Denot)) = c.start_all.new.children.items in let results : List D = c.join_all-2.new.results.items in
+    let gates : List g.row.G.Denot = c.args.inputs.gates.items in let ports : List Port = c.args.inputs.ports.items in
+    let lists : List StepList = c.args.inputs.lists.items in
+    let children : List (PromisedHandle D (WorkerPromise g.row.G.Denot)) = c.start_all.new.children.items in
+    let results : List D = c.join_all-2.new.results.items in
     let op = c.args.inputs.ports.ok in let oc = c.start_all.new.children.ok in let od = c.join_all-2.new.results.ok in
     let few : vec_len c.start_all.new.children ≤ vec_len c.args.inputs.ports = c.start_all.ensures.few in
     let joined : vec_len c.join_all-2.new.results ≡ vec_len c.start_all.new.children = c.join_all-2.ensures.len in
@@ -218,8 +241,10 @@ returns-then-finished-clause-gated g c =
 pub returns-clause-gated : goal.returns-clause-gated
 returns-clause-gated g c =
     let D = WorkerResult g.row.G.Denot in let M : Moves g.row.G.Denot = moves g.G.Gate.answers g.G.Gate.hears in
-    let gates : List g.row.G.Denot = c.args.inputs.gates.items in let ports : List Port = c.args.inputs.ports.items in let lists : List StepList = c.args.inputs.lists.items in
-    let children : List (PromisedHandle D (WorkerPromise g.row.G.Denot)) = c.start_all.new.children.items in let results : List D = c.join_all-2.new.results.items in
+    let gates : List g.row.G.Denot = c.args.inputs.gates.items in let ports : List Port = c.args.inputs.ports.items in
+    let lists : List StepList = c.args.inputs.lists.items in
+    let children : List (PromisedHandle D (WorkerPromise g.row.G.Denot)) = c.start_all.new.children.items in
+    let results : List D = c.join_all-2.new.results.items in
     let op = c.args.inputs.ports.ok in let oc = c.start_all.new.children.ok in let od = c.join_all-2.new.results.ok in
     let few : vec_len c.start_all.new.children ≤ vec_len c.args.inputs.ports = c.start_all.ensures.few in
     let joined : vec_len c.join_all-2.new.results ≡ vec_len c.start_all.new.children = c.join_all-2.ensures.len in
@@ -235,8 +260,10 @@ returns-clause-gated g c =
 pub returns-then-started-count-clause-gated : goal.returns-then-started-count-clause-gated
 returns-then-started-count-clause-gated g c =
     let D = WorkerResult g.row.G.Denot in let M : Moves g.row.G.Denot = moves g.G.Gate.answers g.G.Gate.hears in
-    let gates : List g.row.G.Denot = c.args.inputs.gates.items in let ports : List Port = c.args.inputs.ports.items in let lists : List StepList = c.args.inputs.lists.items in
-    let children : List (PromisedHandle D (WorkerPromise g.row.G.Denot)) = c.start_all.new.children.items in let results : List D = c.join_all.new.results.items in
+    let gates : List g.row.G.Denot = c.args.inputs.gates.items in let ports : List Port = c.args.inputs.ports.items in
+    let lists : List StepList = c.args.inputs.lists.items in
+    let children : List (PromisedHandle D (WorkerPromise g.row.G.Denot)) = c.start_all.new.children.items in
+    let results : List D = c.join_all.new.results.items in
     let op = c.args.inputs.ports.ok in let oc = c.start_all.new.children.ok in let od = c.join_all.new.results.ok in
     let few : vec_len c.start_all.new.children ≤ vec_len c.args.inputs.ports = c.start_all.ensures.few in
     let joined : vec_len c.join_all.new.results ≡ vec_len c.start_all.new.children = c.join_all.ensures.len in
@@ -247,6 +274,8 @@ returns-then-started-count-clause-gated g c =
     let oi = r.items.ok in let counts = c.give_up-report.ensures.counts in
     let now = c.as_slice.ensures.value in
     let long : length c.as_slice.result.now ≡ length results = ap (λ (xs : List D). length xs) now in
-    let noted : AreNoted results r.posted.items = λ k d lt. c.give_up-report.ensures.posted k d (omega (arith, long, lt)) ∙ ap (λ (xs : List D). (get_or xs k d).posted) now in
+    let noted : AreNoted results r.posted.items =
+    λ k d lt. c.give_up-report.ensures.posted k d (omega (arith, long, lt))
+    ∙ ap (λ (xs : List D). (get_or xs k d).posted) now in
     gated_by_none M gates lists results r works noted (λ k v lt. c.give_up-report.ensures.items k v (omega arith))
     (λ k above. c.give_up-report.ensures.others k (omega (arith, long, above)))

@@ -15,11 +15,13 @@ returns-in_err-collect-clause-same g c =
 pub returns-in_err-collect-clause-told : goal.returns-in_err-collect-clause-told
 returns-in_err-collect-clause-told g c =
     let lt : c.loop-at.at < length c.loop-at.results = omega arith in
-    told_set (moves g.G.Gate.answers g.G.Gate.hears) c.args.results.now c.loop-at.results c.loop-at.at c.collect.new.worker c.index-results-at.result lt c.loop-at.invariant.1 c.collect.ensures.told
+    told_set (moves g.G.Gate.answers g.G.Gate.hears) c.args.results.now c.loop-at.results c.loop-at.at
+    c.collect.new.worker c.index-results-at.result lt c.loop-at.invariant.1 c.collect.ensures.told
 
 pub loop-at-preserved : goal.loop-at-preserved
 loop-at-preserved g c =
     let lt : c.loop-at.at < length c.loop-at.results = omega arith in (
       map-set_same work_of c.loop-at.results c.loop-at.at c.collect.new.worker c.index-results-at.result c.collect.ensures.same ∙ c.loop-at.invariant.0,
-      told_set (moves g.G.Gate.answers g.G.Gate.hears) c.args.results.now c.loop-at.results c.loop-at.at c.collect.new.worker c.index-results-at.result lt c.loop-at.invariant.1 c.collect.ensures.told,
+      told_set (moves g.G.Gate.answers g.G.Gate.hears) c.args.results.now c.loop-at.results c.loop-at.at
+          c.collect.new.worker c.index-results-at.result lt c.loop-at.invariant.1 c.collect.ensures.told,
     )

@@ -22,15 +22,20 @@ pub returns-in_err-collect_all-clause-told : goal.returns-in_err-collect_all-cla
 returns-in_err-collect_all-clause-told g c =
     let ds = c.args.results.now in let xs = c.loop.results in let M = moves g.G.Gate.answers g.G.Gate.hears in
     let settled = told_on M ds xs c.settle_all.new.results (sym (as_many xs ds c.loop.invariant.same)) c.loop.invariant.told c.settle_all.ensures.told in
-    told_on M ds c.settle_all.new.results c.collect_all.new.results (sym (as_many c.settle_all.new.results ds (c.settle_all.ensures.same ∙ c.loop.invariant.same))) settled c.collect_all.ensures.told
+    told_on M ds c.settle_all.new.results c.collect_all.new.results
+    (sym (as_many c.settle_all.new.results ds (c.settle_all.ensures.same
+    ∙ c.loop.invariant.same))) settled c.collect_all.ensures.told
 
 pub loop-preserved : goal.loop-preserved
 loop-preserved g c =
     let ds = c.args.results.now in let xs = c.loop.results in let M = moves g.G.Gate.answers g.G.Gate.hears in
-    let settled = told_on M ds xs c.settle_all.new.results (sym (as_many xs ds c.loop.invariant.same)) c.loop.invariant.told c.settle_all.ensures.told in record {
+    let settled = told_on M ds xs c.settle_all.new.results
+    (sym (as_many xs ds c.loop.invariant.same)) c.loop.invariant.told c.settle_all.ensures.told in record {
       rings = c.turn.ensures.rings ∙ c.settle_all.ensures.rings ∙ c.loop.invariant.rings;
       same = c.collect_all.ensures.same ∙ c.settle_all.ensures.same ∙ c.loop.invariant.same;
-      told = told_on M ds c.settle_all.new.results c.collect_all.new.results (sym (as_many c.settle_all.new.results ds (c.settle_all.ensures.same ∙ c.loop.invariant.same))) settled c.collect_all.ensures.told;
+      told = told_on M ds c.settle_all.new.results c.collect_all.new.results
+          (sym (as_many c.settle_all.new.results ds (c.settle_all.ensures.same
+          ∙ c.loop.invariant.same))) settled c.collect_all.ensures.told;
       accounted = c.turn.ensures.accounted;
       every = c.turn.ensures.every ∙ c.settle_all.ensures.every ∙ c.loop.invariant.every;
       few = search rules;

@@ -11,7 +11,8 @@ use Rattle.vlm_cluster.proofs.settlement.settle_all.Goals.{then-not-settle, else
 pub settle-requires-clause-port : goal.settle-requires-clause-port
 settle-requires-clause-port g c =
     let lt : c.loop-at.at < length c.loop-at.results = omega arith in
-    ports_kept c.args.driver.now.hub c.loop-at.driver.hub c.args.results.now c.loop-at.results c.loop-at.invariant.rings c.loop-at.invariant.same c.requires.ports c.loop-at.at _ lt
+    ports_kept c.args.driver.now.hub c.loop-at.driver.hub c.args.results.now c.loop-at.results c.loop-at.invariant.rings
+    c.loop-at.invariant.same c.requires.ports c.loop-at.at _ lt
 
 pub loop-at-preserved : goal.loop-at-preserved
 loop-at-preserved g c =
@@ -29,6 +30,7 @@ loop-at-preserved g c =
         | else-not-settle w ↦
             let t : IsTrue c.settle.result = search rules in
             let before : c.loop-at.all ≡ true = sym w.all-is ∙ all in
-            whole_more (entries_at c.settle.new.driver) ds at d lt (subst (λ (es : List Entry). AreWhole es ds at) (sym new.entries) (was.whole before)) (new.whole t)
+            whole_more (entries_at c.settle.new.driver) ds at d lt
+            (subst (λ (es : List Entry). AreWhole es ds at) (sym new.entries) (was.whole before)) (new.whole t)
       ];
     }

@@ -52,5 +52,7 @@ returns-clause-gated g c k d h below =
     let kept = was.2 k d (omega (arith, below, whole)) in
     let at : kept.0 ≡ get_or children k kept.0 = subst (λ (hs : List H). kept.0 ≡ get_or hs k kept.0) began.0 kept.1 in
     let lt : k < length children = (let ok = c.args.children.ok in omega (arith, below)) in
-    let P : H → Type 0 = λ x. IsGatedWork (moves g.G.Gate.answers g.G.Gate.hears) x.promise.gate.value x.promise.list.value.items (get_or c.loop-child.results.items k d) in
+    let P : H → Type 0 = λ x. IsGatedWork
+    (moves g.G.Gate.answers g.G.Gate.hears) x.promise.gate.value x.promise.list.value.items
+    (get_or c.loop-child.results.items k d) in
     subst P (at ∙ get_or_default children k kept.0 h lt) kept.3

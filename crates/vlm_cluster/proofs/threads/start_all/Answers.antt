@@ -23,10 +23,19 @@ loop-preserved g c =
     let some_list : at < length lists = omega arith in
     let long : length old ≡ at = (let ok = c.loop.children.ok in let n = was.started in omega arith) in
     let its_gate : Q at child = λ x.
-    c.in-Ok.ensures.gate ∙ (c.remove-gate.ensures.value ∙ (was.next_gate 0 c.remove-gate.result ∙ (ap (λ (n : ℕ). get_or gates n c.remove-gate.result) (omega arith) ∙ get_or_default gates at c.remove-gate.result x some_gate))) in
+    c.in-Ok.ensures.gate ∙ (c.remove-gate.ensures.value
+    ∙ (was.next_gate 0 c.remove-gate.result
+    ∙ (ap (λ (n : ℕ). get_or gates n c.remove-gate.result) (omega arith)
+    ∙ get_or_default gates at c.remove-gate.result x some_gate))) in
     let here : P at child = λ p x. (
-      c.in-Ok.ensures.port ∙ (c.remove-port.ensures.value ∙ (was.next_port 0 c.remove-port.result ∙ (ap (λ (n : ℕ). get_or ports n c.remove-port.result) (omega arith) ∙ get_or_default ports at c.remove-port.result p some_port))),
-      c.in-Ok.ensures.list ∙ (c.remove-list.ensures.value ∙ (was.next_list 0 c.remove-list.result ∙ (ap (λ (n : ℕ). get_or lists n c.remove-list.result) (omega arith) ∙ get_or_default lists at c.remove-list.result x some_list))),
+      c.in-Ok.ensures.port ∙ (c.remove-port.ensures.value
+          ∙ (was.next_port 0 c.remove-port.result
+          ∙ (ap (λ (n : ℕ). get_or ports n c.remove-port.result) (omega arith)
+          ∙ get_or_default ports at c.remove-port.result p some_port))),
+      c.in-Ok.ensures.list ∙ (c.remove-list.ensures.value
+          ∙ (was.next_list 0 c.remove-list.result
+          ∙ (ap (λ (n : ℕ). get_or lists n c.remove-list.result) (omega arith)
+          ∙ get_or_default lists at c.remove-list.result x some_list))),
     ) in record {
       started = (let n = was.started in let m = c.push_reserved.ensures.len in omega arith);
       room = (let n = was.room in let m = c.push_reserved.ensures.capacity in omega arith);
@@ -37,9 +46,11 @@ loop-preserved g c =
       next_port = λ k p. c.remove-port.ensures.by_index.1 k p (omega arith) ∙ (was.next_port (k + 1) p ∙ ap (λ (n : ℕ). get_or ports n p) (omega arith));
       next_list = λ k x. c.remove-list.ensures.by_index.1 k x (omega arith) ∙ (was.next_list (k + 1) x ∙ ap (λ (n : ℕ). get_or lists n x) (omega arith));
       each_gate = λ k h x below. subst (λ (hs : List H). Q k (get_or hs k h)) (sym c.push_reserved.ensures.items)
-          (all_more Q old child (λ m e low y. was.each_gate m e y (omega (arith, low, long))) (subst (λ (m : ℕ). Q m child) (sym long) its_gate) k h (omega (arith, below, long))) x;
+          (all_more Q old child (λ m e low y. was.each_gate m e y (omega (arith, low, long)))
+          (subst (λ (m : ℕ). Q m child) (sym long) its_gate) k h (omega (arith, below, long))) x;
       each = λ k h p x below. subst (λ (hs : List H). P k (get_or hs k h)) (sym c.push_reserved.ensures.items)
-          (all_more P old child (λ m e low y z. was.each m e y z (omega (arith, low, long))) (subst (λ (m : ℕ). P m child) (sym long) here) k h (omega (arith, below, long))) p x;
+          (all_more P old child (λ m e low y z. was.each m e y z (omega (arith, low, long)))
+          (subst (λ (m : ℕ). P m child) (sym long) here) k h (omega (arith, below, long))) p x;
     }
 
 pub returns-in_default-clause-each : goal.returns-in_default-clause-each

@@ -33,5 +33,6 @@ returns-clause-gated g c =
     let size = length c.args.list.now in let count = c.post_list-posted.result.count in
     let begun : IsFollowed M o a size count true =
     subst (λ (cancelled : Bool). IsFollowed M o a size count (not cancelled)) c.if-posted.false
-    (subst (λ (items : List Item). IsFollowed M (c.args.gate, items) a size count (not c.post_list-posted.result.cancelled)) c.requires.new.1 c.post_list-posted.ensures.gated) in
+    (subst (λ (items : List Item). IsFollowed M (c.args.gate, items) a size count
+    (not c.post_list-posted.result.cancelled)) c.requires.new.1 c.post_list-posted.ensures.gated) in
     followed_told M o a e size count true begun (told_then M a b e c.bye.ensures.told c.await_answers.ensures.told)

@@ -26,13 +26,16 @@ returns-in-Some g c =
     let told = ap g.T.Linked.links c.set_links.ensures ∙ g.met.T.Linked.links_written c.index_mut-node.result.now pair in
     let prev : prev_in g.T.Linked.links (get new handle) ≡ c.args.to = ap (prev_in g.T.Linked.links) updates.changed ∙ ap (λ (p : Links). p.prev) told in
     let next : next_in g.T.Linked.links (get new handle) ≡ next_in g.T.Linked.links (get nodes handle) =
-    ap (next_in g.T.Linked.links) updates.changed ∙ ap (λ (p : Links). p.next) told ∙ ap (λ (p : Links). p.next) c.links-pair.ensures ∙ sym (ap (next_in g.T.Linked.links) c.index_mut-node.ensures.value) in
+    ap (next_in g.T.Linked.links) updates.changed ∙ ap (λ (p : Links). p.next) told
+    ∙ ap (λ (p : Links). p.next) c.links-pair.ensures
+    ∙ sym (ap (next_in g.T.Linked.links) c.index_mut-node.ensures.value) in
     let others : (other : ℕ) → other ≢ handle → get new other ≡ get nodes other = updates.others in
     record {
       joins = search rules;
       keeps = search rules;
       others = search rules;
-      relinks = one_relinked g.T.Linked.with_links g.T.Linked.links g.met.T.Linked.written_as_was nodes handle c.index_mut-node.result.now c.set_links.new.self _
+      relinks = one_relinked g.T.Linked.with_links g.T.Linked.links g.met.T.Linked.written_as_was nodes handle
+          c.index_mut-node.result.now c.set_links.new.self _
           there c.index_mut-node.ensures.value c.set_links.ensures;
       len = search rules;
     }

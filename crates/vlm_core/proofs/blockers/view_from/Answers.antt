@@ -2,7 +2,7 @@ use Rattle.std.proofs.Common.{Option, refl, subst, sym}
 use Rattle.vlm_cycle.proofs.BlockerWalks.{on_stored}
 use Rattle.vlm_core.specs.declared.locks.LockView.{LockView}
 use Rattle.vlm_core.specs.Blockers.{IsShownFrom, standing_of}
-use Rattle.vlm_core.proofs.Blocked.{found_shown, nothing_shown}
+use Rattle.vlm_core.proofs.BlockedLocks.{found_shown, nothing_shown}
 use Rattle.vlm_core.proofs.blockers.view_from.Goals as goal
 
 -- no lock is found
@@ -20,5 +20,7 @@ lock_view-requires-clause-stored c =
 -- the lock that is found is shown
 pub returns : goal.returns
 returns c =
-    found_shown c.args.store.now c.requires.located.sound (standing_of c.args.side) c.args.located.now c.args.from c.in_ok-found.found c.lock_view.result c.in_ok-found.ensures.next
+    found_shown c.args.store.now c.requires.located.sound
+    (standing_of c.args.side) c.args.located.now c.args.from c.in_ok-found.found c.lock_view.result
+    c.in_ok-found.ensures.next
     c.lock_view.ensures

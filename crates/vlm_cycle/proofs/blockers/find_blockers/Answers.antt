@@ -1,11 +1,11 @@
 use Rattle.std.proofs.Common.{◌≡◌, ◌∷◌, ◌∙◌, [], ap, subst}
-use Rattle.vlm_words.specs.declared.locks.LockRow.{LockRow}
+use Rattle.vlm_words.specs.declared.locks.LockState.{LockState}
 use Rattle.vlm_queue.specs.Walks.{rows_to_walk, rows_queued}
 use Rattle.vlm_queue.proofs.Walking.{begins, come_stored, fewer_rows, passes}
 use Rattle.vlm_cycle.specs.Waiting.{OwnsBlocker}
 use Rattle.vlm_cycle.specs.Marking.{Marks}
-use Rattle.vlm_cycle.proofs.Marked.{marks_none, roomy_still}
-use Rattle.vlm_cycle.proofs.Walked.{blockers_on, no_blocker}
+use Rattle.vlm_cycle.proofs.MarksOneByOne.{marks_none, roomy_still}
+use Rattle.vlm_cycle.proofs.OwnerWalks.{blockers_on, no_blocker}
 use Rattle.vlm_cycle.proofs.blockers.find_blockers.Goals as goal
 
 -- the walk begins at the head
@@ -24,21 +24,25 @@ lock_record-requires c = come_stored c.args.store.now c.args.res c.args.queue c.
 pub loop-at-smaller : goal.loop-at-smaller
 loop-at-smaller c =
     let s = c.args.store.now in
-    let one = passes s c.args.res c.args.queue c.in-Some.lock c.next-at.result c.head-at.ensures.sound (rw c.in-Some.is at c.loop-at.invariant.there) c.next-at.ensures in
+    let one = passes s c.args.res c.args.queue c.in-Some.lock c.next-at.result c.head-at.ensures.sound
+    (rw c.in-Some.is at c.loop-at.invariant.there) c.next-at.ensures in
     rw c.in-Some.is (fewer_rows one.row (rows_to_walk c.args.res c.args.queue c.next-at.result s) _ one.left)
 
 pub loop-at-preserved : goal.loop-at-preserved
 loop-at-preserved c =
     let s = c.args.store.now in
-    let one = passes s c.args.res c.args.queue c.in-Some.lock c.next-at.result c.head-at.ensures.sound (rw c.in-Some.is at c.loop-at.invariant.there) c.next-at.ensures in
+    let one = passes s c.args.res c.args.queue c.in-Some.lock c.next-at.result c.head-at.ensures.sound
+    (rw c.in-Some.is at c.loop-at.invariant.there) c.next-at.ensures in
     let came = ap (λ at. rows_to_walk c.args.res c.args.queue at s) c.in-Some.is ∙ one.left in
     record {
       there = one.there;
       roomy = roomy_still s c.loop-at.scratch c.find_blocker.new.scratch c.find_blocker.ensures.room c.loop-at.invariant.roomy;
       goes_on =
-          blockers_on c.lock_record.result.now.row (rows_to_walk c.args.res c.args.queue c.loop-at.at s) (rows_to_walk c.args.res c.args.queue c.next-at.result s) (rows_queued c.args.res c.args.queue s)
+          blockers_on c.lock_record.result.now.row (rows_to_walk c.args.res c.args.queue c.loop-at.at s)
+          (rows_to_walk c.args.res c.args.queue c.next-at.result s) (rows_queued c.args.res c.args.queue s)
           c.args.scratch.now c.loop-at.scratch c.find_blocker.new.scratch
-          (came ∙ ap (λ (r : LockRow). r ∷ rows_to_walk c.args.res c.args.queue c.next-at.result s) (c.lock_record.ensures.only one.row one.stored)) c.find_blocker.ensures c.loop-at.invariant.goes_on;
+          (came ∙ ap (λ (r : LockState). r ∷ rows_to_walk c.args.res c.args.queue c.next-at.result s)
+          (c.lock_record.ensures.only one.row one.stored)) c.find_blocker.ensures c.loop-at.invariant.goes_on;
     }
 
 pub returns : goal.returns

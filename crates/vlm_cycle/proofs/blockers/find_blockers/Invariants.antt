@@ -1,7 +1,7 @@
 use Rattle.std.proofs.Common.{length}
 use Rattle.vlm_queue.specs.Walks.{IsInQueue, rows_to_walk, rows_queued}
 use Rattle.vlm_cycle.specs.Waiting.{IsRoomy, OwnsBlocker}
-use Rattle.vlm_cycle.proofs.Marked.{GoesOn}
+use Rattle.vlm_cycle.proofs.MarksOneByOne.{GoesOn}
 use Rattle.vlm_cycle.proofs.blockers.find_blockers.Given as goal
 
 -- what is marked behind this lock is marked of the whole queue

@@ -1,7 +1,7 @@
 use Rattle.std.proofs.Common.{length}
 use Rattle.vlm_queue.specs.Walks.{IsInQueue, rows_to_walk, rows_queued}
 use Rattle.vlm_cycle.specs.Waiting.{IsRoomy, OwnsHolder}
-use Rattle.vlm_cycle.proofs.Marked.{GoesOn}
+use Rattle.vlm_cycle.proofs.MarksOneByOne.{GoesOn}
 use Rattle.vlm_cycle.proofs.blockers.find_holders.Given as goal
 
 -- what is marked behind this lock is marked of the whole queue
@@ -9,7 +9,9 @@ abbrev pub invariant-loop-at : goal.invariant-loop-at
 invariant-loop-at l = record {
   there : IsInQueue l.waiting.res l.fn.queue l.at l.store;
   roomy : IsRoomy l.store l.scratch;
-  goes_on : GoesOn (λ rows. OwnsHolder l.waiting.row.lkid l.mode rows) (rows_to_walk l.waiting.res l.fn.queue l.at l.store) (rows_queued l.waiting.res l.fn.queue l.store) l.initial.scratch l.scratch;
+  goes_on : GoesOn (λ rows. OwnsHolder l.waiting.row.lkid l.mode rows)
+      (rows_to_walk l.waiting.res l.fn.queue l.at l.store)
+      (rows_queued l.waiting.res l.fn.queue l.store) l.initial.scratch l.scratch;
 }
 
 abbrev pub decreases-loop-at : goal.decreases-loop-at

@@ -5,9 +5,9 @@ use Rattle.vlm_store.specs.Records.{locks_at}
 use Rattle.vlm_queue.specs.Walks.{IsInQueue}
 use Rattle.vlm_cycle.specs.Covering.{covers, rows_ahead}
 use Rattle.vlm_cycle.specs.Waiting.{IsRoomy}
-use Rattle.vlm_cycle.proofs.Ahead.{rows_until}
-use Rattle.vlm_cycle.proofs.Marked.{GoesOn}
-use Rattle.vlm_cycle.proofs.Walked.{OwnsNearest}
+use Rattle.vlm_cycle.proofs.WalksToHead.{rows_until}
+use Rattle.vlm_cycle.proofs.MarksOneByOne.{GoesOn}
+use Rattle.vlm_cycle.proofs.OwnerWalks.{OwnsNearest}
 use Rattle.vlm_cycle.proofs.blockers.find_nearest.Given as goal
 
 -- what is marked up to this lock is marked of all rows before the waiting one, and none that was passed covers
@@ -15,7 +15,8 @@ abbrev pub invariant-loop-at : goal.invariant-loop-at
 invariant-loop-at l = record {
   there : IsInQueue l.waiting.res l.waiting.queue l.at l.store;
   roomy : IsRoomy l.store l.scratch;
-  goes_on : GoesOn OwnsNearest (rows_until l.at (locks_at (Queued l.waiting.res l.waiting.queue) l.store)) (rows_ahead l.waiting l.store) l.initial.scratch l.scratch;
+  goes_on : GoesOn OwnsNearest (rows_until l.at (locks_at (Queued l.waiting.res l.waiting.queue) l.store))
+      (rows_ahead l.waiting l.store) l.initial.scratch l.scratch;
   covered : list_any covers (rows_ahead l.waiting l.store) ≡ list_any covers (rows_until l.at (locks_at (Queued l.waiting.res l.waiting.queue) l.store));
 }
 

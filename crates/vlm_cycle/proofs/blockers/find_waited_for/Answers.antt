@@ -2,12 +2,13 @@ use Rattle.std.proofs.Common.{◌∙◌, subst, sym}
 use Rattle.std.proofs.lemmas.Option.{same_Some}
 use Rattle.vlm_words.specs.declared.locks.Request.{Request}
 use Rattle.vlm_cycle.specs.Covering.{OwnsNear, OwnsNearKeeper}
-use Rattle.vlm_cycle.proofs.Marked.{marks_as, marks_none}
+use Rattle.vlm_cycle.proofs.MarksOneByOne.{marks_as, marks_none}
 use Rattle.vlm_cycle.proofs.blockers.find_waited_for.Goals as goal
 
 -- a granted lock wants nothing that is queued
 pub returns-then-is_granted : goal.returns-then-is_granted
-returns-then-is_granted c = marks_none (OwnsNear c.args.store.now c.args.waiting.now) c.args.scratch.now (λ pid near. near.awaits.queued c.if-is_granted.ensures.granted)
+returns-then-is_granted c = marks_none (OwnsNear c.args.store.now c.args.waiting.now) c.args.scratch.now
+    (λ pid near. near.awaits.queued c.if-is_granted.ensures.granted)
 
 pub returns : goal.returns
 returns c =

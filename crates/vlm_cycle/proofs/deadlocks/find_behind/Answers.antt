@@ -1,8 +1,8 @@
 use Rattle.std.proofs.Common.{subst}
 use Rattle.vlm_store.specs.Records.{FindsProcess}
 use Rattle.vlm_cycle.specs.Covering.{IsNearBehind}
-use Rattle.vlm_cycle.proofs.Marked.{marks_none}
-use Rattle.vlm_cycle.proofs.Owned.{none_behind}
+use Rattle.vlm_cycle.proofs.MarksOneByOne.{marks_none}
+use Rattle.vlm_cycle.proofs.OwnRequests.{none_behind}
 use Rattle.vlm_cycle.proofs.deadlocks.find_behind.Goals as goal
 
 -- one that does not live waits for nobody

@@ -1,12 +1,12 @@
 use Rattle.std.proofs.Common.{◌∷◌, ◌∙◌, sym, ap, subst}
 use Rattle.vlm_store.specs.Records.{own_handles_at}
-use Rattle.vlm_locks.proofs.Chosen.{on_from}
-use Rattle.vlm_locks.proofs.Found.{process_there}
+use Rattle.vlm_locks.proofs.ChosenLocks.{on_from}
+use Rattle.vlm_locks.proofs.FoundByHandle.{process_there}
 use Rattle.vlm_locks.proofs.RunsDown.{handles_apart, stored_here}
 use Rattle.vlm_cycle.specs.Marking.{Marks}
 use Rattle.vlm_cycle.specs.Covering.{IsNearBehind}
-use Rattle.vlm_cycle.proofs.Marked.{marks_as, marks_none, roomy_still}
-use Rattle.vlm_cycle.proofs.Owned.{IsAtOwn, OwnWaitFor, begun, behind_own, fewer, none_own, own_behind, owns_on, passed}
+use Rattle.vlm_cycle.proofs.MarksOneByOne.{marks_as, marks_none, roomy_still}
+use Rattle.vlm_cycle.proofs.OwnRequests.{IsAtOwn, OwnWaitFor, begun, behind_own, fewer, none_own, own_behind, owns_on, passed}
 use Rattle.vlm_cycle.proofs.deadlocks.find_behind_own.Goals as goal
 
 pub first_own-at-requires : goal.first_own-at-requires
@@ -27,7 +27,8 @@ loop-at-init c =
 
 pub located_lock-located-requires-clause-stored : goal.located_lock-located-requires-clause-stored
 located_lock-located-requires-clause-stored c =
-    let here = stored_here c.args.owner c.args.pid c.args.store.now c.first_own-at.ensures.sound c.requires.owner c.requires.rest c.in-Some.lock (c.loop-at.invariant.there c.in-Some.lock c.in-Some.is) in
+    let here = stored_here c.args.owner c.args.pid c.args.store.now c.first_own-at.ensures.sound c.requires.owner
+    c.requires.rest c.in-Some.lock (c.loop-at.invariant.there c.in-Some.lock c.in-Some.is) in
     (here.0, here.1.0)
 
 pub loop-at-smaller : goal.loop-at-smaller
@@ -51,7 +52,8 @@ loop-at-preserved c =
       there = subst (λ o. IsAtOwn o hs) (sym next) one.there;
       roomy = roomy_still s c.loop-at.scratch c.find_waited_for.new.scratch c.find_waited_for.ensures.room c.loop-at.invariant.roomy;
       goes_on =
-          owns_on s c.first_own-at.ensures.sound c.located_lock-located.result c.located_lock-located.ensures.located c.in-Some.lock c.located_lock-located.ensures.lock
+          owns_on s c.first_own-at.ensures.sound c.located_lock-located.result c.located_lock-located.ensures.located
+          c.in-Some.lock c.located_lock-located.ensures.lock
           (on_from c.loop-at.at hs) (on_from c.next_own-at.result hs) hs c.args.scratch.now c.loop-at.scratch c.find_waited_for.new.scratch
           (ap (λ o. on_from o hs) c.in-Some.is ∙ one.left ∙ ap (λ o. c.in-Some.lock ∷ on_from o hs) (sym next))
           c.find_waited_for.ensures c.loop-at.invariant.goes_on;
@@ -65,4 +67,5 @@ returns c =
     let left = on_from c.loop-at.at hs in
     marks_as (OwnWaitFor s hs) (IsNearBehind s c.args.pid) c.args.scratch.now c.loop-at.scratch
     (own_behind s sound c.requires.rest c.args.owner c.args.pid c.requires.owner) (behind_own s sound c.args.owner c.args.pid c.requires.owner)
-    (c.loop-at.invariant.goes_on c.loop-at.scratch (marks_none (OwnWaitFor s left) c.loop-at.scratch (none_own s left (ap (λ o. on_from o hs) c.in_default.is))))
+    (c.loop-at.invariant.goes_on c.loop-at.scratch
+    (marks_none (OwnWaitFor s left) c.loop-at.scratch (none_own s left (ap (λ o. on_from o hs) c.in_default.is))))

@@ -1,9 +1,9 @@
 use Rattle.std.proofs.Common.{length}
 use Rattle.vlm_store.specs.Records.{own_handles_at}
-use Rattle.vlm_locks.proofs.Chosen.{on_from}
+use Rattle.vlm_locks.proofs.ChosenLocks.{on_from}
 use Rattle.vlm_cycle.specs.Waiting.{IsRoomy}
-use Rattle.vlm_cycle.proofs.Marked.{GoesOn}
-use Rattle.vlm_cycle.proofs.Owned.{IsAtOwn, OwnWaitFor}
+use Rattle.vlm_cycle.proofs.MarksOneByOne.{GoesOn}
+use Rattle.vlm_cycle.proofs.OwnRequests.{IsAtOwn, OwnWaitFor}
 use Rattle.vlm_cycle.proofs.deadlocks.find_behind_own.Given as goal
 
 -- what is marked behind this lock is marked of all locks of the process

@@ -1,7 +1,7 @@
 use Rattle.std.proofs.Common.{refl}
 use Rattle.std.proofs.lemmas.Bool.{OnFalse_at, OnFalse_from, OnTrue_at, OnTrue_from}
 use Rattle.vlm_model.specs.Deadlocks.{WaitsOn}
-use Rattle.vlm_locks.proofs.Stood.{resource_among}
+use Rattle.vlm_locks.proofs.QueuedLocks.{resource_among}
 use Rattle.vlm_cycle.proofs.Blocking.{awaits_of, located_on, row_passes, waited_for, waits_back}
 use Rattle.vlm_cycle.proofs.BlockerWalks.{on_stored}
 use Rattle.vlm_cycle.proofs.next_blockers.is_awaited_by.Goals as goal
@@ -13,13 +13,15 @@ located_lock-waiting-requires-clause-stored c = on_stored c.args.store.now c.arg
 pub waits_on-requires-clause-on : goal.waits_on-requires-clause-on
 waits_on-requires-clause-on c =
     let at = c.located_lock-waiting in
-    located_on c.args.store.now c.requires.located.sound c.args.lock.now at.result c.requires.located at.ensures.located c.args.other at.ensures.lock c.requires.on
+    located_on c.args.store.now c.requires.located.sound c.args.lock.now at.result c.requires.located at.ensures.located
+    c.args.other at.ensures.lock c.requires.on
 
 pub returns-in-Some-clause-yes : goal.returns-in-Some-clause-yes
 returns-in-Some-clause-yes c =
     let at = c.located_lock-waiting in
     OnTrue_from c.waits_on.result _ (λ is.
-    waited_for c.args.store.now c.requires.located.sound c.args.lock.now at.result c.requires.located at.ensures.located c.args.other at.ensures.lock c.requires.on
+    waited_for c.args.store.now c.requires.located.sound c.args.lock.now at.result c.requires.located at.ensures.located
+    c.args.other at.ensures.lock c.requires.on
     (OnTrue_at is c.waits_on.ensures.yes))
 
 pub returns-in-Some-clause-no : goal.returns-in-Some-clause-no
@@ -27,7 +29,8 @@ returns-in-Some-clause-no c =
     let at = c.located_lock-waiting in
     OnFalse_from c.waits_on.result _ (λ is w.
     OnFalse_at is c.waits_on.ensures.no
-    (waits_back c.args.store.now c.requires.located.sound c.args.lock.now at.result c.requires.located at.ensures.located c.args.other at.ensures.lock c.requires.on w))
+    (waits_back c.args.store.now c.requires.located.sound c.args.lock.now at.result c.requires.located
+    at.ensures.located c.args.other at.ensures.lock c.requires.on w))
 
 -- a request that waits for no lock
 pub returns-in-None-clause-no : goal.returns-in-None-clause-no

@@ -8,7 +8,8 @@ pub loop-at-init : goal.loop-at-init
 loop-at-init c = record {
   on = from_on c.args.store.now c.args.lock.now.res c.args.from c.first_from-at.result c.requires.located.sound c.requires.from c.first_from-at.ensures;
   leads =
-      leads_from (λ r row. WaitsOn r row c.args.lock.now.row) c.args.store.now c.args.lock.now.res c.args.from c.first_from-at.result c.requires.located.sound c.first_from-at.ensures;
+      leads_from (λ r row. WaitsOn r row c.args.lock.now.row) c.args.store.now c.args.lock.now.res c.args.from
+      c.first_from-at.result c.requires.located.sound c.first_from-at.ensures;
 }
 
 -- this lock's request waits
@@ -16,7 +17,8 @@ pub returns-then-is_awaited_by-clause-next : goal.returns-then-is_awaited_by-cla
 returns-then-is_awaited_by-clause-next c =
     let s = c.args.store.now in
     let f = c.args.lock.now in
-    leads_found (λ r row. WaitsOn r row f.row) s f.res c.args.from c.in-Some.other c.requires.located.sound (c.loop-at.invariant.on c.in-Some.other c.in-Some.is) c.if-is_awaited_by.ensures.yes
+    leads_found (λ r row. WaitsOn r row f.row) s f.res c.args.from c.in-Some.other c.requires.located.sound
+    (c.loop-at.invariant.on c.in-Some.other c.in-Some.is) c.if-is_awaited_by.ensures.yes
     (subst (Leads (λ r row. WaitsOn r row f.row) s f.res c.args.from) c.in-Some.is c.loop-at.invariant.leads)
 
 pub following-at-requires : goal.following-at-requires
@@ -27,7 +29,8 @@ pub loop-at-smaller : goal.loop-at-smaller
 loop-at-smaller c =
     let s = c.args.store.now in
     let on = c.loop-at.invariant.on c.in-Some.other c.in-Some.is in
-    rw c.in-Some.is (fewer_left s c.args.lock.now.res c.in-Some.other c.following-at.result c.requires.located.sound on (c.following-at.ensures c.args.lock.now.res on))
+    rw c.in-Some.is (fewer_left s c.args.lock.now.res c.in-Some.other c.following-at.result c.requires.located.sound on
+    (c.following-at.ensures c.args.lock.now.res on))
 
 -- it does not
 pub loop-at-preserved : goal.loop-at-preserved
@@ -39,7 +42,8 @@ loop-at-preserved c =
     record {
       on = after_on s f.res c.in-Some.other c.following-at.result c.requires.located.sound on after;
       leads =
-          leads_on (λ r row. WaitsOn r row f.row) s f.res c.args.from c.in-Some.other c.following-at.result c.requires.located.sound on after c.if-is_awaited_by.ensures.no
+          leads_on (λ r row. WaitsOn r row f.row) s f.res c.args.from c.in-Some.other c.following-at.result
+          c.requires.located.sound on after c.if-is_awaited_by.ensures.no
           (subst (Leads (λ r row. WaitsOn r row f.row) s f.res c.args.from) c.in-Some.is c.loop-at.invariant.leads);
     }
 

@@ -2,7 +2,7 @@ use Rattle.std.proofs.Common.{◌≡◌, ◌∙◌, None, refl, sym, subst}
 use Rattle.vlm_model.specs.Deadlocks.{WaitsOn}
 use Rattle.vlm_store.specs.Plain.{plain_resource}
 use Rattle.vlm_store.specs.Records.{StoredResource}
-use Rattle.vlm_locks.proofs.Stood.{resource_among}
+use Rattle.vlm_locks.proofs.QueuedLocks.{resource_among}
 use Rattle.vlm_cycle.specs.Blocking.{IsFirstFrom, all_locks}
 use Rattle.std.proofs.lemmas.Option.{same_Some}
 use Rattle.vlm_cycle.proofs.Blocking.{awaits_of}
@@ -20,14 +20,16 @@ returns-in_err-request-clause-next c r found =
     subst (λ o. IsFirstFrom (WaitsOn (plain_resource r) f.row) c.args.from (all_locks r) o) (sym c.from_residual.ensures)
     (subst (λ (x : StoredResource). IsFirstFrom (WaitsOn (plain_resource x) f.row) c.args.from (all_locks x) None) same
     (none_from (WaitsOn (plain_resource own) f.row)
-    (λ row waits. c.in_err-request.ensures.none refl waits.request (awaits_of s c.requires.located.sound c.requires.ordered f own there c.requires.located.among row waits))
+    (λ row waits. c.in_err-request.ensures.none refl waits.request
+    (awaits_of s c.requires.located.sound c.requires.ordered f own there c.requires.located.among row waits))
     c.args.from (all_locks own)))
 
 -- the walk begins
 pub loop-at-init : goal.loop-at-init
 loop-at-init c = record {
   on = from_on c.args.store.now c.args.waiting.now.res c.args.from c.first_from-at.result c.requires.located.sound c.requires.from c.first_from-at.ensures;
-  leads = leads_from (λ r row. WaitsOn r c.args.waiting.now.row row) c.args.store.now c.args.waiting.now.res c.args.from c.first_from-at.result c.requires.located.sound c.first_from-at.ensures;
+  leads = leads_from (λ r row. WaitsOn r c.args.waiting.now.row row) c.args.store.now c.args.waiting.now.res c.args.from
+      c.first_from-at.result c.requires.located.sound c.first_from-at.ensures;
 }
 
 -- the request waits for this lock
@@ -35,7 +37,8 @@ pub returns-then-waits_on-clause-next : goal.returns-then-waits_on-clause-next
 returns-then-waits_on-clause-next c =
     let s = c.args.store.now in
     let f = c.args.waiting.now in
-    leads_found (λ r row. WaitsOn r f.row row) s f.res c.args.from c.in-Some.lock c.requires.located.sound (c.loop-at.invariant.on c.in-Some.lock c.in-Some.is) c.if-waits_on.ensures.yes
+    leads_found (λ r row. WaitsOn r f.row row) s f.res c.args.from c.in-Some.lock c.requires.located.sound
+    (c.loop-at.invariant.on c.in-Some.lock c.in-Some.is) c.if-waits_on.ensures.yes
     (subst (Leads (λ r row. WaitsOn r f.row row) s f.res c.args.from) c.in-Some.is c.loop-at.invariant.leads)
 
 pub following-at-requires : goal.following-at-requires
@@ -46,7 +49,8 @@ pub loop-at-smaller : goal.loop-at-smaller
 loop-at-smaller c =
     let s = c.args.store.now in
     let on = c.loop-at.invariant.on c.in-Some.lock c.in-Some.is in
-    rw c.in-Some.is (fewer_left s c.args.waiting.now.res c.in-Some.lock c.following-at.result c.requires.located.sound on (c.following-at.ensures c.args.waiting.now.res on))
+    rw c.in-Some.is (fewer_left s c.args.waiting.now.res c.in-Some.lock c.following-at.result c.requires.located.sound
+    on (c.following-at.ensures c.args.waiting.now.res on))
 
 -- it does not
 pub loop-at-preserved : goal.loop-at-preserved
@@ -58,7 +62,8 @@ loop-at-preserved c =
     record {
       on = after_on s f.res c.in-Some.lock c.following-at.result c.requires.located.sound on after;
       leads =
-          leads_on (λ r row. WaitsOn r f.row row) s f.res c.args.from c.in-Some.lock c.following-at.result c.requires.located.sound on after c.if-waits_on.ensures.no
+          leads_on (λ r row. WaitsOn r f.row row) s f.res c.args.from c.in-Some.lock c.following-at.result
+          c.requires.located.sound on after c.if-waits_on.ensures.no
           (subst (Leads (λ r row. WaitsOn r f.row row) s f.res c.args.from) c.in-Some.is c.loop-at.invariant.leads);
     }
 

@@ -4,7 +4,7 @@ use Rattle.vlm_cycle.specs.declared.passes.Purpose.TheVariants.{Check}
 use Rattle.vlm_cycle.specs.Finding.{IsLocatedIfAny}
 use Rattle.vlm_cycle.specs.Marking.{KeepsRoom}
 use Rattle.vlm_cycle.specs.Waiting.{IsRoomy}
-use Rattle.vlm_cycle.proofs.Led.{FallsLed}
+use Rattle.vlm_cycle.proofs.FirstInLine.{FallsLed}
 use Rattle.vlm_cycle.proofs.rank_checks.check_ranks.Given as goal
 
 -- the resources are passed to which no lock leads that is left

@@ -1,6 +1,6 @@
 use Rattle.std.proofs.Common.{length}
 use Rattle.vlm_queue.specs.Walks.{IsInQueue, rows_to_walk, rows_queued}
-use Rattle.vlm_cycle.proofs.Peaks.{HoldersBut, KeepsPeaks}
+use Rattle.vlm_cycle.proofs.GaugePeaks.{HoldersBut, KeepsPeaks}
 use Rattle.vlm_cycle.proofs.ranked_requests.hold_queue.Given as goal
 
 -- what is held before this lock is counted

@@ -7,7 +7,8 @@ lock_record-record-requires c = come_stored c.args.store.now c.args.res c.args.q
 
 pub returns-clause-located : goal.returns-clause-located
 returns-clause-located c =
-    located_there c.args.store.now c.lock_record-record.ensures.sound c.args.res c.args.queue c.args.lock c.lock_record-record.result.now.owner c.lock_record-record.result.now.row
+    located_there c.args.store.now c.lock_record-record.ensures.sound c.args.res c.args.queue c.args.lock
+    c.lock_record-record.result.now.owner c.lock_record-record.result.now.row
     c.requires.there c.requires.come c.lock_record-record.ensures.row c.lock_record-record.ensures.owner
 
 pub returns-clause-only : goal.returns-clause-only

@@ -1,5 +1,5 @@
 use Rattle.std.proofs.Common.{◌∙◌}
-use Rattle.vlm_locks.proofs.Stood.{owner_is}
+use Rattle.vlm_locks.proofs.QueuedLocks.{owner_is}
 use Rattle.vlm_cycle.proofs.Ranked.{rank_is}
 use Rattle.vlm_cycle.proofs.ranked_requests.owner_rank.Goals as goal
 

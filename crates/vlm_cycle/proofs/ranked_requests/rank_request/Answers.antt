@@ -1,5 +1,5 @@
 use Rattle.std.proofs.Common.{subst}
-use Rattle.vlm_locks.proofs.Stood.{stored}
+use Rattle.vlm_locks.proofs.QueuedLocks.{stored}
 use Rattle.vlm_cycle.specs.Ranking.{PassesOne}
 use Rattle.vlm_cycle.proofs.Ranked.{top_above}
 use Rattle.vlm_cycle.proofs.ranked_requests.rank_request.Goals as goal

@@ -1,5 +1,5 @@
 use Rattle.vlm_cycle.specs.Notes.{LivesAt}
-use Rattle.vlm_cycle.proofs.Noted.{none_there}
+use Rattle.vlm_cycle.proofs.NotedProcesses.{none_there}
 use Rattle.vlm_cycle.proofs.tarjan_walk.close.Goals as goal
 
 pub loop-preserved : goal.loop-preserved

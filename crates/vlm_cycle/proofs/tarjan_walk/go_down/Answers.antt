@@ -1,5 +1,5 @@
-use Rattle.vlm_locks.proofs.Found.{process_there}
-use Rattle.vlm_cycle.proofs.Noted.{first_own_there}
+use Rattle.vlm_locks.proofs.FoundByHandle.{process_there}
+use Rattle.vlm_cycle.proofs.NotedProcesses.{first_own_there}
 use Rattle.vlm_cycle.proofs.tarjan_walk.go_down.Goals as goal
 
 pub first_own-requires : goal.first_own-requires

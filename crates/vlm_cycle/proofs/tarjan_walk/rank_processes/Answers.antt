@@ -1,9 +1,9 @@
 use Rattle.std.proofs.Common.{inl, inr, refl, subst, sym}
 use Rattle.vlm_collections.specs.Lists.{IsIn}
-use Rattle.vlm_cycle.proofs.Dated.{blanks_there}
+use Rattle.vlm_cycle.proofs.DatedNotes.{blanks_there}
 use Rattle.vlm_cycle.specs.Notes.{LivesAt}
-use Rattle.vlm_cycle.proofs.Led.{queued_is_stored}
-use Rattle.vlm_cycle.proofs.Noted.{none_there}
+use Rattle.vlm_cycle.proofs.FirstInLine.{queued_is_stored}
+use Rattle.vlm_cycle.proofs.NotedProcesses.{none_there}
 use Rattle.vlm_cycle.proofs.tarjan_walk.rank_processes.Goals as goal
 
 pub loop-lock-init : goal.loop-lock-init
@@ -15,7 +15,9 @@ loop-lock-init c = record {
 
 pub lock_record-requires : goal.lock_record-requires
 lock_record-requires c =
-    queued_is_stored c.args.store.now c.in-Some.lock (c.loop-lock.invariant.queued c.in-Some.lock (subst (IsIn c.in-Some.lock) (sym c.in-Some.ensures.steps) (inl refl)))
+    queued_is_stored c.args.store.now c.in-Some.lock
+    (c.loop-lock.invariant.queued c.in-Some.lock
+    (subst (IsIn c.in-Some.lock) (sym c.in-Some.ensures.steps) (inl refl)))
 
 pub loop-lock-preserved : goal.loop-lock-preserved
 loop-lock-preserved c = record {

@@ -1,5 +1,5 @@
 use Rattle.vlm_store.specs.Records.{IsStored}
-use Rattle.vlm_cycle.proofs.Noted.{next_there, some_there}
+use Rattle.vlm_cycle.proofs.NotedProcesses.{next_there, some_there}
 use Rattle.vlm_cycle.proofs.tarjan_walk.with_next.Goals as goal
 
 pub returns-in_default : goal.returns-in_default

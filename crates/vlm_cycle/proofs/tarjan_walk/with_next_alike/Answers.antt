@@ -1,5 +1,5 @@
 use Rattle.vlm_store.specs.Records.{IsStored}
-use Rattle.vlm_cycle.proofs.Noted.{none_there, previous_there, some_there}
+use Rattle.vlm_cycle.proofs.NotedProcesses.{none_there, previous_there, some_there}
 use Rattle.vlm_cycle.proofs.tarjan_walk.with_next_alike.Goals as goal
 
 pub returns-then-is_covering : goal.returns-then-is_covering

@@ -1,5 +1,5 @@
 use Rattle.vlm_store.specs.Records.{IsStored}
-use Rattle.vlm_cycle.proofs.Noted.{none_there, previous_there, some_there}
+use Rattle.vlm_cycle.proofs.NotedProcesses.{none_there, previous_there, some_there}
 use Rattle.vlm_cycle.proofs.tarjan_walk.with_next_before.Goals as goal
 
 pub returns-then-not-is_covering : goal.returns-then-not-is_covering
@@ -11,7 +11,9 @@ returns-then-not-is_covering c =
 pub returns-then-is_like : goal.returns-then-is_like
 returns-then-is_like c =
     let s = c.args.store.now in
-    c.located-then-is_like.ensures s c.requires.note (some_there (λ at. IsStored at s) c.args.wanting.now.lock c.requires.wanting.lock) (none_there (λ at. IsStored at s))
+    c.located-then-is_like.ensures s c.requires.note
+    (some_there (λ at. IsStored at s) c.args.wanting.now.lock c.requires.wanting.lock)
+    (none_there (λ at. IsStored at s))
 
 pub returns : goal.returns
 returns c =

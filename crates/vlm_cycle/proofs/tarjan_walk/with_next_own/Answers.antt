@@ -1,4 +1,4 @@
-use Rattle.vlm_cycle.proofs.Noted.{next_own_there}
+use Rattle.vlm_cycle.proofs.NotedProcesses.{next_own_there}
 use Rattle.vlm_cycle.proofs.tarjan_walk.with_next_own.Goals as goal
 
 pub with_own-requires-clause-own : goal.with_own-requires-clause-own

@@ -1,5 +1,5 @@
 use Rattle.vlm_store.specs.Records.{IsStored}
-use Rattle.vlm_cycle.proofs.Noted.{previous_there, some_there}
+use Rattle.vlm_cycle.proofs.NotedProcesses.{previous_there, some_there}
 use Rattle.vlm_cycle.proofs.tarjan_walk.with_own.Goals as goal
 
 pub returns : goal.returns

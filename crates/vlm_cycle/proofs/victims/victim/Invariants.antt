@@ -5,7 +5,7 @@ use Rattle.vlm_cycle.specs.Finding.{IsFit}
 use Rattle.vlm_cycle.specs.Marking.{KeepsRoom}
 use Rattle.vlm_cycle.specs.Ranking.{Falls}
 use Rattle.vlm_cycle.specs.Waiting.{IsRoomy}
-use Rattle.vlm_cycle.proofs.Led.{CoversLed}
+use Rattle.vlm_cycle.proofs.FirstInLine.{CoversLed}
 use Rattle.vlm_cycle.proofs.victims.victim.Given as goal
 
 -- the best is that of all requests but for those to which a lock leads that is left

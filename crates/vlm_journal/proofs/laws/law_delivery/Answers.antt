@@ -5,4 +5,4 @@ pub returns : goal.returns
 returns c history last run =
     gives_ast history last (c.law_a_departed_node_is_answered_departed.ensures history last run)
     (c.law_no_process_of_a_departed_node_lives.ensures history last run)
-    (c.law_identifications_of_processes_rise.ensures history last run)
+    (c.law_process_ids_rise.ensures history last run)

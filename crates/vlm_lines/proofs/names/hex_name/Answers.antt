@@ -9,13 +9,15 @@ use Rattle.vlm_lines.proofs.names.hex_name.Goals as goal
 
 pub read_pairs-requires-clause-digits : goal.read_pairs-requires-clause-digits
 read_pairs-requires-clause-digits c =
-    let all = all_from_yields_List is_ascii_hexdigit _ _ c.all-all_hex.result c.all-all_hex.ensures.ran (YieldsList-from_slice c.args.digits.now cc) (λ x b q k. search (rules, tests)) in
+    let all = all_from_yields_List is_ascii_hexdigit _ _ c.all-all_hex.result c.all-all_hex.ensures.ran
+    (YieldsList-from_slice c.args.digits.now cc) (λ x b q k. search (rules, tests)) in
     digits_taken _ c.args.digits.now (sym all ∙ c.if-not-all_hex.false)
 
 pub returns : goal.returns
 unfolding hex_name
 returns c =
-    let read = all_from_yields_List is_ascii_hexdigit _ _ c.all-all_hex.result c.all-all_hex.ensures.ran (YieldsList-from_slice c.args.digits.now cc) (λ x b q k. search (rules, tests)) in
+    let read = all_from_yields_List is_ascii_hexdigit _ _ c.all-all_hex.result c.all-all_hex.ensures.ran
+    (YieldsList-from_slice c.args.digits.now cc) (λ x b q k. search (rules, tests)) in
     let all : list_all is_ascii_hexdigit c.args.digits.now ≡ true = sym read ∙ c.if-not-all_hex.false in
     rw (all, c.if-digits-ne0.false)
     (ap Some (c.of.ensures ∙ name_of_pairs c.args.digits.now c.read_pairs.new.bytes _ c.min-count.result c.min-count.ensures c.read_pairs.ensures))

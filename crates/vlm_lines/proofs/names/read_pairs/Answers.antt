@@ -4,4 +4,6 @@ use Rattle.vlm_lines.proofs.names.read_pairs.Goals as goal
 
 pub returns : goal.returns
 returns c =
-    written_is _ _ _ c.decode_to_slice.new.out (all_read c.args.digits.now (length c.args.bytes.now) c.requires.digits c.requires.twice) c.decode_to_slice.ensures.value
+    written_is _ _ _ c.decode_to_slice.new.out
+    (all_read c.args.digits.now
+    (length c.args.bytes.now) c.requires.digits c.requires.twice) c.decode_to_slice.ensures.value

@@ -4,11 +4,11 @@ use Rattle.vlm_words.specs.Dues.{routines_of}
 use Rattle.vlm_model.specs.StatusBlocks.{processes_after_acceptance}
 use Rattle.vlm_store.specs.Plain.{plain_resource}
 use Rattle.vlm_store.specs.Records.{resource_at, without_resource}
-use Rattle.vlm_locks.proofs.Changed.{rests_still}
-use Rattle.vlm_locks.proofs.Accepted.{converted_accepted, stands_accepted}
-use Rattle.vlm_locks.proofs.Found.{process_there}
+use Rattle.vlm_locks.proofs.ChangedResource.{rests_still}
+use Rattle.vlm_locks.proofs.AcceptedRequests.{converted_accepted, stands_accepted}
+use Rattle.vlm_locks.proofs.FoundByHandle.{process_there}
 use Rattle.vlm_locks.proofs.OtherLocks.{locks_stay_over, statuses_alone}
-use Rattle.vlm_locks.proofs.Paying.{owes_more}
+use Rattle.vlm_locks.proofs.ReservedByRequests.{owes_more}
 use Rattle.vlm_locks.proofs.conversions.convert.Goals as goal
 
 pub owe_routines-requires : goal.owe_routines-requires
@@ -30,7 +30,8 @@ convert_owed-requires-clause-located c =
 
 pub convert_owed-requires-clause-at_once : goal.convert_owed-requires-clause-at_once
 convert_owed-requires-clause-at_once c =
-    subst (λ rs. IfSome (resource_at c.args.located.now.res rs) (λ r. c.args.at_once ≡ converts_at_once c.args.asked.now c.args.located.now.row.lkid (plain_resource r)))
+    subst (λ rs. IfSome (resource_at c.args.located.now.res rs)
+    (λ r. c.args.at_once ≡ converts_at_once c.args.asked.now c.args.located.now.row.lkid (plain_resource r)))
     (sym c.in_ok-owe_routines.ensures.only_notices.resources) c.requires.at_once
 
 pub convert_owed-requires-clause-owed : goal.convert_owed-requires-clause-owed

@@ -7,13 +7,13 @@ use Rattle.vlm_store.specs.Records.{Records, due_of}
 use Rattle.vlm_locks.specs.Converting.{moved_in, processes_converting}
 use Rattle.vlm_locks.specs.Owing.{due_for}
 use Rattle.vlm_locks.specs.Rest.{IsReplaced, OtherLocksStay}
-use Rattle.vlm_locks.proofs.Moved.{moved_replaced}
-use Rattle.vlm_locks.proofs.Found.{process_there}
-use Rattle.vlm_locks.proofs.Replaced.{noticed_replaced}
-use Rattle.vlm_locks.proofs.Stood.{stored}
-use Rattle.vlm_locks.proofs.Owing.{due_moved, due_noticed}
-use Rattle.vlm_locks.proofs.Paying.{found_there}
-use Rattle.vlm_locks.proofs.Sound.{still_sound}
+use Rattle.vlm_locks.proofs.MovedToEnd.{moved_replaced}
+use Rattle.vlm_locks.proofs.FoundByHandle.{process_there}
+use Rattle.vlm_locks.proofs.ReplacedResource.{noticed_replaced}
+use Rattle.vlm_locks.proofs.QueuedLocks.{stored}
+use Rattle.vlm_locks.proofs.ReservedAsts.{due_moved, due_noticed}
+use Rattle.vlm_locks.proofs.ReservedByRequests.{found_there}
+use Rattle.vlm_locks.proofs.SoundRecords.{still_sound}
 use Rattle.vlm_locks.proofs.conversions.convert_later.Goals as goal
 
 pub move_lock-requires-clause-lock : goal.move_lock-requires-clause-lock

@@ -3,7 +3,7 @@ use Rattle.std.proofs.lemmas.Option.{same_Some}
 use Rattle.vlm_words.specs.Rows.{fits, rows_without}
 use Rattle.vlm_store.specs.Records.{IsLock, StoredResource, fits_beside, rows_of_locks}
 use Rattle.vlm_locks.proofs.Converted.{fits_are}
-use Rattle.vlm_locks.proofs.Stood.{stored}
+use Rattle.vlm_locks.proofs.QueuedLocks.{stored}
 use Rattle.vlm_locks.proofs.conversions.fits_others.Goals as goal
 
 pub can_hold-requires-clause-except : goal.can_hold-requires-clause-except

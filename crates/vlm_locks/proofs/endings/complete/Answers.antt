@@ -1,6 +1,6 @@
 use Rattle.std.proofs.Common.{is_some, ap, arith}
 use Rattle.vlm_words.specs.Dues.{one_where}
-use Rattle.vlm_locks.proofs.Found.{process_there}
+use Rattle.vlm_locks.proofs.FoundByHandle.{process_there}
 use Rattle.vlm_locks.proofs.endings.complete.Goals as goal
 
 pub queue_ast-requires-clause-there : goal.queue_ast-requires-clause-there

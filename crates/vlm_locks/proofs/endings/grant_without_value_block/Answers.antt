@@ -1,4 +1,4 @@
-use Rattle.vlm_locks.proofs.Found.{process_still, process_there}
+use Rattle.vlm_locks.proofs.FoundByHandle.{process_still, process_there}
 use Rattle.vlm_locks.proofs.endings.grant_without_value_block.Goals as goal
 
 pub accept_granted-requires : goal.accept_granted-requires

@@ -1,6 +1,6 @@
 use Rattle.std.proofs.Common.{rules}
 use Rattle.vlm_model.specs.Effects.{blocks_after_return}
-use Rattle.vlm_locks.proofs.Found.{process_there}
+use Rattle.vlm_locks.proofs.FoundByHandle.{process_there}
 use Rattle.vlm_locks.proofs.endings.write_grant.Goals as goal
 
 pub end-requires : goal.end-requires

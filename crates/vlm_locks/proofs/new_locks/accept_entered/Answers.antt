@@ -1,8 +1,8 @@
 use Rattle.std.proofs.Common.{◌≤◌, ℕ, sym, subst}
 use Rattle.vlm_words.specs.Dues.{row_due}
 use Rattle.vlm_locks.specs.Entering.{new_row}
-use Rattle.vlm_locks.proofs.Found.{process_still, process_there}
-use Rattle.vlm_locks.proofs.Paying.{owed_waiting}
+use Rattle.vlm_locks.proofs.FoundByHandle.{process_still, process_there}
+use Rattle.vlm_locks.proofs.ReservedByRequests.{owed_waiting}
 use Rattle.vlm_locks.proofs.new_locks.accept_entered.Goals as goal
 
 -- ---- where it waits
@@ -22,7 +22,8 @@ accept-requires-then-has c = process_there c.args.store.now c.args.new_lock.now.
 pub end_by_grant-requires-clause-process : goal.end_by_grant-requires-clause-process
 end_by_grant-requires-clause-process c =
     let new_lock = c.args.new_lock.now in
-    rw c.requires.row (process_still c.args.store.now c.accept-then-has.new.store new_lock.owner new_lock.pid c.accept-then-has.ensures.only_notices c.requires.owner)
+    rw c.requires.row (process_still c.args.store.now c.accept-then-has.new.store new_lock.owner new_lock.pid
+    c.accept-then-has.ensures.only_notices c.requires.owner)
 
 pub end_by_grant-requires-clause-owed : goal.end_by_grant-requires-clause-owed
 end_by_grant-requires-clause-owed c =

@@ -1,16 +1,20 @@
 use Rattle.std.proofs.Common.{refl}
 use Rattle.vlm_locks.specs.Entering.{new_row}
 use Rattle.vlm_locks.specs.Owing.{granted_if_at_once}
-use Rattle.vlm_locks.proofs.Paying.{new_fits, owes_ready, paid_entered}
-use Rattle.vlm_locks.proofs.Ready.{entered_ready, found_ready, may_enter_ready}
-use Rattle.vlm_locks.proofs.TakenIn.{has_entered}
+use Rattle.vlm_locks.proofs.ReservedByRequests.{new_fits, owes_ready, paid_entered}
+use Rattle.vlm_locks.proofs.ReservedMemory.{entered_ready, found_ready, may_enter_ready}
+use Rattle.vlm_locks.proofs.AcceptedNewLocks.{has_entered}
 use Rattle.vlm_locks.proofs.new_locks.enter.Goals as goal
 
 pub resource_or_new-res-requires-clause-may_enter : goal.resource_or_new-res-requires-clause-may_enter
-resource_or_new-res-requires-clause-may_enter c = may_enter_ready c.args.new_lock.now c.args.store.now c.make_ready.new.store c.in_ok-make_ready.ensures.ready c.requires.may_enter
+resource_or_new-res-requires-clause-may_enter c =
+    may_enter_ready c.args.new_lock.now c.args.store.now c.make_ready.new.store c.in_ok-make_ready.ensures.ready
+    c.requires.may_enter
 
 pub resource_or_new-res-requires-clause-found : goal.resource_or_new-res-requires-clause-found
-resource_or_new-res-requires-clause-found c = found_ready c.args.new_lock.now c.args.store.now c.make_ready.new.store c.in_ok-make_ready.ensures.ready c.args.new_lock.now.res c.requires.found
+resource_or_new-res-requires-clause-found c =
+    found_ready c.args.new_lock.now c.args.store.now c.make_ready.new.store c.in_ok-make_ready.ensures.ready
+    c.args.new_lock.now.res c.requires.found
 
 -- its process is owed the ASTs of its routines
 pub accept_entered-requires-clause-owed : goal.accept_entered-requires-clause-owed

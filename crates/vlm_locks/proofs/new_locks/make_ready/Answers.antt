@@ -1,7 +1,7 @@
 use Rattle.std.proofs.Common.{sym, subst}
 use Rattle.vlm_store.specs.Records.{IsProcess}
-use Rattle.vlm_locks.proofs.Found.{process_there}
-use Rattle.vlm_locks.proofs.Ready.{made_ready}
+use Rattle.vlm_locks.proofs.FoundByHandle.{process_there}
+use Rattle.vlm_locks.proofs.ReservedMemory.{made_ready}
 use Rattle.vlm_locks.proofs.new_locks.make_ready.Goals as goal
 
 pub owe_routines-requires : goal.owe_routines-requires

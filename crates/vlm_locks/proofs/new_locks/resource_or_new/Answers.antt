@@ -1,8 +1,8 @@
 use Rattle.std.proofs.Common.{Some, ap, refl, sym, subst}
 use Rattle.vlm_store.specs.Records.{FindsResource, IsNewKey, IsSound, Records, new_stored_resource}
 use Rattle.vlm_locks.specs.Entering.{IsEntered, MayEnter, new_row}
-use Rattle.vlm_locks.proofs.Paying.{due_with_resource}
-use Rattle.vlm_locks.proofs.Made.{above_still, entered_made, made_found, made_is, parent_still, rest_still}
+use Rattle.vlm_locks.proofs.ReservedByRequests.{due_with_resource}
+use Rattle.vlm_locks.proofs.NewResources.{above_still, entered_made, made_found, made_is, parent_still, rest_still}
 use Rattle.vlm_locks.proofs.new_locks.resource_or_new.Goals as goal
 
 -- with the new resource the lock may enter still
@@ -24,7 +24,8 @@ returns-in-None-clause-may_enter c =
 
 pub returns-in-None-clause-found : goal.returns-in-None-clause-found
 returns-in-None-clause-found c =
-    let is = made_is c.args.new_lock.now c.add_resource_reserved.result c.args.store.now c.add_resource_reserved.new.self c.add_resource_reserved.ensures.added in
+    let is = made_is c.args.new_lock.now c.add_resource_reserved.result c.args.store.now
+    c.add_resource_reserved.new.self c.add_resource_reserved.ensures.added in
     subst (λ s. FindsResource s c.args.new_lock.now.site.key (Some c.add_resource_reserved.result)) (sym is)
     (made_found c.args.new_lock.now c.add_resource_reserved.result c.add_resource_reserved.new.self.room c.args.store.now)
 

@@ -10,18 +10,21 @@ use Rattle.vlm_locks.proofs.noted_locks.note_below.Goals as goal
 -- the top is stored
 pub returns-in_default-clause-chosen : goal.returns-in_default-clause-chosen
 returns-in_default-clause-chosen c =
-    absurd (subst (FindsLock c.args.store.now c.args.top) c.in_default.is c.lock.ensures.found c.requires.top.1 c.requires.top.2 (inl c.requires.top.3.0) c.requires.top.3.1)
+    absurd (subst (FindsLock c.args.store.now c.args.top) c.in_default.is c.lock.ensures.found c.requires.top.1
+    c.requires.top.2 (inl c.requires.top.3.0) c.requires.top.3.1)
 
 pub note_sublocks-requires-clause-stored : goal.note_sublocks-requires-clause-stored
 note_sublocks-requires-clause-stored c =
     let found =
-    top_found c.args.store.now c.lock.ensures.sound c.args.pid c.args.top c.requires.top c.in-Some.lock (subst (FindsLock c.args.store.now c.args.top) c.in-Some.is c.lock.ensures.found) in
+    top_found c.args.store.now c.lock.ensures.sound c.args.pid c.args.top c.requires.top c.in-Some.lock
+    (subst (FindsLock c.args.store.now c.args.top) c.in-Some.is c.lock.ensures.found) in
     (found.0, found.1.0)
 
 pub note_sublocks-requires-clause-room : goal.note_sublocks-requires-clause-room
 note_sublocks-requires-clause-room c =
     let found =
-    top_found c.args.store.now c.lock.ensures.sound c.args.pid c.args.top c.requires.top c.in-Some.lock (subst (FindsLock c.args.store.now c.args.top) c.in-Some.is c.lock.ensures.found) in
+    top_found c.args.store.now c.lock.ensures.sound c.args.pid c.args.top c.requires.top c.in-Some.lock
+    (subst (FindsLock c.args.store.now c.args.top) c.in-Some.is c.lock.ensures.found) in
     let own : IsOwnScope (Below c.args.top) c.args.pid c.args.store.now =
     (c.requires.top.0, c.in-Some.lock, found.0, found.1) in
     omega (
@@ -34,7 +37,8 @@ note_sublocks-requires-clause-room c =
 pub loop-passed-init : goal.loop-passed-init
 loop-passed-init c =
     let found =
-    top_found c.args.store.now c.lock.ensures.sound c.args.pid c.args.top c.requires.top c.in-Some.lock (subst (FindsLock c.args.store.now c.args.top) c.in-Some.is c.lock.ensures.found) in
+    top_found c.args.store.now c.lock.ensures.sound c.args.pid c.args.top c.requires.top c.in-Some.lock
+    (subst (FindsLock c.args.store.now c.args.top) c.in-Some.is c.lock.ensures.found) in
     let own : IsOwnScope (Below c.args.top) c.args.pid c.args.store.now =
     (c.requires.top.0, c.in-Some.lock, found.0, found.1) in (
       own,
@@ -46,15 +50,21 @@ pub note_sublocks-requires-in-loop-passed-clause-stored : goal.note_sublocks-req
 note_sublocks-requires-in-loop-passed-clause-stored c =
     subst (λ at. IsStored at c.args.store.now) (sym c.lock-lock.ensures)
     (lock_stored c.args.store.now c.lock.ensures.sound c.requires.rest c.args.pid c.args.top c.loop-passed.invariant.0 c.requires.together c.requires.closed
-    c.args.touched.now c.loop-passed.touched c.loop-passed.passed c.loop-passed.invariant.1 (subst (λ (ts : List Note). c.loop-passed.passed < length ts) c.notes.ensures c.loop-passed-test.true)
-    c.index-notes-passed.result (subst (λ (ts : List Note). c.index-notes-passed.result ≡ get_or ts c.loop-passed.passed c.index-notes-passed.result) c.notes-in-loop-passed.ensures c.index-notes-passed.is))
+    c.args.touched.now c.loop-passed.touched c.loop-passed.passed c.loop-passed.invariant.1
+    (subst (λ (ts : List Note). c.loop-passed.passed < length ts) c.notes.ensures c.loop-passed-test.true)
+    c.index-notes-passed.result
+    (subst (λ (ts : List Note). c.index-notes-passed.result ≡ get_or ts c.loop-passed.passed
+    c.index-notes-passed.result) c.notes-in-loop-passed.ensures c.index-notes-passed.is))
 
 pub note_sublocks-requires-in-loop-passed-clause-room : goal.note_sublocks-requires-in-loop-passed-clause-room
 note_sublocks-requires-in-loop-passed-clause-room c =
     subst (λ at. length c.loop-passed.touched.noted + length (sublocks_at at c.args.store.now) ≤ c.loop-passed.touched.room) (sym c.lock-lock.ensures)
     (sublocks_fit c.args.store.now c.lock.ensures.sound c.requires.rest c.args.pid c.args.top c.loop-passed.invariant.0 c.requires.together c.requires.closed
-    c.args.touched.now c.loop-passed.touched c.loop-passed.passed c.loop-passed.invariant.1 (subst (λ (ts : List Note). c.loop-passed.passed < length ts) c.notes.ensures c.loop-passed-test.true)
-    c.index-notes-passed.result (subst (λ (ts : List Note). c.index-notes-passed.result ≡ get_or ts c.loop-passed.passed c.index-notes-passed.result) c.notes-in-loop-passed.ensures c.index-notes-passed.is)
+    c.args.touched.now c.loop-passed.touched c.loop-passed.passed c.loop-passed.invariant.1
+    (subst (λ (ts : List Note). c.loop-passed.passed < length ts) c.notes.ensures c.loop-passed-test.true)
+    c.index-notes-passed.result
+    (subst (λ (ts : List Note). c.index-notes-passed.result ≡ get_or ts c.loop-passed.passed
+    c.index-notes-passed.result) c.notes-in-loop-passed.ensures c.index-notes-passed.is)
     c.requires.room)
 
 pub loop-passed-smaller : goal.loop-passed-smaller
@@ -62,23 +72,38 @@ loop-passed-smaller c =
     omega (
       arith,
       passes_one c.args.store.now c.lock.ensures.sound c.requires.rest c.args.pid c.args.top c.loop-passed.invariant.0 c.requires.together c.requires.closed
-          c.args.touched.now c.loop-passed.touched c.loop-passed.passed c.loop-passed.invariant.1 (subst (λ (ts : List Note). c.loop-passed.passed < length ts) c.notes.ensures c.loop-passed-test.true)
-          c.index-notes-passed.result (subst (λ (ts : List Note). c.index-notes-passed.result ≡ get_or ts c.loop-passed.passed c.index-notes-passed.result) c.notes-in-loop-passed.ensures c.index-notes-passed.is),
+          c.args.touched.now c.loop-passed.touched c.loop-passed.passed c.loop-passed.invariant.1
+          (subst (λ (ts : List Note). c.loop-passed.passed < length ts) c.notes.ensures c.loop-passed-test.true)
+          c.index-notes-passed.result
+          (subst (λ (ts : List Note). c.index-notes-passed.result ≡ get_or ts c.loop-passed.passed
+          c.index-notes-passed.result) c.notes-in-loop-passed.ensures c.index-notes-passed.is),
     )
 
 pub loop-passed-preserved : goal.loop-passed-preserved
 loop-passed-preserved c = (
   c.loop-passed.invariant.0,
   next_level c.args.store.now c.lock.ensures.sound c.requires.rest c.args.pid c.args.top c.loop-passed.invariant.0 c.requires.together c.requires.closed
-      c.args.touched.now c.loop-passed.touched c.loop-passed.passed c.loop-passed.invariant.1 (subst (λ (ts : List Note). c.loop-passed.passed < length ts) c.notes.ensures c.loop-passed-test.true)
-      c.index-notes-passed.result (subst (λ (ts : List Note). c.index-notes-passed.result ≡ get_or ts c.loop-passed.passed c.index-notes-passed.result) c.notes-in-loop-passed.ensures c.index-notes-passed.is)
-      c.note_sublocks-in-loop-passed.new.touched (subst (λ at. touched_handles c.note_sublocks-in-loop-passed.new.touched.noted ≡ touched_handles c.loop-passed.touched.noted ++ sublocks_at at c.args.store.now) c.lock-lock.ensures c.note_sublocks-in-loop-passed.ensures.noted) c.note_sublocks-in-loop-passed.ensures.locks c.note_sublocks-in-loop-passed.ensures.room,
+      c.args.touched.now c.loop-passed.touched c.loop-passed.passed c.loop-passed.invariant.1
+      (subst (λ (ts : List Note). c.loop-passed.passed < length ts) c.notes.ensures c.loop-passed-test.true)
+      c.index-notes-passed.result
+      (subst (λ (ts : List Note). c.index-notes-passed.result ≡ get_or ts c.loop-passed.passed
+      c.index-notes-passed.result) c.notes-in-loop-passed.ensures c.index-notes-passed.is)
+      c.note_sublocks-in-loop-passed.new.touched
+      (subst (λ at. touched_handles c.note_sublocks-in-loop-passed.new.touched.noted ≡ touched_handles
+      c.loop-passed.touched.noted ++ sublocks_at at c.args.store.now) c.lock-lock.ensures
+      c.note_sublocks-in-loop-passed.ensures.noted) c.note_sublocks-in-loop-passed.ensures.locks
+      c.note_sublocks-in-loop-passed.ensures.room,
 )
 
 pub returns-clause-chosen : goal.returns-clause-chosen
 returns-clause-chosen c =
     below_chosen c.args.store.now c.lock.ensures.sound c.requires.rest c.args.pid c.args.top c.loop-passed.invariant.0 c.requires.together c.requires.closed
-    c.args.touched.now c.loop-passed.touched c.loop-passed.passed c.loop-passed.invariant.1 (omega (arith, c.loop-passed-test.false, ap (λ (ts : List Note). length ts) c.notes.ensures)) c.in_order.new.self.noted
+    c.args.touched.now c.loop-passed.touched c.loop-passed.passed c.loop-passed.invariant.1
+    (omega (
+      arith,
+      c.loop-passed-test.false,
+      ap (λ (ts : List Note). length ts) c.notes.ensures,
+    )) c.in_order.new.self.noted
     c.in_order.ensures.rising c.in_order.ensures.within c.in_order.ensures.each
 
 pub returns-clause-locks : goal.returns-clause-locks

@@ -1,6 +1,6 @@
 use Rattle.std.proofs.Common.{length}
 use Rattle.vlm_store.specs.Records.{sublocks_at}
-use Rattle.vlm_locks.proofs.Chosen.{on_from}
+use Rattle.vlm_locks.proofs.ChosenLocks.{on_from}
 use Rattle.vlm_locks.proofs.Noting.{AreNoted}
 use Rattle.vlm_locks.proofs.noted_locks.note_sublocks.Given as goal
 

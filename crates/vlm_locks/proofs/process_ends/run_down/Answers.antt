@@ -3,9 +3,10 @@ use Rattle.vlm_collections.specs.Lists.{IsIn}
 use Rattle.vlm_records.specs.declared.handles.Place.TheVariants.{Queued}
 use Rattle.vlm_store.specs.Records.{locks_at, own_handles_at, but_notices}
 use Rattle.vlm_locks.specs.Withdrawals.{plain_withdrawal}
-use Rattle.vlm_locks.proofs.Found.{process_there}
-use Rattle.vlm_locks.proofs.RunsDown.{IsTurn, all_left, fewer_own, is_row_of, its_row, one_untold, last_is_childless, last_stored, last_there, next_turn, no_locks, none_at_all, one_at_least}
-use Rattle.vlm_locks.proofs.Stood.{stands}
+use Rattle.vlm_locks.proofs.FoundByHandle.{process_there}
+use Rattle.vlm_locks.proofs.RunsDown.{IsTurn, all_left, fewer_own, is_row_of, its_row, one_untold, last_is_childless}
+use Rattle.vlm_locks.proofs.RunsDown.{last_stored, last_there, next_turn, no_locks, none_at_all, one_at_least}
+use Rattle.vlm_locks.proofs.QueuedLocks.{stands}
 use Rattle.vlm_locks.proofs.process_ends.run_down.Goals as goal
 use Rattle.vlm_locks.specs.Withdrawing.{goes, owned_after}
 use Rattle.vlm_model.specs.Endings.How.{by_rundown}
@@ -17,12 +18,14 @@ last_own-requires c = process_there c.loop-lock.store c.args.owner c.args.pid c.
 
 pub located_lock-located-requires-clause-stored : goal.located_lock-located-requires-clause-stored
 located_lock-located-requires-clause-stored c =
-    last_stored c.args.owner c.args.pid c.loop-lock.store c.loop-lock.invariant.so_far.sound c.loop-lock.invariant.so_far.lives c.loop-lock.invariant.so_far.rest c.in-Some.lock
+    last_stored c.args.owner c.args.pid c.loop-lock.store c.loop-lock.invariant.so_far.sound
+    c.loop-lock.invariant.so_far.lives c.loop-lock.invariant.so_far.rest c.in-Some.lock
     (sym c.last_own.ensures ∙ c.in-Some.is)
 
 pub withdraw-requires-clause-childless : goal.withdraw-requires-clause-childless
 withdraw-requires-clause-childless c goes p own among its same =
-    last_is_childless c.args.owner c.args.pid c.loop-lock.store c.loop-lock.invariant.so_far.sound c.loop-lock.invariant.so_far.lives c.loop-lock.invariant.so_far.rest c.in-Some.lock
+    last_is_childless c.args.owner c.args.pid c.loop-lock.store c.loop-lock.invariant.so_far.sound
+    c.loop-lock.invariant.so_far.lives c.loop-lock.invariant.so_far.rest c.in-Some.lock
     (sym c.last_own.ensures ∙ c.in-Some.is) c.loop-lock.invariant.so_far.together p own among its (same ∙ c.located_lock-located.ensures.lock)
 
 pub withdraw-requires-clause-granted : goal.withdraw-requires-clause-granted
@@ -40,7 +43,7 @@ note-requires c =
       one_at_least c.loop-lock.store c.loop-lock.invariant.so_far.sound c.located_lock-located.result c.located_lock-located.ensures.located,
     )
 
--- it is withdrawn as a rundown withdraws a lock with its identification
+-- it is withdrawn as a rundown withdraws a lock with its ID
 abbrev pub rundown_is : (c : goal.After-note) → plain_withdrawal c.rundown.result ≡ rundown_of c.located_lock-located.result.row.lkid
 rundown_is c = c.rundown.ensures ∙ ap rundown_of c.lkid.ensures
 
@@ -52,7 +55,8 @@ loop-lock-smaller c =
     let mine : IsIn f.lock (own_handles_at c.args.owner s) =
     subst (λ at. IsIn at (own_handles_at c.args.owner s)) (sym c.located_lock-located.ensures.lock)
     (last_there c.args.owner c.args.pid s so_far.sound so_far.lives so_far.rest c.in-Some.lock (sym c.last_own.ensures ∙ c.in-Some.is)) in
-    let turn : IsTurn (is_row_of c.args.pid) true c.args.owner s c.withdraw.new.store c.loop-lock.touched c.note.new.self f (plain_withdrawal c.rundown.result) = record {
+    let turn : IsTurn (is_row_of c.args.pid) true c.args.owner s c.withdraw.new.store c.loop-lock.touched
+    c.note.new.self f (plain_withdrawal c.rundown.result) = record {
       sound = c.of_resource.ensures.sound;
       located = c.located_lock-located.ensures.located;
       mine = mine;
@@ -73,7 +77,12 @@ loop-lock-smaller c =
           ∙ ap (λ (res : ℕ). c.loop-lock.touched.noted ++ record { number = c.of_resource.result.number; at = res } ∷ []) c.of_resource.ensures.res;
       room = c.note.ensures.room;
     } in
-    omega (arith, fewer_own (is_row_of c.args.pid) true c.args.owner c.args.pid c.args.store.now s c.withdraw.new.store c.args.touched.now c.loop-lock.touched c.note.new.self f (plain_withdrawal c.rundown.result) so_far turn)
+    omega (
+      arith,
+      fewer_own
+          (is_row_of c.args.pid) true c.args.owner c.args.pid c.args.store.now s c.withdraw.new.store c.args.touched.now
+          c.loop-lock.touched c.note.new.self f (plain_withdrawal c.rundown.result) so_far turn,
+    )
 
 pub loop-lock-preserved : goal.loop-lock-preserved
 loop-lock-preserved c =
@@ -83,7 +92,8 @@ loop-lock-preserved c =
     let mine : IsIn f.lock (own_handles_at c.args.owner s) =
     subst (λ at. IsIn at (own_handles_at c.args.owner s)) (sym c.located_lock-located.ensures.lock)
     (last_there c.args.owner c.args.pid s so_far.sound so_far.lives so_far.rest c.in-Some.lock (sym c.last_own.ensures ∙ c.in-Some.is)) in
-    let turn : IsTurn (is_row_of c.args.pid) true c.args.owner s c.withdraw.new.store c.loop-lock.touched c.note.new.self f (plain_withdrawal c.rundown.result) = record {
+    let turn : IsTurn (is_row_of c.args.pid) true c.args.owner s c.withdraw.new.store c.loop-lock.touched
+    c.note.new.self f (plain_withdrawal c.rundown.result) = record {
       sound = c.of_resource.ensures.sound;
       located = c.located_lock-located.ensures.located;
       mine = mine;
@@ -105,7 +115,8 @@ loop-lock-preserved c =
       room = c.note.ensures.room;
     } in
     record {
-      so_far = next_turn (is_row_of c.args.pid) true c.args.owner c.args.pid c.args.store.now s c.withdraw.new.store c.args.touched.now c.loop-lock.touched c.note.new.self f (plain_withdrawal c.rundown.result) so_far turn;
+      so_far = next_turn (is_row_of c.args.pid) true c.args.owner c.args.pid c.args.store.now s c.withdraw.new.store
+          c.args.touched.now c.loop-lock.touched c.note.new.self f (plain_withdrawal c.rundown.result) so_far turn;
       paid = c.withdraw.ensures.paid;
     }
 

@@ -1,4 +1,4 @@
-use Rattle.vlm_locks.proofs.Accepted.{stands_accepted}
+use Rattle.vlm_locks.proofs.AcceptedRequests.{stands_accepted}
 use Rattle.vlm_locks.proofs.releases.end_notices.Goals as goal
 
 pub release_blocking_ast-requires-clause-located : goal.release_blocking_ast-requires-clause-located

@@ -1,6 +1,6 @@
 use Rattle.std.proofs.Common.{◌+◌, sym, ap, ◌∙◌}
 use Rattle.vlm_store.specs.Records.{due_of}
-use Rattle.vlm_locks.proofs.Owing.{nothing_wanted}
+use Rattle.vlm_locks.proofs.ReservedAsts.{nothing_wanted}
 use Rattle.vlm_locks.proofs.releases.end_request.Goals as goal
 
 pub returns-in_default-clause-owed : goal.returns-in_default-clause-owed

@@ -1,7 +1,7 @@
 use Rattle.std.proofs.Common.{◌-◌, subst, arith}
 use Rattle.vlm_store.specs.Records.{DueChanges}
-use Rattle.vlm_locks.proofs.Found.{process_there}
-use Rattle.vlm_locks.proofs.Owing.{untold_owed}
+use Rattle.vlm_locks.proofs.FoundByHandle.{process_there}
+use Rattle.vlm_locks.proofs.ReservedAsts.{untold_owed}
 use Rattle.vlm_locks.proofs.releases.end_silently.Goals as goal
 
 pub forgive-requires-clause-there : goal.forgive-requires-clause-there

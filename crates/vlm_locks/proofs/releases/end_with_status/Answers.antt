@@ -3,8 +3,8 @@ use Rattle.vlm_model.specs.Asts.{completion_asts, processes_after_asts}
 use Rattle.vlm_words.specs.Dues.{one_where}
 use Rattle.vlm_store.specs.Records.{DueChanges}
 use Rattle.vlm_locks.specs.Owing.{completions_queued}
-use Rattle.vlm_locks.proofs.Found.{process_still, process_there}
-use Rattle.vlm_locks.proofs.Owing.{blocking_fits, changes_then, due_before, ended_owed, notices_twice, one_from}
+use Rattle.vlm_locks.proofs.FoundByHandle.{process_still, process_there}
+use Rattle.vlm_locks.proofs.ReservedAsts.{blocking_fits, changes_then, due_before, ended_owed, notices_twice, one_from}
 use Rattle.vlm_locks.proofs.releases.end_with_status.Goals as goal
 
 pub end-requires : goal.end-requires
@@ -68,7 +68,8 @@ returns-clause-owed c =
     ended_owed f.row c.args.request.now c.requires.wants c.args.store.now c.complete.new.store c.forgive.new.store c.requires.owed
     (changes_then f.row.pid (λ due. due - completions_queued false c.args.request.now) c.args.store.now c.end.new.store c.complete.new.store
     c.end.ensures.dues c.complete.ensures.owed)
-    (subst (λ n. DueChanges f.row.pid (λ due. due - n) c.complete.new.store c.forgive.new.store) (c.from.ensures ∙ one_from c.is_some.result ∙ ap one_where c.is_some.ensures)
+    (subst (λ n. DueChanges f.row.pid (λ due. due - n) c.complete.new.store c.forgive.new.store) (c.from.ensures
+    ∙ one_from c.is_some.result ∙ ap one_where c.is_some.ensures)
     (c.forgive.ensures.owed f.row.pid
     (process_still c.args.store.now c.complete.new.store c.args.located.now.owner f.row.pid
     (notices_twice c.args.store.now c.end.new.store c.complete.new.store c.end.ensures.only_notices c.complete.ensures.only_notices)

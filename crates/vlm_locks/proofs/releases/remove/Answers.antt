@@ -4,10 +4,10 @@ use Rattle.std.proofs.Common.{sym, subst, ap, map}
 use Rattle.vlm_model.specs.Withdrawals.{resource_without}
 use Rattle.vlm_locks.specs.Withdrawing.{IsChange}
 use Rattle.vlm_store.specs.Records.{Records, but_notices, without_stored_lock}
-use Rattle.vlm_locks.proofs.Changed.{changed_room}
-use Rattle.vlm_locks.proofs.Owing.{weighs_gone}
-use Rattle.vlm_locks.proofs.Stood.{stored}
-use Rattle.vlm_locks.proofs.Sound.{sound_alike}
+use Rattle.vlm_locks.proofs.ChangedResource.{changed_room}
+use Rattle.vlm_locks.proofs.ReservedAsts.{weighs_gone}
+use Rattle.vlm_locks.proofs.QueuedLocks.{stored}
+use Rattle.vlm_locks.proofs.SoundRecords.{sound_alike}
 use Rattle.vlm_locks.proofs.Withdrawn.{removed}
 use Rattle.vlm_locks.proofs.releases.remove.Goals as goal
 

@@ -7,25 +7,25 @@ use Rattle.vlm_store.specs.Records.{HasNoSublocks, but_notices, without_resource
 use Rattle.vlm_locks.specs.Withdrawals.{plain_withdrawal}
 use Rattle.vlm_locks.specs.Withdrawing.{goes, owned_after}
 use Rattle.vlm_locks.specs.Owing.{OwedMoves, left_row, row_at_end}
-use Rattle.vlm_locks.proofs.Owing.{due_fits, due_gone, paid_withdrawn}
-use Rattle.vlm_locks.proofs.Replaced.{no_sublocks_still}
-use Rattle.vlm_locks.proofs.Stood.{stored}
-use Rattle.vlm_locks.proofs.Changed.{rests_still, stay_over}
+use Rattle.vlm_locks.proofs.ReservedAsts.{due_fits, due_gone, paid_withdrawn}
+use Rattle.vlm_locks.proofs.ReplacedResource.{no_sublocks_still}
+use Rattle.vlm_locks.proofs.QueuedLocks.{stored}
+use Rattle.vlm_locks.proofs.ChangedResource.{rests_still, stay_over}
 use Rattle.vlm_locks.proofs.Withdrawn.{left_staying}
-use Rattle.vlm_locks.proofs.Accepted.{stands_accepted}
+use Rattle.vlm_locks.proofs.AcceptedRequests.{stands_accepted}
 use Rattle.vlm_locks.proofs.releases.withdraw.Goals as goal
 
 -- the lock stands where it stood once its request has ended
-pub leave_value-requires-clause-located : goal.leave_value-requires-clause-located
-leave_value-requires-clause-located c =
+pub write_released_value-requires-clause-located : goal.write_released_value-requires-clause-located
+write_released_value-requires-clause-located c =
     stands_accepted c.args.located.now c.args.store.now c.end_notices.new.store c.end_notices.ensures.only_notices c.requires.located
 
 pub give_up-requires-clause-located : goal.give_up-requires-clause-located
 give_up-requires-clause-located c =
     stands_accepted c.args.located.now c.args.store.now c.end_notices.new.store c.end_notices.ensures.only_notices c.requires.located
 
-pub leave_value-requires-clause-rest : goal.leave_value-requires-clause-rest
-leave_value-requires-clause-rest c = rests_still c.args.store.now c.end_notices.new.store c.end_notices.ensures.only_notices c.requires.rest
+pub write_released_value-requires-clause-rest : goal.write_released_value-requires-clause-rest
+write_released_value-requires-clause-rest c = rests_still c.args.store.now c.end_notices.new.store c.end_notices.ensures.only_notices c.requires.rest
 
 pub give_up-requires-clause-rest : goal.give_up-requires-clause-rest
 give_up-requires-clause-rest c = rests_still c.args.store.now c.end_notices.new.store c.end_notices.ensures.only_notices c.requires.rest
@@ -38,7 +38,7 @@ cancel-requires-clause-childless c =
     let none : HasNoSublocks f.lock c.end_notices.new.store =
     no_sublocks_still c.args.store.now c.end_notices.new.store c.end_notices.ensures.only_notices.processes f.lock
     (c.requires.childless (ap (λ b. goes b f.queue) c.if-withdrawal.true ∙ ap (goes true) waits)) in
-    λ p own among here. none p own (subst (IsIn p) c.leave_value.ensures.left.own_locks among) here
+    λ p own among here. none p own (subst (IsIn p) c.write_released_value.ensures.left.own_locks among) here
 
 pub give_up-requires-clause-childless : goal.give_up-requires-clause-childless
 give_up-requires-clause-childless c =
@@ -53,34 +53,42 @@ returns-then-withdrawal c = record {
       let w = plain_withdrawal c.args.withdrawal.now in
       let lkid = c.args.located.now.row.lkid in
       c.cancel.ensures.done.made.resources
-      ∙ ap (map (resource_after_cancel lkid)) c.leave_value.ensures.left.made.resources
+      ∙ ap (map (resource_after_cancel lkid)) c.write_released_value.ensures.left.made.resources
       ∙ left_staying w lkid c.requires.named c.if-withdrawal.true (plain_resources c.end_notices.new.store)
       ∙ ap (λ rs. map (resource_after_withdrawals (w ∷ [])) (map plain_resource rs)) c.end_notices.ensures.only_notices.resources;
   statuses = search rules;
   beside =
       let s = c.args.store.now in
       let ended = c.end_notices.new.store in
-      let left = c.leave_value.new.store in
+      let left = c.write_released_value.new.store in
       let new = c.cancel.new.store in
       let f = c.args.located.now in
       let made = c.cancel.ensures.done.made in
       record {
-        others = stay_over f.res ended left new c.leave_value.ensures.left.made.others made.others ∙ ap (without_resource f.res) c.end_notices.ensures.only_notices.resources;
-        locks = locks_stay_over f.lock s ended new (statuses_alone f.lock s ended c.end_notices.ensures.only_notices) (locks_stay_over f.lock ended left new c.leave_value.ensures.left.locks c.cancel.ensures.done.locks);
+        others = stay_over f.res ended left new c.write_released_value.ensures.left.made.others made.others
+            ∙ ap (without_resource f.res) c.end_notices.ensures.only_notices.resources;
+        locks = locks_stay_over f.lock s ended new (statuses_alone f.lock s ended c.end_notices.ensures.only_notices)
+            (locks_stay_over f.lock ended left new c.write_released_value.ensures.left.locks
+            c.cancel.ensures.done.locks);
         there = made.there;
         rest = made.rest;
       };
   own_locks =
       let f = c.args.located.now in
-      ap (map but_notices) (c.cancel.ensures.done.own_locks ∙ ap (owned_after (goes true f.queue) f.lock) c.leave_value.ensures.left.own_locks)
+      ap (map but_notices) (c.cancel.ensures.done.own_locks ∙ ap (owned_after (goes true f.queue) f.lock) c.write_released_value.ensures.left.own_locks)
       ∙ owned_alike (goes true f.queue) f.lock c.end_notices.new.store.processes c.args.store.now.processes c.end_notices.ensures.only_notices.processes
       ∙ ap (λ stays. map but_notices (owned_after (goes stays f.queue) f.lock c.args.store.now.processes)) (sym c.if-withdrawal.true);
   paid =
       let f = c.args.located.now in
-      paid_withdrawn f.row (left_row (goes true f.queue) f.row) (goes true f.queue) f.lock c.args.store.now c.end_notices.new.store c.leave_value.new.store c.cancel.new.store
+      paid_withdrawn f.row (left_row (goes true f.queue) f.row)
+      (goes true f.queue) f.lock c.args.store.now c.end_notices.new.store c.write_released_value.new.store
+      c.cancel.new.store
       c.requires.paid
-      (subst (λ stays. OwedMoves f.row (left_row (goes stays f.queue) f.row) c.args.store.now c.end_notices.new.store) c.if-withdrawal.true c.end_notices.ensures.owed)
-      c.end_notices.ensures.only_notices c.leave_value.ensures.left.own_locks c.leave_value.ensures.weighs c.cancel.ensures.done.own_locks c.cancel.ensures.due;
+      (subst (λ stays. OwedMoves f.row
+      (left_row (goes stays f.queue) f.row) c.args.store.now c.end_notices.new.store) c.if-withdrawal.true
+      c.end_notices.ensures.owed)
+      c.end_notices.ensures.only_notices c.write_released_value.ensures.left.own_locks
+      c.write_released_value.ensures.weighs c.cancel.ensures.done.own_locks c.cancel.ensures.due;
 }
 
 -- the lock goes

@@ -1,10 +1,12 @@
-use Rattle.vlm_locks.proofs.Stood.{owner_is}
+use Rattle.vlm_locks.proofs.QueuedLocks.{owner_is}
 use Rattle.vlm_locks.proofs.services.grant.Goals as goal
 
 -- a lock that moves leaves the processes
 pub end_by_grant-requires-clause-process : goal.end_by_grant-requires-clause-process
 end_by_grant-requires-clause-process c =
-    rw c.move_lock.ensures.moved (owner_is c.args.store.now c.lock_record.result.now.owner c.lock_record.result.now.row c.args.row.now (c.lock_record.ensures.only c.args.row.now c.requires.stored) c.lock_record.ensures.owner)
+    rw c.move_lock.ensures.moved
+    (owner_is c.args.store.now c.lock_record.result.now.owner c.lock_record.result.now.row c.args.row.now
+    (c.lock_record.ensures.only c.args.row.now c.requires.stored) c.lock_record.ensures.owner)
 
 -- and what they are owed
 pub end_by_grant-requires-clause-owed : goal.end_by_grant-requires-clause-owed

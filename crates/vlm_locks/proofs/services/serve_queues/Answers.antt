@@ -1,4 +1,4 @@
-use Rattle.vlm_locks.proofs.Ended.{served_alone, served_then}
+use Rattle.vlm_locks.proofs.ServiceEnds.{served_alone, served_then}
 use Rattle.vlm_locks.proofs.services.serve_queues.Goals as goal
 
 -- once no conversion is left, the new requests are served

@@ -1,5 +1,5 @@
 use Rattle.std.proofs.Common.{arith}
-use Rattle.vlm_locks.proofs.Found.{process_there}
+use Rattle.vlm_locks.proofs.FoundByHandle.{process_there}
 use Rattle.vlm_locks.proofs.Warned.{warned_owed, warning_fits}
 use Rattle.vlm_locks.proofs.warnings.queue_warning.Goals as goal
 
@@ -17,7 +17,8 @@ forgive-requires-clause-owed c = record {
 
 pub returns-in_default-clause-owed : goal.returns-in_default-clause-owed
 returns-in_default-clause-owed c =
-    warned_owed c.args.row.now c.args.store.now c.forgive.new.store c.requires.armed c.requires.owed (c.forgive.ensures.owed c.args.row.now.pid c.requires.process)
+    warned_owed c.args.row.now c.args.store.now c.forgive.new.store c.requires.armed c.requires.owed
+    (c.forgive.ensures.owed c.args.row.now.pid c.requires.process)
 
 -- no routine is named
 
@@ -50,4 +51,5 @@ queue_ast-requires-clause-owed c = record {
 
 pub returns-clause-owed : goal.returns-clause-owed
 returns-clause-owed c =
-    warned_owed c.args.row.now c.args.store.now c.queue_ast.new.store c.requires.armed c.requires.owed (c.queue_ast.ensures.owed c.args.row.now.pid c.requires.process)
+    warned_owed c.args.row.now c.args.store.now c.queue_ast.new.store c.requires.armed c.requires.owed
+    (c.queue_ast.ensures.owed c.args.row.now.pid c.requires.process)

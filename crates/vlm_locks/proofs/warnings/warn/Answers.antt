@@ -4,7 +4,7 @@ use Rattle.std.specs.List.{list_any}
 use Rattle.vlm_words.specs.declared.modes.Mode.TheVariants.{Cr}
 use Rattle.vlm_words.specs.Rows.{blocks_request}
 use Rattle.vlm_store.specs.Records.{resource_at, rows_of_locks}
-use Rattle.vlm_locks.proofs.Spared.{spares_above_cr, spares_above_nl}
+use Rattle.vlm_locks.proofs.Unwarned.{spares_above_cr, spares_above_nl}
 use Rattle.vlm_locks.proofs.warnings.warn.Goals as goal
 
 -- CR is in the way
@@ -17,5 +17,6 @@ warn_armed-requires-else-blocks_a_request-clause-spares c =
     spares_above_cr c.args.res c.args.store.now
     (subst
     (λ b. IfSome (resource_at c.args.res c.args.store.now.resources)
-    (λ r. b ≡ (list_any (λ row. blocks_request Cr row.want) (rows_of_locks r.converting) || list_any (λ row. blocks_request Cr row.want) (rows_of_locks r.waiting))))
+    (λ r. b ≡ (list_any (λ row. blocks_request Cr row.want) (rows_of_locks r.converting) || list_any
+    (λ row. blocks_request Cr row.want) (rows_of_locks r.waiting))))
     c.if-blocks_a_request.false c.blocks_a_request.ensures)

@@ -1,10 +1,15 @@
 use Rattle.std.proofs.Common.{sym}
-use Rattle.vlm_locks.proofs.Warned.{follows, has_next, if_warned, next_stored, now, now_found, paid_warned, stands_armed, warning_begun, warning_next, warning_shorter, warning_there}
+use Rattle.vlm_locks.proofs.Warned.{follows, has_next, if_warned, next_stored, now, now_found, paid_warned}
+use Rattle.vlm_locks.proofs.Warned.{stands_armed, warning_begun, warning_next, warning_shorter, warning_there}
 use Rattle.vlm_locks.proofs.warnings.warn_armed.Goals as goal
 
 pub loop-at-init : goal.loop-at-init
-loop-at-init c =
-    (warning_begun c.args.which c.args.res c.args.store.now c.first_armed-at.result c.first_armed-at.ensures.sound c.requires.there c.requires.spares c.first_armed-at.ensures.first, c.requires.paid, c.first_armed-at.ensures.sound)
+loop-at-init c = (
+  warning_begun c.args.which c.args.res c.args.store.now c.first_armed-at.result c.first_armed-at.ensures.sound
+      c.requires.there c.requires.spares c.first_armed-at.ensures.first,
+  c.requires.paid,
+  c.first_armed-at.ensures.sound,
+)
 
 pub next_armed-at-requires-clause-there : goal.next_armed-at-requires-clause-there
 next_armed-at-requires-clause-there c = warning_there c.args.res c.args.store.now c.loop-at.store c.loop-at.at c.loop-at.invariant.0.warning
@@ -39,7 +44,8 @@ loop-at-smaller c =
     let found = now_found c.args.res c.args.store.now s c.loop-at.at w in
     warning_shorter c.args.res c.args.store.now s c.loop-at.at w sound c.in-Some.lock (sym c.in-Some.is) c.warn_lock.new.store
     (c.warn_lock.ensures.warned (now c.args.res c.args.store.now s c.loop-at.at w) next.row found stored) c.args.which c.next_armed-at.result
-    (follows c.args.res c.args.store.now s c.loop-at.at w sound c.in-Some.lock (sym c.in-Some.is) c.args.which at_armed.armed c.next_armed-at.result c.next_armed-at.ensures)
+    (follows c.args.res c.args.store.now s c.loop-at.at w sound c.in-Some.lock
+    (sym c.in-Some.is) c.args.which at_armed.armed c.next_armed-at.result c.next_armed-at.ensures)
 
 pub loop-at-preserved : goal.loop-at-preserved
 loop-at-preserved c =
@@ -52,8 +58,10 @@ loop-at-preserved c =
     let found = now_found c.args.res c.args.store.now s c.loop-at.at w in
     let r = now c.args.res c.args.store.now s c.loop-at.at w in
     let warned = c.warn_lock.ensures.warned r next.row found stored in (
-      warning_next c.args.res c.args.store.now s c.loop-at.at w sound c.in-Some.lock (sym c.in-Some.is) c.warn_lock.new.store warned c.args.which c.requires.spares c.next_armed-at.result
-          (follows c.args.res c.args.store.now s c.loop-at.at w sound c.in-Some.lock (sym c.in-Some.is) c.args.which at_armed.armed c.next_armed-at.result c.next_armed-at.ensures),
+      warning_next c.args.res c.args.store.now s c.loop-at.at w sound c.in-Some.lock
+          (sym c.in-Some.is) c.warn_lock.new.store warned c.args.which c.requires.spares c.next_armed-at.result
+          (follows c.args.res c.args.store.now s c.loop-at.at w sound c.in-Some.lock
+          (sym c.in-Some.is) c.args.which at_armed.armed c.next_armed-at.result c.next_armed-at.ensures),
       paid_warned s c.warn_lock.new.store sound r c.in-Some.lock next.row stored warned c.loop-at.invariant.1,
       c.warn_lock.ensures.sound,
     )

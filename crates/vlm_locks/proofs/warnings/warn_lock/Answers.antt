@@ -2,7 +2,7 @@ use Rattle.std.proofs.Common.{sym, ap, subst, ◌∙◌}
 use Rattle.vlm_store.specs.Records.{rows_of_locks}
 use Rattle.vlm_model.specs.Asts.{is_to_warn}
 use Rattle.vlm_locks.specs.Warning.{IsLockWarned}
-use Rattle.vlm_locks.proofs.Owing.{due_fits}
+use Rattle.vlm_locks.proofs.ReservedAsts.{due_fits}
 use Rattle.vlm_locks.proofs.Warned.{armed_there, lock_unwarned, lock_warned}
 use Rattle.vlm_locks.proofs.warnings.warn_lock.Goals as goal
 
@@ -14,7 +14,8 @@ returns-then-not-is_to_warn-clause-warned c r row found stored =
 
 pub queue_warning-requires-clause-owed : goal.queue_warning-requires-clause-owed
 queue_warning-requires-clause-owed c =
-    due_fits c.args.store.now c.lock_record-record.ensures.sound c.requires.paid c.args.lock c.lock_record-record.result.now.row c.lock_record-record.ensures.row
+    due_fits c.args.store.now c.lock_record-record.ensures.sound c.requires.paid c.args.lock
+    c.lock_record-record.result.now.row c.lock_record-record.ensures.row
 
 pub queue_warning-requires-clause-armed : goal.queue_warning-requires-clause-armed
 queue_warning-requires-clause-armed c =

@@ -15,7 +15,8 @@ returns-in-None-clause-at_once c asked serial site flags mode same keyed =
     sym (ap (λ o. is_at_once asked (unwrap_or o (new_resource serial site))) none ∙ is_at_once-new serial site asked)
 
 pub returns-in-Some-clause-at_once : goal.returns-in-Some-clause-at_once
-returns-in-Some-clause-at_once c asked serial site flags mode same keyed = of_found (resource_at c.in-Some.res c.args.store.now.resources) refl c.in-Some.ensures.there
+returns-in-Some-clause-at_once c asked serial site flags mode same keyed =
+    of_found (resource_at c.in-Some.res c.args.store.now.resources) refl c.in-Some.ensures.there
   where
     found : FindsResource c.args.store.now site.key (Some c.in-Some.res)
     found = subst (λ (k : Key). FindsResource c.args.store.now k (Some c.in-Some.res)) (sym same) c.in-Some.ensures.found

@@ -1,5 +1,5 @@
 use Rattle.vlm_model.specs.Search.{search_refusal}
-use Rattle.vlm_model.proofs.NoNewCircles.{none_caught_anew}
+use Rattle.vlm_model.proofs.NoNewCycles.{none_caught_anew}
 use Rattle.vlm_model.proofs.histories.law_a_search_catches_nobody_anew.Goals as goal
 
 pub returns : goal.returns

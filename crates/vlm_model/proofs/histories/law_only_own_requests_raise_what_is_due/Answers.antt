@@ -1,4 +1,4 @@
-use Rattle.vlm_model.proofs.Raising.{raising_always}
+use Rattle.vlm_model.proofs.DueAstsRise.{raising_always}
 use Rattle.vlm_model.proofs.histories.law_only_own_requests_raise_what_is_due.Goals as goal
 
 pub returns : goal.returns

@@ -1,5 +1,5 @@
 use Rattle.std.proofs.Common.{◌≡◌, ◌≢◌, ◌⊎◌, ◌∙◌, inl, inr, ℕ, List, [], ◌∷◌, ◌++◌, Option, None, Some, ap, subst, refl}
-use Rattle.vlm_words.specs.declared.locks.LockRow.{LockRow}
+use Rattle.vlm_words.specs.declared.locks.LockState.{LockState}
 use Rattle.vlm_words.specs.declared.steps.Dequeue.{Dequeue}
 use Rattle.vlm_words.specs.declared.steps.Step.TheVariants.{Deq, Search}
 use Rattle.vlm_words.specs.declared.steps.Which.TheVariants.{Id}
@@ -7,38 +7,26 @@ use Rattle.vlm_words.specs.State.{Resource, State}
 use Rattle.vlm_model.specs.Checks.{named_lkid}
 use Rattle.vlm_model.specs.Consequences.{ConvertsAlone, IsHeldAlone, changed}
 use Rattle.vlm_model.specs.TakenAlone.{CancelsItsRequest, LosesThisRequest}
-use Rattle.vlm_model.proofs.OneLock.{gives_no_other, gives_none, gives_one, loses_none, loses_one, zip_of_one}
+use Rattle.vlm_model.proofs.OneLock.{gives_no_other, gives_none, gives_one, loses_none, loses_one, one_gone, one_kept, zip_of_one}
 use Rattle.vlm_model.proofs.history_consequences.a_cancelled_conversion_holds_what_it_held.Goals as goal
 
 -- what the law says of the one resource
-of_one : (s : State) (d : Dequeue) (choice : Option LockRow) (r after : Resource) (lkid : ℕ) → CancelsItsRequest s d choice
+of_one : (s : State) (d : Dequeue) (choice : Option LockState) (r after : Resource) (lkid : ℕ) → CancelsItsRequest s d choice
     → s.resources ≡ r ∷ [] → changed s (Deq d) choice ≡ after ∷ [] → d.lock ≡ Id lkid → LosesThisRequest lkid r after
 of_one s d choice r after lkid law first second named =
     let its : named_lkid s d.pid d.lock ≡ lkid = ap (named_lkid s d.pid) named in
     subst (λ (lock : ℕ). LosesThisRequest lock r after) its
     (zip_of_one (LosesThisRequest (named_lkid s d.pid d.lock)) s.resources (changed s (Deq d) choice) r after first second law.lock)
 
--- a queue with the one lock loses it
-gone : (lkid : ℕ) (row : LockRow) (after : List LockRow)
-    → ((row.lkid ≡ lkid) × (after ≡ [])) ⊎ ((row.lkid ≢ lkid) × (after ≡ row ∷ [])) → row.lkid ≡ lkid → after ≡ []
-gone lkid row after (inl goes) is = goes.1
-gone lkid row after (inr stays) is = absurd (stays.0 is)
-
--- a queue with another lock keeps it
-kept : (lkid : ℕ) (row : LockRow) (after : List LockRow)
-    → ((row.lkid ≡ lkid) × (after ≡ [])) ⊎ ((row.lkid ≢ lkid) × (after ≡ row ∷ [])) → row.lkid ≢ lkid → after ≡ row ∷ []
-kept lkid row after (inl goes) differs = absurd (differs goes.0)
-kept lkid row after (inr stays) differs = stays.1
-
 -- the one lock converts no more, and is granted as it held
-ends : (lkid : ℕ) (row : LockRow) (r after : Resource) → LosesThisRequest lkid r after → ConvertsAlone row r → row.lkid ≡ lkid
+ends : (lkid : ℕ) (row : LockState) (r after : Resource) → LosesThisRequest lkid r after → ConvertsAlone row r → row.lkid ≡ lkid
     → IsHeldAlone (record row { want = None }) after
 ends lkid row r after law alone is =
     let given : law.given ≡ record row { want = None } ∷ [] = gives_one alone.converting is law.as_held in
     let before : r.granted ≡ [] = alone.granted in
     record {
-      granted = law.granted ∙ ap (λ (rows : List LockRow). rows ++ law.given) before ∙ given;
-      converting = gone lkid row after.converting (loses_one alone.converting law.converting) is;
+      granted = law.granted ∙ ap (λ (rows : List LockState). rows ++ law.given) before ∙ given;
+      converting = one_gone lkid row after.converting (loses_one alone.converting law.converting) is;
       waiting = loses_none alone.waiting law.waiting;
     }
 
@@ -51,9 +39,9 @@ returns-clause-waiting c = λ s d choice r after row lkid law first second named
     let loses : LosesThisRequest lkid r after = of_one s d choice r after lkid law first second named in
     let before : r.granted ≡ [] = alone.granted in
     record {
-      granted = loses.granted ∙ ap (λ (rows : List LockRow). rows ++ loses.given) before ∙ gives_none alone.converting loses.as_held;
+      granted = loses.granted ∙ ap (λ (rows : List LockState). rows ++ loses.given) before ∙ gives_none alone.converting loses.as_held;
       converting = loses_none alone.converting loses.converting;
-      waiting = gone lkid row after.waiting (loses_one alone.waiting loses.waiting) is;
+      waiting = one_gone lkid row after.waiting (loses_one alone.waiting loses.waiting) is;
     }
 
 pub returns-clause-other : goal.returns-clause-other
@@ -61,9 +49,9 @@ returns-clause-other c = λ s d choice r after row lkid law first second named a
     let loses : LosesThisRequest lkid r after = of_one s d choice r after lkid law first second named in
     let before : r.granted ≡ [] = alone.granted in
     record {
-      granted = loses.granted ∙ ap (λ (rows : List LockRow). rows ++ loses.given) before
+      granted = loses.granted ∙ ap (λ (rows : List LockState). rows ++ loses.given) before
           ∙ gives_no_other alone.converting differs loses.as_held;
-      converting = kept lkid row after.converting (loses_one alone.converting loses.converting) differs;
+      converting = one_kept lkid row after.converting (loses_one alone.converting loses.converting) differs;
       waiting = loses_none alone.waiting loses.waiting;
     }
 

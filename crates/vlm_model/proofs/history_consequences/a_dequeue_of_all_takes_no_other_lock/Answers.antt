@@ -1,6 +1,6 @@
 use Rattle.std.proofs.Common.{◌≡◌, ◌≢◌, ◌⊎◌, ◌<◌, ◌∙◌, inl, inr, ℕ, List, [], ◌∷◌, ◌++◌, Option, ap, subst, sym, refl, arith}
 use Rattle.std.specs.Prelude.{Any, Contains}
-use Rattle.vlm_words.specs.declared.locks.LockRow.{LockRow}
+use Rattle.vlm_words.specs.declared.locks.LockState.{LockState}
 use Rattle.vlm_words.specs.declared.steps.Dequeue.{Dequeue}
 use Rattle.vlm_words.specs.declared.steps.Step.TheVariants.{Deq}
 use Rattle.vlm_words.specs.State.{Resource, State}
@@ -11,19 +11,19 @@ use Rattle.vlm_model.proofs.OneLock.{any_of_one, contains_one, loses_one_row, zi
 use Rattle.vlm_model.proofs.history_consequences.a_dequeue_of_all_takes_no_other_lock.Goals as goal
 
 -- what the law says of the one resource
-of_one : (old : State) (d : Dequeue) (choice : Option LockRow) (r after : Resource) → TakesThoseBelowAlone old d choice
+of_one : (old : State) (d : Dequeue) (choice : Option LockState) (r after : Resource) → TakesThoseBelowAlone old d choice
     → old.resources ≡ r ∷ [] → changed old (Deq d) choice ≡ after ∷ [] → LosesLocks d.pid (IsDequeued old d) r after
 of_one old d choice r after law first second =
     zip_of_one (LosesLocks d.pid (IsDequeued old d)) old.resources (changed old (Deq d) choice) r after first second law
 
 -- a queue with the one taken lock loses it
-gone : (caller : ℕ) (Taken : LockRow → Type 0) (row : LockRow) (after : List LockRow)
+gone : (caller : ℕ) (Taken : LockState → Type 0) (row : LockState) (after : List LockState)
     → ((after ≡ []) × Taken row × (row.pid ≡ caller)) ⊎ ((after ≡ row ∷ []) × (Taken row → ⊥)) → Taken row → after ≡ []
 gone caller Taken row after (inl goes) taken = goes.0
 gone caller Taken row after (inr stays) taken = absurd (stays.1 taken)
 
 -- a queue with the one other lock keeps it
-kept : (caller : ℕ) (Taken : LockRow → Type 0) (row : LockRow) (after : List LockRow)
+kept : (caller : ℕ) (Taken : LockState → Type 0) (row : LockState) (after : List LockState)
     → ((after ≡ []) × Taken row × (row.pid ≡ caller)) ⊎ ((after ≡ row ∷ []) × (Taken row → ⊥))
     → (Taken row → row.pid ≡ caller → ⊥) → after ≡ row ∷ []
 kept caller Taken row after (inl goes) other = absurd (other goes.1 goes.2)
@@ -54,19 +54,19 @@ returns-clause-sublock c = λ old d choice r after row top law first second name
     (inr (some, below))
 
 -- a lock of the one row without a parent lock has no parent lock but 0
-no_parent : (old : State) (r : Resource) (row : LockRow) (lkid parent : ℕ) → old.resources ≡ r ∷ [] → IsHeldAlone row r → row.parent ≡ 0
+no_parent : (old : State) (r : Resource) (row : LockState) (lkid parent : ℕ) → old.resources ≡ r ∷ [] → IsHeldAlone row r → row.parent ≡ 0
     → HasParent old lkid parent → (row.lkid ≡ lkid) × (parent ≡ 0)
 no_parent old r row lkid parent first alone root has =
     let rows : r.granted ++ r.converting ++ r.waiting ≡ row ∷ [] = rw (alone.granted, alone.converting, alone.waiting) in
-    let there : Any (λ (row : LockRow). (row.lkid ≡ lkid) × (row.parent ≡ parent)) (r.granted ++ r.converting ++ r.waiting) =
-    any_of_one (λ (r : Resource). Any (λ (row : LockRow). (row.lkid ≡ lkid) × (row.parent ≡ parent))
+    let there : Any (λ (row : LockState). (row.lkid ≡ lkid) × (row.parent ≡ parent)) (r.granted ++ r.converting ++ r.waiting) =
+    any_of_one (λ (r : Resource). Any (λ (row : LockState). (row.lkid ≡ lkid) × (row.parent ≡ parent))
     (r.granted ++ r.converting ++ r.waiting)) old.resources r first has in
     let here : (row.lkid ≡ lkid) × (row.parent ≡ parent) =
-    any_of_one (λ (row : LockRow). (row.lkid ≡ lkid) × (row.parent ≡ parent)) (r.granted ++ r.converting ++ r.waiting) row rows there in
+    any_of_one (λ (row : LockState). (row.lkid ≡ lkid) × (row.parent ≡ parent)) (r.granted ++ r.converting ++ r.waiting) row rows there in
     (here.0, sym here.1 ∙ root)
 
 -- so no lock is below another
-nothing_below : (old : State) (r : Resource) (row : LockRow) (top lkid : ℕ) → old.resources ≡ r ∷ [] → IsHeldAlone row r
+nothing_below : (old : State) (r : Resource) (row : LockState) (top lkid : ℕ) → old.resources ≡ r ∷ [] → IsHeldAlone row r
     → row.parent ≡ 0 → 0 < row.lkid → 0 < top → IsDescendant old top lkid → ⊥
 nothing_below old r row top lkid first alone root some above (is_sublock has) =
     let none = no_parent old r row lkid top first alone root has in omega arith

@@ -1,5 +1,5 @@
 use Rattle.std.proofs.Common.{◌≢◌, ℕ, Option, arith}
-use Rattle.vlm_words.specs.declared.locks.LockRow.{LockRow}
+use Rattle.vlm_words.specs.declared.locks.LockState.{LockState}
 use Rattle.vlm_words.specs.declared.steps.Step.TheVariants.{Declare, SetValue, Enq, Convert, Deq, Rundown, Leave, Search, Take}
 use Rattle.vlm_words.specs.declared.steps.Step.{Step}
 use Rattle.vlm_model.specs.EndedProcesses.{IsStepOfProcess}
@@ -7,7 +7,7 @@ use Rattle.vlm_model.specs.Owners.{IsConcerned}
 use Rattle.vlm_model.proofs.history_consequences.a_step_of_one_process_ends_nothing_of_another.Goals as goal
 
 -- a step of one process concerns no other
-concerns_one : (step : Step) (choice : Option LockRow) (pid other : ℕ) → IsStepOfProcess pid step → other ≢ pid
+concerns_one : (step : Step) (choice : Option LockState) (pid other : ℕ) → IsStepOfProcess pid step → other ≢ pid
     → IsConcerned step choice other → ⊥
 concerns_one (Declare d) choice pid other own differ concerned = concerned
 concerns_one (SetValue v) choice pid other own differ concerned = omega arith

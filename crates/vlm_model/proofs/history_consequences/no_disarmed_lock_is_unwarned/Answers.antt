@@ -1,7 +1,7 @@
 use Rattle.std.proofs.Common.{◌≡◌, ◌≢◌, ◌⊎◌, inl, inr, ℕ, List, ◌++◌, Option, Some, subst, refl}
 use Rattle.std.specs.Prelude.{All, Any, Contains}
 use Rattle.std.proofs.lemmas.List.Elements.{All-contains, Contains-append_cases, Contains-append_left, Contains-append_right}
-use Rattle.vlm_words.specs.declared.locks.LockRow.{LockRow}
+use Rattle.vlm_words.specs.declared.locks.LockState.{LockState}
 use Rattle.vlm_words.specs.declared.locks.Request.{Request}
 use Rattle.vlm_words.specs.declared.asts.AstKind.TheVariants.{Blocking}
 use Rattle.vlm_words.specs.State.{Resource, State}
@@ -47,14 +47,14 @@ said_of_last (at_grant run outcome granted) = inr refl
 said_of_last (and_then run outcome earlier) = inl (granted_in_run earlier)
 
 -- what the law says of a lock that holds the request
-told_of : {history : History} {last : State} (run : Run history last) (r : Resource) (row : LockRow) (held : Request) (routine : ℕ)
+told_of : {history : History} {last : State} (run : Run history last) (r : Resource) (row : LockState) (held : Request) (routine : ℕ)
     → EachGrantIsArmedOrWarned run → Contains last.resources r → Contains (r.granted ++ r.converting) row → row.held ≡ Some held
     → held.blocking ≡ Some routine → IsArmedOrWarned row.lkid row.pid row.armed held routine run
 told_of {history} {last} run r row held routine law there here holds names =
-    let at = All-contains (λ (r : Resource). All (λ (row : LockRow). IsTold run row.lkid row.pid row.armed row.held) (r.granted ++ r.converting))
+    let at = All-contains (λ (r : Resource). All (λ (row : LockState). IsTold run row.lkid row.pid row.armed row.held) (r.granted ++ r.converting))
     last.resources r law there in
     let told : IsTold run row.lkid row.pid row.armed row.held =
-    All-contains (λ (row : LockRow). IsTold run row.lkid row.pid row.armed row.held) (r.granted ++ r.converting) row at here in
+    All-contains (λ (row : LockState). IsTold run row.lkid row.pid row.armed row.held) (r.granted ++ r.converting) row at here in
     subst (λ (held : Option Request). IsTold run row.lkid row.pid row.armed held) holds told routine names
 
 pub returns-clause-ever : goal.returns-clause-ever

@@ -1,6 +1,6 @@
 use Rattle.std.proofs.Common.{◌≡◌, ◌≢◌, inl, inr, ℕ, zero, suc, true, false, List, [], ◌∷◌, ◌++◌, None, Some, subst, sym, refl, arith}
 use Rattle.std.specs.Prelude.{All, Any, Contains}
-use Rattle.vlm_words.specs.declared.locks.LockRow.{LockRow}
+use Rattle.vlm_words.specs.declared.locks.LockState.{LockState}
 use Rattle.vlm_words.specs.declared.locks.Request.{Request}
 use Rattle.vlm_words.specs.declared.modes.Mode.{Mode}
 use Rattle.vlm_words.specs.declared.steps.Conversion.{Conversion}
@@ -17,7 +17,7 @@ nothing_ends : (number : ℕ) (endings : List Ending) → endings ≡ [] → IsG
 nothing_ends number endings none granted = let some = subst (IsGrantedAtOnce number) none granted in absurd (omega (arith, some.2))
 
 -- what the row holds is beside the mode
-beside_held : (mode : Mode) (row : LockRow) (held : Request) → row.held ≡ Some held → is_compatible mode held.mode ≡ true
+beside_held : (mode : Mode) (row : LockState) (held : Request) → row.held ≡ Some held → is_compatible mode held.mode ≡ true
     → IsBeside mode row.held
 beside_held mode row held holds fits = subst (IsBeside mode) (sym holds) fits
 
@@ -36,14 +36,14 @@ returns-clause-beside c = λ old e cond lkid r row held law answered one alone h
     let free : IsFreeFor e.mode r = record {
       no_conversions = alone.converting;
       nobody_waits = alone.waiting;
-      beside = all_of_one (λ (row : LockRow). IsBeside e.mode row.held) r.granted row alone.granted (beside_held e.mode row held holds fits);
+      beside = all_of_one (λ (row : LockState). IsBeside e.mode row.held) r.granted row alone.granted (beside_held e.mode row held holds fits);
     } in
     nothing_ends old.next_request _ ends
     (law.requests e None lkid refl (cond, answered)
     (inl (all_of_one (λ (r : Resource). IsAskedFor old e r → IsFreeFor e.mode r) old.resources r one (λ asked. free))))
 
 -- the lock is on the resource, and its conversion is in turn
-in_turn : (old : State) (c : Conversion) (r : Resource) (row : LockRow) → old.resources ≡ r ∷ [] → r.granted ≡ row ∷ []
+in_turn : (old : State) (c : Conversion) (r : Resource) (row : LockState) → old.resources ≡ r ∷ [] → r.granted ≡ row ∷ []
     → ConvertsInTurn c row.lkid r → Any (λ (r : Resource). Stands row.lkid r.granted × ConvertsInTurn c row.lkid r) old.resources
 in_turn old c r row one granted turn =
     let there : Contains old.resources r = contains_one old.resources r one in
@@ -55,7 +55,7 @@ pub returns-clause-only_lock : goal.returns-clause-only_lock
 returns-clause-only_lock c = λ old c' cond r row law answered one alone ends.
     let rows : r.granted ++ r.converting ≡ row ∷ [] = rw (alone.granted, alone.converting) in
     let turn : ConvertsInTurn c' row.lkid r = record {
-      beside = all_of_one (λ (other : LockRow). other.lkid ≢ row.lkid → IsBeside c'.mode other.held) (r.granted ++ r.converting) row rows
+      beside = all_of_one (λ (other : LockState). other.lkid ≢ row.lkid → IsBeside c'.mode other.held) (r.granted ++ r.converting) row rows
           (λ differs. absurd (differs refl));
       overtakes_none = λ flagged. alone.converting;
     } in
@@ -76,7 +76,7 @@ pub returns-clause-overtaking : goal.returns-clause-overtaking
 returns-clause-overtaking c = λ old c' cond r row other held law answered one granted converting holds fits without ends.
     let rows : r.granted ++ r.converting ≡ row ∷ other ∷ [] = rw (granted, converting) in
     let turn : ConvertsInTurn c' row.lkid r = record {
-      beside = all_of_two (λ (other : LockRow). other.lkid ≢ row.lkid → IsBeside c'.mode other.held) (r.granted ++ r.converting) row other rows
+      beside = all_of_two (λ (other : LockState). other.lkid ≢ row.lkid → IsBeside c'.mode other.held) (r.granted ++ r.converting) row other rows
           (λ differs. absurd (differs refl)) (λ differs. beside_held c'.mode other held holds fits);
       overtakes_none = λ flagged. let no : has_flag c'.flags quecvt ≡ false = without in cc;
     } in

@@ -1,6 +1,6 @@
 use Rattle.std.proofs.Common.{false, ◌≡◌, ◌∙◌, inl, inr, ℕ, suc, Bool, [], ◌∷◌, None, Some, ap, subst, sym, refl}
 use Rattle.std.specs.Prelude.{Any}
-use Rattle.vlm_words.specs.declared.locks.LockRow.{LockRow}
+use Rattle.vlm_words.specs.declared.locks.LockState.{LockState}
 use Rattle.vlm_words.specs.declared.locks.Request.{Request}
 use Rattle.vlm_words.specs.declared.conditions.Cond.{Cond}
 use Rattle.vlm_words.specs.declared.steps.Answer.TheVariants.{Lock}
@@ -26,7 +26,7 @@ of_one old e cond lkid r law answered one =
     (stepped old (Enq e) None).state.resources r one (law e None cond lkid refl answered)
 
 -- the one granted lock is the row of the request
-held_row : (lkid pid parent : ℕ) (request : Request) (r : Resource) (row : LockRow) → IsHeldAlone row r → StandsNew lkid pid parent request r
+held_row : (lkid pid parent : ℕ) (request : Request) (r : Resource) (row : LockState) → IsHeldAlone row r → StandsNew lkid pid parent request r
     → IsRow lkid pid parent (Some request) None row
 held_row lkid pid parent request r row alone (inl granted) =
     any_of_one (IsRow lkid pid parent (Some request) None) r.granted row alone.granted granted
@@ -34,7 +34,7 @@ held_row lkid pid parent request r row alone (inr waiting) =
     absurd (none_of_none (IsRow lkid pid parent None (Some request)) r.waiting alone.waiting waiting)
 
 -- the one waiting lock is the row of the request
-waiting_row : (lkid pid parent : ℕ) (request : Request) (r : Resource) (row : LockRow) → WaitsAlone row r → StandsNew lkid pid parent request r
+waiting_row : (lkid pid parent : ℕ) (request : Request) (r : Resource) (row : LockState) → WaitsAlone row r → StandsNew lkid pid parent request r
     → IsRow lkid pid parent None (Some request) row
 waiting_row lkid pid parent request r row alone (inl granted) =
     absurd (none_of_none (IsRow lkid pid parent (Some request) None) r.granted alone.granted granted)
@@ -91,7 +91,7 @@ returns-clause-sub_resource c = λ old e cond lkid parent r up row law answered 
     (below.1, its.above ∙ its_parent)
 
 -- the one converting lock is the row of the conversion
-converting_row : (was : LockRow) (request : Request) (r : Resource) (row : LockRow) → ConvertsAlone row r → StandsConverted was request r
+converting_row : (was : LockState) (request : Request) (r : Resource) (row : LockState) → ConvertsAlone row r → StandsConverted was request r
     → IsRow was.lkid was.pid was.parent was.held (Some request) row
 converting_row was request r row alone (inl granted) =
     absurd (none_of_none (IsRow was.lkid was.pid was.parent (Some request) None) r.granted alone.granted granted)
@@ -103,11 +103,11 @@ returns-clause-converted c = λ old c' cond lkid before r was row law answered f
     let new = (stepped old (Convert c') None).state.resources in
     let request : Request = new_conversion old.next_request c' in
     let there =
-    any_of_one (λ (before : Resource). Any (λ (was : LockRow). (was.lkid ≡ lkid) × (was.pid ≡ c'.pid)
+    any_of_one (λ (before : Resource). Any (λ (was : LockState). (was.lkid ≡ lkid) × (was.pid ≡ c'.pid)
     × Any (λ (r : Resource). IsSameResource before r × StandsConverted was request r) new) before.granted)
     old.resources before first (law c' None cond lkid refl answered) in
     let here =
-    any_of_one (λ (was : LockRow). (was.lkid ≡ lkid) × (was.pid ≡ c'.pid)
+    any_of_one (λ (was : LockState). (was.lkid ≡ lkid) × (was.pid ≡ c'.pid)
     × Any (λ (r : Resource). IsSameResource before r × StandsConverted was request r) new) before.granted was alone.granted there in
     let at = any_of_one (λ (r : Resource). IsSameResource before r × StandsConverted was request r) new r second here.2 in
     let its = converting_row was request r row converts at.1 in (

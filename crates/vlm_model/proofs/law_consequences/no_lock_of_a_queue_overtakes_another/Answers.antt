@@ -2,7 +2,7 @@ use Rattle.std.proofs.Common.{◌≡◌, ◌≢◌, inl, inr, ℕ, Bool, true, f
 use Rattle.std.specs.List.{AllZip}
 use Rattle.std.specs.Prelude.{◌==◌}
 use Rattle.std.proofs.lemmas.Bool.Decides.{eqb_tells}
-use Rattle.vlm_words.specs.declared.locks.LockRow.{LockRow}
+use Rattle.vlm_words.specs.declared.locks.LockState.{LockState}
 use Rattle.vlm_words.specs.declared.steps.Step.{Step}
 use Rattle.vlm_words.specs.declared.steps.Step.TheVariants.{Enq, Take}
 use Rattle.vlm_words.specs.State.{Resource, State}
@@ -18,7 +18,7 @@ kept_one R r after (first ∷ []) made order joined = let same : first ≡ after
 kept_one R r after (first ∷ second ∷ rest) made order joined = absurd order.1
 
 -- what the law says of the one resource
-of_one : (old : State) (step : Step) (choice : Option LockRow) (r after : Resource) → ChangesKeepOrder old step choice
+of_one : (old : State) (step : Step) (choice : Option LockState) (r after : Resource) → ChangesKeepOrder old step choice
     → old.resources ≡ r ∷ [] → changed old step choice ≡ after ∷ [] → KeepsOrder (is_own_lock old step choice) r after
 of_one old step choice r after law first second =
     let order : AllZip (KeepsOrder (is_own_lock old step choice)) (r ∷ []) law.kept =
@@ -27,18 +27,18 @@ of_one old step choice r after law first second =
     kept_one (KeepsOrder (is_own_lock old step choice)) r after law.kept law.made order joined
 
 -- the first lock stays first if it is not an own lock
-stays_first : {own : ℕ → Bool} {before after : List LockRow} (first : LockRow) (others : List LockRow) → before ≡ first ∷ others
-    → own first.lkid ≡ false → JoinsBehind own before after → (left : List LockRow) × (after ≡ first ∷ left)
+stays_first : {own : ℕ → Bool} {before after : List LockState} (first : LockState) (others : List LockState) → before ≡ first ∷ others
+    → own first.lkid ≡ false → JoinsBehind own before after → (left : List LockState) × (after ≡ first ∷ left)
 stays_first first others are other nobody_joins = cc
 stays_first first others are other (one_joins is) = cc
 stays_first first others are other (row_stays {row} {before} {after} rest) = (after, cc)
 stays_first {own} first others are other (row_leaves {row} {before} {after} is rest) =
     let same : row ≡ first = cc in
-    let its : own first.lkid ≡ true = subst (λ (row : LockRow). own row.lkid ≡ true) same is in
+    let its : own first.lkid ≡ true = subst (λ (row : LockState). own row.lkid ≡ true) same is in
     cc
 
 -- nobody joins an empty queue where there is no own lock
-nobody : {own : ℕ → Bool} {before after : List LockRow} → before ≡ [] → ((lkid : ℕ) → own lkid ≡ false) → JoinsBehind own before after
+nobody : {own : ℕ → Bool} {before after : List LockState} → before ≡ [] → ((lkid : ℕ) → own lkid ≡ false) → JoinsBehind own before after
     → after ≡ []
 nobody none others nobody_joins = refl
 nobody {own} none others (one_joins {row} is) = let other : own row.lkid ≡ false = others row.lkid in cc
@@ -46,7 +46,7 @@ nobody none others (row_stays rest) = cc
 nobody none others (row_leaves is rest) = cc
 
 -- a queue of one stays where there is no own lock
-stays_alone : {own : ℕ → Bool} {before after : List LockRow} (lone : LockRow) → before ≡ lone ∷ [] → ((lkid : ℕ) → own lkid ≡ false)
+stays_alone : {own : ℕ → Bool} {before after : List LockState} (lone : LockState) → before ≡ lone ∷ [] → ((lkid : ℕ) → own lkid ≡ false)
     → JoinsBehind own before after → after ≡ lone ∷ []
 stays_alone lone is others nobody_joins = cc
 stays_alone lone is others (one_joins own) = cc

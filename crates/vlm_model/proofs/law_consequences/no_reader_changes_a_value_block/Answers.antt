@@ -2,7 +2,7 @@ use Rattle.std.proofs.Common.{Some, ◌≡◌, ◌≢◌, ◌⊎◌, ◌-◌, in
 use Rattle.std.specs.Prelude.{Any, Contains, slice_index_or}
 use Rattle.std.proofs.lemmas.List.Elements.{All-contains}
 use Rattle.vlm_words.specs.declared.blocks.Block.{Block}
-use Rattle.vlm_words.specs.declared.locks.LockRow.{LockRow}
+use Rattle.vlm_words.specs.declared.locks.LockState.{LockState}
 use Rattle.vlm_words.specs.declared.locks.Request.{Request}
 use Rattle.vlm_words.specs.declared.modes.Mode.TheVariants.{Ex}
 use Rattle.vlm_words.specs.declared.resources.ValueBlock.{ValueBlock}
@@ -15,13 +15,14 @@ use Rattle.vlm_words.specs.State.{Process, Resource, State, process_of}
 use Rattle.vlm_model.specs.Checks.{named_lkid}
 use Rattle.vlm_model.specs.Consequences.{IsHeldAlone}
 use Rattle.vlm_model.specs.Stepped.{stepped}
-use Rattle.vlm_model.specs.Writers.{HasItsValue, HasNewValue, IsInvalid, IsWriter, IsWrittenFrom, IsWrittenShort, OnlyWritersChangeValues, WritesFrom, WritesValue}
+use Rattle.vlm_model.specs.Writers.{HasItsValue, HasNewValue, IsInvalid, IsWriter, IsWrittenFrom, IsWrittenShort}
+use Rattle.vlm_model.specs.Writers.{OnlyWritersChangeValues, WritesFrom, WritesValue}
 use Rattle.vlm_model.specs.Written.{blank_block}
 use Rattle.vlm_model.proofs.OneLock.{any_of_one, contains_one}
 use Rattle.vlm_model.proofs.law_consequences.no_reader_changes_a_value_block.Goals as goal
 
 -- what the law says of the one resource that is still there
-of_one : (old : State) (step : Step) (choice : Option LockRow) (r after : Resource) → OnlyWritersChangeValues old step choice
+of_one : (old : State) (step : Step) (choice : Option LockState) (r after : Resource) → OnlyWritersChangeValues old step choice
     → old.resources ≡ r ∷ [] → Contains (stepped old step choice).state.resources after → after.serial ≡ r.serial
     → HasItsValue old step r after
 of_one old step choice r after law one there same =
@@ -49,7 +50,7 @@ written true from before after is = (is.valid, is.value)
 written false from before after is = (is.valid, is.value)
 
 -- the conversion from EX with VALBLK writes the value block of the one resource
-converts : (old : State) (c : Conversion) (choice : Option LockRow) (r after : Resource) (row : LockRow) (held : Request) (p : Process)
+converts : (old : State) (c : Conversion) (choice : Option LockState) (r after : Resource) (row : LockState) (held : Request) (p : Process)
     → OnlyWritersChangeValues old (Convert c) choice → old.resources ≡ r ∷ [] → IsHeldAlone row r → row.held ≡ Some held
     → held.mode ≡ Ex → c.lock ≡ Id row.lkid → has_flag c.flags valblk ≡ true → process_of old.processes c.pid ≡ Some p
     → Contains (stepped old (Convert c) choice).state.resources after → after.serial ≡ r.serial

@@ -1,6 +1,6 @@
 use Rattle.std.proofs.Common.{List, ℕ, ◌≡◌, ◌⊎◌, inl, inr, true, false, refl, Some, None}
 use Rattle.std.specs.Prelude.{Any, Contains}
-use Rattle.vlm_words.specs.declared.locks.LockRow.{LockRow}
+use Rattle.vlm_words.specs.declared.locks.LockState.{LockState}
 use Rattle.vlm_words.specs.declared.locks.Request.{Request}
 use Rattle.vlm_words.specs.declared.modes.Act.TheVariants.{Write}
 use Rattle.vlm_words.specs.declared.modes.Mode.{Mode}
@@ -21,9 +21,9 @@ writes held want (inl modes) = rw (modes.0, modes.1)
 writes held want (inr modes) = rw (modes.0, modes.1)
 
 -- the lock is granted, and its conversion writes
-found : (resources : List Resource) (r : Resource) (row : LockRow) (lkid : ℕ) (held : Request) (want : Mode)
+found : (resources : List Resource) (r : Resource) (row : LockState) (lkid : ℕ) (held : Request) (want : Mode)
     → Contains resources r → Contains r.granted row → row.lkid ≡ lkid → row.held ≡ Some held → value_action held.mode want ≡ Write
-    → Any (λ (r : Resource). Any (λ (row : LockRow). (row.lkid ≡ lkid) × (action_from row.held want ≡ Write)) r.granted) resources
+    → Any (λ (r : Resource). Any (λ (row : LockState). (row.lkid ≡ lkid) × (action_from row.held want ≡ Write)) r.granted) resources
 found resources r row lkid held want in_s in_granted lock holds write =
     let acts : action_from row.held want ≡ Write = rw holds write in
     (in_s.0, r, in_s.1, in_s.2, (in_granted.0, row, in_granted.1, in_granted.2, (lock, acts)))

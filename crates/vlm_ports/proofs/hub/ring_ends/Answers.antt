@@ -20,7 +20,8 @@ loop-at-preserved c =
     let node_rings_node : l.node ≡ length ls + 1 = omega (arith, made.node_rings.0, before.0) in
     let port_node : p.node ≡ length ps + 1 = omega (arith, made.port.0, before.1) in
     let fresh : AreFresh (ls ++ l ∷ []) =
-    pushed_each (λ k (x : NodeRings). (x.node ≡ k + 1) × (has_taken x ≡ []) × (has_told x ≡ [])) ls l before.2 (node_rings_node, made.node_rings.1, made.node_rings.2) in
+    pushed_each (λ k (x : NodeRings). (x.node ≡ k + 1) × (has_taken x ≡ [])
+    × (has_told x ≡ [])) ls l before.2 (node_rings_node, made.node_rings.1, made.node_rings.2) in
     let new : AreNew (ps ++ p ∷ []) =
     pushed_each (λ k (x : Port). (x.node ≡ k + 1) × (posted x ≡ []) × (taken x ≡ [])) ps p before.3 (port_node, made.port.1, made.port.2) in
     let rings : map identity (ps ++ p ∷ []) ≡ map node_rings_identity (ls ++ l ∷ []) =

@@ -1,6 +1,6 @@
 use Rattle.std.proofs.Common.{◌-◌, refl}
 use Rattle.vlm_store.specs.Records.{owed_less}
-use Rattle.vlm_procs.proofs.Written.{notices_alone, owed_changes, plain_stay}
+use Rattle.vlm_procs.proofs.WrittenProcesses.{notices_alone, owed_changes, plain_stay}
 use Rattle.vlm_procs.proofs.asts.forgive.Goals as goal
 
 pub returns-clause-processes : goal.returns-clause-processes

@@ -1,7 +1,7 @@
 use Rattle.std.proofs.Common.{◌∙◌, ap}
 use Rattle.std.specs.Prelude.{List, length}
 use Rattle.vlm_words.specs.declared.asts.Ast.{Ast}
-use Rattle.vlm_procs.proofs.Written.{asts_are}
+use Rattle.vlm_procs.proofs.WrittenProcesses.{asts_are}
 use Rattle.vlm_procs.proofs.asts.pending.Goals as goal
 
 pub returns : goal.returns

@@ -1,6 +1,6 @@
 use Rattle.std.proofs.Common.{◌-◌, refl}
 use Rattle.vlm_store.specs.Records.{with_owed_ast}
-use Rattle.vlm_procs.proofs.Written.{notices_alone, owed_changes, queued_ast}
+use Rattle.vlm_procs.proofs.WrittenProcesses.{notices_alone, owed_changes, queued_ast}
 use Rattle.vlm_procs.proofs.asts.queue_ast.Goals as goal
 
 pub returns-clause-queued : goal.returns-clause-queued

@@ -2,7 +2,7 @@ use Rattle.std.proofs.Common.{refl}
 use Rattle.vlm_words.specs.Processes.{without_oldest_ast}
 use Rattle.vlm_store.specs.Records.{changed_process}
 use Rattle.vlm_store.proofs.Dues.{dues-on_stored}
-use Rattle.vlm_procs.proofs.Written.{notices_alone, oldest_is, others_left}
+use Rattle.vlm_procs.proofs.WrittenProcesses.{notices_alone, oldest_is, others_left}
 use Rattle.vlm_procs.proofs.asts.take.Goals as goal
 
 pub returns-clause-taken : goal.returns-clause-taken

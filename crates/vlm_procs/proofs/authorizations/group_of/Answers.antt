@@ -4,4 +4,6 @@ use Rattle.vlm_procs.proofs.authorizations.group_of.Goals as goal
 
 pub returns : goal.returns
 returns c pid is =
-    told_is c.args.store.now c.args.at pid (λ (a : Authorization). a.group) 0 c.process_record.result.now.authorization c.process_record.ensures.sound is c.process_record.ensures.authorization
+    told_is c.args.store.now c.args.at pid
+    (λ (a : Authorization). a.group) 0 c.process_record.result.now.authorization c.process_record.ensures.sound is
+    c.process_record.ensures.authorization

@@ -5,8 +5,8 @@ use Rattle.vlm_model.specs.StatusBlocks.{processes_after_acceptance, processes_a
 use Rattle.vlm_records.specs.StatusBlocks.{requested, with_changed_block, with_status}
 use Rattle.vlm_store.specs.Records.{changed_process}
 use Rattle.vlm_store.proofs.Dues.{dues-on_stored}
-use Rattle.vlm_procs.proofs.Twice.{written_at_once}
-use Rattle.vlm_procs.proofs.Written.{changed_block, notices_alone}
+use Rattle.vlm_procs.proofs.WrittenTwice.{written_at_once}
+use Rattle.vlm_procs.proofs.WrittenProcesses.{changed_block, notices_alone}
 use Rattle.vlm_procs.proofs.blocks.accept_granted.Goals as goal
 
 -- the one write is that of the acceptance, and then that of the status
@@ -22,8 +22,12 @@ returns-clause-written c pid is =
 pub returns-clause-dues : goal.returns-clause-dues
 returns-clause-dues c =
     rw c.set_request.ensures.written
-    (dues-on_stored c.args.at (changed_process (with_changed_block c.args.number (requested c.number.result c.args.lkid))) (λ x. refl) (λ x. refl) c.args.store.now)
+    (dues-on_stored c.args.at
+    (changed_process (with_changed_block c.args.number (requested c.number.result c.args.lkid))) (λ x. refl)
+    (λ x. refl) c.args.store.now)
 
 pub returns-clause-only_notices : goal.returns-clause-only_notices
 returns-clause-only_notices c =
-    rw c.set_request.ensures.written (notices_alone c.args.store.now c.args.at (changed_process (with_changed_block c.args.number (requested c.number.result c.args.lkid))) (λ p. refl))
+    rw c.set_request.ensures.written
+    (notices_alone c.args.store.now c.args.at
+    (changed_process (with_changed_block c.args.number (requested c.number.result c.args.lkid))) (λ p. refl))

@@ -1,7 +1,7 @@
 use Rattle.std.proofs.Common.{◌∙◌, ap}
 use Rattle.std.specs.Prelude.{unwrap_or}
 use Rattle.vlm_words.specs.declared.blocks.Block.{Block}
-use Rattle.vlm_procs.proofs.Written.{block_or_new}
+use Rattle.vlm_procs.proofs.WrittenProcesses.{block_or_new}
 use Rattle.vlm_store.specs.Plain.{plain_processes}
 use Rattle.vlm_procs.proofs.blocks.status_block_or_new.Goals as goal
 

@@ -1,5 +1,5 @@
 use Rattle.std.proofs.Common.{◌∙◌}
-use Rattle.vlm_procs.proofs.Written.{blocks_are}
+use Rattle.vlm_procs.proofs.WrittenProcesses.{blocks_are}
 use Rattle.vlm_procs.proofs.blocks.status_blocks.Goals as goal
 
 pub returns : goal.returns

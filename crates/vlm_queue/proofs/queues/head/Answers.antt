@@ -1,6 +1,6 @@
 use Rattle.std.proofs.Common.{◌≡◌, ℕ, List, [], ◌∷◌, Option, None, Some, IfSome, sym, ap, inl}
 use Rattle.std.proofs.lemmas.Option.{none-some, same_Some}
-use Rattle.vlm_words.specs.declared.locks.LockRow.{LockRow}
+use Rattle.vlm_words.specs.declared.locks.LockState.{LockState}
 use Rattle.vlm_collections.specs.Lists.{IsIn}
 use Rattle.vlm_records.specs.declared.handles.Place.{Place}
 use Rattle.vlm_records.specs.declared.handles.Place.TheVariants.{Queued}
@@ -8,7 +8,7 @@ use Rattle.vlm_store.specs.Records.{Records, StoredLock, IsStored, first_at, loc
 use Rattle.vlm_queue.proofs.queues.head.Goals as goal
 
 -- the first lock of a list is one of it
-first_among : (locks : List StoredLock) (at : ℕ) → Some at ≡ first_at locks → (row : LockRow) × IsIn (record { at = at; row = row }) locks
+first_among : (locks : List StoredLock) (at : ℕ) → Some at ≡ first_at locks → (row : LockState) × IsIn (record { at = at; row = row }) locks
 first_among [] at is = absurd (none-some at (sym is))
 first_among (k ∷ rest) at is = (k.row, inl (ap (λ x. record { at = x; row = k.row }) (sym (same_Some at k.at is))))
 

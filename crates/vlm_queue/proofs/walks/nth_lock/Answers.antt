@@ -17,7 +17,9 @@ loop-preserved c =
     let ks = locks_at place c.args.store.now in
     let stands = sym c.loop.invariant ∙ c.in-Some.is in
     let there = lock_index-among c.loop.counter ks c.in-Some.lock stands in
-    c.next-at.ensures place there.0 there.1.0 ∙ simp unary_clauses (lock_after-index c.loop.counter ks c.in-Some.lock (c.head-at.ensures.sound.locks_apart place) stands)
+    c.next-at.ensures place there.0 there.1.0
+    ∙ simp unary_clauses (lock_after-index c.loop.counter ks c.in-Some.lock
+    (c.head-at.ensures.sound.locks_apart place) stands)
 
 pub returns-clause-there : goal.returns-clause-there
 returns-clause-there c =

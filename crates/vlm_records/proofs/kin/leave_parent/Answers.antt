@@ -21,14 +21,18 @@ unlink-requires c =
 pub returns-clause-below : goal.returns-clause-below
 returns-clause-below c =
     rw c.slot-2.ensures
-    (parent_left c.args.locks.now c.unlink.new.nodes c.args.at c.in-Some.parent c.index.result.now c.index_mut.result.now c.unlink.new.self (rw c.slot.ensures at c.index.ensures)
-    (rw c.slot-2.ensures at c.index_mut.ensures.value) c.unlink.ensures.relinks c.unlink.ensures.linked c.requires.below (c.requires.parent ∙ c.in-Some.is) c.unlink.ensures.handles c.unlink.ensures.others)
+    (parent_left c.args.locks.now c.unlink.new.nodes c.args.at c.in-Some.parent c.index.result.now
+    c.index_mut.result.now c.unlink.new.self (rw c.slot.ensures at c.index.ensures)
+    (rw c.slot-2.ensures at c.index_mut.ensures.value) c.unlink.ensures.relinks c.unlink.ensures.linked c.requires.below
+    (c.requires.parent ∙ c.in-Some.is) c.unlink.ensures.handles c.unlink.ensures.others)
 
 pub returns-clause-handles : goal.returns-clause-handles
 returns-clause-handles c =
     rw c.slot-2.ensures
-    (parent_left_handles c.args.locks.now c.unlink.new.nodes c.args.at c.in-Some.parent c.index.result.now c.index_mut.result.now c.unlink.new.self (rw c.slot.ensures at c.index.ensures)
-    (rw c.slot-2.ensures at c.index_mut.ensures.value) c.unlink.ensures.relinks c.unlink.ensures.linked c.requires.below (c.requires.parent ∙ c.in-Some.is) c.unlink.ensures.handles c.unlink.ensures.others)
+    (parent_left_handles c.args.locks.now c.unlink.new.nodes c.args.at c.in-Some.parent c.index.result.now
+    c.index_mut.result.now c.unlink.new.self (rw c.slot.ensures at c.index.ensures)
+    (rw c.slot-2.ensures at c.index_mut.ensures.value) c.unlink.ensures.relinks c.unlink.ensures.linked c.requires.below
+    (c.requires.parent ∙ c.in-Some.is) c.unlink.ensures.handles c.unlink.ensures.others)
 
 pub returns-in_default-clause-below : goal.returns-in_default-clause-below
 returns-in_default-clause-below c = below_none c.args.locks.now c.args.at c.requires.below (c.requires.parent ∙ c.in_default.is)
@@ -40,4 +44,5 @@ returns-in_default-clause-handles c parent =
 
 pub returns-clause-locks_room : goal.returns-clause-locks_room
 returns-clause-locks_room c =
-    room_written c.unlink.new.nodes c.slot-2.result _ (rw c.index_mut.ensures.value refl) ∙ room_relinked with_below_links c.args.locks.now c.unlink.new.nodes c.unlink.ensures.relinks
+    room_written c.unlink.new.nodes c.slot-2.result _ (rw c.index_mut.ensures.value refl)
+    ∙ room_relinked with_below_links c.args.locks.now c.unlink.new.nodes c.unlink.ensures.relinks

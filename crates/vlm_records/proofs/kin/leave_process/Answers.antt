@@ -20,13 +20,15 @@ unlink-requires c =
 pub returns-clause-owned : goal.returns-clause-owned
 returns-clause-owned c =
     rw c.slot.ensures
-    (process_left c.args.processes.now c.args.locks.now c.unlink.new.nodes c.args.at c.args.owner c.index_mut.result.now c.unlink.new.self (rw c.slot.ensures at c.index_mut.ensures.value)
+    (process_left c.args.processes.now c.args.locks.now c.unlink.new.nodes c.args.at c.args.owner c.index_mut.result.now
+    c.unlink.new.self (rw c.slot.ensures at c.index_mut.ensures.value)
     c.unlink.ensures.relinks c.unlink.ensures.linked c.requires.owned c.requires.owner c.unlink.ensures.handles c.unlink.ensures.others)
 
 pub returns-clause-handles : goal.returns-clause-handles
 returns-clause-handles c =
     rw c.slot.ensures
-    (process_left_handles c.args.processes.now c.args.locks.now c.unlink.new.nodes c.args.at c.args.owner c.index_mut.result.now c.unlink.new.self (rw c.slot.ensures at c.index_mut.ensures.value)
+    (process_left_handles c.args.processes.now c.args.locks.now c.unlink.new.nodes c.args.at c.args.owner
+    c.index_mut.result.now c.unlink.new.self (rw c.slot.ensures at c.index_mut.ensures.value)
     c.unlink.ensures.relinks c.unlink.ensures.linked c.requires.owned c.requires.owner c.unlink.ensures.handles c.unlink.ensures.others)
 
 pub returns-clause-locks_room : goal.returns-clause-locks_room

@@ -7,15 +7,18 @@ use Rattle.vlm_records.proofs.processes.put_in.Goals as goal
 
 pub push_back-requires-clause-linked : goal.push_back-requires-clause-linked
 push_back-requires-clause-linked c =
-    updated-linked process_links c.args.processes.now c.insert_reserved-at.new.self c.insert_reserved-at.result _ c.insert_reserved-at.ensures.updates c.args.order.now c.requires.linked
+    updated-linked process_links c.args.processes.now c.insert_reserved-at.new.self c.insert_reserved-at.result _
+    c.insert_reserved-at.ensures.updates c.args.order.now c.requires.linked
     (vacant_unlisted process_links c.args.processes.now c.args.order.now c.requires.linked c.insert_reserved-at.result c.insert_reserved-at.ensures.was_vacant)
 
 pub push_back-requires-clause-unlisted : goal.push_back-requires-clause-unlisted
 push_back-requires-clause-unlisted c found =
-    let unlisted = vacant_unlisted process_links c.args.processes.now c.args.order.now c.requires.linked c.insert_reserved-at.result c.insert_reserved-at.ensures.was_vacant in
+    let unlisted = vacant_unlisted process_links c.args.processes.now c.args.order.now c.requires.linked
+    c.insert_reserved-at.result c.insert_reserved-at.ensures.was_vacant in
     unlisted
     (subst (IsIn c.insert_reserved-at.result)
-    (updated-handles process_links c.args.processes.now c.insert_reserved-at.new.self c.insert_reserved-at.result _ c.insert_reserved-at.ensures.updates c.args.order.now c.requires.linked unlisted) found)
+    (updated-handles process_links c.args.processes.now c.insert_reserved-at.new.self c.insert_reserved-at.result _
+    c.insert_reserved-at.ensures.updates c.args.order.now c.requires.linked unlisted) found)
 
 pub returns : goal.returns
 returns c = record {
@@ -25,8 +28,10 @@ returns c = record {
   order =
       c.push_back.ensures.handles
       ∙ ap (λ ks. ks ++ c.insert_reserved-at.result ∷ [])
-      (updated-handles process_links c.args.processes.now c.insert_reserved-at.new.self c.insert_reserved-at.result _ c.insert_reserved-at.ensures.updates c.args.order.now c.requires.linked
-      (vacant_unlisted process_links c.args.processes.now c.args.order.now c.requires.linked c.insert_reserved-at.result c.insert_reserved-at.ensures.was_vacant));
+      (updated-handles process_links c.args.processes.now c.insert_reserved-at.new.self c.insert_reserved-at.result _
+      c.insert_reserved-at.ensures.updates c.args.order.now c.requires.linked
+      (vacant_unlisted process_links c.args.processes.now c.args.order.now c.requires.linked c.insert_reserved-at.result
+      c.insert_reserved-at.ensures.was_vacant));
   here = search rules;
   others = search rules;
   taken =

@@ -19,5 +19,6 @@ returns-clause-order c =
 
 pub returns-clause-given_back : goal.returns-clause-given_back
 returns-clause-given_back c =
-    room_given_back c.unlink.new.nodes c.remove.new.self c.args.at c.remove.ensures.room c.remove.ensures.len c.remove.ensures.capacity c.remove.ensures.key_is_next
+    room_given_back c.unlink.new.nodes c.remove.new.self c.args.at c.remove.ensures.room c.remove.ensures.len
+    c.remove.ensures.capacity c.remove.ensures.key_is_next
     ∙ ap (λ (p : ℕ × ℕ). (p.0 + 1, c.args.at)) (room_relinked with_process_links c.args.processes.now c.unlink.new.nodes c.unlink.ensures.relinks)

@@ -13,7 +13,8 @@ push_back-requires-clause-unlisted c found = c.requires.wait_list.gone tt c.args
 
 pub returns-then-is_queued-clause-wait_list : goal.returns-then-is_queued-clause-wait_list
 returns-then-is_queued-clause-wait_list c =
-    wait_list_joined c.args.locks.now c.push_back.new.nodes c.args.wait_list.now c.push_back.new.self c.args.at c.push_back.ensures.relinks c.push_back.ensures.linked
+    wait_list_joined c.args.locks.now c.push_back.new.nodes c.args.wait_list.now c.push_back.new.self c.args.at
+    c.push_back.ensures.relinks c.push_back.ensures.linked
     (queued_here (get c.args.locks.now c.args.at) c.args.place.now c.requires.noted (sym c.is_queued.ensures ∙ c.if-is_queued.true))
     c.requires.wait_list c.push_back.ensures.handles c.push_back.ensures.others
 

@@ -13,4 +13,5 @@ returns-clause-ok c =
 pub returns-in_err-push-clause-err : goal.returns-in_err-push-clause-err
 returns-in_err-push-clause-err c =
     on_err c.from_residual.result
-    (steps-unchanged (λ l. l.items) c.args.lists.now.items c.args.node c.index_mut.result.now c.push.new.self c.index_mut.ensures.value c.in_err-push.ensures.items)
+    (steps-unchanged (λ l. l.items) c.args.lists.now.items c.args.node c.index_mut.result.now c.push.new.self
+    c.index_mut.ensures.value c.in_err-push.ensures.items)

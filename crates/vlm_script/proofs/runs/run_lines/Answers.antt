@@ -14,7 +14,8 @@ loop-line-init g c = record {
 pub loop-line-preserved : goal.loop-line-preserved
 loop-line-preserved g c =
     let input = c.args.input.now in
-    let next : drop c.loop-line.count (lines_of input) ≡ c.in-Some.line.now ∷ lines_of c.in-Some.after.now = sym c.loop-line.invariant.left ∙ c.in-Some.ensures.some in
+    let next : drop c.loop-line.count (lines_of input) ≡ c.in-Some.line.now ∷ lines_of c.in-Some.after.now =
+    sym c.loop-line.invariant.left ∙ c.in-Some.ensures.some in
     record {
       left = drop-more (lines_of input) c.loop-line.count _ _ next;
       short = omega (arith, c.in-Some.ensures.shorter, c.loop-line.invariant.short);
@@ -28,7 +29,8 @@ loop-line-preserved g c =
 pub returns-in-Err-clause-played : goal.returns-in-Err-clause-played
 returns-in-Err-clause-played g c =
     let input = c.args.input.now in
-    let next : drop c.loop-line.count (lines_of input) ≡ c.in-Some.line.now ∷ lines_of c.in-Some.after.now = sym c.loop-line.invariant.left ∙ c.in-Some.ensures.some in
+    let next : drop c.loop-line.count (lines_of input) ≡ c.in-Some.line.now ∷ lines_of c.in-Some.after.now =
+    sym c.loop-line.invariant.left ∙ c.in-Some.ensures.some in
     let wrote = rw (c.deref.ensures.value, c.in-Err.ensures.err) at c.in_ok-write_whole.ensures.whole in
     rw c.at.ensures (
     stops-at input c.loop-line.count _ _ _ _ _ c.in-Err.stop
@@ -43,12 +45,14 @@ pub returns-in_err-write_whole-clause-played : goal.returns-in_err-write_whole-c
 returns-in_err-write_whole-clause-played g c =
     let stop = err_from_is_err_and c.from_residual.result c.from_residual.ensures.1 in
     let part = rw (c.deref.ensures.value, c.in-Err.ensures.err) at c.in_err-write_whole.ensures.part in
-    rw stop.1 (stops-writing c.args.input.now c.loop-line.count _ _ _ _ _ stop.0 (stop.2 ∙ c.in_err-write_whole.ensures.fault) c.loop-line.invariant.reached part)
+    rw stop.1 (stops-writing c.args.input.now c.loop-line.count _ _ _ _ _ stop.0 (stop.2
+    ∙ c.in_err-write_whole.ensures.fault) c.loop-line.invariant.reached part)
 
 pub returns-in_err-write_when_full-clause-played : goal.returns-in_err-write_when_full-clause-played
 returns-in_err-write_when_full-clause-played g c =
     let input = c.args.input.now in
-    let next : drop c.loop-line.count (lines_of input) ≡ c.in-Some.line.now ∷ lines_of c.in-Some.after.now = sym c.loop-line.invariant.left ∙ c.in-Some.ensures.some in
+    let next : drop c.loop-line.count (lines_of input) ≡ c.in-Some.line.now ∷ lines_of c.in-Some.after.now =
+    sym c.loop-line.invariant.left ∙ c.in-Some.ensures.some in
     let stop = err_from_is_err_and c.from_residual-in_err-write_when_full.result c.from_residual-in_err-write_when_full.ensures.1 in
     rw stop.1 (
     stops-writing input (c.loop-line.count + 1) _ _ _ _ _ stop.0 (stop.2 ∙ c.in_err-write_when_full.ensures.fault)

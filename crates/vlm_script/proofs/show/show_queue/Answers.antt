@@ -25,16 +25,20 @@ next-at-requires c = come_stored c.args.store.now c.args.res c.args.queue c.in-S
 pub loop-at-smaller : goal.loop-at-smaller
 loop-at-smaller c =
     let s = c.args.store.now in
-    let one = passes s c.args.res c.args.queue c.in-Some.lock c.next-at.result c.head-at.ensures.sound (rw c.in-Some.is at c.loop-at.invariant.there) c.next-at.ensures in
+    let one = passes s c.args.res c.args.queue c.in-Some.lock c.next-at.result c.head-at.ensures.sound
+    (rw c.in-Some.is at c.loop-at.invariant.there) c.next-at.ensures in
     rw c.in-Some.is (fewer_rows one.row (rows_to_walk c.args.res c.args.queue c.next-at.result s) _ one.left)
 
 -- one more lock is printed
 pub loop-at-preserved : goal.loop-at-preserved
 loop-at-preserved c =
     let s = c.args.store.now in
-    let one = passes s c.args.res c.args.queue c.in-Some.lock c.next-at.result c.head-at.ensures.sound (rw c.in-Some.is at c.loop-at.invariant.there) c.next-at.ensures in
+    let one = passes s c.args.res c.args.queue c.in-Some.lock c.next-at.result c.head-at.ensures.sound
+    (rw c.in-Some.is at c.loop-at.invariant.there) c.next-at.ensures in
     let printed = rw (c.row_view.ensures one.row one.stored) at c.in_ok-show_row.ensures in
-    let more = row_printed c.args.queue one.row (rows_to_walk c.args.res c.args.queue c.next-at.result s) _ c.loop-at.out.items c.show_row.new.out.items one.left printed in
+    let more = row_printed c.args.queue one.row
+    (rows_to_walk c.args.res c.args.queue c.next-at.result s) _ c.loop-at.out.items c.show_row.new.out.items
+    one.left printed in
     record {
       there = one.there;
       printed = more ∙ (rw c.in-Some.is at c.loop-at.invariant.printed);

@@ -7,7 +7,9 @@ use Rattle.vlm_script.proofs.show.show_queue.Given as goal
 abbrev pub invariant-loop-at : goal.invariant-loop-at
 invariant-loop-at l = record {
   there : IsInQueue l.fn.res l.queue l.at l.store;
-  printed : l.out.items ++ queue_lines l.queue (rows_to_walk l.fn.res l.queue l.at l.store) ≡ l.initial.out.items ++ queue_lines l.queue (rows_queued l.fn.res l.queue l.store);
+  printed : l.out.items ++ queue_lines l.queue
+      (rows_to_walk l.fn.res l.queue l.at l.store) ≡ l.initial.out.items ++ queue_lines l.queue
+      (rows_queued l.fn.res l.queue l.store);
 }
 
 abbrev pub decreases-loop-at : goal.decreases-loop-at

@@ -22,7 +22,9 @@ loop-line-preserved c =
 pub returns-in-Err-clause-steps : goal.returns-in-Err-clause-steps
 returns-in-Err-clause-steps c =
     let left = rw c.in-Some.ensures.some at c.loop-line.invariant.left in
-    let stopped = stops-at _ _ c.loop-line.count _ (lines_of c.in-Some.after.now) c.loop-line.steps.items c.in-Err.stop c.loop-line.invariant.lists c.in-Err.ensures.shared in
+    let stopped = stops-at _ _ c.loop-line.count _
+    (lines_of c.in-Some.after.now) c.loop-line.steps.items c.in-Err.stop c.loop-line.invariant.lists
+    c.in-Err.ensures.shared in
     rw c.at.ensures (rw left at stopped)
 
 -- no line is left

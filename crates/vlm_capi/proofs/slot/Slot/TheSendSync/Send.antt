@@ -17,7 +17,11 @@ use Rattle.vlm_capi.proofs.held.Held.TheSendSync as crosses
 use Rattle.vlm_capi.specs.contracts.slot.Slot.{the_row, the_type}
 
 owned : (p : Ptr) (c : Option Held) → Keyless (slot_owns p c)
-owned p (Some x) = (lies inner.the_row (recorded_send (inner.the_field).row _ _ (inner.the_type).to_one crosses.the_field_send) p x, frees.frees (record { memory = record { seal = tt } }) (raw (lone (inner.the_row).mir)) p)
+owned p (Some x) = (
+  lies inner.the_row
+      (recorded_send (inner.the_field).row _ _ (inner.the_type).to_one crosses.the_field_send) p x,
+  frees.frees (record { memory = record { seal = tt } }) (raw (lone (inner.the_row).mir)) p,
+)
 owned p None = tt
 
 pub send : IsSend the_row

@@ -34,10 +34,20 @@ pub into_loose_spec : {M : Type 1} → statement M
 into_loose_spec 𝓤 𝓛 𝓜 𝓡 wired =
     let H = 𝓛.H in let En = ended in let c = clauses 𝓛 𝓜.mem 𝓡.returns in let fn : Fn = compiled.function in let LZ = heap_laws.the_row_laws in
     let Ct = (tables 𝓤 H 𝓜 𝓡 𝓡.env).C in let Λ = (tables 𝓤 H 𝓜 𝓡 𝓡.env).Λ in
-    let stays : Stays En.signature.params En.kept = (stay_dropped (slot_at 0 En.signature.params) En.kept.0, (stay_dropped (slot_at 1 En.signature.params) En.kept.1.0, tt)) in
-    proved_at 𝓛 En stays c 𝓜 𝓡 (Goes-blank 𝓛 0 (slot_at 0 En.signature.params) En.kept.0 (λ κs x f. tt), (Goes-blank 𝓛 0 (slot_at 1 En.signature.params) En.kept.1.0 (λ κs x f. tt), tt)) #self fn (compiled.unfolded 𝓤 H 𝓜 𝓡 wired) (λ z are.
-    let Post : Val → SProp 𝓤 = (walk_of 𝓛 En stays c).post z in let v = z.0.3.0 in let a = z.0.3.1.0 in let Run : List Val → SProp 𝓤 = λ ws. WpFn 𝓤 H Ct Λ fn ws Post in
-    qed 𝓛 ((raw (alive 𝓛 En.signature z.0.0 z.0.1) ⊛ ‵ (owns (types_at En.signature.params z.0.0) z.0.3 z.0.4)) ∷ raw ((c z.0.0 z.0.3).requires z.1) ∷ []) ∵ move ! (1 ∷ []) $ heard ! (is_some v.held ≡ true) (λ held. let x = (some_of v.held held).0 in let full = (some_of v.held held).1 in split ! $ move ! (1 ∷ []) $
+    let stays : Stays En.signature.params En.kept = (
+      stay_dropped (slot_at 0 En.signature.params) En.kept.0,
+      (stay_dropped (slot_at 1 En.signature.params) En.kept.1.0, tt),
+    ) in
+    proved_at 𝓛 En stays c 𝓜 𝓡 (
+      Goes-blank 𝓛 0 (slot_at 0 En.signature.params) En.kept.0 (λ κs x f. tt),
+      (Goes-blank 𝓛 0 (slot_at 1 En.signature.params) En.kept.1.0 (λ κs x f. tt), tt),
+    ) #self fn
+    (compiled.unfolded 𝓤 H 𝓜 𝓡 wired) (λ z are.
+    let Post : Val → SProp 𝓤 = (walk_of 𝓛 En stays c).post z in let v = z.0.3.0 in let a = z.0.3.1.0 in
+    let Run : List Val → SProp 𝓤 = λ ws. WpFn 𝓤 H Ct Λ fn ws Post in
+    qed 𝓛 ((raw (alive 𝓛 En.signature z.0.0 z.0.1) ⊛ ‵ (owns (types_at En.signature.params z.0.0) z.0.3 z.0.4)) ∷ raw
+    ((c z.0.0 z.0.3).requires z.1) ∷ []) ∵ move ! (1 ∷ []) $ heard ! (is_some v.held ≡ true)
+    (λ held. let x = (some_of v.held held).0 in let full = (some_of v.held held).1 in split ! $ move ! (1 ∷ []) $
     fsplit ! $ slot_out ! v x full z.0.4.0 (λ b o e ws. move ! (1 ∷ []) $ fsplit ! $ handle_tells (al C Z LZ ghosts) ! a z.0.4.1.0 (λ h eh fits.
     let w : Val = slot_val (block_ptr b o) in
     suffices ! (Run (w ∷ h ∷ [])) (subst (λ (us : List Val). ent 𝓤 (Run (w ∷ h ∷ [])) (Run us)) (sym (λ i. ws i ++ (eh i ++ []))) (id⊢ 𝓤 (Run (w ∷ h ∷ [])))) $
@@ -45,6 +55,8 @@ into_loose_spec 𝓤 𝓛 𝓜 𝓡 wired =
     sets ! (of_opd ! (get_in ! (fld ! refl (stop !)) (sub ! 0 refl (whole !)))) refl (tt, tt) $
     sets ! (of_opd ! (get ! refl)) refl (tt, tt) $
     sets ! (agg ! (and_then ! (get ! refl) (and_then ! (get ! refl) (no_more !)))) refl (loose_good C Z LZ ghosts b o h fits) $
-    move ! (2 ∷ 0 ∷ []) $ loose_in C Z LZ ghosts ! b o h a x $ use0 𝓛 (raw (fact 𝓤 (Some x ≡ v.held))) (fact_i 𝓤 (Some x ≡ v.held) (emp 𝓤) (sym full)) $ nothing ! $ nothing ! $ fjoin ! $ nothing ! $ fjoin ! $
+    move ! (2 ∷ 0 ∷ []) $ loose_in C Z LZ ghosts ! b o h a x $ use0 𝓛 (raw (fact 𝓤 (Some x ≡ v.held)))
+    (fact_i 𝓤 (Some x ≡ v.held) (emp 𝓤) (sym full)) $ nothing ! $ nothing ! $ fjoin ! $ nothing ! $ fjoin ! $
     returns ! (look_at ! 0 refl) $ free_all ! refl $ keep ! (4 ∷ 0 ∷ 2 ∷ 1 ∷ []) $
-    by ! (leaves 𝓛 En stays c z (both (vptr b o) h) (record { at = block_ptr b o; alloc = a; value = x }) (rest (Slot.exit En.kept.0) v, (rest (Z.exit En.kept.1.0) a, tt)) (tt, (tt, tt))))))))
+    by ! (leaves 𝓛 En stays c z (both (vptr b o) h) (record { at = block_ptr b o; alloc = a; value = x })
+    (rest (Slot.exit En.kept.0) v, (rest (Z.exit En.kept.1.0) a, tt)) (tt, (tt, tt))))))))

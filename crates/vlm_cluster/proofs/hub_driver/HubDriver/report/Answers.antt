@@ -18,7 +18,8 @@ returns-clause-legal g c =
     cut.rings cut.entries cut.number cut.left cut.next cut.state cut.before in
     let entries : List Entry = entries_in (c.args.self.parts.items ++ c.cut-rest.result ∷ []) in
     let rest : entries ++ journal c.cut-rest.new.self ≡ entries = ap (λ (es : List Entry). entries ++ es) cut.left ∙ append-nil entries in
-    subst (λ (s : State). Journal entries s) (sym c.finish-core.ensures.state) (subst (λ (es : List Entry). Journal es (state c.cut-rest.new.self)) rest all.legal)
+    subst (λ (s : State). Journal entries s) (sym c.finish-core.ensures.state)
+    (subst (λ (es : List Entry). Journal es (state c.cut-rest.new.self)) rest all.legal)
 
 pub returns-clause-numbered : goal.returns-clause-numbered
 returns-clause-numbered g c =

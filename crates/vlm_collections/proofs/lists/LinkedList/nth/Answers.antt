@@ -9,7 +9,8 @@ loop-init g c = c.first-at.ensures ∙ first_handle-index (handles_of g.T.Linked
 
 pub returns-in_default : goal.returns-in_default
 returns-in_default g c =
-    sym (handle_index-past c.loop.counter c.args.index (handles_of g.T.Linked.links c.args.nodes.now c.args.self.now) (sym c.loop.invariant ∙ c.in_default.is) c.loop.auto.counter-end)
+    sym (handle_index-past c.loop.counter c.args.index (handles_of g.T.Linked.links c.args.nodes.now c.args.self.now)
+    (sym c.loop.invariant ∙ c.in_default.is) c.loop.auto.counter-end)
 
 pub next-at-requires : goal.next-at-requires
 next-at-requires g c = record {
@@ -20,7 +21,9 @@ next-at-requires g c = record {
 pub loop-preserved : goal.loop-preserved
 loop-preserved g c =
     c.next-at.ensures
-    ∙ simp unary_clauses (handle_after-index c.loop.counter (handles_of g.T.Linked.links c.args.nodes.now c.args.self.now) c.in-Some.handle c.requires.apart (sym c.loop.invariant ∙ c.in-Some.is))
+    ∙ simp unary_clauses (handle_after-index c.loop.counter
+    (handles_of g.T.Linked.links c.args.nodes.now c.args.self.now) c.in-Some.handle c.requires.apart
+    (sym c.loop.invariant ∙ c.in-Some.is))
 
 pub returns : goal.returns
 returns g c =

@@ -5,7 +5,8 @@ use Rattle.vlm_collections.proofs.marks.Marks.make_room.Goals as goal
 pub returns-in_err-resize-clause-succeeds : goal.returns-in_err-resize-clause-succeeds
 returns-in_err-resize-clause-succeeds c = λ within.
     let ok = c.self.inside.numbers.ok.0 in
-    absurd (no_room c.self.inside c.args.self.now c.from.result c.args.number c.self.view_is c.from.ensures (omega (arith, c.if-len-count.true, c.len.ensures, ok)) within)
+    absurd (no_room c.self.inside c.args.self.now c.from.result c.args.number c.self.view_is c.from.ensures
+    (omega (arith, c.if-len-count.true, c.len.ensures, ok)) within)
 
 pub returns-in_ok-resize-clause-room : goal.returns-in_ok-resize-clause-room
 returns-in_ok-resize-clause-room c =

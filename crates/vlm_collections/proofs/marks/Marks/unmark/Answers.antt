@@ -14,7 +14,8 @@ clear_bit-requires c =
 pub returns-then-not-clear_bit : goal.returns-then-not-clear_bit
 returns-then-not-clear_bit c =
     marks-set c.self.inside c.deref_mut.result.now c.clear_bit.new.words c.args.self.now 0 c.from-number.result c.args.number
-    c.deref_mut.ensures.value (c.clear_bit.auto.words ∙ ap length c.deref_mut.ensures.value) c.self.view_is c.from-number.ensures c.requires c.clear_bit.ensures.sets
+    c.deref_mut.ensures.value (c.clear_bit.auto.words
+    ∙ ap length c.deref_mut.ensures.value) c.self.view_is c.from-number.ensures c.requires c.clear_bit.ensures.sets
 
 pub invariant_of-self-then-clear_bit : goal.invariant_of-self-then-clear_bit
 invariant_of-self-then-clear_bit c =
@@ -34,9 +35,11 @@ invariant_of-self-else-clear_bit c =
 pub returns-then-clear_bit : goal.returns-then-clear_bit
 returns-then-clear_bit c =
     marks-set c.self.inside c.deref_mut.result.now c.clear_bit.new.words c.args.self.now 0 c.from-number.result c.args.number
-    c.deref_mut.ensures.value (c.clear_bit.auto.words ∙ ap length c.deref_mut.ensures.value) c.self.view_is c.from-number.ensures c.requires c.clear_bit.ensures.sets
+    c.deref_mut.ensures.value (c.clear_bit.auto.words
+    ∙ ap length c.deref_mut.ensures.value) c.self.view_is c.from-number.ensures c.requires c.clear_bit.ensures.sets
 
 pub returns-else-clear_bit : goal.returns-else-clear_bit
 returns-else-clear_bit c =
     marks-set c.self.inside c.deref_mut.result.now c.clear_bit.new.words c.args.self.now 0 c.from-number.result c.args.number
-    c.deref_mut.ensures.value (c.clear_bit.auto.words ∙ ap length c.deref_mut.ensures.value) c.self.view_is c.from-number.ensures c.requires c.clear_bit.ensures.sets
+    c.deref_mut.ensures.value (c.clear_bit.auto.words
+    ∙ ap length c.deref_mut.ensures.value) c.self.view_is c.from-number.ensures c.requires c.clear_bit.ensures.sets

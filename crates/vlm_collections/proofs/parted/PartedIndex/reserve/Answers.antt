@@ -7,10 +7,13 @@ use Rattle.vlm_collections.proofs.parted.PartedIndex.reserve.Goals as goal
 pub returns-clause-same : goal.returns-clause-same
 returns-clause-same g c =
     rw (← c.self.view_is)
-    (same_written c.self.inside.parts c.args.number c.index-self-number.result c.self.invariant c.reserve.new.self (λ other. ap (lookup (nat_eq other)) c.reserve.ensures.entries))
+    (same_written c.self.inside.parts c.args.number c.index-self-number.result c.self.invariant c.reserve.new.self
+    (λ other. ap (lookup (nat_eq other)) c.reserve.ensures.entries))
 
 pub returns-clause-room : goal.returns-clause-room
-returns-clause-room g c = rw (← c.self.view_is) (spares_kept c.self.inside.parts c.args.number c.index-self-number.result c.self.invariant c.reserve.new.self c.reserve.ensures.room.0)
+returns-clause-room g c =
+    rw (← c.self.view_is)
+    (spares_kept c.self.inside.parts c.args.number c.index-self-number.result c.self.invariant c.reserve.new.self c.reserve.ensures.room.0)
 
 pub returns-clause-find : goal.returns-clause-find
 returns-clause-find g c =

@@ -7,14 +7,15 @@ use Rattle.vlm_model.proofs.Each.{each_weaker}
 use Rattle.vlm_store.specs.Plain.{plain_resources}
 use Rattle.vlm_cycle.specs.Marking.{HasRoomInBoth}
 use Rattle.vlm_cycle.specs.Waiting.{IsRoomy}
-use Rattle.vlm_machine.proofs.Roomy.{roomy}
+use Rattle.vlm_machine.proofs.RoomToMark.{roomy}
 use Rattle.vlm_core.specs.Core.{IsCore}
 use Rattle.vlm_core.specs.declared.public.Core.TheInside.{Inside}
 use Rattle.vlm_core.proofs.public.Core.find_victim.Goals as goal
 
 pub victim-requires-clause-roomy : goal.victim-requires-clause-roomy
 victim-requires-clause-roomy c =
-    let of_nodes = subst (λ (s : State). All (λ (p : Process). is_node (node_of_pid p.pid) ≡ true) s.processes) (sym c.self.view_is) c.between_steps.ensures.of_nodes in
+    let of_nodes = subst (λ (s : State). All (λ (p : Process). is_node (node_of_pid p.pid) ≡ true) s.processes)
+    (sym c.self.view_is) c.between_steps.ensures.of_nodes in
     subst (λ (i : Inside). IsRoomy i.machine.records i.scratch) (sym c.self-inside.view_is)
     (roomy c.self.inside.machine c.self.inside.scratch of_nodes c.self.invariant.marks)
 

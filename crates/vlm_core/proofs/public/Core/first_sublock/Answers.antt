@@ -1,5 +1,5 @@
 use Rattle.std.proofs.Common.{refl, sym, subst, ◌∙◌, inl}
-use Rattle.vlm_model.specs.Laws.{IdentificationsAreApart}
+use Rattle.vlm_model.specs.Laws.{IdsAreApart}
 use Rattle.vlm_machine.specs.Machine.{plain_state}
 use Rattle.vlm_machine.proofs.RunDown.{none_is_0}
 use Rattle.vlm_core.specs.declared.public.Core.TheInside.{Inside}
@@ -18,34 +18,37 @@ pub lock_view-requires-clause-stored : goal.lock_view-requires-clause-stored
 lock_view-requires-clause-stored c =
     let found = c.in_ok-lock.ensures.found in
     let is_stored = in_a_queue _ (none_loose _ c.self-inside.invariant.rest.rising) c.in_ok-lock.lock found.0 found.1.0 in
-    let law : IdentificationsAreApart (plain_state c.self.inside.machine) =
-    c.law_identifications_are_apart.ensures c.self.invariant.reachable.history _ c.self.invariant.reachable.run in
-    let apart = subst (λ (core : Inside). IdentificationsAreApart (plain_state core.machine)) (sym c.self-inside.view_is) law in
+    let law : IdsAreApart (plain_state c.self.inside.machine) =
+    c.law_ids_are_apart.ensures c.self.invariant.reachable.history _ c.self.invariant.reachable.run in
+    let apart = subst (λ (core : Inside). IdsAreApart (plain_state core.machine)) (sym c.self-inside.view_is) law in
     let not_0 = none_is_0 _ c.lock.ensures.sound apart.none_is_0 c.in_ok-lock.lock found.0 is_stored in
-    stored_first_below _ c.lock.ensures.sound c.self-inside.invariant.rest c.in_ok-lock.lock found.0 is_stored not_0 c.in-Some.lock (sym c.first_sublock.ensures.first ∙ c.in-Some.is)
+    stored_first_below _ c.lock.ensures.sound c.self-inside.invariant.rest c.in_ok-lock.lock found.0 is_stored not_0
+    c.in-Some.lock (sym c.first_sublock.ensures.first ∙ c.in-Some.is)
 
 pub returns-in-Some : goal.returns-in-Some
 returns-in-Some c =
     let found = c.in_ok-lock.ensures.found in
     let is_stored = in_a_queue _ (none_loose _ c.self-inside.invariant.rest.rising) c.in_ok-lock.lock found.0 found.1.0 in
-    let law : IdentificationsAreApart (plain_state c.self.inside.machine) =
-    c.law_identifications_are_apart.ensures c.self.invariant.reachable.history _ c.self.invariant.reachable.run in
-    let apart = subst (λ (core : Inside). IdentificationsAreApart (plain_state core.machine)) (sym c.self-inside.view_is) law in
+    let law : IdsAreApart (plain_state c.self.inside.machine) =
+    c.law_ids_are_apart.ensures c.self.invariant.reachable.history _ c.self.invariant.reachable.run in
+    let apart = subst (λ (core : Inside). IdsAreApart (plain_state core.machine)) (sym c.self-inside.view_is) law in
     let not_0 = none_is_0 _ c.lock.ensures.sound apart.none_is_0 c.in_ok-lock.lock found.0 is_stored in
     rw (← c.self.view_is, ← c.self-inside.view_is, ← found.1.1)
-    (the_first_below _ c.lock.ensures.sound _ refl c.self-inside.invariant.rest c.in_ok-lock.lock found.0 is_stored not_0 c.in-Some.lock (sym c.first_sublock.ensures.first ∙ c.in-Some.is)
+    (the_first_below _ c.lock.ensures.sound _ refl c.self-inside.invariant.rest c.in_ok-lock.lock found.0 is_stored
+    not_0 c.in-Some.lock (sym c.first_sublock.ensures.first ∙ c.in-Some.is)
     c.lock_view.result c.lock_view.ensures)
 
 pub returns-in-None : goal.returns-in-None
 returns-in-None c =
     let found = c.in_ok-lock.ensures.found in
     let is_stored = in_a_queue _ (none_loose _ c.self-inside.invariant.rest.rising) c.in_ok-lock.lock found.0 found.1.0 in
-    let law : IdentificationsAreApart (plain_state c.self.inside.machine) =
-    c.law_identifications_are_apart.ensures c.self.invariant.reachable.history _ c.self.invariant.reachable.run in
-    let apart = subst (λ (core : Inside). IdentificationsAreApart (plain_state core.machine)) (sym c.self-inside.view_is) law in
+    let law : IdsAreApart (plain_state c.self.inside.machine) =
+    c.law_ids_are_apart.ensures c.self.invariant.reachable.history _ c.self.invariant.reachable.run in
+    let apart = subst (λ (core : Inside). IdsAreApart (plain_state core.machine)) (sym c.self-inside.view_is) law in
     let not_0 = none_is_0 _ c.lock.ensures.sound apart.none_is_0 c.in_ok-lock.lock found.0 is_stored in
     rw (← c.self.view_is, ← c.self-inside.view_is, ← found.1.1)
-    (no_first_below _ c.lock.ensures.sound _ refl c.self-inside.invariant.rest c.in_ok-lock.lock found.0 is_stored not_0 (sym c.first_sublock.ensures.first ∙ c.in-None.is))
+    (no_first_below _ c.lock.ensures.sound _ refl c.self-inside.invariant.rest c.in_ok-lock.lock found.0 is_stored not_0
+    (sym c.first_sublock.ensures.first ∙ c.in-None.is))
 
 pub first_sublock-requires : goal.first_sublock-requires
 first_sublock-requires c = found_stored _ c.self-inside.invariant.rest c.args.lkid c.in_ok-lock.lock c.in_ok-lock.ensures.found

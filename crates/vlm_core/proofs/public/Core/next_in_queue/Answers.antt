@@ -21,7 +21,8 @@ returns-in-Some c =
     let found = c.in_ok-lock.ensures.found in
     let is_stored = in_a_queue _ (none_loose _ c.self-inside.invariant.rest.rising) c.in_ok-lock.lock found.0 found.1.0 in
     rw (← c.self.view_is, ← c.self-inside.view_is)
-    (next_some _ c.lock.ensures.sound _ refl c.in_ok-lock.lock found.0 is_stored c.next.result c.next.ensures c.in-Some.lock c.in-Some.is c.lock_view.result c.lock_view.ensures c.args.lkid found.1.1)
+    (next_some _ c.lock.ensures.sound _ refl c.in_ok-lock.lock found.0 is_stored c.next.result c.next.ensures
+    c.in-Some.lock c.in-Some.is c.lock_view.result c.lock_view.ensures c.args.lkid found.1.1)
 
 pub returns-in-None : goal.returns-in-None
 returns-in-None c =

@@ -14,14 +14,16 @@ pub lock_view-requires-clause-stored : goal.lock_view-requires-clause-stored
 lock_view-requires-clause-stored c =
     let found = c.in_ok-lock.ensures.found in
     let is_stored = in_a_queue _ (none_loose _ c.self-inside.invariant.rest.rising) c.in_ok-lock.lock found.0 found.1.0 in
-    stored_next_own _ c.lock.ensures.sound c.self-inside.invariant.rest c.in_ok-lock.lock found.0 is_stored c.next_own.result c.next_own.ensures.next c.in-Some.lock c.in-Some.is
+    stored_next_own _ c.lock.ensures.sound c.self-inside.invariant.rest c.in_ok-lock.lock found.0 is_stored
+    c.next_own.result c.next_own.ensures.next c.in-Some.lock c.in-Some.is
 
 pub returns-in-Some : goal.returns-in-Some
 returns-in-Some c =
     let found = c.in_ok-lock.ensures.found in
     let is_stored = in_a_queue _ (none_loose _ c.self-inside.invariant.rest.rising) c.in_ok-lock.lock found.0 found.1.0 in
     rw (← c.self.view_is, ← c.self-inside.view_is)
-    (the_next_own _ c.lock.ensures.sound _ refl c.self-inside.invariant.rest c.in_ok-lock.lock found.0 is_stored c.next_own.result c.next_own.ensures.next c.in-Some.lock c.in-Some.is
+    (the_next_own _ c.lock.ensures.sound _ refl c.self-inside.invariant.rest c.in_ok-lock.lock found.0 is_stored
+    c.next_own.result c.next_own.ensures.next c.in-Some.lock c.in-Some.is
     c.lock_view.result c.lock_view.ensures c.args.lkid found.1.1)
 
 pub returns-in-None : goal.returns-in-None
@@ -29,7 +31,8 @@ returns-in-None c =
     let found = c.in_ok-lock.ensures.found in
     let is_stored = in_a_queue _ (none_loose _ c.self-inside.invariant.rest.rising) c.in_ok-lock.lock found.0 found.1.0 in
     rw (← c.self.view_is, ← c.self-inside.view_is)
-    (no_next_own _ c.lock.ensures.sound _ refl c.self-inside.invariant.rest c.in_ok-lock.lock found.0 is_stored c.next_own.result c.next_own.ensures.next c.in-None.is c.args.lkid found.1.1)
+    (no_next_own _ c.lock.ensures.sound _ refl c.self-inside.invariant.rest c.in_ok-lock.lock found.0 is_stored
+    c.next_own.result c.next_own.ensures.next c.in-None.is c.args.lkid found.1.1)
 
 pub next_own-requires : goal.next_own-requires
 next_own-requires c = found_stored _ c.self-inside.invariant.rest c.args.lkid c.in_ok-lock.lock c.in_ok-lock.ensures.found

@@ -1,5 +1,5 @@
 use Rattle.std.proofs.Common.{refl, sym, ap, ◌∙◌, inl}
-use Rattle.vlm_words.specs.declared.locks.LockRow.{LockRow}
+use Rattle.vlm_words.specs.declared.locks.LockState.{LockState}
 use Rattle.vlm_core.specs.Locks.{IsNamed}
 use Rattle.vlm_core.proofs.SingleLocks.{lacks, stored_next_below, no_next_below, no_next_root, the_next_below, found_stored}
 use Rattle.vlm_core.proofs.public.Core.next_sublock.Goals as goal
@@ -17,14 +17,14 @@ returns-then-parent-eq0 c =
     let is_stored = in_a_queue _ (none_loose _ c.self-inside.invariant.rest.rising) c.in_ok-lock.lock found.0 found.1.0 in
     rw (← c.self.view_is, ← c.self-inside.view_is)
     (no_next_root _ c.lock.ensures.sound _ refl c.in_ok-lock.lock found.0 is_stored
-    (ap (λ (r : LockRow). r.parent) (c.lock_record.ensures.only found.0 is_stored) ∙ sym c.parent.ensures ∙ c.if-parent-eq0.true) c.args.lkid found.1.1)
+    (ap (λ (r : LockState). r.parent) (c.lock_record.ensures.only found.0 is_stored) ∙ sym c.parent.ensures ∙ c.if-parent-eq0.true) c.args.lkid found.1.1)
 
 pub lock_view-requires-clause-stored : goal.lock_view-requires-clause-stored
 lock_view-requires-clause-stored c =
     let found = c.in_ok-lock.ensures.found in
     let is_stored = in_a_queue _ (none_loose _ c.self-inside.invariant.rest.rising) c.in_ok-lock.lock found.0 found.1.0 in
     stored_next_below _ c.lock.ensures.sound c.self-inside.invariant.rest c.in_ok-lock.lock found.0 is_stored
-    (λ none. c.if-parent-eq0.false (c.parent.ensures ∙ sym (ap (λ (r : LockRow). r.parent) (c.lock_record.ensures.only found.0 is_stored)) ∙ none))
+    (λ none. c.if-parent-eq0.false (c.parent.ensures ∙ sym (ap (λ (r : LockState). r.parent) (c.lock_record.ensures.only found.0 is_stored)) ∙ none))
     c.next_sublock.result c.next_sublock.ensures.after c.in-Some.lock c.in-Some.is
 
 pub returns-in-Some : goal.returns-in-Some
@@ -33,7 +33,7 @@ returns-in-Some c =
     let is_stored = in_a_queue _ (none_loose _ c.self-inside.invariant.rest.rising) c.in_ok-lock.lock found.0 found.1.0 in
     rw (← c.self.view_is, ← c.self-inside.view_is)
     (the_next_below _ c.lock.ensures.sound _ refl c.self-inside.invariant.rest c.in_ok-lock.lock found.0 is_stored
-    (λ none. c.if-parent-eq0.false (c.parent.ensures ∙ sym (ap (λ (r : LockRow). r.parent) (c.lock_record.ensures.only found.0 is_stored)) ∙ none))
+    (λ none. c.if-parent-eq0.false (c.parent.ensures ∙ sym (ap (λ (r : LockState). r.parent) (c.lock_record.ensures.only found.0 is_stored)) ∙ none))
     c.next_sublock.result c.next_sublock.ensures.after c.in-Some.lock c.in-Some.is c.lock_view.result c.lock_view.ensures c.args.lkid found.1.1)
 
 pub returns-in-None : goal.returns-in-None
@@ -42,7 +42,7 @@ returns-in-None c =
     let is_stored = in_a_queue _ (none_loose _ c.self-inside.invariant.rest.rising) c.in_ok-lock.lock found.0 found.1.0 in
     rw (← c.self.view_is, ← c.self-inside.view_is)
     (no_next_below _ c.lock.ensures.sound _ refl c.self-inside.invariant.rest c.in_ok-lock.lock found.0 is_stored
-    (λ none. c.if-parent-eq0.false (c.parent.ensures ∙ sym (ap (λ (r : LockRow). r.parent) (c.lock_record.ensures.only found.0 is_stored)) ∙ none))
+    (λ none. c.if-parent-eq0.false (c.parent.ensures ∙ sym (ap (λ (r : LockState). r.parent) (c.lock_record.ensures.only found.0 is_stored)) ∙ none))
     c.next_sublock.result c.next_sublock.ensures.after c.in-None.is c.args.lkid found.1.1)
 
 pub lock_record-requires : goal.lock_record-requires

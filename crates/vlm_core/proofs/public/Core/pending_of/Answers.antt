@@ -8,7 +8,7 @@ use Rattle.vlm_core.proofs.public.Core.pending_of.Goals as goal
 pub returns : goal.returns
 returns c =
     let law : ProcessesRise (plain_state c.self.inside.machine) =
-    c.law_identifications_of_processes_rise.ensures c.self.invariant.reachable.history _ c.self.invariant.reachable.run in
+    c.law_process_ids_rise.ensures c.self.invariant.reachable.history _ c.self.invariant.reachable.run in
     let rise = subst (λ (core : Inside). ProcessesRise (plain_state core.machine)) (sym c.self-inside.view_is) law in
     rw (← c.self.view_is, ← c.self-inside.view_is)
     (first_found c.args.node _ c.pending_of.result rise.named rise.rising c.pending_of.ensures)

@@ -1,7 +1,7 @@
 use Rattle.std.proofs.Common.{Some, ap, ◌∙◌}
 use Rattle.std.specs.Option.{option_map}
 use Rattle.vlm_procs.specs.Views.{process_view}
-use Rattle.vlm_core.proofs.After.{no_process, process_shown}
+use Rattle.vlm_core.proofs.NextRecords.{no_process, process_shown}
 use Rattle.vlm_core.proofs.public.Core.process_after.Goals as goal
 
 pub returns-in_err-at : goal.returns-in_err-at

@@ -1,4 +1,4 @@
-use Rattle.vlm_core.proofs.Figures.{queued_told}
+use Rattle.vlm_core.proofs.LockCounts.{queued_told}
 use Rattle.vlm_core.proofs.public.Core.queued_count.Goals as goal
 
 pub returns : goal.returns

@@ -1,8 +1,8 @@
 use Rattle.std.proofs.Common.{sym, subst}
 use Rattle.vlm_core.specs.Core.{IsReachable}
-use Rattle.vlm_core.proofs.Reaching.{start_reachable}
-use Rattle.vlm_machine.proofs.Noting.{none_at_start}
-use Rattle.vlm_machine.proofs.Roomy.{none_lives_at_start}
+use Rattle.vlm_core.proofs.ReachableStates.{start_reachable}
+use Rattle.vlm_machine.proofs.RoomToNote.{none_at_start}
+use Rattle.vlm_machine.proofs.RoomToMark.{none_lives_at_start}
 use Rattle.vlm_core.proofs.public.Core.with_keys.Goals as goal
 
 -- the start is reached by no step, and no lock is there

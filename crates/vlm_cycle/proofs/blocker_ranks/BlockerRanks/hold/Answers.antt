@@ -1,7 +1,7 @@
 use Rattle.std.proofs.Common.{◌∙◌, subst, sym}
 use Rattle.std.specs.Prelude.{slice_index_or}
 use Rattle.vlm_cycle.specs.Ranking.{IsCounted, no_peak}
-use Rattle.vlm_cycle.proofs.Peaks.{peak_kept}
+use Rattle.vlm_cycle.proofs.GaugePeaks.{peak_kept}
 use Rattle.vlm_cycle.proofs.blocker_ranks.BlockerRanks.hold.Goals as goal
 
 pub returns-clause-kept : goal.returns-clause-kept

@@ -1,5 +1,5 @@
 use Rattle.std.proofs.Common.{arith}
-use Rattle.vlm_cycle.proofs.Dated.{all_blank}
+use Rattle.vlm_cycle.proofs.DatedNotes.{all_blank}
 use Rattle.vlm_cycle.proofs.ranks.Ranks.begin.Goals as goal
 
 pub returns-in-Some-clause-blank : goal.returns-in-Some-clause-blank

@@ -1,7 +1,7 @@
 use Rattle.std.proofs.Common.{arith, subst, sym}
 use Rattle.std.proofs.lemmas.Grind.{common_steps}
 use Rattle.vlm_cycle.specs.Notes.{IsTarjanNode}
-use Rattle.vlm_cycle.proofs.Dated.{note_there}
+use Rattle.vlm_cycle.proofs.DatedNotes.{note_there}
 use Rattle.vlm_cycle.proofs.ranks.Ranks.note.Goals as goal
 
 pub returns-in-Some-clause-note : goal.returns-in-Some-clause-note

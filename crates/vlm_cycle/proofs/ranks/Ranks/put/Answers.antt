@@ -3,7 +3,7 @@ use Rattle.std.specs.List.{All}
 use Rattle.std.specs.Prelude.{slice_set}
 use Rattle.std.proofs.lemmas.List.Elements.{All-set}
 use Rattle.vlm_cycle.specs.Notes.{IsTarjanNode}
-use Rattle.vlm_cycle.proofs.Dated.{read_own}
+use Rattle.vlm_cycle.proofs.DatedNotes.{read_own}
 use Rattle.vlm_cycle.proofs.ranks.Ranks.put.Goals as goal
 
 pub returns-then-slot-len-clause-noted : goal.returns-then-slot-len-clause-noted

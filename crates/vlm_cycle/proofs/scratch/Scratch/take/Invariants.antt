@@ -1,5 +1,5 @@
 use Rattle.std.proofs.Common.{◌≡◌, ◌<◌, ◌≤◌, ◌/◌, ℕ, false}
-use Rattle.vlm_collections.specs.Nodes.{is_marked}
+use Rattle.vlm_records.specs.NodeMarks.{is_marked}
 use Rattle.vlm_cycle.proofs.scratch.Scratch.take.Given as goal
 
 -- the search has to go to no process of the nodes before this one

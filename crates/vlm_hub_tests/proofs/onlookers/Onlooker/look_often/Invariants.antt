@@ -1,4 +1,4 @@
-use Rattle.vlm_watch.specs.Watching.{IsAsBefore}
+use Rattle.vlm_ports.specs.Watching.{IsAsBefore}
 use Rattle.vlm_hub_tests.proofs.onlookers.Onlooker.look_often.Given as goal
 
 abbrev pub invariant-loop : goal.invariant-loop

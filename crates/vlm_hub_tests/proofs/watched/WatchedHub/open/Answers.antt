@@ -7,8 +7,8 @@ use Rattle.vlm_ports.specs.declared.port.Port.{Port}
 use Rattle.vlm_ports.specs.Hubs.{IsPortOf}
 use Rattle.vlm_ports.specs.Links.{node_rings_identity}
 use Rattle.vlm_ports.specs.Watched.{board_name}
-use Rattle.vlm_watch.specs.declared.watcher.Watcher.{Watcher}
-use Rattle.vlm_watch.specs.Watching.{IsNew}
+use Rattle.vlm_ports.specs.declared.watch.watcher.Watcher.{Watcher}
+use Rattle.vlm_ports.specs.Watching.{IsNew}
 use Rattle.vlm_hub_tests.specs.declared.onlookers.Onlooker.{Onlooker}
 use Rattle.vlm_hub_tests.proofs.watched.WatchedHub.open.Goals as goal
 
@@ -24,7 +24,8 @@ invariant_of-result g c =
     let was : IsPortOf hub port = ours 0 port (omega arith) in
     let who : Onlooker → Watcher = λ o. o.watcher in
     let seated = c.seat.new.onlookers.items in
-    let new : All (IsNew (board_name watched) (vec_len c.args.keys)) (map who seated) = subst (All (IsNew (board_name watched) (vec_len c.args.keys))) (sym c.seat.ensures) told.each in
+    let new : All (IsNew (board_name watched) (vec_len c.args.keys)) (map who seated) =
+    subst (All (IsNew (board_name watched) (vec_len c.args.keys))) (sym c.seat.ensures) told.each in
     record {
       ours = (was.0, ap (λ lines. slice_get (map node_rings_identity lines.items) (port.node - 1)) told.same.1 ∙ was.1);
       watched = told.watched;

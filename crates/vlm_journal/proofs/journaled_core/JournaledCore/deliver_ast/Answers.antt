@@ -19,7 +19,8 @@ ast_of-ast-requires c =
 pub invariant_of-self : goal.invariant_of-self
 invariant_of-self c =
     rw (c.push_reserved.ensures.items, c.entry.ensures, c.ast_of-ast.ensures)
-    (goes_on (record { sender = 0; step = Take c.args.pid; answer = Taken (Some c.ast_of-ast.result) }) c.self.invariant (inl (refl, takes c.args.pid c.ast_of-ast.result)) (rw (sym c.ast_of-ast.ensures) c.step-answer.ensures))
+    (goes_on (record { sender = 0; step = Take c.args.pid; answer = Taken (Some c.ast_of-ast.result) }) c.self.invariant
+    (inl (refl, takes c.args.pid c.ast_of-ast.result)) (rw (sym c.ast_of-ast.ensures) c.step-answer.ensures))
 
 pub returns-clause-node : goal.returns-clause-node
 returns-clause-node c =
@@ -29,8 +30,11 @@ returns-clause-node c =
 -- a node that had departed stays departed
 pub returns-clause-written : goal.returns-clause-written
 returns-clause-written c =
-    let leads = one_leads (record { sender = 0; step = Take c.args.pid; answer = Taken (Some c.ast_of-ast.result) }) (inl (refl, takes c.args.pid c.ast_of-ast.result))
-    (subst (λ (b : Account). Outcome b.state (Take c.args.pid) c.step-answer.new.self (Taken (Some c.ast_of-ast.result))) c.self.view_is (rw (sym c.ast_of-ast.ensures) c.step-answer.ensures)) in record {
+    let leads = one_leads (record { sender = 0; step = Take c.args.pid; answer = Taken (Some c.ast_of-ast.result) })
+    (inl (refl, takes c.args.pid c.ast_of-ast.result))
+    (subst (λ (b : Account). Outcome b.state (Take c.args.pid) c.step-answer.new.self
+    (Taken (Some c.ast_of-ast.result))) c.self.view_is (rw (sym c.ast_of-ast.ensures) c.step-answer.ensures)) in
+    record {
       entries = search rules;
       leads = leads;
       departed = λ gone.

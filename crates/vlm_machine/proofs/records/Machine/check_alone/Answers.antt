@@ -10,4 +10,5 @@ returns-clause-childless c =
     let f = c.args.located.now in
     let same : c.has-cancels.result ≡ has_flag c.args.dequeue.now.flags cancel =
     c.has-cancels.ensures ∙ ap (λ bits. has_flag bits cancel) c.requires.flags in
-    subst (λ (cancels : Bool). OnOk c.check_sublocks.result (goes cancels f.queue ≡ true → HasNoSublocks f.lock c.args.self.now.records)) same c.check_sublocks.ensures.childless
+    subst (λ (cancels : Bool). OnOk c.check_sublocks.result (goes cancels f.queue ≡ true
+    → HasNoSublocks f.lock c.args.self.now.records)) same c.check_sublocks.ensures.childless

@@ -1,6 +1,6 @@
 use Rattle.std.proofs.Common.{◌≡◌, sym, ◌∙◌, inl, inr}
 use Rattle.vlm_words.specs.declared.resources.Queue.TheVariants.{Granted, Conversion, Waiting}
-use Rattle.vlm_machine.proofs.Siting.{refused_depth, refused_waiting}
+use Rattle.vlm_machine.proofs.ParentLocks.{refused_depth, refused_waiting}
 use Rattle.vlm_machine.proofs.records.Machine.check_parent.Goals as goal
 
 pub returns-in-Waiting : goal.returns-in-Waiting

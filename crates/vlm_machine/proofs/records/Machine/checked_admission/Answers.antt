@@ -12,12 +12,16 @@ returns-then-not-is_granted-clause-refusal c =
 -- a granted lock is admitted where it stands
 pub returns-in_err-check_pair-clause-refusal : goal.returns-in_err-check_pair-clause-refusal
 returns-in_err-check_pair-clause-refusal c =
-    rw (is_admitted c.args.self.now c.requires.located.located.sound c.args.conversion.now c.args.located.now c.requires.located (convert_request (plain_state c.args.self.now) c.args.conversion.now) refl (search rules)) (search rules)
+    rw (is_admitted c.args.self.now c.requires.located.located.sound c.args.conversion.now c.args.located.now
+    c.requires.located (convert_request (plain_state c.args.self.now) c.args.conversion.now) refl (search rules))
+    (search rules)
 
 pub returns-in_err-check_request_numbers-clause-refusal :
     goal.returns-in_err-check_request_numbers-clause-refusal
 returns-in_err-check_request_numbers-clause-refusal c =
-    rw (is_admitted c.args.self.now c.requires.located.located.sound c.args.conversion.now c.args.located.now c.requires.located (convert_request (plain_state c.args.self.now) c.args.conversion.now) refl (search rules)) (search rules)
+    rw (is_admitted c.args.self.now c.requires.located.located.sound c.args.conversion.now c.args.located.now
+    c.requires.located (convert_request (plain_state c.args.self.now) c.args.conversion.now) refl (search rules))
+    (search rules)
 
 pub returns-in_err-check_queue-clause-refusal : goal.returns-in_err-check_queue-clause-refusal
 returns-in_err-check_queue-clause-refusal c =
@@ -25,7 +29,11 @@ returns-in_err-check_queue-clause-refusal c =
     let flags = sym (ap (λ bits. record { 0 = bits }) c.requires.flags) in
     let found = rw (← c.self.view_is) at c.requires.located.located.found in
     let at_once = c.converts_at_once-at_once.ensures c.requires.located.located.resource asked found flags refl in
-    rw (is_admitted c.args.self.now c.requires.located.located.sound c.args.conversion.now c.args.located.now c.requires.located asked refl (search rules), ← at_once) (search rules)
+    rw (
+      is_admitted c.args.self.now c.requires.located.located.sound c.args.conversion.now c.args.located.now
+          c.requires.located asked refl (search rules),
+      ← at_once,
+    ) (search rules)
 
 pub returns-clause-refusal : goal.returns-clause-refusal
 returns-clause-refusal c =
@@ -33,7 +41,11 @@ returns-clause-refusal c =
     let flags = sym (ap (λ bits. record { 0 = bits }) c.requires.flags) in
     let found = rw (← c.self.view_is) at c.requires.located.located.found in
     let at_once = c.converts_at_once-at_once.ensures c.requires.located.located.resource asked found flags refl in
-    rw (is_admitted c.args.self.now c.requires.located.located.sound c.args.conversion.now c.args.located.now c.requires.located asked refl (search rules), ← at_once) (search rules)
+    rw (
+      is_admitted c.args.self.now c.requires.located.located.sound c.args.conversion.now c.args.located.now
+          c.requires.located asked refl (search rules),
+      ← at_once,
+    ) (search rules)
 
 pub returns-clause-admitted : goal.returns-clause-admitted
 returns-clause-admitted c =
@@ -44,6 +56,7 @@ returns-clause-admitted c =
       located = c.requires.located;
       granted = search rules;
       at_once = c.converts_at_once-at_once.ensures c.requires.located.located.resource asked found flags refl;
-      found = is_admitted c.args.self.now c.requires.located.located.sound c.args.conversion.now c.args.located.now c.requires.located asked refl (search rules);
+      found = is_admitted c.args.self.now c.requires.located.located.sound c.args.conversion.now c.args.located.now
+          c.requires.located asked refl (search rules);
       number = search rules;
     }

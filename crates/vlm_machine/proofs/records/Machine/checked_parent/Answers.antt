@@ -1,7 +1,7 @@
 use Rattle.std.proofs.Common.{◌≡◌, refl, rules, false, sym, ap, ◌∙◌, ne_eqb}
 use Rattle.std.specs.Prelude.{◌==◌}
 use Rattle.std.specs.Result.{result_err}
-use Rattle.vlm_machine.proofs.Siting.{parent_checked, parent_stands}
+use Rattle.vlm_machine.proofs.ParentLocks.{parent_checked, parent_stands}
 use Rattle.vlm_machine.proofs.records.Machine.checked_parent.Goals as goal
 
 pub returns-in_err-check_parent-clause-refusal : goal.returns-in_err-check_parent-clause-refusal
@@ -27,4 +27,6 @@ returns-clause-parent c =
     let stands = c.located-located.ensures.located c.args.caller.now.pid c.args.lkid c.in_ok-lock.ensures.lock in
     let named : (c.args.lkid == 0) ≡ false = ne_eqb c.args.lkid 0 c.if-lkid-eq0.false in
     parent_stands m stands.located.sound c.args.caller.now.pid c.args.lkid c.located-located.result stands named
-    (sym (ap result_err c.in_ok-check_parent.was) ∙ c.check_parent.ensures.refusal stands.located.resource stands.located.found) _ c.located-located.ensures.lock refl
+    (sym (ap result_err c.in_ok-check_parent.was)
+    ∙ c.check_parent.ensures.refusal stands.located.resource stands.located.found) _ c.located-located.ensures.lock
+    refl

@@ -10,7 +10,7 @@ use Rattle.vlm_machine.specs.Admissions.{IsAdmittedConversion}
 use Rattle.vlm_machine.specs.Between.{IsBetweenSteps}
 use Rattle.vlm_machine.specs.Machine.{MachineState, kept, plain_state}
 use Rattle.vlm_machine.proofs.ConversionsMade.{state_converted}
-use Rattle.vlm_machine.proofs.Wanting.{wants_nothing}
+use Rattle.vlm_machine.proofs.GrantedWantNothing.{wants_nothing}
 use Rattle.vlm_machine.proofs.records.Machine.convert_change.Goals as goal
 
 -- what is asked for, with these flags
@@ -34,7 +34,8 @@ convert-requires-clause-at_once c =
 pub convert-requires-clause-wants_nothing : goal.convert-requires-clause-wants_nothing
 convert-requires-clause-wants_nothing c =
     let between = subst (λ (m : MachineState). IsBetweenSteps (plain_state m)) (sym c.self.view_is) c.requires.between in
-    let admitted = subst (λ (m : MachineState). IsAdmittedConversion m c.args.conversion.now c.args.located.now c.args.at_once) (sym c.self.view_is) c.requires.admitted in
+    let admitted = subst (λ (m : MachineState). IsAdmittedConversion m c.args.conversion.now c.args.located.now
+    c.args.at_once) (sym c.self.view_is) c.requires.admitted in
     wants_nothing c.self.inside.store between.rows_fit c.args.located.now admitted.located.located admitted.granted
 
 -- the state is that of the plain machine
@@ -44,7 +45,8 @@ returns-clause-change c = λ there found.
     let asked = subst (λ (m : MachineState). request ≡ convert_request (plain_state m) c.args.conversion.now) c.self.view_is
     (asked_as (plain_state (kept c.self.inside)) c.args.conversion.now c.args.flags c.requires.flags) in
     ap (λ (m : MachineState). plain_state (record m { records = c.convert.new.store; next_request = m.next_request + 1 })) c.self.view_is
-    ∙ state_converted c.args.self.now c.args.conversion.now c.args.located.now c.args.at_once c.requires.admitted request asked c.convert.new.store (rw (← c.self.view_is) c.in_ok-convert.ensures.done.converted) there found
+    ∙ state_converted c.args.self.now c.args.conversion.now c.args.located.now c.args.at_once c.requires.admitted
+    request asked c.convert.new.store (rw (← c.self.view_is) c.in_ok-convert.ensures.done.converted) there found
 
 -- the other resources stay
 pub returns-clause-others : goal.returns-clause-others

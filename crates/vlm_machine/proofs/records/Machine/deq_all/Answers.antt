@@ -12,7 +12,7 @@ use Rattle.vlm_machine.specs.declared.dequeues.CheckedDequeue.{CheckedDequeue}
 use Rattle.vlm_machine.specs.Admissions.{IsCheckedDequeue}
 use Rattle.vlm_machine.specs.Machine.{MachineState, plain_state}
 use Rattle.vlm_machine.proofs.Admitting.{cancels_nothing, later_of_all}
-use Rattle.vlm_machine.proofs.Made.{made_refused, made_swept}
+use Rattle.vlm_machine.proofs.ChangedAndSwept.{made_refused, made_swept}
 use Rattle.vlm_machine.proofs.records.Machine.deq_all.Goals as goal
 
 -- what such a dequeue is refused for, by what it named

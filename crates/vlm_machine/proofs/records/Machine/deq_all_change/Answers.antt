@@ -31,8 +31,10 @@ returns-clause-change c =
     let nothing = gives_nothing d c.requires.all checked.fitting in
     let invalidates = c.has-invalidates.ensures ∙ ap (λ bits. has_flag bits invvalblk) checked.flags in
     ap (λ (m : MachineState). plain_state (record m { records = new.store })) c.self.view_is
-    ∙ state_given_up c.args.self.now (rw (← c.self.view_is) c.self.invariant.rest.sound) (rw (← c.self.view_is) c.self.invariant.rest) c.requires.between d c.requires.all
-    (cancels_nothing d c.requires.all checked.fitting) nothing.0 nothing.1 scope (c.requires.scope ∙ ap scope_of checked.lkid) new.store c.args.touched.now new.touched
+    ∙ state_given_up c.args.self.now (rw (← c.self.view_is) c.self.invariant.rest.sound)
+    (rw (← c.self.view_is) c.self.invariant.rest) c.requires.between d c.requires.all
+    (cancels_nothing d c.requires.all checked.fitting) nothing.0 nothing.1 scope (c.requires.scope
+    ∙ ap scope_of checked.lkid) new.store c.args.touched.now new.touched
     (subst (λ (m : MachineState). AreGivenUp scope (has_flag d.flags invvalblk) d.pid m.records new.store c.args.touched.now new.touched) c.self.view_is
     (subst (λ pid. AreGivenUp scope (has_flag d.flags invvalblk) pid c.self.inside.store new.store c.args.touched.now new.touched) checked.pid
     (subst (λ invalid. AreGivenUp scope invalid c.args.checked.now.caller.pid c.self.inside.store new.store c.args.touched.now new.touched) invalidates
@@ -42,5 +44,9 @@ pub returns-clause-to_sweep : goal.returns-clause-to_sweep
 returns-clause-to_sweep c =
     let m = kept c.self.inside in
     let between = rw (← c.self.view_is) at c.requires.between in
-    to_sweep_given_up m (record m { records = c.give_up_together.new.store }) c.args.scope c.has-invalidates.result c.args.checked.now.caller.pid c.args.touched.now
+    to_sweep_given_up m (record m {
+      records =
+          c.give_up_together.new.store;
+    }) c.args.scope c.has-invalidates.result c.args.checked.now.caller.pid
+    c.args.touched.now
     c.give_up_together.new.touched between c.give_up_together.ensures.given_up c.give_up_together.ensures.can_end

@@ -7,7 +7,7 @@ use Rattle.vlm_machine.specs.Admissions.{IsAdmittedDequeue, IsChildless}
 use Rattle.vlm_machine.specs.Between.{IsBetweenSteps}
 use Rattle.vlm_machine.specs.Machine.{MachineState, plain_state}
 use Rattle.vlm_machine.proofs.ConversionsMade.{state_withdrawn}
-use Rattle.vlm_machine.proofs.Wanting.{wants_nothing}
+use Rattle.vlm_machine.proofs.GrantedWantNothing.{wants_nothing}
 use Rattle.vlm_machine.proofs.records.Machine.deq_change.Goals as goal
 
 -- a lock that goes has no sublocks
@@ -28,7 +28,9 @@ pub returns-clause-change : goal.returns-clause-change
 returns-clause-change c =
     ap (λ (m : MachineState). plain_state (record m { records = c.withdraw.new.store })) c.self.view_is
     ∙ state_withdrawn c.args.self.now c.args.dequeue.now (plain_withdrawal c.withdrawal_of-withdrawal.result) c.withdraw.new.store c.requires.admitted.alone
-    (c.withdrawal_of-withdrawal.ensures ∙ ap (withdrawal_of c.args.dequeue.now) (c.lkid.ensures ∙ c.requires.admitted.located.named)) (rw (← c.self.view_is) c.withdraw.ensures.resources)
+    (c.withdrawal_of-withdrawal.ensures
+    ∙ ap (withdrawal_of c.args.dequeue.now) (c.lkid.ensures ∙ c.requires.admitted.located.named))
+    (rw (← c.self.view_is) c.withdraw.ensures.resources)
     (rw (← c.self.view_is) c.withdraw.ensures.statuses)
 
 -- the other resources stay

@@ -11,8 +11,8 @@ use Rattle.vlm_machine.specs.declared.dequeues.CheckedDequeue.{CheckedDequeue}
 use Rattle.vlm_machine.specs.Admissions.{IsCheckedDequeue, refusal_alone}
 use Rattle.vlm_machine.specs.Machine.{MachineState, plain_state}
 use Rattle.vlm_machine.proofs.Admitting.{later_alone}
-use Rattle.vlm_machine.proofs.Made.{made_refused, made_swept}
-use Rattle.vlm_machine.proofs.Settling.{settled_but}
+use Rattle.vlm_machine.proofs.ChangedAndSwept.{made_refused, made_swept}
+use Rattle.vlm_machine.proofs.NothingToSweep.{stable_but}
 use Rattle.vlm_machine.proofs.records.Machine.deq_one.Goals as goal
 
 -- what such a dequeue is refused for, by what it named
@@ -25,15 +25,16 @@ refused_for m d c checked alone =
     ∙ ap (λ (lkid : ℕ). or_else (lock_refusal s c.caller.pid lkid) (refusal_alone s d)) (sym checked.lkid)
 
 -- only the resource of the lock may be swept
-pub sweep-requires-clause-settled : goal.sweep-requires-clause-settled
-sweep-requires-clause-settled c =
-    settled_but c.args.self.now.records c.deq_change.new.self.records c.located-located.result.res c.requires.between.settled c.deq_change.ensures.others
+pub sweep-requires-clause-stable : goal.sweep-requires-clause-stable
+sweep-requires-clause-stable c =
+    stable_but c.args.self.now.records c.deq_change.new.self.records c.located-located.result.res c.requires.between.stable c.deq_change.ensures.others
 
 pub returns-in-Err : goal.returns-in-Err
 returns-in-Err c =
     let s = plain_state c.args.self.now in
     let refused = refused_for c.args.self.now c.args.dequeue.now c.args.checked.now c.requires.checked c.requires.alone in
-    made_refused s (Deq c.args.dequeue.now) c.in-Err.refusal refl (refused ∙ ap (λ o. or_else o (refusal_alone s c.args.dequeue.now)) (sym c.in-Err.ensures.refusal))
+    made_refused s (Deq c.args.dequeue.now) c.in-Err.refusal refl (refused
+    ∙ ap (λ o. or_else o (refusal_alone s c.args.dequeue.now)) (sym c.in-Err.ensures.refusal))
 
 pub returns-in-Err-check_alone : goal.returns-in-Err-check_alone
 returns-in-Err-check_alone c =

@@ -7,7 +7,7 @@ use Rattle.vlm_locks.specs.Withdrawing.{goes}
 use Rattle.vlm_machine.specs.Between.{IsBetweenSteps}
 use Rattle.vlm_machine.specs.Machine.{MachineState, plain_state}
 use Rattle.vlm_machine.proofs.Childless.{by_recursion, goes_waiting, waiting_childless}
-use Rattle.vlm_machine.proofs.Wanting.{wants_nothing}
+use Rattle.vlm_machine.proofs.GrantedWantNothing.{wants_nothing}
 use Rattle.vlm_machine.proofs.records.Machine.end_victim.Goals as goal
 use Rattle.vlm_locks.proofs.Rising.{none_loose}
 
@@ -20,7 +20,9 @@ withdraw-requires-clause-childless c =
     let stays : c.victim-withdrawal.result.stays ≡ true = ap (λ (w : Withdrawal). w.stays) c.victim-withdrawal.ensures in
     λ takes.
     subst (λ (k : MachineState). HasNoSublocks f.lock k.records) (sym c.self.view_is)
-    (waiting_childless m.records sound f c.requires.located (rw (← c.self.view_is) (none_loose c.self.inside.store c.self.invariant.rest.rising)) c.requires.between.identifications.none_is_0
+    (waiting_childless m.records sound f c.requires.located
+    (rw (← c.self.view_is)
+    (none_loose c.self.inside.store c.self.invariant.rest.rising)) c.requires.between.ids.none_is_0
     (by_recursion (plain_resources m.records) c.requires.between.parents)
     (goes_waiting f.queue (sym (ap (λ b. goes b f.queue) stays) ∙ takes)))
 

@@ -20,8 +20,10 @@ returns-clause-change c =
     let between = rw (← c.self.view_is) at c.requires.between in
     rw (← c.self.view_is)
     (ap (λ (its : List Node). plain_state (record m { nodes = its; records = c.end_processes_of.new.store })) c.depart.ensures
-    ∙ state_ended m (is_of_node c.args.node) (nodes_after_departure m.nodes c.args.node) c.end_processes_of.new.store c.args.touched.now c.end_processes_of.new.touched
-    (is_apart (plain_state m) between.identifications (omega arith)) c.end_processes_of.ensures.ended)
+    ∙ state_ended m (is_of_node c.args.node)
+    (nodes_after_departure m.nodes c.args.node) c.end_processes_of.new.store c.args.touched.now
+    c.end_processes_of.new.touched
+    (is_apart (plain_state m) between.ids (omega arith)) c.end_processes_of.ensures.ended)
 
 pub returns-clause-to_sweep : goal.returns-clause-to_sweep
 returns-clause-to_sweep c =

@@ -1,5 +1,5 @@
 use Rattle.std.proofs.Common.{sym, ap, ◌∙◌}
-use Rattle.vlm_words.specs.declared.locks.LockRow.{LockRow}
+use Rattle.vlm_words.specs.declared.locks.LockState.{LockState}
 use Rattle.vlm_machine.proofs.records.Machine.located.Goals as goal
 
 -- the lock that was found stands so
@@ -10,6 +10,6 @@ returns-clause-located c pid lkid found =
     rw (← c.self.view_is)
     (record {
       located = c.located_lock.ensures.located;
-      named = sym (ap (λ (row : LockRow). row.lkid) same) ∙ found.named;
-      owned = sym (ap (λ (row : LockRow). row.pid) same) ∙ found.owned;
+      named = sym (ap (λ (row : LockState). row.lkid) same) ∙ found.named;
+      owned = sym (ap (λ (row : LockState). row.pid) same) ∙ found.owned;
     })

@@ -9,7 +9,7 @@ use Rattle.vlm_store.specs.Plain.{plain_resources}
 use Rattle.vlm_store.specs.Records.{IsParentOf, IsProcess}
 use Rattle.vlm_machine.specs.Admissions.{IsAskedBy}
 use Rattle.vlm_machine.specs.Machine.{MachineState, kept, plain_state}
-use Rattle.vlm_machine.proofs.Siting.{parent_of_row, site_is}
+use Rattle.vlm_machine.proofs.ParentLocks.{parent_of_row, site_is}
 use Rattle.vlm_machine.proofs.records.Machine.looked_up.Goals as goal
 
 pub returns : goal.returns
@@ -24,7 +24,8 @@ returns c =
     let site_told = subst
     (λ (k : MachineState). site ≡ site_below (root_domain (plain_state k) c.args.caller.now.pid (flag_bits c.args.form.now.flags)) e.name
     (parent_resource (plain_state k) c.args.caller.now.pid c.args.form.now.parent)) (sym c.self.view_is) c.site_of-site.ensures.site in
-    let site_same : site ≡ enq_site (plain_state m) e = site_told ∙ site_is (plain_state m) e c.args.form.now c.args.caller.now.pid c.args.form.now.parent form said.pid refl in
+    let site_same : site ≡ enq_site (plain_state m) e = site_told
+    ∙ site_is (plain_state m) e c.args.form.now c.args.caller.now.pid c.args.form.now.parent form said.pid refl in
     let flags : c.args.form.now.flags ≡ (enq_request (plain_state m) e).flags = ap (λ bits. record { 0 = bits }) form.flags in
     rw (← c.self.view_is)
     (record {
@@ -32,7 +33,8 @@ returns c =
       flags = form.flags;
       parent_lkid = form.parent;
       parent = subst (λ up. IsParentOf up (enq_row (plain_state m) e) c.self.inside.store) (sym c.lock_of.ensures)
-          (parent_of_row c.self.inside.store c.args.caller.now.pid c.args.form.now.parent c.args.parent.now said.stands (enq_row (plain_state m) e) (sym form.parent));
+          (parent_of_row c.self.inside.store c.args.caller.now.pid c.args.form.now.parent c.args.parent.now said.stands
+          (enq_row (plain_state m) e) (sym form.parent));
       site = site_same;
       keyed = c.site_of-site.ensures.keyed;
       hash = c.look_up.ensures.hash;

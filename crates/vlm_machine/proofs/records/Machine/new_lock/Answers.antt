@@ -1,6 +1,6 @@
 use Rattle.std.proofs.Common.{◌≡◌, Some, refl, sym, ap, ◌∙◌, subst}
 use Rattle.vlm_words.specs.declared.locks.Request.{Request}
-use Rattle.vlm_words.specs.declared.locks.LockRow.{LockRow}
+use Rattle.vlm_words.specs.declared.locks.LockState.{LockState}
 use Rattle.vlm_model.specs.Enqueue.{enq_request, enq_row}
 use Rattle.vlm_store.specs.Records.{IsParentOf}
 use Rattle.vlm_machine.specs.Admissions.{IsChecked}
@@ -24,7 +24,7 @@ returns c =
       entered = record {
         row = row;
         owner = is.owner;
-        parent = subst (λ (r : LockRow). IsParentOf checked.parent r c.self.inside.store) (sym row) is.parent;
+        parent = subst (λ (r : LockState). IsParentOf checked.parent r c.self.inside.store) (sym row) is.parent;
         site = is.site;
         keyed = is.keyed;
         hash = is.hash;

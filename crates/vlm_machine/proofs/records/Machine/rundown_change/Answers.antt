@@ -18,7 +18,7 @@ returns-clause-change c =
     let between = rw (← c.self.view_is) at c.requires.between in
     rw (← c.self.view_is)
     (state_ended m (is_ended_by c.args.caller.now.pid) m.nodes c.end_process.new.store c.args.touched.now c.end_process.new.touched
-    (is_apart (plain_state m) between.identifications (omega arith)) c.end_process.ensures.ended)
+    (is_apart (plain_state m) between.ids (omega arith)) c.end_process.ensures.ended)
 
 pub returns-clause-to_sweep : goal.returns-clause-to_sweep
 returns-clause-to_sweep c =

@@ -1,7 +1,7 @@
 use Rattle.std.proofs.Common.{rules}
 use Rattle.vlm_model.specs.SetValue.{set_change}
-use Rattle.vlm_locks.proofs.Changed.{rests_still}
-use Rattle.vlm_machine.proofs.Stayed.{paid_still}
+use Rattle.vlm_locks.proofs.ChangedResource.{rests_still}
+use Rattle.vlm_machine.proofs.ProcessesAlone.{paid_still}
 use Rattle.vlm_machine.proofs.records.Machine.set_change.Goals as goal
 
 pub invariant_of-self : goal.invariant_of-self

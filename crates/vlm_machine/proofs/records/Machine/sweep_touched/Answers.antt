@@ -1,6 +1,6 @@
 use Rattle.std.proofs.Common.{List, sym, subst}
 use Rattle.vlm_locks.specs.declared.touched.Note.{Note}
-use Rattle.vlm_locks.specs.Sweeping.{AreSettledBut, StandInOrder}
+use Rattle.vlm_locks.specs.Sweeping.{AreStableBut, StandInOrder}
 use Rattle.vlm_locks.specs.Touched.{touched_handles}
 use Rattle.vlm_locks.proofs.InOrder.{handles_left, touches_stand}
 use Rattle.vlm_machine.specs.Notes.{IsToSweep}
@@ -10,11 +10,13 @@ pub sweep-requires-clause-in_order : goal.sweep-requires-clause-in_order
 sweep-requires-clause-in_order c =
     let left = subst (IsToSweep c.args.touched.now) (sym c.self.view_is) c.requires in
     subst (λ (touches : List Note). StandInOrder (touched_handles touches) c.self.inside.store.resources) (sym c.notes.ensures)
-    (touches_stand c.in_order.new.self.noted c.self.inside.store.resources c.in_order.ensures.rising (λ t there. left.noted t (c.in_order.ensures.within t there)) left.rise)
+    (touches_stand c.in_order.new.self.noted c.self.inside.store.resources c.in_order.ensures.rising
+    (λ t there. left.noted t (c.in_order.ensures.within t there)) left.rise)
 
-pub sweep-requires-clause-settled : goal.sweep-requires-clause-settled
-sweep-requires-clause-settled c =
+pub sweep-requires-clause-stable : goal.sweep-requires-clause-stable
+sweep-requires-clause-stable c =
     let left = subst (IsToSweep c.args.touched.now) (sym c.self.view_is) c.requires in
-    subst (λ (touches : List Note). AreSettledBut (touched_handles touches) c.self.inside.store.resources) (sym c.notes.ensures)
-    (λ r there untouched. left.settled r there
-    (λ among. untouched (handles_left c.args.touched.now.noted c.in_order.new.self.noted c.self.inside.store.resources left.rise left.noted c.in_order.ensures.within c.in_order.ensures.each r.at among)))
+    subst (λ (touches : List Note). AreStableBut (touched_handles touches) c.self.inside.store.resources) (sym c.notes.ensures)
+    (λ r there untouched. left.stable r there
+    (λ among. untouched (handles_left c.args.touched.now.noted c.in_order.new.self.noted c.self.inside.store.resources
+    left.rise left.noted c.in_order.ensures.within c.in_order.ensures.each r.at among)))

@@ -1,5 +1,5 @@
-use Rattle.vlm_locks.proofs.Changed.{rests_still}
-use Rattle.vlm_machine.proofs.Stayed.{paid_still}
+use Rattle.vlm_locks.proofs.ChangedResource.{rests_still}
+use Rattle.vlm_machine.proofs.ProcessesAlone.{paid_still}
 use Rattle.vlm_machine.proofs.records.Machine.take_change.Goals as goal
 
 pub invariant_of-self : goal.invariant_of-self

@@ -12,22 +12,27 @@ use Rattle.vlm_ports.proofs.hub.Hub.deliver_ast.Goals as goal
 
 pub returns-then-not-has_place-clause-rings : goal.returns-then-not-has_place-clause-rings
 returns-then-not-has_place-clause-rings c =
-    rings_set c.args.self.now.all_node_rings.items c.args.at c.has_place.new.self c.index_mut-node_rings.result.now c.index_mut-node_rings.ensures.value c.has_place.ensures.rings
+    rings_set c.args.self.now.all_node_rings.items c.args.at c.has_place.new.self c.index_mut-node_rings.result.now
+    c.index_mut-node_rings.ensures.value c.has_place.ensures.rings
 
 pub returns-then-not-has_place-clause-base : goal.returns-then-not-has_place-clause-base
 returns-then-not-has_place-clause-base c =
-    let follows = set_same c.args.self.now.all_node_rings.items c.args.self.now.journaled.entries c.args.at c.has_place.new.self c.index_mut-node_rings.result.now c.args.self.now.linked c.requires c.index_mut-node_rings.ensures.value
+    let follows = set_same c.args.self.now.all_node_rings.items c.args.self.now.journaled.entries c.args.at
+    c.has_place.new.self c.index_mut-node_rings.result.now c.args.self.now.linked c.requires
+    c.index_mut-node_rings.ensures.value
     c.has_place.ensures.rings c.has_place.ensures.taken c.has_place.ensures.told in
     (refl, follows.bases)
 
 pub returns-in_err-reserve-clause-rings : goal.returns-in_err-reserve-clause-rings
 returns-in_err-reserve-clause-rings c =
-    rings_set c.args.self.now.all_node_rings.items c.args.at c.has_place.new.self c.index_mut-node_rings.result.now c.index_mut-node_rings.ensures.value c.has_place.ensures.rings
+    rings_set c.args.self.now.all_node_rings.items c.args.at c.has_place.new.self c.index_mut-node_rings.result.now
+    c.index_mut-node_rings.ensures.value c.has_place.ensures.rings
 
 pub returns-in_err-reserve-clause-base : goal.returns-in_err-reserve-clause-base
 returns-in_err-reserve-clause-base c =
     let ls = c.args.self.now.all_node_rings.items in let js = c.args.self.now.journaled.entries in
-    let follows = set_same ls js c.args.at c.has_place.new.self c.index_mut-node_rings.result.now c.args.self.now.linked c.requires c.index_mut-node_rings.ensures.value
+    let follows = set_same ls js c.args.at c.has_place.new.self c.index_mut-node_rings.result.now c.args.self.now.linked
+    c.requires c.index_mut-node_rings.ensures.value
     c.has_place.ensures.rings c.has_place.ensures.taken c.has_place.ensures.told in
     let P : List Entry → Type 0 = λ es. map (node_rings_base es) (set ls c.args.at c.has_place.new.self) ≡ map (node_rings_base js) ls in
     (c.reserve.ensures.base, subst P (sym c.reserve.ensures.entries) follows.bases)
@@ -38,8 +43,10 @@ invariant_of-self-2-clause-linked c =
     let was = c.index_mut-node_rings.result.now in
     let pid = c.in-Some.pid in let ast = c.deliver_ast-ast.result in
     let to = c.deliver_ast-ast.ensures.node ∙ node_at ls js at was was c.args.self.now.linked c.requires c.index_mut-node_rings.ensures.value refl in
-    (delivered_follows ls js c.reserve.new.self.entries c.deliver_ast-ast.new.self.entries at l was pid ast c.args.self.now.linked c.requires c.index_mut-node_rings.ensures.value
-    c.reserve.ensures.entries c.deliver_ast-ast.ensures.written.told c.deliver_ast-ast.ensures.written.entries to (c.tell.ensures.rings ∙ c.has_place.ensures.rings) (c.tell.ensures.taken ∙ c.has_place.ensures.taken)
+    (delivered_follows ls js c.reserve.new.self.entries c.deliver_ast-ast.new.self.entries at l was pid ast
+    c.args.self.now.linked c.requires c.index_mut-node_rings.ensures.value
+    c.reserve.ensures.entries c.deliver_ast-ast.ensures.written.told c.deliver_ast-ast.ensures.written.entries to
+    (c.tell.ensures.rings ∙ c.has_place.ensures.rings) (c.tell.ensures.taken ∙ c.has_place.ensures.taken)
     (c.tell.ensures.told ∙ ap (λ (xs : List Item). xs ++ ast_item pid ast ∷ []) c.has_place.ensures.told)).linked
 
 pub returns-clause-rings : goal.returns-clause-rings
@@ -54,37 +61,54 @@ returns-clause-base c =
     let pid = c.in-Some.pid in let ast = c.deliver_ast-ast.result in
     let to = c.deliver_ast-ast.ensures.node ∙ node_at ls js at was was c.args.self.now.linked c.requires c.index_mut-node_rings.ensures.value refl in (
       c.deliver_ast-ast.ensures.written.base ∙ c.reserve.ensures.base,
-      (delivered_follows ls js c.reserve.new.self.entries c.deliver_ast-ast.new.self.entries at l was pid ast c.args.self.now.linked c.requires c.index_mut-node_rings.ensures.value
-          c.reserve.ensures.entries c.deliver_ast-ast.ensures.written.told c.deliver_ast-ast.ensures.written.entries to (c.tell.ensures.rings ∙ c.has_place.ensures.rings) (c.tell.ensures.taken ∙ c.has_place.ensures.taken)
+      (delivered_follows ls js c.reserve.new.self.entries c.deliver_ast-ast.new.self.entries at l was pid ast
+          c.args.self.now.linked c.requires c.index_mut-node_rings.ensures.value
+          c.reserve.ensures.entries c.deliver_ast-ast.ensures.written.told c.deliver_ast-ast.ensures.written.entries to
+          (c.tell.ensures.rings ∙ c.has_place.ensures.rings) (c.tell.ensures.taken ∙ c.has_place.ensures.taken)
           (c.tell.ensures.told ∙ ap (λ (xs : List Item). xs ++ ast_item pid ast ∷ []) c.has_place.ensures.told)).bases,
     )
 
 pub returns-clause-none_asks : goal.returns-clause-none_asks
 returns-clause-none_asks c =
-    hub_asks c.args.self.now.journaled.entries c.reserve.new.self.entries c.deliver_ast-ast.new.self.entries (delivery c.in-Some.pid c.deliver_ast-ast.result) c.reserve.ensures.entries c.deliver_ast-ast.ensures.written.told c.deliver_ast-ast.ensures.written.entries refl
+    hub_asks c.args.self.now.journaled.entries c.reserve.new.self.entries c.deliver_ast-ast.new.self.entries
+    (delivery c.in-Some.pid c.deliver_ast-ast.result) c.reserve.ensures.entries
+    c.deliver_ast-ast.ensures.written.told c.deliver_ast-ast.ensures.written.entries refl
 
 pub returns-clause-grew : goal.returns-clause-grew
 returns-clause-grew c = (
   omega arith,
-  grew_one c.args.self.now.journaled.entries c.reserve.new.self.entries c.deliver_ast-ast.new.self.entries c.args.self.now.journaled.state c.reserve.new.self.state c.deliver_ast-ast.new.self.state (delivery c.in-Some.pid c.deliver_ast-ast.result)
-      c.reserve.ensures.entries c.reserve.ensures.state c.deliver_ast-ast.ensures.written.entries c.deliver_ast-ast.ensures.written.leads c.deliver_ast-ast.ensures.written.departed
+  grew_one c.args.self.now.journaled.entries c.reserve.new.self.entries c.deliver_ast-ast.new.self.entries
+      c.args.self.now.journaled.state c.reserve.new.self.state c.deliver_ast-ast.new.self.state
+      (delivery c.in-Some.pid c.deliver_ast-ast.result)
+      c.reserve.ensures.entries c.reserve.ensures.state c.deliver_ast-ast.ensures.written.entries
+      c.deliver_ast-ast.ensures.written.leads c.deliver_ast-ast.ensures.written.departed
       (λ own. record { pid = c.in-Some.pid; ast = c.deliver_ast-ast.result; step = refl; answer = refl }),
 )
 
 pub returns-then-not-has_place-clause-grew : goal.returns-then-not-has_place-clause-grew
-returns-then-not-has_place-clause-grew c = (omega arith, grew_none c.args.self.now.journaled.entries c.args.self.now.journaled.entries c.args.self.now.journaled.state c.args.self.now.journaled.state refl refl)
+returns-then-not-has_place-clause-grew c = (
+  omega arith,
+  grew_none c.args.self.now.journaled.entries c.args.self.now.journaled.entries
+      c.args.self.now.journaled.state c.args.self.now.journaled.state refl refl,
+)
 
 pub returns-in_default-clause-grew : goal.returns-in_default-clause-grew
-returns-in_default-clause-grew c = (omega arith, grew_none c.args.self.now.journaled.entries c.args.self.now.journaled.entries c.args.self.now.journaled.state c.args.self.now.journaled.state refl refl)
+returns-in_default-clause-grew c = (
+  omega arith,
+  grew_none c.args.self.now.journaled.entries c.args.self.now.journaled.entries
+      c.args.self.now.journaled.state c.args.self.now.journaled.state refl refl,
+)
 
 pub returns-then-not-has_place-clause-known : goal.returns-then-not-has_place-clause-known
 returns-then-not-has_place-clause-known c =
-    lasts_at c.args.self.now.all_node_rings.items c.args.at c.has_place.new.self c.index_mut-node_rings.result.now c.requires c.index_mut-node_rings.ensures.value
+    lasts_at c.args.self.now.all_node_rings.items c.args.at c.has_place.new.self c.index_mut-node_rings.result.now
+    c.requires c.index_mut-node_rings.ensures.value
     c.has_place.ensures.lasts
 
 pub returns-in_err-reserve-clause-known : goal.returns-in_err-reserve-clause-known
 returns-in_err-reserve-clause-known c =
-    lasts_at c.args.self.now.all_node_rings.items c.args.at c.has_place.new.self c.index_mut-node_rings.result.now c.requires c.index_mut-node_rings.ensures.value
+    lasts_at c.args.self.now.all_node_rings.items c.args.at c.has_place.new.self c.index_mut-node_rings.result.now
+    c.requires c.index_mut-node_rings.ensures.value
     c.has_place.ensures.lasts
 
 pub returns-clause-known : goal.returns-clause-known
@@ -97,4 +121,5 @@ returns-clause-delivers c =
     let ls = c.args.self.now.all_node_rings.items in let js = c.args.self.now.journaled.entries in
     let was = c.index_mut-node_rings.result.now in
     let to = c.deliver_ast-ast.ensures.node ∙ node_at ls js c.args.at was was c.args.self.now.linked c.requires c.index_mut-node_rings.ensures.value refl in
-    delivers_one c.args.at js c.reserve.new.self.entries c.deliver_ast-ast.new.self.entries c.in-Some.pid c.deliver_ast-ast.result c.reserve.ensures.entries c.deliver_ast-ast.ensures.written.entries to
+    delivers_one c.args.at js c.reserve.new.self.entries c.deliver_ast-ast.new.self.entries c.in-Some.pid
+    c.deliver_ast-ast.result c.reserve.ensures.entries c.deliver_ast-ast.ensures.written.entries to

@@ -11,9 +11,12 @@ returns-clause-rings c = rings_set c.args.self.now.all_node_rings.items (c.args.
 
 pub returns-clause-base : goal.returns-clause-base
 returns-clause-base c =
-    let ls = c.args.self.now.all_node_rings.items in let js = c.args.self.now.journaled.entries in let at = c.args.node - 1 in let l = c.requests_waiting.new.self in
+    let ls = c.args.self.now.all_node_rings.items in let js = c.args.self.now.journaled.entries in let at =
+    c.args.node - 1 in let l = c.requests_waiting.new.self in
     let some = c.requires.node.0 in let most = c.requires.node.1 in
-    let follows = set_same ls js at l c.index_mut-node_rings.result.now c.args.self.now.linked (omega (arith, some, most)) c.index_mut-node_rings.ensures.value c.requests_waiting.ensures.rings c.requests_waiting.ensures.unmoved.0 c.requests_waiting.ensures.unmoved.1 in
+    let follows = set_same ls js at l c.index_mut-node_rings.result.now c.args.self.now.linked
+    (omega (arith, some, most)) c.index_mut-node_rings.ensures.value c.requests_waiting.ensures.rings
+    c.requests_waiting.ensures.unmoved.0 c.requests_waiting.ensures.unmoved.1 in
     (refl, follows.bases)
 
 pub returns-clause-count : goal.returns-clause-count
@@ -24,11 +27,15 @@ returns-clause-count c =
 
 pub returns-clause-known : goal.returns-clause-known
 returns-clause-known c =
-    let ls = c.args.self.now.all_node_rings.items in let js = c.args.self.now.journaled.entries in let at = c.args.node - 1 in let l = c.requests_waiting.new.self in
+    let ls = c.args.self.now.all_node_rings.items in let js = c.args.self.now.journaled.entries in let at =
+    c.args.node - 1 in let l = c.requests_waiting.new.self in
     let was = c.index_mut-node_rings.result.now in
     let some = c.requires.node.0 in let most = c.requires.node.1 in
-    let follows = set_same ls js at l was c.args.self.now.linked (omega (arith, some, most)) c.index_mut-node_rings.ensures.value c.requests_waiting.ensures.rings c.requests_waiting.ensures.unmoved.0 c.requests_waiting.ensures.unmoved.1 in
-    known_kept ls (set ls at l) js js c.args.self.now.linked follows.linked (rings_set ls at l was c.index_mut-node_rings.ensures.value c.requests_waiting.ensures.rings)
+    let follows = set_same ls js at l was c.args.self.now.linked
+    (omega (arith, some, most)) c.index_mut-node_rings.ensures.value c.requests_waiting.ensures.rings
+    c.requests_waiting.ensures.unmoved.0 c.requests_waiting.ensures.unmoved.1 in
+    known_kept ls (set ls at l) js js c.args.self.now.linked follows.linked
+    (rings_set ls at l was c.index_mut-node_rings.ensures.value c.requests_waiting.ensures.rings)
     (lasts_at ls at l was (omega (arith, some, most)) c.index_mut-node_rings.ensures.value c.requests_waiting.ensures.lasts)
 
 pub returns-clause-others : goal.returns-clause-others

@@ -14,72 +14,95 @@ use Rattle.vlm_ports.proofs.hub.Hub.serve.Goals as goal
 
 pub returns-then-not-has_request-clause-rings : goal.returns-then-not-has_request-clause-rings
 returns-then-not-has_request-clause-rings c =
-    rings_set c.args.self.now.all_node_rings.items c.args.at c.has_request.new.self c.index_mut-node_rings.result.now c.index_mut-node_rings.ensures.value (c.has_request.ensures.rings)
+    rings_set c.args.self.now.all_node_rings.items c.args.at c.has_request.new.self c.index_mut-node_rings.result.now
+    c.index_mut-node_rings.ensures.value (c.has_request.ensures.rings)
 
 pub returns-then-not-has_request-clause-base : goal.returns-then-not-has_request-clause-base
 returns-then-not-has_request-clause-base c =
     let ls = c.args.self.now.all_node_rings.items in let js = c.args.self.now.journaled.entries in
-    let follows = set_same ls js c.args.at c.has_request.new.self c.index_mut-node_rings.result.now c.args.self.now.linked c.requires c.index_mut-node_rings.ensures.value
+    let follows = set_same ls js c.args.at c.has_request.new.self c.index_mut-node_rings.result.now
+    c.args.self.now.linked c.requires c.index_mut-node_rings.ensures.value
     (c.has_request.ensures.rings) (c.has_request.ensures.taken) (c.has_request.ensures.told) in
     (refl, follows.bases)
 
 pub returns-then-not-has_request-clause-grew : goal.returns-then-not-has_request-clause-grew
-returns-then-not-has_request-clause-grew c = (omega arith, grew_none c.args.self.now.journaled.entries c.args.self.now.journaled.entries c.args.self.now.journaled.state c.args.self.now.journaled.state refl refl)
+returns-then-not-has_request-clause-grew c = (
+  omega arith,
+  grew_none c.args.self.now.journaled.entries c.args.self.now.journaled.entries
+      c.args.self.now.journaled.state c.args.self.now.journaled.state refl refl,
+)
 
 pub returns-then-not-has_request-clause-known : goal.returns-then-not-has_request-clause-known
 returns-then-not-has_request-clause-known c =
-    lasts_at c.args.self.now.all_node_rings.items c.args.at c.has_request.new.self c.index_mut-node_rings.result.now c.requires c.index_mut-node_rings.ensures.value
+    lasts_at c.args.self.now.all_node_rings.items c.args.at c.has_request.new.self c.index_mut-node_rings.result.now
+    c.requires c.index_mut-node_rings.ensures.value
     (c.has_request.ensures.lasts)
 
 pub returns-then-not-has_place-clause-rings : goal.returns-then-not-has_place-clause-rings
 returns-then-not-has_place-clause-rings c =
-    rings_set c.args.self.now.all_node_rings.items c.args.at c.has_place.new.self c.index_mut-node_rings.result.now c.index_mut-node_rings.ensures.value (c.has_place.ensures.rings ∙ c.has_request.ensures.rings)
+    rings_set c.args.self.now.all_node_rings.items c.args.at c.has_place.new.self c.index_mut-node_rings.result.now
+    c.index_mut-node_rings.ensures.value (c.has_place.ensures.rings ∙ c.has_request.ensures.rings)
 
 pub returns-then-not-has_place-clause-base : goal.returns-then-not-has_place-clause-base
 returns-then-not-has_place-clause-base c =
     let ls = c.args.self.now.all_node_rings.items in let js = c.args.self.now.journaled.entries in
-    let follows = set_same ls js c.args.at c.has_place.new.self c.index_mut-node_rings.result.now c.args.self.now.linked c.requires c.index_mut-node_rings.ensures.value
-    (c.has_place.ensures.rings ∙ c.has_request.ensures.rings) (c.has_place.ensures.taken ∙ c.has_request.ensures.taken) (c.has_place.ensures.told ∙ c.has_request.ensures.told) in
+    let follows = set_same ls js c.args.at c.has_place.new.self c.index_mut-node_rings.result.now c.args.self.now.linked
+    c.requires c.index_mut-node_rings.ensures.value
+    (c.has_place.ensures.rings ∙ c.has_request.ensures.rings) (c.has_place.ensures.taken
+    ∙ c.has_request.ensures.taken) (c.has_place.ensures.told ∙ c.has_request.ensures.told) in
     (refl, follows.bases)
 
 pub returns-then-not-has_place-clause-grew : goal.returns-then-not-has_place-clause-grew
-returns-then-not-has_place-clause-grew c = (omega arith, grew_none c.args.self.now.journaled.entries c.args.self.now.journaled.entries c.args.self.now.journaled.state c.args.self.now.journaled.state refl refl)
+returns-then-not-has_place-clause-grew c = (
+  omega arith,
+  grew_none c.args.self.now.journaled.entries c.args.self.now.journaled.entries
+      c.args.self.now.journaled.state c.args.self.now.journaled.state refl refl,
+)
 
 pub returns-then-not-has_place-clause-known : goal.returns-then-not-has_place-clause-known
 returns-then-not-has_place-clause-known c =
-    lasts_at c.args.self.now.all_node_rings.items c.args.at c.has_place.new.self c.index_mut-node_rings.result.now c.requires c.index_mut-node_rings.ensures.value
+    lasts_at c.args.self.now.all_node_rings.items c.args.at c.has_place.new.self c.index_mut-node_rings.result.now
+    c.requires c.index_mut-node_rings.ensures.value
     (lasts_then _ _ _ c.has_request.ensures.lasts c.has_place.ensures.lasts)
 
 pub returns-in_err-reserve-clause-rings : goal.returns-in_err-reserve-clause-rings
 returns-in_err-reserve-clause-rings c =
-    rings_set c.args.self.now.all_node_rings.items c.args.at c.has_place.new.self c.index_mut-node_rings.result.now c.index_mut-node_rings.ensures.value (c.has_place.ensures.rings ∙ c.has_request.ensures.rings)
+    rings_set c.args.self.now.all_node_rings.items c.args.at c.has_place.new.self c.index_mut-node_rings.result.now
+    c.index_mut-node_rings.ensures.value (c.has_place.ensures.rings ∙ c.has_request.ensures.rings)
 
 pub returns-in_err-reserve-clause-base : goal.returns-in_err-reserve-clause-base
 returns-in_err-reserve-clause-base c =
     let ls = c.args.self.now.all_node_rings.items in let js = c.args.self.now.journaled.entries in
-    let follows = set_same ls js c.args.at c.has_place.new.self c.index_mut-node_rings.result.now c.args.self.now.linked c.requires c.index_mut-node_rings.ensures.value
-    (c.has_place.ensures.rings ∙ c.has_request.ensures.rings) (c.has_place.ensures.taken ∙ c.has_request.ensures.taken) (c.has_place.ensures.told ∙ c.has_request.ensures.told) in
+    let follows = set_same ls js c.args.at c.has_place.new.self c.index_mut-node_rings.result.now c.args.self.now.linked
+    c.requires c.index_mut-node_rings.ensures.value
+    (c.has_place.ensures.rings ∙ c.has_request.ensures.rings) (c.has_place.ensures.taken
+    ∙ c.has_request.ensures.taken) (c.has_place.ensures.told ∙ c.has_request.ensures.told) in
     let P : List Entry → Type 0 = λ es. map (node_rings_base es) (set ls c.args.at c.has_place.new.self) ≡ map (node_rings_base js) ls in
     (c.reserve.ensures.base, subst P (sym c.reserve.ensures.entries) follows.bases)
 
 pub returns-in_err-reserve-clause-known : goal.returns-in_err-reserve-clause-known
 returns-in_err-reserve-clause-known c =
-    lasts_at c.args.self.now.all_node_rings.items c.args.at c.has_place.new.self c.index_mut-node_rings.result.now c.requires c.index_mut-node_rings.ensures.value
+    lasts_at c.args.self.now.all_node_rings.items c.args.at c.has_place.new.self c.index_mut-node_rings.result.now
+    c.requires c.index_mut-node_rings.ensures.value
     (lasts_then _ _ _ c.has_request.ensures.lasts c.has_place.ensures.lasts)
 
 pub invariant_of-self-2-clause-linked : goal.invariant_of-self-2-clause-linked
 invariant_of-self-2-clause-linked c =
     let ls = c.args.self.now.all_node_rings.items in let js = c.args.self.now.journaled.entries in let l = c.tell.new.self in let at = c.args.at in
     let was = c.index_mut-node_rings.result.now in let seen = c.has_place.new.self in
-    let step = c.on_behalf-step.result.now in let answer = c.serve-answer.result in
+    let step = c.on_behalf-step.result.now in let answer = c.apply-answer.result in
     let posted = subst (λ (s : Step). IsPrefix (s ∷ []) (knows seen)) (sym c.on_behalf-step.ensures.same) c.next_request.ensures in
     let ring = c.has_place.ensures.rings ∙ c.has_request.ensures.rings in
     let node = node_at ls js at seen was c.args.self.now.linked c.requires c.index_mut-node_rings.ensures.value ring in
     let e : Entry = record { sender = seen.node; step = step; answer = answer } in
-    (served_follows ls js c.reserve.new.self.entries c.serve-answer.new.self.entries at l was e c.args.self.now.linked c.requires c.index_mut-node_rings.ensures.value
-    c.reserve.ensures.entries c.serve-answer.ensures.written.told c.serve-answer.ensures.written.entries node (c.tell.ensures.rings ∙ c.take_request.ensures.rings ∙ ring)
-    (c.tell.ensures.taken ∙ c.take_request.ensures.taken step posted ∙ ap (λ (xs : List Step). xs ++ step ∷ []) (c.has_place.ensures.taken ∙ c.has_request.ensures.taken))
-    (c.tell.ensures.told ∙ ap (λ (xs : List Item). xs ++ answer_item answer ∷ []) (c.take_request.ensures.told ∙ c.has_place.ensures.told ∙ c.has_request.ensures.told))).linked
+    (served_follows ls js c.reserve.new.self.entries c.apply-answer.new.self.entries at l was e c.args.self.now.linked
+    c.requires c.index_mut-node_rings.ensures.value
+    c.reserve.ensures.entries c.apply-answer.ensures.written.told c.apply-answer.ensures.written.entries node
+    (c.tell.ensures.rings ∙ c.take_request.ensures.rings ∙ ring)
+    (c.tell.ensures.taken ∙ c.take_request.ensures.taken step posted
+    ∙ ap (λ (xs : List Step). xs ++ step ∷ []) (c.has_place.ensures.taken ∙ c.has_request.ensures.taken))
+    (c.tell.ensures.told ∙ ap (λ (xs : List Item). xs ++ answer_item answer ∷ []) (c.take_request.ensures.told
+    ∙ c.has_place.ensures.told ∙ c.has_request.ensures.told))).linked
 
 pub returns-clause-rings : goal.returns-clause-rings
 returns-clause-rings c =
@@ -90,44 +113,57 @@ pub returns-clause-base : goal.returns-clause-base
 returns-clause-base c =
     let ls = c.args.self.now.all_node_rings.items in let js = c.args.self.now.journaled.entries in let l = c.tell.new.self in let at = c.args.at in
     let was = c.index_mut-node_rings.result.now in let seen = c.has_place.new.self in
-    let step = c.on_behalf-step.result.now in let answer = c.serve-answer.result in
+    let step = c.on_behalf-step.result.now in let answer = c.apply-answer.result in
     let posted = subst (λ (s : Step). IsPrefix (s ∷ []) (knows seen)) (sym c.on_behalf-step.ensures.same) c.next_request.ensures in
     let ring = c.has_place.ensures.rings ∙ c.has_request.ensures.rings in
     let node = node_at ls js at seen was c.args.self.now.linked c.requires c.index_mut-node_rings.ensures.value ring in
     let e : Entry = record { sender = seen.node; step = step; answer = answer } in (
-      c.serve-answer.ensures.written.base ∙ c.reserve.ensures.base,
-      (served_follows ls js c.reserve.new.self.entries c.serve-answer.new.self.entries at l was e c.args.self.now.linked c.requires c.index_mut-node_rings.ensures.value
-          c.reserve.ensures.entries c.serve-answer.ensures.written.told c.serve-answer.ensures.written.entries node (c.tell.ensures.rings ∙ c.take_request.ensures.rings ∙ ring)
-          (c.tell.ensures.taken ∙ c.take_request.ensures.taken step posted ∙ ap (λ (xs : List Step). xs ++ step ∷ []) (c.has_place.ensures.taken ∙ c.has_request.ensures.taken))
-          (c.tell.ensures.told ∙ ap (λ (xs : List Item). xs ++ answer_item answer ∷ []) (c.take_request.ensures.told ∙ c.has_place.ensures.told ∙ c.has_request.ensures.told))).bases,
+      c.apply-answer.ensures.written.base ∙ c.reserve.ensures.base,
+      (served_follows ls js c.reserve.new.self.entries c.apply-answer.new.self.entries at l was e c.args.self.now.linked
+          c.requires c.index_mut-node_rings.ensures.value
+          c.reserve.ensures.entries c.apply-answer.ensures.written.told c.apply-answer.ensures.written.entries node
+          (c.tell.ensures.rings ∙ c.take_request.ensures.rings ∙ ring)
+          (c.tell.ensures.taken ∙ c.take_request.ensures.taken step posted
+          ∙ ap (λ (xs : List Step). xs ++ step ∷ []) (c.has_place.ensures.taken ∙ c.has_request.ensures.taken))
+          (c.tell.ensures.told ∙ ap (λ (xs : List Item). xs ++ answer_item answer ∷ []) (c.take_request.ensures.told
+          ∙ c.has_place.ensures.told ∙ c.has_request.ensures.told))).bases,
     )
 
 pub returns-clause-once : goal.returns-clause-once
 returns-clause-once c =
     let ls = c.args.self.now.all_node_rings.items in let js = c.args.self.now.journaled.entries in let seen = c.has_place.new.self in
-    let node = node_at ls js c.args.at seen c.index_mut-node_rings.result.now c.args.self.now.linked c.requires c.index_mut-node_rings.ensures.value (c.has_place.ensures.rings ∙ c.has_request.ensures.rings) in
-    let e : Entry = record { sender = seen.node; step = c.on_behalf-step.result.now; answer = c.serve-answer.result } in
-    node_asks c.args.at js c.reserve.new.self.entries c.serve-answer.new.self.entries e c.reserve.ensures.entries c.serve-answer.ensures.written.told c.serve-answer.ensures.written.entries node
+    let node = node_at ls js c.args.at seen c.index_mut-node_rings.result.now c.args.self.now.linked c.requires
+    c.index_mut-node_rings.ensures.value (c.has_place.ensures.rings ∙ c.has_request.ensures.rings) in
+    let e : Entry = record { sender = seen.node; step = c.on_behalf-step.result.now; answer = c.apply-answer.result } in
+    node_asks c.args.at js c.reserve.new.self.entries c.apply-answer.new.self.entries e c.reserve.ensures.entries
+    c.apply-answer.ensures.written.told c.apply-answer.ensures.written.entries node
 
 pub returns-clause-grew : goal.returns-clause-grew
 returns-clause-grew c =
     let js = c.args.self.now.journaled.entries in let seen = c.has_place.new.self in
-    let node = node_at c.args.self.now.all_node_rings.items js c.args.at seen c.index_mut-node_rings.result.now c.args.self.now.linked c.requires c.index_mut-node_rings.ensures.value (c.has_place.ensures.rings ∙ c.has_request.ensures.rings) in
-    let e : Entry = record { sender = seen.node; step = c.on_behalf-step.result.now; answer = c.serve-answer.result } in (
+    let node = node_at c.args.self.now.all_node_rings.items js c.args.at seen c.index_mut-node_rings.result.now
+    c.args.self.now.linked c.requires c.index_mut-node_rings.ensures.value (c.has_place.ensures.rings
+    ∙ c.has_request.ensures.rings) in
+    let e : Entry = record { sender = seen.node; step = c.on_behalf-step.result.now; answer = c.apply-answer.result } in (
       omega arith,
-      grew_one js c.reserve.new.self.entries c.serve-answer.new.self.entries c.args.self.now.journaled.state c.reserve.new.self.state c.serve-answer.new.self.state e
-          c.reserve.ensures.entries c.reserve.ensures.state c.serve-answer.ensures.written.entries c.serve-answer.ensures.written.leads c.serve-answer.ensures.written.departed
+      grew_one js c.reserve.new.self.entries c.apply-answer.new.self.entries c.args.self.now.journaled.state
+          c.reserve.new.self.state c.apply-answer.new.self.state e
+          c.reserve.ensures.entries c.reserve.ensures.state c.apply-answer.ensures.written.entries
+          c.apply-answer.ensures.written.leads c.apply-answer.ensures.written.departed
           (λ own. absurd (omega (arith, own, node))),
     )
 
 pub returns-clause-known : goal.returns-clause-known
 returns-clause-known c =
     lasts_at c.args.self.now.all_node_rings.items c.args.at c.tell.new.self c.index_mut-node_rings.result.now c.requires c.index_mut-node_rings.ensures.value
-    (lasts_then _ _ _ (lasts_then _ _ _ c.has_request.ensures.lasts c.has_place.ensures.lasts) (lasts_then _ _ _ c.take_request.ensures.lasts c.tell.ensures.lasts))
+    (lasts_then _ _ _ (lasts_then _ _ _ c.has_request.ensures.lasts c.has_place.ensures.lasts)
+    (lasts_then _ _ _ c.take_request.ensures.lasts c.tell.ensures.lasts))
 
 pub returns-clause-delivers : goal.returns-clause-delivers
 returns-clause-delivers c =
     let ls = c.args.self.now.all_node_rings.items in let js = c.args.self.now.journaled.entries in let seen = c.has_place.new.self in
-    let node = node_at ls js c.args.at seen c.index_mut-node_rings.result.now c.args.self.now.linked c.requires c.index_mut-node_rings.ensures.value (c.has_place.ensures.rings ∙ c.has_request.ensures.rings) in
-    let e : Entry = record { sender = seen.node; step = c.on_behalf-step.result.now; answer = c.serve-answer.result } in
-    served_delivers_none c.args.at js c.reserve.new.self.entries c.serve-answer.new.self.entries e c.reserve.ensures.entries c.serve-answer.ensures.written.entries node
+    let node = node_at ls js c.args.at seen c.index_mut-node_rings.result.now c.args.self.now.linked c.requires
+    c.index_mut-node_rings.ensures.value (c.has_place.ensures.rings ∙ c.has_request.ensures.rings) in
+    let e : Entry = record { sender = seen.node; step = c.on_behalf-step.result.now; answer = c.apply-answer.result } in
+    served_delivers_none c.args.at js c.reserve.new.self.entries c.apply-answer.new.self.entries e
+    c.reserve.ensures.entries c.apply-answer.ensures.written.entries node

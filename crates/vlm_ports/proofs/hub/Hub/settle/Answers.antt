@@ -8,21 +8,29 @@ use Rattle.vlm_ports.proofs.hub.Hub.settle.Goals as goal
 
 pub returns : goal.returns
 returns c = record {
-  rings = rings_set c.args.self.now.all_node_rings.items (c.args.port.now.node - 1) c.settle.new.self c.index_mut-node_rings.result.now c.index_mut-node_rings.ensures.value c.settle.ensures.rings;
+  rings = rings_set c.args.self.now.all_node_rings.items
+      (c.args.port.now.node - 1) c.settle.new.self c.index_mut-node_rings.result.now
+      c.index_mut-node_rings.ensures.value c.settle.ensures.rings;
   base =
-      let ls = c.args.self.now.all_node_rings.items in let js = c.args.self.now.journaled.entries in let at = c.args.port.now.node - 1 in let l = c.settle.new.self in
+      let ls = c.args.self.now.all_node_rings.items in let js = c.args.self.now.journaled.entries in let at =
+      c.args.port.now.node - 1 in let l = c.settle.new.self in
       let lt = node_rings_within ls at _ c.requires.1 in
-      let follows = set_same ls js at l c.index_mut-node_rings.result.now c.args.self.now.linked lt c.index_mut-node_rings.ensures.value c.settle.ensures.rings c.settle.ensures.unmoved.0 c.settle.ensures.unmoved.1 in
+      let follows = set_same ls js at l c.index_mut-node_rings.result.now c.args.self.now.linked lt
+      c.index_mut-node_rings.ensures.value c.settle.ensures.rings c.settle.ensures.unmoved.0
+      c.settle.ensures.unmoved.1 in
       (refl, follows.bases);
   board = refl;
   journal = refl;
   state = refl;
   same = c.settle.ensures.same;
   posted =
-      let ls = c.args.self.now.all_node_rings.items in let js = c.args.self.now.journaled.entries in let at = c.args.port.now.node - 1 in let l = c.settle.new.self in
+      let ls = c.args.self.now.all_node_rings.items in let js = c.args.self.now.journaled.entries in let at =
+      c.args.port.now.node - 1 in let l = c.settle.new.self in
       let node = c.settle.new.port.node in
       let lt = node_rings_within ls at _ c.requires.1 in
-      let follows = set_same ls js at l c.index_mut-node_rings.result.now c.args.self.now.linked lt c.index_mut-node_rings.ensures.value c.settle.ensures.rings c.settle.ensures.unmoved.0 c.settle.ensures.unmoved.1 in
+      let follows = set_same ls js at l c.index_mut-node_rings.result.now c.args.self.now.linked lt
+      c.index_mut-node_rings.ensures.value c.settle.ensures.rings c.settle.ensures.unmoved.0
+      c.settle.ensures.unmoved.1 in
       let same : node ≡ c.args.port.now.node = ap (λ i. i.0) c.settle.ensures.same.0 in
       let some = c.requires.0 in
       let is : node ≡ at + 1 = omega (arith, same, some) in
@@ -34,13 +42,20 @@ returns c = record {
       let ls = c.args.self.now.all_node_rings.items in let at = c.args.port.now.node - 1 in let l = c.settle.new.self in
       let node = c.settle.new.port.node in
       let lt = node_rings_within ls at _ c.requires.1 in
-      let same : node ≡ c.args.port.now.node = ap (λ i. i.0) c.settle.ensures.same.0 in
-      (c.settle.ensures.steps.0 ∙ ap (λ (ws : List Step). length ws) (sym (at_set knows ls at l (node - 1) [] (ap (λ (n : ℕ). n - 1) same) lt)), c.settle.ensures.steps.1);
+      let same : node ≡ c.args.port.now.node = ap (λ i. i.0) c.settle.ensures.same.0 in (
+        c.settle.ensures.steps.0
+            ∙ ap (λ (ws : List Step). length ws)
+            (sym (at_set knows ls at l (node - 1) [] (ap (λ (n : ℕ). n - 1) same) lt)),
+        c.settle.ensures.steps.1,
+      );
   told =
-      let ls = c.args.self.now.all_node_rings.items in let js = c.args.self.now.journaled.entries in let at = c.args.port.now.node - 1 in let l = c.settle.new.self in
+      let ls = c.args.self.now.all_node_rings.items in let js = c.args.self.now.journaled.entries in let at =
+      c.args.port.now.node - 1 in let l = c.settle.new.self in
       let node = c.settle.new.port.node in
       let lt = node_rings_within ls at _ c.requires.1 in
-      let follows = set_same ls js at l c.index_mut-node_rings.result.now c.args.self.now.linked lt c.index_mut-node_rings.ensures.value c.settle.ensures.rings c.settle.ensures.unmoved.0 c.settle.ensures.unmoved.1 in
+      let follows = set_same ls js at l c.index_mut-node_rings.result.now c.args.self.now.linked lt
+      c.index_mut-node_rings.ensures.value c.settle.ensures.rings c.settle.ensures.unmoved.0
+      c.settle.ensures.unmoved.1 in
       let same : node ≡ c.args.port.now.node = ap (λ i. i.0) c.settle.ensures.same.0 in
       let some = c.requires.0 in
       let settled = settled_node_rings ls js at l node follows.linked lt (omega (arith, same, some)) in
@@ -56,11 +71,14 @@ returns c = record {
   free = c.settle.ensures.free;
   lasts = c.settle.ensures.known;
   known =
-      let ls = c.args.self.now.all_node_rings.items in let js = c.args.self.now.journaled.entries in let at = c.args.port.now.node - 1 in let l = c.settle.new.self in
+      let ls = c.args.self.now.all_node_rings.items in let js = c.args.self.now.journaled.entries in let at =
+      c.args.port.now.node - 1 in let l = c.settle.new.self in
       let was = c.index_mut-node_rings.result.now in
       let lt = node_rings_within ls at _ c.requires.1 in
-      let follows = set_same ls js at l was c.args.self.now.linked lt c.index_mut-node_rings.ensures.value c.settle.ensures.rings c.settle.ensures.unmoved.0 c.settle.ensures.unmoved.1 in
-      known_kept ls (set ls at l) js js c.args.self.now.linked follows.linked (rings_set ls at l was c.index_mut-node_rings.ensures.value c.settle.ensures.rings)
+      let follows = set_same ls js at l was c.args.self.now.linked lt c.index_mut-node_rings.ensures.value
+      c.settle.ensures.rings c.settle.ensures.unmoved.0 c.settle.ensures.unmoved.1 in
+      known_kept ls (set ls at l) js js c.args.self.now.linked follows.linked
+      (rings_set ls at l was c.index_mut-node_rings.ensures.value c.settle.ensures.rings)
       (lasts_at ls at l was lt c.index_mut-node_rings.ensures.value c.settle.ensures.lasts);
   others =
       let at = c.args.port.now.node - 1 in

@@ -18,9 +18,12 @@ loop-at-preserved c = record {
   board = c.attend-attended.ensures.board ∙ c.loop-at.invariant.board;
   bases = c.attend-attended.ensures.base.1 ∙ c.loop-at.invariant.bases;
   grew = grew_add c.loop-at.invariant.grew c.attend-attended.ensures.grew;
-  once = asked_more c.loop-at.at (journal c.args.self.now) (journal c.loop-at.self) (journal c.attend-attended.new.self) c.loop-at.invariant.once c.attend-attended.ensures.once;
-  delivers = delivered_on c.loop-at.at (journal c.args.self.now) (journal c.loop-at.self) (journal c.attend-attended.new.self) c.loop-at.invariant.delivers c.attend-attended.ensures.delivers;
-  known = all_node_rings_then c.args.self.now.all_node_rings.items c.loop-at.self.all_node_rings.items c.attend-attended.new.self.all_node_rings.items c.loop-at.invariant.known c.attend-attended.ensures.known;
+  once = asked_more c.loop-at.at (journal c.args.self.now) (journal c.loop-at.self)
+      (journal c.attend-attended.new.self) c.loop-at.invariant.once c.attend-attended.ensures.once;
+  delivers = delivered_on c.loop-at.at (journal c.args.self.now) (journal c.loop-at.self)
+      (journal c.attend-attended.new.self) c.loop-at.invariant.delivers c.attend-attended.ensures.delivers;
+  known = all_node_rings_then c.args.self.now.all_node_rings.items c.loop-at.self.all_node_rings.items
+      c.attend-attended.new.self.all_node_rings.items c.loop-at.invariant.known c.attend-attended.ensures.known;
   most = let most = c.attend-attended.ensures.most in let was = c.loop-at.invariant.most in omega arith;
   idle = λ none.
       let before : c.loop-at.made ≡ 0 = omega arith in
@@ -37,7 +40,8 @@ returns-then-made-eq0-clause-idle c = λ idle.
 
 pub returns-then-attended-clause-once : goal.returns-then-attended-clause-once
 returns-then-attended-clause-once c =
-    let asks = asked_more c.loop-at.at (journal c.args.self.now) (journal c.loop-at.self) (journal c.attend-attended.new.self) c.loop-at.invariant.once c.attend-attended.ensures.once in
+    let asks = asked_more c.loop-at.at (journal c.args.self.now) (journal c.loop-at.self)
+    (journal c.attend-attended.new.self) c.loop-at.invariant.once c.attend-attended.ensures.once in
     asked_each (c.loop-at.at + 1) (journal c.args.self.now) (journal c.attend-attended.new.self) asks
 
 pub returns-else-made-eq0-clause-once : goal.returns-else-made-eq0-clause-once
@@ -46,7 +50,8 @@ returns-else-made-eq0-clause-once c = asked_each c.loop-at.at (journal c.args.se
 pub returns-then-attended-clause-delivers : goal.returns-then-attended-clause-delivers
 returns-then-attended-clause-delivers c =
     delivered_each (c.loop-at.at + 1) (journal c.args.self.now) (journal c.attend-attended.new.self)
-    (delivered_on c.loop-at.at (journal c.args.self.now) (journal c.loop-at.self) (journal c.attend-attended.new.self) c.loop-at.invariant.delivers c.attend-attended.ensures.delivers)
+    (delivered_on c.loop-at.at (journal c.args.self.now) (journal c.loop-at.self)
+    (journal c.attend-attended.new.self) c.loop-at.invariant.delivers c.attend-attended.ensures.delivers)
 
 pub returns-then-made-eq0-clause-delivers : goal.returns-then-made-eq0-clause-delivers
 returns-then-made-eq0-clause-delivers c = delivered_each c.loop-at.at (journal c.args.self.now) (journal c.loop-at.self) c.loop-at.invariant.delivers
@@ -72,10 +77,23 @@ pub returns-then-attended-clause-made : goal.returns-then-attended-clause-made
 returns-then-attended-clause-made c = grew_add c.loop-at.invariant.grew c.attend-attended.ensures.grew
 
 pub returns-then-attended-clause-known : goal.returns-then-attended-clause-known
-returns-then-attended-clause-known c = known_kept c.args.self.now.all_node_rings.items c.attend-attended.new.self.all_node_rings.items (journal c.args.self.now) (journal c.attend-attended.new.self) c.args.self.now.linked c.attend-attended.new.self.linked (c.attend-attended.ensures.rings ∙ c.loop-at.invariant.rings) (all_node_rings_then c.args.self.now.all_node_rings.items c.loop-at.self.all_node_rings.items c.attend-attended.new.self.all_node_rings.items c.loop-at.invariant.known c.attend-attended.ensures.known)
+returns-then-attended-clause-known c =
+    known_kept c.args.self.now.all_node_rings.items c.attend-attended.new.self.all_node_rings.items
+    (journal c.args.self.now)
+    (journal c.attend-attended.new.self) c.args.self.now.linked c.attend-attended.new.self.linked
+    (c.attend-attended.ensures.rings
+    ∙ c.loop-at.invariant.rings)
+    (all_node_rings_then c.args.self.now.all_node_rings.items c.loop-at.self.all_node_rings.items
+    c.attend-attended.new.self.all_node_rings.items c.loop-at.invariant.known c.attend-attended.ensures.known)
 
 pub returns-then-made-eq0-clause-known : goal.returns-then-made-eq0-clause-known
-returns-then-made-eq0-clause-known c = known_kept c.args.self.now.all_node_rings.items c.loop-at.self.all_node_rings.items (journal c.args.self.now) (journal c.loop-at.self) c.args.self.now.linked c.loop-at.self.linked c.loop-at.invariant.rings c.loop-at.invariant.known
+returns-then-made-eq0-clause-known c =
+    known_kept c.args.self.now.all_node_rings.items c.loop-at.self.all_node_rings.items (journal c.args.self.now)
+    (journal c.loop-at.self) c.args.self.now.linked c.loop-at.self.linked c.loop-at.invariant.rings
+    c.loop-at.invariant.known
 
 pub returns-else-made-eq0-clause-known : goal.returns-else-made-eq0-clause-known
-returns-else-made-eq0-clause-known c = known_kept c.args.self.now.all_node_rings.items c.loop-at.self.all_node_rings.items (journal c.args.self.now) (journal c.loop-at.self) c.args.self.now.linked c.loop-at.self.linked c.loop-at.invariant.rings c.loop-at.invariant.known
+returns-else-made-eq0-clause-known c =
+    known_kept c.args.self.now.all_node_rings.items c.loop-at.self.all_node_rings.items (journal c.args.self.now)
+    (journal c.loop-at.self) c.args.self.now.linked c.loop-at.self.linked c.loop-at.invariant.rings
+    c.loop-at.invariant.known

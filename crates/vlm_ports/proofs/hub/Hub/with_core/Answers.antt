@@ -9,7 +9,9 @@ pub returns-clause-hub : goal.returns-clause-hub
 returns-clause-hub c =
     let ls = c.in_ok-all_node_rings.all_node_rings.items in
     let long : length ls ≡ c.args.count = c.in_ok-all_node_rings.ensures.all_node_rings.0 in
-    let P : ℕ → List Entry → Type 0 = λ node es. ((get_or (map (node_rings_base es) ls) (node - 1) no_base).asked_before ≡ []) × ((get_or (map (node_rings_base es) ls) (node - 1) no_base).told_before ≡ []) in
+    let P : ℕ → List Entry
+    → Type 0 = λ node es. ((get_or (map (node_rings_base es) ls) (node - 1) no_base).asked_before ≡ [])
+    × ((get_or (map (node_rings_base es) ls) (node - 1) no_base).told_before ≡ []) in
     let nothing : (node : ℕ) → 0 < node → node ≤ c.args.count → P node c.new.result.entries = λ node some within.
     let inside : node ≤ length ls = omega (arith, long, within) in
     subst (P node) (sym c.new.ensures.entries) (none_before ls c.in_ok-all_node_rings.ensures.all_node_rings.1 node some inside) in
@@ -24,4 +26,6 @@ returns-clause-hub c =
     }
 
 pub returns-clause-ours : goal.returns-clause-ours
-returns-clause-ours c = each_of_rings (map node_rings_identity c.in_ok-all_node_rings.all_node_rings.items) c.in_ok-all_node_rings.ports.items c.in_ok-all_node_rings.ensures.ports.1 c.in_ok-all_node_rings.ensures.rings
+returns-clause-ours c =
+    each_of_rings (map node_rings_identity c.in_ok-all_node_rings.all_node_rings.items)
+    c.in_ok-all_node_rings.ports.items c.in_ok-all_node_rings.ensures.ports.1 c.in_ok-all_node_rings.ensures.rings

@@ -6,14 +6,15 @@ use Rattle.vlm_records.specs.declared.queues.Queues.{Queues}
 use Rattle.vlm_records.specs.Shown.{SameBut, but_tally, noted_in, tally_in}
 use Rattle.vlm_records.proofs.Counting.{counted_in, shares-room, tally_more, weight_of-le}
 use Rattle.vlm_records.proofs.OwnLocks.{written_same}
-use Rattle.vlm_records.proofs.Places.{lists_but_tally, noted_as, noted_stands}
+use Rattle.vlm_records.proofs.PlacesOnLists.{lists_but_tally, noted_as, noted_stands}
 use Rattle.vlm_records.proofs.Rooms.{room_written}
 use Rattle.vlm_records.proofs.queues.Queues.count_in.Goals as goal
 
 pub index_mut-requires : goal.index_mut-requires
 index_mut-requires c =
     rw c.slot.ensures
-    (noted_stands c.args.self.now c.args.at c.index.result.now c.parts-res.result.0 c.parts-res.result.1 c.requires.placed c.requires.in_queue c.index.ensures c.parts-res.ensures)
+    (noted_stands c.args.self.now c.args.at c.index.result.now c.parts-res.result.0 c.parts-res.result.1
+    c.requires.placed c.requires.in_queue c.index.ensures c.parts-res.ensures)
 
 pub add-requires : goal.add-requires
 add-requires c count mode =
@@ -21,14 +22,17 @@ add-requires c count mode =
       arith,
       ap (λ slot. how_many count (tally_in slot) mode) (rw c.slot.ensures at c.index_mut.ensures.value),
       c.requires.tallied.counts count c.parts-res.result.0 mode,
-      shares-room c.args.self.now (weight_of count mode) (weight_of-le count mode) c.args.at c.index.result.now.place c.requires.placed (noted_as _ _ c.index.ensures c.requires.in_queue) c.parts-res.result.0,
+      shares-room c.args.self.now (weight_of count mode)
+          (weight_of-le count mode) c.args.at c.index.result.now.place c.requires.placed
+          (noted_as _ _ c.index.ensures c.requires.in_queue) c.parts-res.result.0,
     )
 
 pub returns-clause-tallied : goal.returns-clause-tallied
 returns-clause-tallied c =
     let q = c.args.self.now in
     let res = c.parts-res.result.0 in
-    let there = noted_stands q c.args.at c.index.result.now res c.parts-res.result.1 c.requires.placed c.requires.in_queue c.index.ensures c.parts-res.ensures in
+    let there = noted_stands q c.args.at c.index.result.now res c.parts-res.result.1 c.requires.placed
+    c.requires.in_queue c.index.ensures c.parts-res.ensures in
     let was = c.index_mut.result.now in
     let now = record was { tally = c.add.new.self } in
     let here = rw c.slot.ensures at c.index_mut.ensures.value in
@@ -37,9 +41,12 @@ returns-clause-tallied c =
     rw c.slot.ensures
     (record {
       counts = λ count r mode.
-          counted_in q q' c.args.at res c.parts-res.result.1 c.index.result.now c.requires.placed c.requires.in_queue c.index.ensures c.parts-res.ensures (lists_but_tally q q' rest)
+          counted_in q q' c.args.at res c.parts-res.result.1 c.index.result.now c.requires.placed c.requires.in_queue
+          c.index.ensures c.parts-res.ensures (lists_but_tally q q' rest)
           refl (weight_of count mode) (λ x. how_many count (tally_in (get q.resources x)) mode) (λ x. how_many count (tally_in (get q'.resources x)) mode)
-          (tally_more (λ t. how_many count t mode) q.resources res was now (weight_of count mode c.parts-res.result.1 c.index.result.now.row) there here (rw c.row.ensures at c.add.ensures count mode))
+          (tally_more (λ t. how_many count t mode) q.resources res was now
+          (weight_of count mode c.parts-res.result.1 c.index.result.now.row) there here
+          (rw c.row.ensures at c.add.ensures count mode))
           (λ x. c.requires.tallied.counts count x mode) r;
     })
 
@@ -52,5 +59,6 @@ returns-clause-counts c = record {
   resources_room =
       rw c.slot.ensures
       (room_written c.args.self.now.resources c.parts-res.result.0 _
-      (noted_stands c.args.self.now c.args.at c.index.result.now c.parts-res.result.0 c.parts-res.result.1 c.requires.placed c.requires.in_queue c.index.ensures c.parts-res.ensures));
+      (noted_stands c.args.self.now c.args.at c.index.result.now c.parts-res.result.0 c.parts-res.result.1
+      c.requires.placed c.requires.in_queue c.index.ensures c.parts-res.ensures));
 }

@@ -1,5 +1,5 @@
 use Rattle.std.proofs.Common.{◌∙◌, None, Some, ap, rules}
-use Rattle.vlm_words.specs.declared.locks.LockRow.{LockRow}
+use Rattle.vlm_words.specs.declared.locks.LockState.{LockState}
 use Rattle.vlm_records.specs.Shown.{rows}
 use Rattle.vlm_records.proofs.Arming.{armed_but_one, armed_lists, disarmed_granted, out_unlisted, unarmed_unlisted}
 use Rattle.vlm_records.proofs.queues.Queues.disarm.Goals as goal
@@ -15,10 +15,11 @@ returns-clause-laid_out c = record {
       let q1 = c.leave_armed.new.self in
       let q2 = c.rewrite.new.self in
       let rewrites = c.rewrite.ensures in
-      armed_but_one which q1 q2 (Some c.args.at) None c.args.at (c.leave_armed.ensures.armed which) (out_unlisted which q1 c.args.at (c.leave_armed.ensures.armed which))
+      armed_but_one which q1 q2 (Some c.args.at) None c.args.at (c.leave_armed.ensures.armed which)
+      (out_unlisted which q1 c.args.at (c.leave_armed.ensures.armed which))
       (armed_lists which q1.resources q2.resources rewrites.kept.rest) (λ k _. rewrites.kept.kin k)
       (disarmed_granted which q1 q2 c.args.at rewrites.rows rewrites.handles
-      (unarmed_unlisted which (rows q2 c.args.at) (ap (λ (r : LockRow). r.armed) (rewrites.row ∙ c.disarmed-row.ensures))));
+      (unarmed_unlisted which (rows q2 c.args.at) (ap (λ (r : LockState). r.armed) (rewrites.row ∙ c.disarmed-row.ensures))));
 }
 
 pub returns-clause-kept : goal.returns-clause-kept

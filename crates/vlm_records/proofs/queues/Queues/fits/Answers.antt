@@ -13,7 +13,8 @@ fits_beside-requires c mode =
       ap (λ slot. how_many of_held (tally_in slot) mode) (rw c.slot.ensures at c.index.ensures),
       c.requires.tallied.counts of_held c.args.res mode,
       c.held_on.ensures mode,
-      own_weighs c.args.self.now (weight_of of_held mode) c.in-Some.except c.index-lock.result.now c.requires.placed (rw c.slot-in-Some.ensures at c.index-lock.ensures) c.args.res,
+      own_weighs c.args.self.now (weight_of of_held mode) c.in-Some.except c.index-lock.result.now c.requires.placed
+          (rw c.slot-in-Some.ensures at c.index-lock.ensures) c.args.res,
     )
 
 pub returns-in-None : goal.returns-in-None
@@ -35,5 +36,6 @@ returns-in-Some c =
       ap (λ slot. how_many of_held (tally_in slot) mode) (rw c.slot.ensures at c.index.ensures),
       c.requires.tallied.counts of_held c.args.res mode,
       c.held_on.ensures mode,
-      own_weighs c.args.self.now (weight_of of_held mode) c.in-Some.except c.index-lock.result.now c.requires.placed (rw c.slot-in-Some.ensures at c.index-lock.ensures) c.args.res,
+      own_weighs c.args.self.now (weight_of of_held mode) c.in-Some.except c.index-lock.result.now c.requires.placed
+          (rw c.slot-in-Some.ensures at c.index-lock.ensures) c.args.res,
     )))

@@ -8,7 +8,8 @@ use Rattle.vlm_records.proofs.queues.Queues.leave_armed.Goals as goal
 pub returns-then-not-is_armed-clause-armed : goal.returns-then-not-is_armed-clause-armed
 returns-then-not-is_armed-clause-armed c which =
     unarmed_left which c.args.self.now c.args.at c.requires.laid_out.placed
-    (unarmed_none which _ (ap (λ slot. (row_in slot).armed) c.index.ensures ∙ sym c.is_armed.ensures ∙ c.if-not-is_armed.true)) (c.requires.laid_out.armed which)
+    (unarmed_none which _ (ap (λ slot. (row_in slot).armed) c.index.ensures ∙ sym c.is_armed.ensures
+    ∙ c.if-not-is_armed.true)) (c.requires.laid_out.armed which)
 
 -- it is
 pub leave_list-requires-clause-armed : goal.leave_list-requires-clause-armed

@@ -7,9 +7,11 @@ use Rattle.vlm_records.specs.declared.handles.Place.{Place}
 use Rattle.vlm_records.specs.declared.locks.Lock.{Lock}
 use Rattle.vlm_records.specs.declared.queues.Queues.{Queues}
 use Rattle.vlm_records.specs.Shown.{but_counted, but_queued, but_requeued, handles_at, room_in, row_in}
-use Rattle.vlm_records.proofs.Arming.{added_granted, added_last, armed_but_one, armed_lists, armed_queues, counted_queues, in_armed_is, loose_unarmed, lists_counted, requeued_is, tally_counted}
+use Rattle.vlm_records.proofs.Arming.{added_granted, added_last, armed_but_one, armed_lists, armed_queues}
+use Rattle.vlm_records.proofs.Arming.{counted_queues, in_armed_is, loose_unarmed, lists_counted, requeued_is}
+use Rattle.vlm_records.proofs.Arming.{tally_counted}
 use Rattle.vlm_records.proofs.Counting.{added_placed, added_tallied, tallied_put, updated_handles}
-use Rattle.vlm_records.proofs.Places.{counted_handles, counted_placed, lists_same, loose_unlisted, same_then}
+use Rattle.vlm_records.proofs.PlacesOnLists.{counted_handles, counted_placed, lists_same, loose_unlisted, same_then}
 use Rattle.vlm_records.proofs.Rooms.{room_written}
 use Rattle.vlm_records.proofs.queues.Queues.push_back.Goals as goal
 
@@ -30,8 +32,10 @@ count_in-requires-clause-tallied c =
     let updates = Updates-with_value q.locks at now (rw c.index_mut-lock.ensures.value refl) in
     let unlisted = loose_unlisted q at c.requires.laid_out.placed c.requires.loose in
     let placed1 = added_placed q q1 at (Some now) updates c.requires.laid_out.placed.linked unlisted (lists_same q q1 refl) c.requires.laid_out.placed in
-    let tallied1 = added_tallied q q1 at (Some now) updates c.requires.laid_out.placed.linked unlisted (lists_same q q1 refl) refl c.requires.laid_out.tallied in
-    tallied_put q1 c.push_at.new.self at c.args.to placed1 c.push_at.ensures.here c.push_at.ensures.elsewhere c.push_at.ensures.rows c.push_at.ensures.kept.rest tallied1
+    let tallied1 = added_tallied q q1 at (Some now) updates c.requires.laid_out.placed.linked unlisted
+    (lists_same q q1 refl) refl c.requires.laid_out.tallied in
+    tallied_put q1 c.push_at.new.self at c.args.to placed1 c.push_at.ensures.here c.push_at.ensures.elsewhere
+    c.push_at.ensures.rows c.push_at.ensures.kept.rest tallied1
 
 pub join_armed-requires-clause-placed : goal.join_armed-requires-clause-placed
 join_armed-requires-clause-placed c =
@@ -51,9 +55,11 @@ join_armed-requires-clause-armed c which =
     let unlisted = loose_unlisted q at c.requires.laid_out.placed c.requires.loose in
     let handles1 = updated_handles q q1 at (Some now) updates c.requires.laid_out.placed.linked unlisted (lists_same q q1 refl) in
     let handles3 = counted_handles q2 q3 None put.placed counts.rest counts.locks in
-    armed_but_one which q q3 None (Some at) at (c.requires.laid_out.armed which) (loose_unarmed which q at c.requires.laid_out.placed (c.requires.laid_out.armed which) c.requires.loose)
+    armed_but_one which q q3 None (Some at) at (c.requires.laid_out.armed which)
+    (loose_unarmed which q at c.requires.laid_out.placed (c.requires.laid_out.armed which) c.requires.loose)
     (armed_lists which q.resources q3.resources
-    (same_then but_counted q.resources q2.resources q3.resources (lists_counted q.resources q2.resources put.kept.rest) (tally_counted q2.resources q3.resources counts.rest)))
+    (same_then but_counted q.resources q2.resources q3.resources (lists_counted q.resources q2.resources put.kept.rest)
+    (tally_counted q2.resources q3.resources counts.rest)))
     (λ k differs. ap (λ s. option_map but_requeued (get s k)) counts.locks ∙ put.kept.kin k ∙ ap (option_map but_requeued) (updates.others k differs))
     (added_granted which q q3 at (λ k differs. ap (λ s. row_in (get s k)) counts.locks ∙ put.rows k ∙ ap row_in (updates.others k differs)) unlisted c.args.to
     (handles3 c.args.to ∙ put.here ∙ ap (λ ks. ks ++ at ∷ []) (handles1 c.args.to)) (λ p differs. handles3 p ∙ put.elsewhere p differs ∙ handles1 p))
@@ -106,8 +112,11 @@ returns c =
         rest = λ k.
             armed_queues q3.resources q4.resources c.join_armed.ensures.places.records.rest k
             ∙ counted_queues q.resources q3.resources
-            (same_then but_counted q.resources q2.resources q3.resources (lists_counted q.resources q2.resources put.kept.rest) (tally_counted q2.resources q3.resources counts.rest)) k;
-        locks_room = c.join_armed.ensures.places.records.locks_room ∙ ap room_in counts.locks ∙ put.kept.locks_room ∙ room_written q.locks at now (rw c.index_mut-lock.ensures.value refl);
+            (same_then but_counted q.resources q2.resources q3.resources
+            (lists_counted q.resources q2.resources put.kept.rest)
+            (tally_counted q2.resources q3.resources counts.rest)) k;
+        locks_room = c.join_armed.ensures.places.records.locks_room ∙ ap room_in counts.locks ∙ put.kept.locks_room
+            ∙ room_written q.locks at now (rw c.index_mut-lock.ensures.value refl);
         resources_room = c.join_armed.ensures.places.records.resources_room ∙ counts.resources_room ∙ put.kept.resources_room;
       };
       wait_list = search rules;

@@ -1,6 +1,6 @@
 use Rattle.std.proofs.Common.{◌∙◌, ◌++◌, ◌∷◌, [], ap, rules, subst, sym}
 use Rattle.vlm_records.specs.Shown.{IsThere, but_place, room_in}
-use Rattle.vlm_records.proofs.Places.{lists_same, noted-handles, noted-placed, there_through}
+use Rattle.vlm_records.proofs.PlacesOnLists.{lists_same, noted-handles, noted-placed, there_through}
 use Rattle.vlm_records.proofs.queues.Queues.put_at.Goals as goal
 
 pub push_at-requires-clause-placed : goal.push_at-requires-clause-placed
@@ -10,7 +10,9 @@ push_at-requires-clause-placed c =
     noted-placed c.args.self.now q1 c.args.at c.requires.placed wrote.rest wrote.lock.others (lists_same c.args.self.now q1 wrote.lock.resources)
 
 pub push_at-requires-clause-present : goal.push_at-requires-clause-present
-push_at-requires-clause-present c = there_through but_place c.args.self.now.locks c.set_place.new.self.locks c.set_place.ensures.rest c.args.at c.requires.present
+push_at-requires-clause-present c =
+    there_through but_place c.args.self.now.locks c.set_place.new.self.locks c.set_place.ensures.rest c.args.at
+    c.requires.present
 
 pub push_at-requires-clause-there : goal.push_at-requires-clause-there
 push_at-requires-clause-there c = subst (λ s. IsThere s c.args.place) (sym c.set_place.ensures.lock.resources) c.requires.there
@@ -20,7 +22,9 @@ returns-clause-here c =
     let q1 = c.set_place.new.self in
     let wrote = c.set_place.ensures in
     c.push_at.ensures.here
-    ∙ ap (λ ks. ks ++ c.args.at ∷ []) (noted-handles c.args.self.now q1 c.args.at c.requires.placed wrote.rest wrote.lock.others (lists_same c.args.self.now q1 wrote.lock.resources) c.args.place)
+    ∙ ap (λ ks. ks ++ c.args.at ∷ [])
+    (noted-handles c.args.self.now q1 c.args.at c.requires.placed wrote.rest wrote.lock.others
+    (lists_same c.args.self.now q1 wrote.lock.resources) c.args.place)
 
 pub returns-clause-elsewhere : goal.returns-clause-elsewhere
 returns-clause-elsewhere c p differs =

@@ -3,8 +3,8 @@ use Rattle.std.proofs.lemmas.Option.{none-some}
 use Rattle.vlm_collections.specs.Lists.{IsIn, Lists, handles_of, without}
 use Rattle.vlm_records.specs.declared.handles.Place.TheVariants.{Queued}
 use Rattle.vlm_records.specs.Shown.{noted_in, queue_links, queue_list, with_queue_links}
-use Rattle.vlm_records.proofs.Places.{noted_as, stands_there, taken-handles, taken-placed}
-use Rattle.vlm_records.proofs.Relisted.{list_elsewhere, list_found, list_is, lists_alone, relisted}
+use Rattle.vlm_records.proofs.PlacesOnLists.{noted_as, stands_there, taken-handles, taken-placed}
+use Rattle.vlm_records.proofs.WrittenQueue.{list_elsewhere, list_found, list_is, lists_alone, relisted}
 use Rattle.vlm_records.proofs.Rooms.{room_relinked, room_written}
 use Rattle.vlm_records.proofs.queues.Queues.take_off.Goals as goal
 
@@ -37,7 +37,8 @@ returns-clause-placed c =
     let there = rw parts at (stands_there q place c.args.at
     (c.requires.placed.stands place c.args.at (λ same. none-some c.args.at (sym same)) (noted_as _ _ c.index.ensures c.requires.in_queue))) in
     let was = list_found q place c.slot.result queue c.index_mut.result.now parts c.index_mut.ensures.value in
-    taken-placed q (relisted q now.locks c.slot.result now.self) now.locks (queue_list queue now.self) c.args.at place c.requires.placed (noted_as _ _ c.index.ensures c.requires.in_queue)
+    taken-placed q (relisted q now.locks c.slot.result now.self) now.locks
+    (queue_list queue now.self) c.args.at place c.requires.placed (noted_as _ _ c.index.ensures c.requires.in_queue)
     c.unlink.ensures.linked (c.unlink.ensures.handles ∙ ap (λ list. without c.args.at (handles_of queue_links q.locks list)) (sym was))
     (λ other out. c.unlink.ensures.others other (λ found. out (subst (λ list. IsIn other (handles_of queue_links q.locks list)) (sym was) found)))
     c.unlink.ensures.relinks
@@ -54,7 +55,8 @@ returns-clause-handles c =
     let there = rw parts at (stands_there q place c.args.at
     (c.requires.placed.stands place c.args.at (λ same. none-some c.args.at (sym same)) (noted_as _ _ c.index.ensures c.requires.in_queue))) in
     let was = list_found q place c.slot.result queue c.index_mut.result.now parts c.index_mut.ensures.value in
-    taken-handles q (relisted q now.locks c.slot.result now.self) now.locks (queue_list queue now.self) c.args.at place c.requires.placed (noted_as _ _ c.index.ensures c.requires.in_queue)
+    taken-handles q (relisted q now.locks c.slot.result now.self) now.locks
+    (queue_list queue now.self) c.args.at place c.requires.placed (noted_as _ _ c.index.ensures c.requires.in_queue)
     c.unlink.ensures.linked (c.unlink.ensures.handles ∙ ap (λ list. without c.args.at (handles_of queue_links q.locks list)) (sym was))
     (λ other out. c.unlink.ensures.others other (λ found. out (subst (λ list. IsIn other (handles_of queue_links q.locks list)) (sym was) found)))
     c.unlink.ensures.relinks

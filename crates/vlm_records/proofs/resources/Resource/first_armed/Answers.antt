@@ -19,4 +19,6 @@ first-requires-in-AboveCr c = subst (λ w. IsLinked (armed_links w) c.args.locks
 
 pub returns-in-AboveCr : goal.returns-in-AboveCr
 returns-in-AboveCr c =
-    subst (λ w. c.first-in-AboveCr.result ≡ first_handle (handles_of (armed_links w) c.args.locks.now (list_of w c.args.self.now))) (sym c.in-AboveCr.is) c.first-in-AboveCr.ensures
+    subst (λ w. c.first-in-AboveCr.result ≡ first_handle
+    (handles_of (armed_links w) c.args.locks.now (list_of w c.args.self.now)))
+    (sym c.in-AboveCr.is) c.first-in-AboveCr.ensures

@@ -10,7 +10,8 @@ next-requires c = subst (λ w. Lists (armed_links w) c.args.locks.now (list_of w
 
 pub returns-in-AboveNl : goal.returns-in-AboveNl
 returns-in-AboveNl c =
-    subst (λ w. c.next.result ≡ handle_after c.args.at (handles_of (armed_links w) c.args.locks.now (list_of w c.args.self.now))) (sym c.in-AboveNl.is) c.next.ensures
+    subst (λ w. c.next.result ≡ handle_after c.args.at
+    (handles_of (armed_links w) c.args.locks.now (list_of w c.args.self.now))) (sym c.in-AboveNl.is) c.next.ensures
 
 -- the locks above CR
 
@@ -19,4 +20,6 @@ next-requires-in-AboveCr c = subst (λ w. Lists (armed_links w) c.args.locks.now
 
 pub returns-in-AboveCr : goal.returns-in-AboveCr
 returns-in-AboveCr c =
-    subst (λ w. c.next-in-AboveCr.result ≡ handle_after c.args.at (handles_of (armed_links w) c.args.locks.now (list_of w c.args.self.now))) (sym c.in-AboveCr.is) c.next-in-AboveCr.ensures
+    subst (λ w. c.next-in-AboveCr.result ≡ handle_after c.args.at
+    (handles_of (armed_links w) c.args.locks.now (list_of w c.args.self.now)))
+    (sym c.in-AboveCr.is) c.next-in-AboveCr.ensures

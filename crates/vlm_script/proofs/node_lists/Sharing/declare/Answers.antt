@@ -51,7 +51,8 @@ returns-clause-shared c =
     subst (λ s. IsShared s (Declare c.args.name c.args.declaration) new) c.self.view_is (record {
       faultless = rw (may_declare c, unbound) refl;
       becomes =
-          shares-declared old c.args.name c.args.declaration _ _ _ c.next_process-pid.result bound c.next_process-pid.ensures.pid c.next_process-pid.ensures.counted put;
+          shares-declared old c.args.name c.args.declaration _ _ _ c.next_process-pid.result bound
+          c.next_process-pid.ensures.pid c.next_process-pid.ensures.counted put;
     })
 
 -- there are as many lists

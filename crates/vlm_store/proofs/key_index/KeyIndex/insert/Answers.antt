@@ -25,7 +25,15 @@ returns-in-Some-clause-enters c = record {
 }
 
 pub returns-in-Some-clause-taken : goal.returns-in-Some-clause-taken
-returns-in-Some-clause-taken c = both_used c.args.self.now (record c.args.self.now { last = c.insert.new.self; others = c.insert-in-Some.new.self }) c.insert-in-Some.ensures.spare c.insert.ensures.taken
+returns-in-Some-clause-taken c =
+    both_used c.args.self.now
+    (record c.args.self.now {
+      last = c.insert.new.self;
+      others =
+          c.insert-in-Some.new.self;
+    }) c.insert-in-Some.ensures.spare c.insert.ensures.taken
 
 pub returns-in_default-clause-taken : goal.returns-in_default-clause-taken
-returns-in_default-clause-taken c = both_used c.args.self.now (record c.args.self.now { last = c.insert.new.self; others = c.args.self.now.others }) (omega arith) c.insert.ensures.taken
+returns-in_default-clause-taken c =
+    both_used c.args.self.now (record c.args.self.now { last = c.insert.new.self; others = c.args.self.now.others })
+    (omega arith) c.insert.ensures.taken

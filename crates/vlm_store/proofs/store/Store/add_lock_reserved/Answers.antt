@@ -16,25 +16,32 @@ use Rattle.vlm_records.specs.declared.locks.Lock.{Lock}
 use Rattle.vlm_records.specs.Kin.{owner_in, parent_in, pid_at, with_own_links}
 use Rattle.vlm_store.specs.Kept.{records_shown, beside_shown}
 use Rattle.vlm_store.specs.Records.{process_with_lock, HasRoom, IsTaken, joining, with_lists, with_new_lock}
-use Rattle.vlm_records.specs.Shown.{but_in_wait_list, but_kin, but_queued, but_queues, handles_at, list_at, lkid_of, new_lock, queue_links, row_in, rows, is_loose_in}
+use Rattle.vlm_records.specs.Shown.{but_in_wait_list, but_kin, but_queued, but_queues, handles_at, list_at, lkid_of}
+use Rattle.vlm_records.specs.Shown.{new_lock, queue_links, row_in, rows, is_loose_in}
 use Rattle.vlm_store.specs.Store.{lkid_at, records_of, tables}
 use Rattle.vlm_records.proofs.Arming.{armed_kin, armed_reserved}
-use Rattle.vlm_records.proofs.Places.{same_then, there_by_part, there_through, through, last_noted, noted_as}
+use Rattle.vlm_records.proofs.PlacesOnLists.{same_then, there_by_part, there_through, through, last_noted, noted_as}
 use Rattle.vlm_store.proofs.Indexing.{Indexes-added, Indexes-same}
-use Rattle.vlm_store.proofs.Joining.{new_lkid, other_lkids, joined_kin, joined_lkids, joined_named, joined_owned, joined_processes, linked_parent_there, new_below, new_owned, owner_was_there}
-use Rattle.vlm_store.proofs.Kept.{faces_same, no_lock, place_there, reserved_handles, reserved_placed, reserved_tallied}
+use Rattle.vlm_store.proofs.Joining.{new_lkid, other_lkids, joined_kin, joined_lkids, joined_named, joined_owned}
+use Rattle.vlm_store.proofs.Joining.{joined_processes, linked_parent_there, new_below, new_owned, owner_was_there}
+use Rattle.vlm_store.proofs.KeptRecords.{faces_same, no_lock, place_there, reserved_handles, reserved_placed, reserved_tallied}
 use Rattle.vlm_store.specs.Pending.{is_of_nodes, waits_in}
-use Rattle.vlm_store.proofs.Marked.{nodes-own, own_marked, waits-own}
-use Rattle.vlm_store.proofs.Kinship.{kin_handles, kin_placed, kin_rows, kin_tallied, own_below, own_pids, own_process_linked, own_process_whole, owner-queued, parent-queued, records_processes, kin_loose, loose_but}
+use Rattle.vlm_store.proofs.MarkedProcesses.{nodes-own, own_marked, waits-own}
+use Rattle.vlm_store.proofs.Kinship.{kin_handles, kin_placed, kin_rows, kin_tallied, own_below, own_pids}
+use Rattle.vlm_store.proofs.Kinship.{own_process_linked, own_process_whole, owner-queued, parent-queued}
+use Rattle.vlm_store.proofs.Kinship.{records_processes, kin_loose, loose_but}
 use Rattle.vlm_store.proofs.Layouts.{joining-under_handle, lists_changed_beside}
 use Rattle.vlm_store.specs.KeyIndexes.{spares_in}
-use Rattle.vlm_store.proofs.Living.{is_sound, parent_within, has_there, there_has}
+use Rattle.vlm_store.proofs.LivingProcesses.{is_sound, parent_within, has_there, there_has}
 use Rattle.vlm_store.proofs.store.Store.add_lock_reserved.Goals as goal
-use Rattle.vlm_store.proofs.Order.{keys_same, order_handles, order_linked, order_whole}
+use Rattle.vlm_store.proofs.OrderOfMaking.{keys_same, order_handles, order_linked, order_whole}
 
 -- there is room in the slab, for a link, and in the index
-has_its_room : (s : Inside) (lkid : ℕ) → HasRoom lkid (records_shown s).room.locks → HasRoomFor s.queues.locks 1 × (s.queues.locks.vacant_key ≤ LAST_HANDLE) × (0 < spare_for (spares_of s.lock_index) lkid)
-has_its_room s lkid has = has_room s.queues.locks (spares_of s.lock_index) lkid (shown_room (λ r. HasRoom lkid r.locks) (tables s.queues s.order (beside_shown s)) has)
+has_its_room : (s : Inside) (lkid : ℕ) → HasRoom lkid (records_shown s).room.locks → HasRoomFor s.queues.locks 1
+    × (s.queues.locks.vacant_key ≤ LAST_HANDLE) × (0 < spare_for (spares_of s.lock_index) lkid)
+has_its_room s lkid has =
+    has_room s.queues.locks (spares_of s.lock_index) lkid
+    (shown_room (λ r. HasRoom lkid r.locks) (tables s.queues s.order (beside_shown s)) has)
 
 pub add-slot-requires-clause-parent : goal.add-slot-requires-clause-parent
 add-slot-requires-clause-parent c = parent_within c.self.inside c.self.invariant c.args.parent c.args.row.now (rw (← c.self.view_is) at c.requires.parent)
@@ -42,7 +49,9 @@ add-slot-requires-clause-parent c = parent_within c.self.inside c.self.invariant
 pub add-slot-requires-clause-there : goal.add-slot-requires-clause-there
 add-slot-requires-clause-there c =
     let s = c.self.inside in
-    place_there s.queues s.order (beside_shown s) c.self.invariant.placed c.self.invariant.linked c.self.invariant.ordered c.args.to (rw (← c.self.view_is) at c.requires.there)
+    place_there s.queues s.order
+    (beside_shown s) c.self.invariant.placed c.self.invariant.linked c.self.invariant.ordered c.args.to
+    (rw (← c.self.view_is) at c.requires.there)
 
 pub join_wait_list-requires-clause-wait_list : goal.join_wait_list-requires-clause-wait_list
 join_wait_list-requires-clause-wait_list c =
@@ -50,27 +59,39 @@ join_wait_list-requires-clause-wait_list c =
     let kept = c.self.invariant in
     let added = c.add-slot.ensures in
     let same : (k : ℕ) → slot_of s.queues.locks k ≡ slot_of s.queues.locks k = λ k. refl in
-    wait_list_added (record s.queues { locks = c.self.inside.queues.locks }) c.add-slot.new.self s.wait_list c.add-slot.result c.args.to (reserved_placed s.queues c.self.inside.queues.locks same kept.placed) added.laid_out.placed
-    added.fresh added.wait_list added.loose added.here added.elsewhere (wait_list_same s.queues.locks c.self.inside.queues.locks s.wait_list same kept.wait_list)
+    wait_list_added (record s.queues {
+      locks =
+          c.self.inside.queues.locks;
+    }) c.add-slot.new.self s.wait_list c.add-slot.result c.args.to
+    (reserved_placed s.queues c.self.inside.queues.locks same kept.placed) added.laid_out.placed
+    added.fresh added.wait_list added.loose added.here added.elsewhere
+    (wait_list_same s.queues.locks c.self.inside.queues.locks s.wait_list same kept.wait_list)
 
 pub join_wait_list-requires-clause-noted : goal.join_wait_list-requires-clause-noted
 join_wait_list-requires-clause-noted c =
-    noted_as _ _ c.index.ensures (rw (last_noted c.add-slot.new.self c.add-slot.result c.args.to _ c.add-slot.ensures.laid_out.placed c.add-slot.ensures.here) refl) ∙ ap Some (sym c.place.ensures)
+    noted_as _ _ c.index.ensures
+    (rw (last_noted c.add-slot.new.self c.add-slot.result c.args.to _ c.add-slot.ensures.laid_out.placed
+    c.add-slot.ensures.here) refl) ∙ ap Some (sym c.place.ensures)
 
 pub join_process-requires-clause-owner : goal.join_process-requires-clause-owner
 join_process-requires-clause-owner c =
     let locks = c.add-slot.new.self.locks in
-    through but_queued owner_in owner-queued locks c.join_wait_list.new.locks (wait_list_queued locks c.join_wait_list.new.locks c.join_wait_list.ensures.rest) c.add-slot.result ∙ ap owner_in c.index.ensures
+    through but_queued owner_in owner-queued locks c.join_wait_list.new.locks
+    (wait_list_queued locks c.join_wait_list.new.locks c.join_wait_list.ensures.rest) c.add-slot.result
+    ∙ ap owner_in c.index.ensures
 
 pub join_parent-requires-clause-parent : goal.join_parent-requires-clause-parent
 join_parent-requires-clause-parent c =
     let locks = c.add-slot.new.self.locks in
     relinked_same with_own_links parent_in (λ l pair. refl) c.join_wait_list.new.locks c.join_process.new.locks c.join_process.ensures.relinks c.add-slot.result
-    ∙ through but_queued parent_in parent-queued locks c.join_wait_list.new.locks (wait_list_queued locks c.join_wait_list.new.locks c.join_wait_list.ensures.rest) c.add-slot.result ∙ ap parent_in c.index.ensures ∙ sym c.get.ensures
+    ∙ through but_queued parent_in parent-queued locks c.join_wait_list.new.locks
+    (wait_list_queued locks c.join_wait_list.new.locks c.join_wait_list.ensures.rest) c.add-slot.result
+    ∙ ap parent_in c.index.ensures ∙ sym c.get.ensures
 
 pub index-requires : goal.index-requires
 index-requires c =
-    there_by_part but_queued (slot_of c.add-slot.new.self.locks c.add-slot.result) (Some (new_lock c.args.row.now c.args.owner c.args.parent)) c.add-slot.ensures.lock refl
+    there_by_part but_queued (slot_of c.add-slot.new.self.locks c.add-slot.result)
+    (Some (new_lock c.args.row.now c.args.owner c.args.parent)) c.add-slot.ensures.lock refl
 
 pub join_process-requires-clause-present : goal.join_process-requires-clause-present
 join_process-requires-clause-present c =
@@ -89,7 +110,9 @@ join_process-requires-clause-owned c =
     let locks1 = c.join_wait_list.new.locks in
     let wait_listed = wait_list_queued q'.locks locks1 c.join_wait_list.ensures.rest in
     let lock = wait_listed at ∙ added.lock in
-    let others : (k : ℕ) → k ≢ at → option_map but_queued (slot_of locks1 k) ≡ option_map but_queued (slot_of c.self.inside.queues.locks k) = λ k differs. wait_listed k ∙ added.kin k differs in
+    let others : (k : ℕ) → k ≢ at
+    → option_map but_queued (slot_of locks1 k) ≡ option_map but_queued (slot_of c.self.inside.queues.locks k) =
+    λ k differs. wait_listed k ∙ added.kin k differs in
     let same : (k : ℕ) → slot_of s.queues.locks k ≡ slot_of s.queues.locks k = λ k. refl in
     let owner = rw (← c.self.view_is) at c.requires.owner in
     let parent = rw (← c.self.view_is) at c.requires.parent in
@@ -105,7 +128,9 @@ join_process-requires-clause-there c =
     let locks1 = c.join_wait_list.new.locks in
     let wait_listed = wait_list_queued q'.locks locks1 c.join_wait_list.ensures.rest in
     let lock = wait_listed at ∙ added.lock in
-    let others : (k : ℕ) → k ≢ at → option_map but_queued (slot_of locks1 k) ≡ option_map but_queued (slot_of c.self.inside.queues.locks k) = λ k differs. wait_listed k ∙ added.kin k differs in
+    let others : (k : ℕ) → k ≢ at
+    → option_map but_queued (slot_of locks1 k) ≡ option_map but_queued (slot_of c.self.inside.queues.locks k) =
+    λ k differs. wait_listed k ∙ added.kin k differs in
     let same : (k : ℕ) → slot_of s.queues.locks k ≡ slot_of s.queues.locks k = λ k. refl in
     let owner = rw (← c.self.view_is) at c.requires.owner in
     let parent = rw (← c.self.view_is) at c.requires.parent in
@@ -121,11 +146,15 @@ join_parent-requires-clause-below c =
     let locks1 = c.join_wait_list.new.locks in
     let wait_listed = wait_list_queued q'.locks locks1 c.join_wait_list.ensures.rest in
     let lock = wait_listed at ∙ added.lock in
-    let others : (k : ℕ) → k ≢ at → option_map but_queued (slot_of locks1 k) ≡ option_map but_queued (slot_of c.self.inside.queues.locks k) = λ k differs. wait_listed k ∙ added.kin k differs in
+    let others : (k : ℕ) → k ≢ at
+    → option_map but_queued (slot_of locks1 k) ≡ option_map but_queued (slot_of c.self.inside.queues.locks k) =
+    λ k differs. wait_listed k ∙ added.kin k differs in
     let same : (k : ℕ) → slot_of s.queues.locks k ≡ slot_of s.queues.locks k = λ k. refl in
     let owner = rw (← c.self.view_is) at c.requires.owner in
     let parent = rw (← c.self.view_is) at c.requires.parent in
-    own_below locks1 c.join_process.new.locks c.join_process.ensures.relinks (Some at) (new_below s kept c.self.inside.queues.locks locks1 at c.args.row.now c.args.owner c.args.parent same added.fresh lock others owner parent)
+    own_below locks1 c.join_process.new.locks c.join_process.ensures.relinks (Some at)
+    (new_below s kept c.self.inside.queues.locks locks1 at c.args.row.now c.args.owner c.args.parent same
+    added.fresh lock others owner parent)
 
 pub join_parent-requires-clause-there : goal.join_parent-requires-clause-there
 join_parent-requires-clause-there c =
@@ -137,11 +166,14 @@ join_parent-requires-clause-there c =
     let locks1 = c.join_wait_list.new.locks in
     let wait_listed = wait_list_queued q'.locks locks1 c.join_wait_list.ensures.rest in
     let lock = wait_listed at ∙ added.lock in
-    let others : (k : ℕ) → k ≢ at → option_map but_queued (slot_of locks1 k) ≡ option_map but_queued (slot_of c.self.inside.queues.locks k) = λ k differs. wait_listed k ∙ added.kin k differs in
+    let others : (k : ℕ) → k ≢ at
+    → option_map but_queued (slot_of locks1 k) ≡ option_map but_queued (slot_of c.self.inside.queues.locks k) =
+    λ k differs. wait_listed k ∙ added.kin k differs in
     let same : (k : ℕ) → slot_of s.queues.locks k ≡ slot_of s.queues.locks k = λ k. refl in
     let owner = rw (← c.self.view_is) at c.requires.owner in
     let parent = rw (← c.self.view_is) at c.requires.parent in
-    linked_parent_there s kept c.self.inside.queues.locks locks1 at c.args.row.now c.args.owner c.args.parent same added.fresh lock others owner parent c.join_process.new.locks c.join_process.ensures.relinks
+    linked_parent_there s kept c.self.inside.queues.locks locks1 at c.args.row.now c.args.owner c.args.parent same
+    added.fresh lock others owner parent c.join_process.new.locks c.join_process.ensures.relinks
 
 pub invariant_of-self : goal.invariant_of-self
 invariant_of-self c =
@@ -153,7 +185,9 @@ invariant_of-self c =
     let locks1 = c.join_wait_list.new.locks in
     let wait_listed = wait_list_queued q'.locks locks1 c.join_wait_list.ensures.rest in
     let lock = wait_listed at ∙ added.lock in
-    let others : (k : ℕ) → k ≢ at → option_map but_queued (slot_of locks1 k) ≡ option_map but_queued (slot_of c.self.inside.queues.locks k) = λ k differs. wait_listed k ∙ added.kin k differs in
+    let others : (k : ℕ) → k ≢ at
+    → option_map but_queued (slot_of locks1 k) ≡ option_map but_queued (slot_of c.self.inside.queues.locks k) =
+    λ k differs. wait_listed k ∙ added.kin k differs in
     let same : (k : ℕ) → slot_of s.queues.locks k ≡ slot_of s.queues.locks k = λ k. refl in
     let owner = rw (← c.self.view_is) at c.requires.owner in
     let parent = rw (← c.self.view_is) at c.requires.parent in
@@ -161,29 +195,57 @@ invariant_of-self c =
     let below = c.join_parent.ensures in
     let rest = added.rest in
     let q'' = record q' { locks = c.join_parent.new.locks } in
-    let kin = same_then but_kin q'.locks locks1 c.join_parent.new.locks (wait_list_kin q'.locks locks1 c.join_wait_list.ensures.rest) (joined_kin s kept c.self.inside.queues.locks locks1 at c.args.row.now c.args.owner c.args.parent same added.fresh lock others owner parent c.join_process.new.processes c.join_process.new.locks c.join_parent.new.locks process.owned process.here process.elsewhere process.relinks process.rest below.here below.elsewhere below.rest) in
-    let lkids = joined_lkids s kept c.self.inside.queues.locks locks1 at c.args.row.now c.args.owner c.args.parent same added.fresh lock others owner parent c.join_process.new.processes c.join_process.new.locks c.join_parent.new.locks process.owned process.here process.elsewhere process.relinks process.rest below.here below.elsewhere below.rest in
-    let indexes1 = Indexes-same (handle_in s.lock_index) (handle_in c.self.inside.lock_index) (lkid_at s.queues) (lkid_at (record s.queues { locks = c.self.inside.queues.locks }))
+    let kin = same_then but_kin q'.locks locks1 c.join_parent.new.locks
+    (wait_list_kin q'.locks locks1 c.join_wait_list.ensures.rest)
+    (joined_kin s kept c.self.inside.queues.locks locks1 at c.args.row.now c.args.owner c.args.parent same
+    added.fresh lock others owner parent c.join_process.new.processes c.join_process.new.locks
+    c.join_parent.new.locks process.owned process.here process.elsewhere process.relinks process.rest below.here
+    below.elsewhere below.rest) in
+    let lkids = joined_lkids s kept c.self.inside.queues.locks locks1 at c.args.row.now c.args.owner c.args.parent same
+    added.fresh lock others owner parent c.join_process.new.processes c.join_process.new.locks
+    c.join_parent.new.locks process.owned process.here process.elsewhere process.relinks process.rest below.here
+    below.elsewhere below.rest in
+    let indexes1 = Indexes-same (handle_in s.lock_index) (handle_in c.self.inside.lock_index) (lkid_at s.queues)
+    (lkid_at (record s.queues { locks = c.self.inside.queues.locks }))
     (λ _. refl) (λ at. ap (option_map lkid_of) (same at)) kept.locks in
     let fresh : handle_in c.self.inside.lock_index c.args.row.now.lkid ≡ None =
-    no_lock s.queues s.order (beside_shown s) kept.placed kept.linked kept.ordered (has_there s kept) (there_has s kept) (handle_in s.lock_index) kept.locks c.args.row.now.lkid (rw (← c.self.view_is) at c.requires.new) in
+    no_lock s.queues s.order (beside_shown s) kept.placed kept.linked kept.ordered (has_there s kept) (there_has s kept)
+    (handle_in s.lock_index) kept.locks c.args.row.now.lkid (rw (← c.self.view_is) at c.requires.new) in
     record {
       placed = kin_placed q' c.join_parent.new.locks kin added.laid_out.placed;
       tallied = kin_tallied q' c.join_parent.new.locks kin added.laid_out.placed added.laid_out.tallied;
-      armed = λ which. armed_kin which q' c.join_parent.new.locks kin (kin_handles q' c.join_parent.new.locks kin added.laid_out.placed) (kin_rows q' c.join_parent.new.locks kin) (added.laid_out.armed which);
-      wait_list = wait_list_below c.join_process.new.locks c.join_parent.new.locks c.join_wait_list.new.wait_list below.rest (wait_list_own locks1 c.join_process.new.locks c.join_wait_list.new.wait_list process.relinks c.join_wait_list.ensures.wait_list);
+      armed = λ which. armed_kin which q' c.join_parent.new.locks kin
+          (kin_handles q' c.join_parent.new.locks kin added.laid_out.placed) (kin_rows q' c.join_parent.new.locks kin)
+          (added.laid_out.armed which);
+      wait_list = wait_list_below c.join_process.new.locks c.join_parent.new.locks c.join_wait_list.new.wait_list
+          below.rest (wait_list_own locks1 c.join_process.new.locks c.join_wait_list.new.wait_list process.relinks
+          c.join_wait_list.ensures.wait_list);
       linked = order_linked but_queues (λ r. refl) s.queues.resources q'.resources rest s.order kept.linked;
       ordered = order_whole but_queues (λ r. refl) s.queues.resources q'.resources rest s.order kept.linked kept.ordered;
-      locks = Indexes-added c.self.inside.lock_index c.insert.new.self c.args.row.now.lkid (lkid_at (record s.queues { locks = c.self.inside.queues.locks })) (lkid_at q'') at
+      locks = Indexes-added c.self.inside.lock_index c.insert.new.self c.args.row.now.lkid
+          (lkid_at (record s.queues { locks = c.self.inside.queues.locks })) (lkid_at q'') at
           (rw (c.of-at.ensures, c.lkid.ensures) at c.insert.ensures.writes)
-          (ap (option_map lkid_of) added.fresh) (lkids at ∙ new_lkid s kept c.self.inside.queues.locks locks1 at c.args.row.now c.args.owner c.args.parent same added.fresh lock others owner parent) (λ k differs. lkids k ∙ other_lkids s kept c.self.inside.queues.locks locks1 at c.args.row.now c.args.owner c.args.parent same added.fresh lock others owner parent k differs) fresh indexes1;
-      resources = labels_same (hash_key s.keys) s.resource_index (hashed_at s.queues) (hashed_at q'') (keys_same but_queues (λ r. refl) s.queues.resources q'.resources rest) kept.resources;
-      owned = joined_owned s kept c.self.inside.queues.locks locks1 at c.args.row.now c.args.owner c.args.parent same added.fresh lock others owner parent c.join_process.new.processes c.join_process.new.locks c.join_parent.new.locks process.owned process.here process.elsewhere process.relinks process.rest below.here below.elsewhere below.rest;
+          (ap (option_map lkid_of) added.fresh) (lkids at
+          ∙ new_lkid s kept c.self.inside.queues.locks locks1 at c.args.row.now c.args.owner c.args.parent same
+          added.fresh lock others owner parent) (λ k differs. lkids k
+          ∙ other_lkids s kept c.self.inside.queues.locks locks1 at c.args.row.now c.args.owner c.args.parent same
+          added.fresh lock others owner parent k differs) fresh indexes1;
+      resources = labels_same (hash_key s.keys) s.resource_index (hashed_at s.queues) (hashed_at q'')
+          (keys_same but_queues (λ r. refl) s.queues.resources q'.resources rest) kept.resources;
+      owned = joined_owned s kept c.self.inside.queues.locks locks1 at c.args.row.now c.args.owner c.args.parent same
+          added.fresh lock others owner parent c.join_process.new.processes c.join_process.new.locks
+          c.join_parent.new.locks process.owned process.here process.elsewhere process.relinks process.rest below.here
+          below.elsewhere below.rest;
       below = below.below;
-      named = joined_named s kept c.self.inside.queues.locks locks1 at c.args.row.now c.args.owner c.args.parent same added.fresh lock others owner parent c.join_process.new.processes c.join_process.new.locks c.join_parent.new.locks process.owned process.here process.elsewhere process.relinks process.rest below.here below.elsewhere below.rest;
+      named = joined_named s kept c.self.inside.queues.locks locks1 at c.args.row.now c.args.owner c.args.parent same
+          added.fresh lock others owner parent c.join_process.new.processes c.join_process.new.locks
+          c.join_parent.new.locks process.owned process.here process.elsewhere process.relinks process.rest below.here
+          below.elsewhere below.rest;
       processes_linked = own_process_linked s.processes c.join_process.new.processes process.rest s.process_order kept.processes_linked;
       processes_ordered = own_process_whole s.processes c.join_process.new.processes process.rest s.process_order kept.processes_linked kept.processes_ordered;
-      processes = Indexes-same (handle_by s.process_index) (handle_by s.process_index) (pid_at s.processes) (pid_at c.join_process.new.processes) (λ _. refl) (own_pids s.processes c.join_process.new.processes process.rest) kept.processes;
+      processes = Indexes-same (handle_by s.process_index) (handle_by s.process_index) (pid_at s.processes)
+          (pid_at c.join_process.new.processes) (λ _. refl)
+          (own_pids s.processes c.join_process.new.processes process.rest) kept.processes;
       marked = own_marked waits_in waits-own s.processes c.join_process.new.processes s.pending process.rest kept.marked;
       living = own_marked is_of_nodes nodes-own s.processes c.join_process.new.processes s.living process.rest kept.living;
     }
@@ -198,7 +260,9 @@ returns-clause-added c =
     let locks1 = c.join_wait_list.new.locks in
     let wait_listed = wait_list_queued q'.locks locks1 c.join_wait_list.ensures.rest in
     let lock = wait_listed at ∙ added.lock in
-    let others : (k : ℕ) → k ≢ at → option_map but_queued (slot_of locks1 k) ≡ option_map but_queued (slot_of c.self.inside.queues.locks k) = λ k differs. wait_listed k ∙ added.kin k differs in
+    let others : (k : ℕ) → k ≢ at
+    → option_map but_queued (slot_of locks1 k) ≡ option_map but_queued (slot_of c.self.inside.queues.locks k) =
+    λ k differs. wait_listed k ∙ added.kin k differs in
     let same : (k : ℕ) → slot_of s.queues.locks k ≡ slot_of s.queues.locks k = λ k. refl in
     let owner = rw (← c.self.view_is) at c.requires.owner in
     let parent = rw (← c.self.view_is) at c.requires.parent in
@@ -206,7 +270,12 @@ returns-clause-added c =
     let below = c.join_parent.ensures in
     let rest = added.rest in
     let q'' = record q' { locks = c.join_parent.new.locks } in
-    let kin = same_then but_kin q'.locks locks1 c.join_parent.new.locks (wait_list_kin q'.locks locks1 c.join_wait_list.ensures.rest) (joined_kin s kept c.self.inside.queues.locks locks1 at c.args.row.now c.args.owner c.args.parent same added.fresh lock others owner parent c.join_process.new.processes c.join_process.new.locks c.join_parent.new.locks process.owned process.here process.elsewhere process.relinks process.rest below.here below.elsewhere below.rest) in
+    let kin = same_then but_kin q'.locks locks1 c.join_parent.new.locks
+    (wait_list_kin q'.locks locks1 c.join_wait_list.ensures.rest)
+    (joined_kin s kept c.self.inside.queues.locks locks1 at c.args.row.now c.args.owner c.args.parent same
+    added.fresh lock others owner parent c.join_process.new.processes c.join_process.new.locks
+    c.join_parent.new.locks process.owned process.here process.elsewhere process.relinks process.rest below.here
+    below.elsewhere below.rest) in
     let handles1 = reserved_handles s.queues c.self.inside.queues.locks same kept.placed in
     let handles2 = kin_handles q' c.join_parent.new.locks kin added.laid_out.placed in
     let unlisted : (p : Place) → ¬ IsIn at (handles_at s.queues p) =
@@ -218,16 +287,22 @@ returns-clause-added c =
     let change = joining c.args.to (record { at = at; row = c.args.row.now }) in
     rw (← c.self.view_is, c.of-at.ensures)
     (lists_changed_beside old new change (faces_same s.queues.resources q'.resources rest)
-    (joining-under_handle (rows s.queues) (rows q'') (handles_at s.queues) (handles_at q'') at c.args.row.now c.args.to (rows2 at ∙ added.row) (λ k differs. rows2 k ∙ added.rows k differs ∙ ap row_in (same k)) unlisted
+    (joining-under_handle (rows s.queues) (rows q'') (handles_at s.queues) (handles_at q'') at c.args.row.now c.args.to
+    (rows2 at ∙ added.row) (λ k differs. rows2 k ∙ added.rows k differs ∙ ap row_in (same k)) unlisted
     (handles2 c.args.to ∙ added.here ∙ ap (λ ks. ks ++ at ∷ []) (handles1 c.args.to)) (λ p differs. handles2 p ∙ added.elsewhere p differs ∙ handles1 p))
     (order_handles but_queues (λ r. refl) s.queues.resources q'.resources rest s.order kept.linked) refl
     ∙ ap (λ ps. record (with_lists change (records_of old)) { processes = ps; room = (records_of new).room })
-    (joined_processes s kept c.self.inside.queues.locks locks1 at c.args.row.now c.args.owner c.args.parent same added.fresh lock others owner parent c.join_process.new.processes c.join_process.new.locks c.join_parent.new.locks process.owned process.here process.elsewhere process.relinks process.rest below.here below.elsewhere below.rest
+    (joined_processes s kept c.self.inside.queues.locks locks1 at c.args.row.now c.args.owner c.args.parent same
+    added.fresh lock others owner parent c.join_process.new.processes c.join_process.new.locks
+    c.join_parent.new.locks process.owned process.here process.elsewhere process.relinks process.rest below.here
+    below.elsewhere below.rest
     (λ k. kin_loose q' c.join_parent.new.locks kin k ∙ loose_but s.queues.locks q'.locks at added.loose (ap is_loose_in added.fresh) added.rows k)
     ∙ ap (map (process_with_lock c.args.owner c.args.parent at)) (sym (records_processes old)))
     ∙ ap (λ r. record (with_new_lock at c.args.row.now c.args.owner c.args.parent c.args.to (records_of old)) { room = r })
     (room_shown (λ a b. b ≡ record a { locks = b.locks }) old new
-    (rooms_are _ _ _ _ _ _ refl (room_of_same s.queues.resources q'.resources (spares_in s.resource_index) added.resources_room) (room_of_same s.processes c.join_process.new.processes (spares_by s.process_index) process.processes_room))))
+    (rooms_are _ _ _ _ _ _ refl
+    (room_of_same s.queues.resources q'.resources (spares_in s.resource_index) added.resources_room)
+    (room_of_same s.processes c.join_process.new.processes (spares_by s.process_index) process.processes_room))))
 
 pub returns-clause-fresh : goal.returns-clause-fresh
 returns-clause-fresh c stored =
@@ -246,7 +321,8 @@ returns-clause-taken c =
     rw (← c.self.view_is)
     (room_shown (λ a b. IsTaken a.locks b.locks) (tables s.queues s.order (beside_shown s)) (tables q'' s.order (beside_shown s'))
     (is_taken s.queues.locks c.self.inside.queues.locks q''.locks (spares_of s.lock_index) (spares_of c.insert.new.self) refl (omega arith)
-    (ap (λ (p : ℕ × ℕ). p.0 + 1) (c.join_parent.ensures.locks_room ∙ c.join_process.ensures.locks_room ∙ c.join_wait_list.ensures.room) ∙ c.add-slot.ensures.taken) c.insert.ensures.taken))
+    (ap (λ (p : ℕ × ℕ). p.0 + 1) (c.join_parent.ensures.locks_room ∙ c.join_process.ensures.locks_room
+    ∙ c.join_wait_list.ensures.room) ∙ c.add-slot.ensures.taken) c.insert.ensures.taken))
 
 pub add-slot-requires-clause-laid_out : goal.add-slot-requires-clause-laid_out
 add-slot-requires-clause-laid_out c = record {
@@ -259,7 +335,9 @@ add-slot-requires-clause-laid_out c = record {
   armed = λ which.
       let s = c.self.inside in
       let same : (k : ℕ) → slot_of s.queues.locks k ≡ slot_of s.queues.locks k = λ k. refl in
-      armed_reserved which s.queues c.self.inside.queues.locks same (reserved_handles s.queues c.self.inside.queues.locks same c.self.invariant.placed) (c.self.invariant.armed which);
+      armed_reserved which s.queues c.self.inside.queues.locks same
+      (reserved_handles s.queues c.self.inside.queues.locks same c.self.invariant.placed)
+      (c.self.invariant.armed which);
 }
 
 pub add-slot-requires-clause-room : goal.add-slot-requires-clause-room

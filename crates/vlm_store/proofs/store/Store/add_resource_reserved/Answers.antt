@@ -1,4 +1,4 @@
-use Rattle.vlm_store.proofs.Living.{is_sound}
+use Rattle.vlm_store.proofs.LivingProcesses.{is_sound}
 use Rattle.vlm_collections.specs.Parts.{handle_in, spare_for, spares_of}
 use Rattle.vlm_store.specs.declared.store.Store.TheInside.{Inside}
 use Rattle.slab.specs.Slab.{HasRoomFor, get as slot_of, get}
@@ -23,18 +23,21 @@ use Rattle.vlm_store.specs.Store.{lkid_at, resource_of, tables, records_of}
 use Rattle.vlm_records.specs.Armed.{armed_list_in}
 use Rattle.vlm_records.proofs.Arming.{armed_resources}
 use Rattle.vlm_store.proofs.Indexing.{Indexes-same}
-use Rattle.vlm_store.proofs.Kept.{no_resource}
+use Rattle.vlm_store.proofs.KeptRecords.{no_resource}
 use Rattle.vlm_store.proofs.Layouts.{HasResource-order, resource_made}
-use Rattle.vlm_records.proofs.Making.{face_by_face, face_is, none_handles, there_by_face, whole_grown, reserved_lists, resources_handles, resources_placed, resources_tallied}
+use Rattle.vlm_records.proofs.Making.{face_by_face, face_is, none_handles, there_by_face, whole_grown, reserved_lists}
+use Rattle.vlm_records.proofs.Making.{resources_handles, resources_placed, resources_tallied}
 use Rattle.vlm_store.specs.Kept.{records_shown, beside_shown, found_in}
 use Rattle.vlm_store.proofs.Kinship.{records_keys, queued_below, queued_named, queued_owned, queued_processes}
-use Rattle.vlm_records.proofs.Places.{same_eq}
+use Rattle.vlm_records.proofs.PlacesOnLists.{same_eq}
 use Rattle.vlm_store.specs.KeyIndexes.{Enters, spares_in}
 use Rattle.vlm_store.proofs.store.Store.add_resource_reserved.Goals as goal
 
 -- there is room in the slab, for a link, and in the index
-has_its_room : (s : Inside) (hash : ℕ) → HasRoom hash (records_shown s).room.resources → HasRoomFor s.queues.resources 1 × (s.queues.resources.vacant_key ≤ LAST_HANDLE) × (0 < spare_for (spares_in s.resource_index) hash)
-has_its_room s hash has = has_room s.queues.resources (spares_in s.resource_index) hash (shown_room (λ r. HasRoom hash r.resources) (tables s.queues s.order (beside_shown s)) has)
+has_its_room : (s : Inside) (hash : ℕ) → HasRoom hash (records_shown s).room.resources → HasRoomFor s.queues.resources 1
+    × (s.queues.resources.vacant_key ≤ LAST_HANDLE) × (0 < spare_for (spares_in s.resource_index) hash)
+has_its_room s hash has = has_room s.queues.resources (spares_in s.resource_index) hash
+    (shown_room (λ r. HasRoom hash r.resources) (tables s.queues s.order (beside_shown s)) has)
 
 pub add_resource-requires-clause-linked : goal.add_resource-requires-clause-linked
 add_resource-requires-clause-linked c =
@@ -53,11 +56,13 @@ invariant_of-self c =
     let handles1 = same-handles order_links s.queues.resources c.self.inside.queues.resources s.order kept.linked (λ x _. same x) in
     let key = c.args.site.now.key in
     let found = hashed (hash_key s.keys) key in
-    let hash_known : c.args.hash ≡ hash_key s.keys key = (rw (← c.self.view_is) at c.requires.hash) ∙ ap (λ (h : HashKeys). hash_key h key) (records_keys (tables s.queues s.order (beside_shown s))) in
+    let hash_known : c.args.hash ≡ hash_key s.keys key = (rw (← c.self.view_is) at c.requires.hash)
+    ∙ ap (λ (h : HashKeys). hash_key h key) (records_keys (tables s.queues s.order (beside_shown s))) in
     let hash_is : record { key = key; hash = c.args.hash } ≡ found = ap (λ (n : ℕ). record { key = key; hash = n }) hash_known in
     let indexes1 = kept.resources in
     let fresh = fresh_label (hash_key s.keys) s.resource_index s.queues kept.resources key
-    (no_resource s.queues s.order (beside_shown s) kept.placed kept.linked kept.ordered (found_in s) (by_keys (hash_key s.keys) s.resource_index s.queues kept.resources) key
+    (no_resource s.queues s.order (beside_shown s) kept.placed kept.linked kept.ordered (found_in s)
+    (by_keys (hash_key s.keys) s.resource_index s.queues kept.resources) key
     (rw (← c.self.view_is) at c.requires.new)) in
     record {
       placed = added.laid_out.placed;
@@ -65,12 +70,15 @@ invariant_of-self c =
       armed = added.laid_out.armed;
       wait_list = wait_list_same s.queues.locks q'.locks s.wait_list (λ k. ap (λ l. slot_of l k) added.locks) kept.wait_list;
       linked = added.linked;
-      ordered = whole_grown order_links c.self.inside.queues.resources q'.resources s.order c.add_resource.new.order at (λ r there. rw handles1 (kept.ordered r (rw (same r) at there))) added.order
+      ordered = whole_grown order_links c.self.inside.queues.resources q'.resources s.order c.add_resource.new.order at
+          (λ r there. rw handles1 (kept.ordered r (rw (same r) at there))) added.order
           (λ r differs. there_by_face (slot_of q'.resources r) (slot_of c.self.inside.queues.resources r) (added.faces r differs));
-      locks = Indexes-same (handle_in s.lock_index) (handle_in s.lock_index) (lkid_at s.queues) (lkid_at q') (λ k. refl) (λ x. ap (λ l. option_map lkid_of (slot_of l x)) added.locks) kept.locks;
+      locks = Indexes-same (handle_in s.lock_index) (handle_in s.lock_index) (lkid_at s.queues) (lkid_at q') (λ k. refl)
+          (λ x. ap (λ l. option_map lkid_of (slot_of l x)) added.locks) kept.locks;
       resources = hashed_added (hash_key s.keys) c.self.inside.resource_index c.insert.new.self (hashed_at q1) (hashed_at q') at found
           (λ r differs. hashed_by_face (slot_of q'.resources r) (slot_of c.self.inside.queues.resources r) (added.faces r differs)) indexes1 q'.resources
-          (subst (λ (n : ℕ). Enters q'.resources at n c.self.inside.resource_index c.insert.new.self) hash_known (rw c.of-res.ensures at c.insert.ensures.enters))
+          (subst (λ (n : ℕ). Enters q'.resources at n c.self.inside.resource_index c.insert.new.self) hash_known
+          (rw c.of-res.ensures at c.insert.ensures.enters))
           (λ b. refl) (ap (option_map hashed_in) added.fresh)
           (hashed_is (slot_of q'.resources at) (new_face c.args.serial c.args.site.now c.args.hash) added.face ∙ ap (λ (k : HashedKey). Some k) hash_is)
           (λ b is. fresh b (sym (ap (option_map hashed_in) (same b)) ∙ is)) refl;
@@ -106,10 +114,14 @@ returns-clause-added c =
       added.handles (Queued at Waiting) ∙ lists1 (Queued at Waiting) ∙ none_handles s.queues at Waiting vacant,
     ) refl in
     rw (← c.self.view_is, c.of-res.ensures)
-    (resource_made (tables s.queues s.order (beside_shown s)) l' at (new_stored_resource at c.args.serial c.args.site.now) (λ k. ap (λ l. row_in (slot_of l k)) added.locks) (λ p. added.handles p ∙ lists1 p)
+    (resource_made (tables s.queues s.order (beside_shown s)) l' at
+    (new_stored_resource at c.args.serial c.args.site.now) (λ k. ap (λ l. row_in (slot_of l k)) added.locks)
+    (λ p. added.handles p ∙ lists1 p)
     (λ r differs. face_by_face (slot_of q'.resources r) (slot_of c.self.inside.queues.resources r) (added.faces r differs) ∙ ap face_in (same r))
     (vacant_unlisted order_links s.queues.resources s.order kept.linked at vacant) (added.order ∙ ap (λ ks. ks ++ at ∷ []) handles1) made
-    (queued_processes s.processes s.queues.locks q'.locks (same_eq but_queued s.queues.locks q'.locks added.locks) s.process_order (λ k. ap (λ x. loose_in (get x k)) added.locks) kept.owned kept.below) refl
+    (queued_processes s.processes s.queues.locks q'.locks
+    (same_eq but_queued s.queues.locks q'.locks added.locks) s.process_order
+    (λ k. ap (λ x. loose_in (get x k)) added.locks) kept.owned kept.below) refl
     ∙ ap (λ r. record (records_of old) { resources = (records_of old).resources ++ new_stored_resource at c.args.serial c.args.site.now ∷ []; room = r })
     (room_shown (λ a b. b ≡ record a { resources = b.resources }) old l'
     (rooms_are _ _ _ _ _ _ (room_of_same s.queues.locks q'.locks (spares_of s.lock_index) (ap room_in added.locks)) refl refl)))
@@ -141,12 +153,15 @@ add_resource-requires-clause-laid_out c = record {
   tallied =
       let s = c.self.inside in
       let same : (r : ℕ) → slot_of s.queues.resources r ≡ slot_of s.queues.resources r = λ r. refl in
-      resources_tallied s.queues c.self.inside.queues.resources c.self.invariant.placed (reserved_lists s.queues c.self.inside.queues.resources same) (λ r. ap tally_in (same r)) c.self.invariant.tallied;
+      resources_tallied s.queues c.self.inside.queues.resources c.self.invariant.placed
+      (reserved_lists s.queues c.self.inside.queues.resources same)
+      (λ r. ap tally_in (same r)) c.self.invariant.tallied;
   armed = λ which.
       let s = c.self.inside in
       let same : (r : ℕ) → slot_of s.queues.resources r ≡ slot_of s.queues.resources r = λ r. refl in
       armed_resources which s.queues c.self.inside.queues.resources (λ r. ap (armed_list_in which) (same r))
-      (resources_handles s.queues c.self.inside.queues.resources c.self.invariant.placed (reserved_lists s.queues c.self.inside.queues.resources same)) (c.self.invariant.armed which);
+      (resources_handles s.queues c.self.inside.queues.resources c.self.invariant.placed
+      (reserved_lists s.queues c.self.inside.queues.resources same)) (c.self.invariant.armed which);
 }
 
 pub insert-requires-clause-there : goal.insert-requires-clause-there
@@ -155,7 +170,8 @@ insert-requires-clause-there c before last =
     let roomy = c.self.inside.queues.resources in
     let added = c.add_resource.ensures in
     let there : IsSome (slot_of roomy before) = last_there (hash_key s.keys) s.resource_index s.queues c.self.invariant.resources c.args.hash before last in
-    let differs = λ (is : before ≡ c.add_resource.result). let nothing : IsSome {T = Resource} None = rw (ap (slot_of roomy) is ∙ added.fresh) at there in absurd (cc) in
+    let differs = λ (is : before ≡ c.add_resource.result). let nothing : IsSome {T = Resource} None =
+    rw (ap (slot_of roomy) is ∙ added.fresh) at there in absurd (cc) in
     there_by_face (slot_of roomy before) (slot_of c.add_resource.new.self.resources before) (sym (added.faces before differs)) there
 
 pub add_resource-requires-clause-room : goal.add_resource-requires-clause-room

@@ -1,4 +1,4 @@
-use Rattle.vlm_store.proofs.Living.{is_sound}
+use Rattle.vlm_store.proofs.LivingProcesses.{is_sound}
 use Rattle.std.proofs.Common.{◌∙◌, sym}
 use Rattle.vlm_records.specs.Shown.{handles_at, rows}
 use Rattle.vlm_store.specs.Store.{tables}
@@ -16,14 +16,18 @@ of-requires c =
 pub returns-clause-first : goal.returns-clause-first
 returns-clause-first c =
     let s = c.self.inside in
-    let seen = locks_at-seen (tables s.queues s.order (beside_shown s)) c.args.place (HasPlace-seen (tables s.queues s.order (beside_shown s)) c.args.place (rw (← c.self.view_is) at c.requires)) in
-    rw (← c.self.view_is, seen, c.of.ensures) (rw c.list.ensures at c.in_ok-at.ensures ∙ sym (under_handle-first (rows s.queues) (handles_at s.queues c.args.place)))
+    let seen = locks_at-seen (tables s.queues s.order (beside_shown s)) c.args.place
+    (HasPlace-seen (tables s.queues s.order (beside_shown s)) c.args.place (rw (← c.self.view_is) at c.requires)) in
+    rw (← c.self.view_is, seen, c.of.ensures) (rw c.list.ensures at c.in_ok-at.ensures
+    ∙ sym (under_handle-first (rows s.queues) (handles_at s.queues c.args.place)))
 
 pub returns-in_err-at-clause-first : goal.returns-in_err-at-clause-first
 returns-in_err-at-clause-first c =
     let s = c.self.inside in
-    let seen = locks_at-seen (tables s.queues s.order (beside_shown s)) c.args.place (HasPlace-seen (tables s.queues s.order (beside_shown s)) c.args.place (rw (← c.self.view_is) at c.requires)) in
-    rw (← c.self.view_is, seen) (c.from_residual.ensures ∙ rw c.list.ensures at c.in_err-at.ensures ∙ sym (under_handle-first (rows s.queues) (handles_at s.queues c.args.place)))
+    let seen = locks_at-seen (tables s.queues s.order (beside_shown s)) c.args.place
+    (HasPlace-seen (tables s.queues s.order (beside_shown s)) c.args.place (rw (← c.self.view_is) at c.requires)) in
+    rw (← c.self.view_is, seen) (c.from_residual.ensures ∙ rw c.list.ensures at c.in_err-at.ensures
+    ∙ sym (under_handle-first (rows s.queues) (handles_at s.queues c.args.place)))
 
 pub returns-clause-sound : goal.returns-clause-sound
 returns-clause-sound c = rw (← c.self.view_is) (is_sound c.self.inside c.self.invariant)

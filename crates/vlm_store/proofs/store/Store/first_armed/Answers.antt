@@ -1,4 +1,4 @@
-use Rattle.vlm_store.proofs.Living.{is_sound}
+use Rattle.vlm_store.proofs.LivingProcesses.{is_sound}
 use Rattle.std.proofs.Common.{◌∙◌, ap, subst, sym}
 use Rattle.vlm_collections.specs.Lists.{IsLinked, first_handle}
 use Rattle.vlm_collections.proofs.Walks.{first_handle-in}
@@ -20,8 +20,11 @@ first_armed-requires c =
 pub of-requires : goal.of-requires
 of-requires c =
     let s = c.self.inside in
-    let listed = armed_listed s c.self.invariant c.args.res (rw (← c.self.view_is) at c.requires) c.args.which c.index.result.now (rw c.slot.ensures at c.index.ensures) in
-    ((c.self.invariant.armed c.args.which).linked c.args.res).within c.in_ok-at.at (first_handle-in (armed_list_handles c.args.which s.queues c.args.res) c.in_ok-at.at (c.in_ok-at.ensures ∙ ap first_handle listed))
+    let listed = armed_listed s c.self.invariant c.args.res
+    (rw (← c.self.view_is) at c.requires) c.args.which c.index.result.now (rw c.slot.ensures at c.index.ensures) in
+    ((c.self.invariant.armed c.args.which).linked c.args.res).within c.in_ok-at.at
+    (first_handle-in (armed_list_handles c.args.which s.queues c.args.res) c.in_ok-at.at (c.in_ok-at.ensures
+    ∙ ap first_handle listed))
 
 pub returns-clause-first : goal.returns-clause-first
 returns-clause-first c =
@@ -30,7 +33,8 @@ returns-clause-first c =
     let listed = armed_listed s c.self.invariant c.args.res has c.args.which c.index.result.now (rw c.slot.ensures at c.index.ensures) in
     rw (← c.self.view_is, c.of.ensures)
     (c.in_ok-at.ensures ∙ ap first_handle listed
-    ∙ sym (ap first_at (armed_shown s c.self.invariant c.args.res has c.args.which) ∙ under_handle-first (rows s.queues) (armed_list_handles c.args.which s.queues c.args.res)))
+    ∙ sym (ap first_at (armed_shown s c.self.invariant c.args.res has c.args.which)
+    ∙ under_handle-first (rows s.queues) (armed_list_handles c.args.which s.queues c.args.res)))
 
 pub returns-in_err-at-clause-first : goal.returns-in_err-at-clause-first
 returns-in_err-at-clause-first c =
@@ -39,7 +43,8 @@ returns-in_err-at-clause-first c =
     let listed = armed_listed s c.self.invariant c.args.res has c.args.which c.index.result.now (rw c.slot.ensures at c.index.ensures) in
     rw (← c.self.view_is)
     (c.from_residual.ensures ∙ c.in_err-at.ensures ∙ ap first_handle listed
-    ∙ sym (ap first_at (armed_shown s c.self.invariant c.args.res has c.args.which) ∙ under_handle-first (rows s.queues) (armed_list_handles c.args.which s.queues c.args.res)))
+    ∙ sym (ap first_at (armed_shown s c.self.invariant c.args.res has c.args.which)
+    ∙ under_handle-first (rows s.queues) (armed_list_handles c.args.which s.queues c.args.res)))
 
 pub returns-clause-sound : goal.returns-clause-sound
 returns-clause-sound c = rw (← c.self.view_is) (is_sound c.self.inside c.self.invariant)

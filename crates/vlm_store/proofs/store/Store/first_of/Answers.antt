@@ -1,4 +1,4 @@
-use Rattle.vlm_store.proofs.Living.{is_sound}
+use Rattle.vlm_store.proofs.LivingProcesses.{is_sound}
 use Rattle.vlm_store.proofs.FirstOf.{first_living_shown}
 use Rattle.vlm_store.proofs.store.Store.first_of.Goals as goal
 

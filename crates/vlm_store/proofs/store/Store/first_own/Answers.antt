@@ -2,7 +2,7 @@ use Rattle.std.proofs.Common.{◌∙◌, ap, sym}
 use Rattle.vlm_collections.specs.Lists.{first_handle}
 use Rattle.vlm_collections.proofs.Walks.{first_handle-in}
 use Rattle.vlm_records.specs.Kin.{own_handles}
-use Rattle.vlm_store.proofs.Living.{is_sound, process_there}
+use Rattle.vlm_store.proofs.LivingProcesses.{is_sound, process_there}
 use Rattle.vlm_store.proofs.Siblings.{own_handles_is, own_listed}
 use Rattle.vlm_store.proofs.store.Store.first_own.Goals as goal
 

@@ -1,4 +1,4 @@
-use Rattle.vlm_store.proofs.Living.{is_sound}
+use Rattle.vlm_store.proofs.LivingProcesses.{is_sound}
 use Rattle.std.proofs.Common.{◌∙◌, sym}
 use Rattle.vlm_collections.specs.Lists.{handles_of}
 use Rattle.vlm_records.specs.Shown.{order_links}

@@ -2,7 +2,7 @@ use Rattle.std.proofs.Common.{◌∙◌, ap, sym, inl}
 use Rattle.vlm_collections.specs.Lists.{first_handle}
 use Rattle.vlm_collections.proofs.Walks.{first_handle-in}
 use Rattle.vlm_records.specs.Kin.{below_handles}
-use Rattle.vlm_store.proofs.Living.{is_sound, lock_there}
+use Rattle.vlm_store.proofs.LivingProcesses.{is_sound, lock_there}
 use Rattle.vlm_store.proofs.Siblings.{below_listed, sublocks_is}
 use Rattle.vlm_store.proofs.store.Store.first_sublock.Goals as goal
 

@@ -1,9 +1,9 @@
 use Rattle.std.proofs.Common.{◌≤◌, ap, subst}
-use Rattle.vlm_collections.specs.Asts.{Asts}
+use Rattle.vlm_records.specs.AstQueues.{Asts}
 use Rattle.vlm_store.specs.Holdings.{faced, process_face, process_face_in}
 use Rattle.vlm_store.specs.Records.{owed_less}
-use Rattle.vlm_store.proofs.Living.{is_sound, process_is, process_there}
-use Rattle.vlm_store.proofs.Rewriting.{asts_kept, asts_shown}
+use Rattle.vlm_store.proofs.LivingProcesses.{is_sound, process_is, process_there}
+use Rattle.vlm_store.proofs.ProcessRewritten.{asts_kept, asts_shown}
 use Rattle.vlm_store.specs.Kept.{records_shown}
 use Rattle.vlm_store.proofs.Dues.{owed_there}
 use Rattle.vlm_store.proofs.store.Store.forgive.Goals as goal
@@ -14,7 +14,9 @@ index_mut-requires c = rw c.slot.ensures (process_there c.self.inside c.self.inv
 pub forgive-requires : goal.forgive-requires
 forgive-requires c =
     let there = rw (← c.self.view_is) at c.requires.there in
-    let owed = rw (process_is c.self.inside c.self.invariant c.args.at there) at (owed_there c.args.at c.args.count (records_shown c.self.inside) (is_sound c.self.inside c.self.invariant) (rw (← c.self.view_is) at c.requires.owed)) in
+    let owed = rw (process_is c.self.inside c.self.invariant c.args.at there) at
+    (owed_there c.args.at c.args.count (records_shown c.self.inside) (is_sound c.self.inside c.self.invariant)
+    (rw (← c.self.view_is) at c.requires.owed)) in
     subst (λ slot. c.args.count ≤ (process_face_in slot).due) (rw c.slot.ensures at c.index_mut.ensures.value) owed
 
 pub invariant_of-self : goal.invariant_of-self

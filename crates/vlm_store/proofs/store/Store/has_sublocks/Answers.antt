@@ -1,7 +1,7 @@
 use Rattle.std.proofs.Common.{◌∙◌, length, sym, ap}
 use Rattle.vlm_collections.specs.Lists.{handles_of}
 use Rattle.vlm_records.specs.Kin.{below_in, below_links}
-use Rattle.vlm_store.proofs.Living.{are_sublocks, lock_there, no_sublocks}
+use Rattle.vlm_store.proofs.LivingProcesses.{are_sublocks, lock_there, no_sublocks}
 use Rattle.vlm_store.proofs.store.Store.has_sublocks.Goals as goal
 
 pub index-requires : goal.index-requires

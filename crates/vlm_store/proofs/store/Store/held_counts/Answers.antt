@@ -4,7 +4,7 @@ use Rattle.vlm_records.specs.Tallies.Count.{of_held}
 use Rattle.vlm_store.specs.Kept.{beside_shown}
 use Rattle.vlm_records.specs.Shown.{tally_in}
 use Rattle.vlm_store.specs.Store.{tables}
-use Rattle.vlm_store.proofs.Held.{held_counts-handles}
+use Rattle.vlm_store.proofs.CountsByMode.{held_counts-handles}
 use Rattle.vlm_store.proofs.Layouts.{HasResource-order, resource_at-found}
 use Rattle.vlm_store.proofs.store.Store.held_counts.Goals as goal
 

@@ -3,7 +3,7 @@ use Rattle.std.proofs.lemmas.Option.{none-some}
 use Rattle.vlm_collections.specs.Lists.{Lists, handle_after}
 use Rattle.vlm_collections.proofs.Walks.{handle_after-in}
 use Rattle.vlm_records.specs.Kin.{own_handles, own_in, own_links, owner_in}
-use Rattle.vlm_store.proofs.Living.{is_sound, lock_there}
+use Rattle.vlm_store.proofs.LivingProcesses.{is_sound, lock_there}
 use Rattle.vlm_store.proofs.Siblings.{own_listed, own_of_lock}
 use Rattle.vlm_store.proofs.store.Store.next_own.Goals as goal
 
@@ -29,7 +29,8 @@ of-requires c =
     let owner = c.index.result.now.owner in
     let listed = own_listed s c.self.invariant owner c.index-2.result.now (rw c.slot-2.ensures at c.index-2.ensures) in
     (c.self.invariant.owned.linked owner).within c.in_ok-at.at
-    (handle_after-in c.args.lock (own_handles s.processes s.queues.locks owner) c.in_ok-at.at ((rw c.slot-3.ensures at c.in_ok-at.ensures) ∙ ap (handle_after c.args.lock) listed))
+    (handle_after-in c.args.lock (own_handles s.processes s.queues.locks owner) c.in_ok-at.at
+    ((rw c.slot-3.ensures at c.in_ok-at.ensures) ∙ ap (handle_after c.args.lock) listed))
 
 pub returns-clause-next : goal.returns-clause-next
 returns-clause-next c process found =

@@ -6,7 +6,7 @@ use Rattle.vlm_collections.proofs.Walks.{handle_after-in}
 use Rattle.vlm_records.specs.Kin.{process_links}
 use Rattle.vlm_store.specs.Holdings.{holding, process_face_in}
 use Rattle.vlm_store.specs.Store.{records_of}
-use Rattle.vlm_store.proofs.Living.{process_listed}
+use Rattle.vlm_store.proofs.LivingProcesses.{process_listed}
 use Rattle.vlm_store.proofs.Members.{process_after-is}
 use Rattle.vlm_store.proofs.store.Store.next_process.Goals as goal
 
@@ -23,7 +23,9 @@ unfolding records_of
 returns-in_err-next c =
     let s = c.self.inside in
     rw (← c.self.view_is, c.from_residual.ensures)
-    (sym (process_after-is (holding s.processes s.queues.locks s.process_order) c.args.at ∙ ap (option_map (λ k. (process_face_in (get s.processes k)).plain)) (sym (rw c.slot.ensures at c.next.ensures) ∙ c.in_err-next.was)))
+    (sym (process_after-is (holding s.processes s.queues.locks s.process_order) c.args.at
+    ∙ ap (option_map (λ k. (process_face_in (get s.processes k)).plain)) (sym (rw c.slot.ensures at c.next.ensures)
+    ∙ c.in_err-next.was)))
 
 pub index-requires : goal.index-requires
 index-requires c =

@@ -1,4 +1,4 @@
-use Rattle.vlm_store.proofs.Living.{is_sound}
+use Rattle.vlm_store.proofs.LivingProcesses.{is_sound}
 use Rattle.std.proofs.Common.{◌∙◌, sym}
 use Rattle.vlm_collections.specs.Lists.{handles_of}
 use Rattle.vlm_records.specs.Shown.{order_links}
@@ -26,12 +26,14 @@ of-requires c =
 pub returns-clause-next : goal.returns-clause-next
 returns-clause-next c =
     let s = c.self.inside in
-    rw (← c.self.view_is, c.of.ensures) ((rw c.slot.ensures at c.in_ok-at.ensures) ∙ sym (resource_after-is (tables s.queues s.order (beside_shown s)) c.args.res))
+    rw (← c.self.view_is, c.of.ensures) ((rw c.slot.ensures at c.in_ok-at.ensures)
+    ∙ sym (resource_after-is (tables s.queues s.order (beside_shown s)) c.args.res))
 
 pub returns-in_err-at-clause-next : goal.returns-in_err-at-clause-next
 returns-in_err-at-clause-next c =
     let s = c.self.inside in
-    rw (← c.self.view_is) (c.from_residual.ensures ∙ (rw c.slot.ensures at c.in_err-at.ensures) ∙ sym (resource_after-is (tables s.queues s.order (beside_shown s)) c.args.res))
+    rw (← c.self.view_is) (c.from_residual.ensures ∙ (rw c.slot.ensures at c.in_err-at.ensures)
+    ∙ sym (resource_after-is (tables s.queues s.order (beside_shown s)) c.args.res))
 
 pub returns-clause-sound : goal.returns-clause-sound
 returns-clause-sound c = rw (← c.self.view_is) (is_sound c.self.inside c.self.invariant)

@@ -3,7 +3,7 @@ use Rattle.std.proofs.lemmas.Option.{none-some}
 use Rattle.vlm_collections.specs.Lists.{Lists, handle_after}
 use Rattle.vlm_collections.proofs.Walks.{handle_after-in}
 use Rattle.vlm_records.specs.Kin.{below_handles, below_in, below_links, parent_in}
-use Rattle.vlm_store.proofs.Living.{lock_there}
+use Rattle.vlm_store.proofs.LivingProcesses.{lock_there}
 use Rattle.vlm_store.proofs.Siblings.{below_listed, below_of_lock, seen_below, unseen_below}
 use Rattle.vlm_store.proofs.store.Store.next_sublock.Goals as goal
 
@@ -14,7 +14,9 @@ index-requires c =
 
 pub returns-in_default-clause-after : goal.returns-in_default-clause-after
 returns-in_default-clause-after c parent found =
-    absurd (unseen_below c.self.inside c.self.invariant c.args.lock parent (ap parent_in (rw c.slot.ensures at c.index.ensures) ∙ sym c.get.ensures ∙ c.in_default.is) (rw (← c.self.view_is) at found))
+    absurd (unseen_below c.self.inside c.self.invariant c.args.lock parent
+    (ap parent_in (rw c.slot.ensures at c.index.ensures) ∙ sym c.get.ensures
+    ∙ c.in_default.is) (rw (← c.self.view_is) at found))
 
 pub next-requires : goal.next-requires
 next-requires c =
@@ -32,7 +34,8 @@ of-requires c =
     let s = c.self.inside in
     let listed = below_listed s c.self.invariant c.in-Some.parent c.index-2.result.now (rw c.slot-2.ensures at c.index-2.ensures) in
     (c.self.invariant.below.linked c.in-Some.parent).within c.in_ok-at.at
-    (handle_after-in c.args.lock (below_handles s.queues.locks c.in-Some.parent) c.in_ok-at.at ((rw c.slot-3.ensures at c.in_ok-at.ensures) ∙ ap (handle_after c.args.lock) listed))
+    (handle_after-in c.args.lock (below_handles s.queues.locks c.in-Some.parent) c.in_ok-at.at
+    ((rw c.slot-3.ensures at c.in_ok-at.ensures) ∙ ap (handle_after c.args.lock) listed))
 
 pub returns-clause-after : goal.returns-clause-after
 returns-clause-after c parent found =

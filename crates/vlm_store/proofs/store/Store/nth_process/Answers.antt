@@ -14,12 +14,15 @@ unfolding records_of
 returns-in_err-at c =
     let s = c.self.inside in
     rw (← c.self.view_is, c.from_residual.ensures)
-    (sym (process_at-index (holding s.processes s.queues.locks s.process_order) c.args.index ∙ ap (option_map (λ at. (process_face_in (get s.processes at)).plain)) (sym c.nth.ensures ∙ c.in_err-at.was)))
+    (sym (process_at-index (holding s.processes s.queues.locks s.process_order) c.args.index
+    ∙ ap (option_map (λ at. (process_face_in (get s.processes at)).plain)) (sym c.nth.ensures ∙ c.in_err-at.was)))
 
 pub index-requires : goal.index-requires
 index-requires c =
     let s = c.self.inside in
-    c.self.invariant.processes_linked.present c.in_ok-at.at (handle_index-in c.args.index (handles_of process_links s.processes s.process_order) c.in_ok-at.at (sym c.nth.ensures ∙ c.in_ok-at.was))
+    c.self.invariant.processes_linked.present c.in_ok-at.at
+    (handle_index-in c.args.index (handles_of process_links s.processes s.process_order) c.in_ok-at.at
+    (sym c.nth.ensures ∙ c.in_ok-at.was))
 
 pub returns : goal.returns
 unfolding records_of

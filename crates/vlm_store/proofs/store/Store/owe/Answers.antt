@@ -1,7 +1,7 @@
 use Rattle.std.proofs.Common.{arith}
 use Rattle.std.proofs.lemmas.Result.{on_err_weaker, on_ok_weaker}
-use Rattle.vlm_store.proofs.Living.{is_sound, process_there}
-use Rattle.vlm_store.proofs.Rewriting.{asts_kept, owed_shown, same_shown}
+use Rattle.vlm_store.proofs.LivingProcesses.{is_sound, process_there}
+use Rattle.vlm_store.proofs.ProcessRewritten.{asts_kept, owed_shown, same_shown}
 use Rattle.vlm_store.proofs.store.Store.owe.Goals as goal
 
 pub index_mut-requires : goal.index_mut-requires
@@ -17,7 +17,8 @@ pub returns-clause-owed : goal.returns-clause-owed
 returns-clause-owed c =
     rw (← c.self.view_is, c.slot.ensures)
     (on_ok_weaker c.owe.result
-    (owed_shown c.self.inside c.self.invariant c.args.at c.index_mut.result.now c.owe.new.self (rw c.slot.ensures at c.index_mut.ensures.value) c.args.count c.owe.ensures.pending)
+    (owed_shown c.self.inside c.self.invariant c.args.at c.index_mut.result.now c.owe.new.self
+    (rw c.slot.ensures at c.index_mut.ensures.value) c.args.count c.owe.ensures.pending)
     c.owe.ensures.due)
 
 pub returns-clause-succeeds : goal.returns-clause-succeeds

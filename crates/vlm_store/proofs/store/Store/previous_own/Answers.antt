@@ -3,7 +3,7 @@ use Rattle.std.proofs.lemmas.Option.{none-some}
 use Rattle.vlm_collections.specs.Lists.{Lists, handle_before}
 use Rattle.vlm_collections.proofs.Walks.{handle_before-in}
 use Rattle.vlm_records.specs.Kin.{own_handles, own_in, own_links, owner_in}
-use Rattle.vlm_store.proofs.Living.{lock_there}
+use Rattle.vlm_store.proofs.LivingProcesses.{lock_there}
 use Rattle.vlm_store.proofs.Siblings.{own_listed, own_of_lock}
 use Rattle.vlm_store.proofs.store.Store.previous_own.Goals as goal
 
@@ -29,7 +29,8 @@ of-requires c =
     let owner = c.index.result.now.owner in
     let listed = own_listed s c.self.invariant owner c.index-2.result.now (rw c.slot-2.ensures at c.index-2.ensures) in
     (c.self.invariant.owned.linked owner).within c.in_ok-at.at
-    (handle_before-in c.args.lock (own_handles s.processes s.queues.locks owner) c.in_ok-at.at ((rw c.slot-3.ensures at c.in_ok-at.ensures) ∙ ap (handle_before c.args.lock) listed))
+    (handle_before-in c.args.lock (own_handles s.processes s.queues.locks owner) c.in_ok-at.at
+    ((rw c.slot-3.ensures at c.in_ok-at.ensures) ∙ ap (handle_before c.args.lock) listed))
 
 pub returns : goal.returns
 returns c process found =

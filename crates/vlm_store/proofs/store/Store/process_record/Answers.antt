@@ -1,7 +1,7 @@
 use Rattle.std.proofs.Common.{sym, ap}
 use Rattle.vlm_store.specs.Holdings.{process_face_in}
 use Rattle.vlm_store.specs.Records.{authorization_of}
-use Rattle.vlm_store.proofs.Living.{is_sound, process_is, process_there}
+use Rattle.vlm_store.proofs.LivingProcesses.{is_sound, process_is, process_there}
 use Rattle.vlm_store.proofs.store.Store.process_record.Goals as goal
 
 pub index-requires : goal.index-requires

@@ -3,9 +3,9 @@ use Rattle.vlm_records.specs.Kin.{process_links}
 use Rattle.vlm_records.specs.declared.processes.Process.{Process}
 use Rattle.vlm_store.specs.Holdings.{faced, process_face, process_face_in}
 use Rattle.vlm_store.specs.Records.{with_owed_ast}
-use Rattle.vlm_store.proofs.Living.{is_sound, process_is, process_there}
-use Rattle.vlm_store.proofs.Marked.{told_of}
-use Rattle.vlm_store.proofs.Rewriting.{rewritten_shown, written_kept}
+use Rattle.vlm_store.proofs.LivingProcesses.{is_sound, process_is, process_there}
+use Rattle.vlm_store.proofs.MarkedProcesses.{told_of}
+use Rattle.vlm_store.proofs.ProcessRewritten.{rewritten_shown, written_kept}
 use Rattle.vlm_store.specs.Kept.{records_shown}
 use Rattle.vlm_store.proofs.Dues.{owed_there}
 use Rattle.vlm_store.proofs.store.Store.queue_ast.Goals as goal
@@ -15,12 +15,15 @@ index_mut-requires c = rw c.slot.ensures (process_there c.self.inside c.self.inv
 
 pub queue_ast-requires-clause-told : goal.queue_ast-requires-clause-told
 queue_ast-requires-clause-told c =
-    told_of c.self.inside.processes c.self.inside.pending c.args.at c.index_mut.result.now (rw c.slot.ensures at c.index_mut.ensures.value) c.self.invariant.marked
+    told_of c.self.inside.processes c.self.inside.pending c.args.at c.index_mut.result.now
+    (rw c.slot.ensures at c.index_mut.ensures.value) c.self.invariant.marked
 
 pub queue_ast-requires-clause-owed : goal.queue_ast-requires-clause-owed
 queue_ast-requires-clause-owed c =
     let there = rw (← c.self.view_is) at c.requires.there in
-    let owed = rw (process_is c.self.inside c.self.invariant c.args.at there) at (owed_there c.args.at 1 (records_shown c.self.inside) (is_sound c.self.inside c.self.invariant) (rw (← c.self.view_is) at c.requires.owed)) in
+    let owed = rw (process_is c.self.inside c.self.invariant c.args.at there) at
+    (owed_there c.args.at 1 (records_shown c.self.inside) (is_sound c.self.inside c.self.invariant)
+    (rw (← c.self.view_is) at c.requires.owed)) in
     subst (λ slot. 0 < (process_face_in slot).due) (rw c.slot.ensures at c.index_mut.ensures.value) owed
 
 pub invariant_of-self : goal.invariant_of-self

@@ -2,7 +2,7 @@ use Rattle.std.proofs.Common.{◌∙◌, arith, sym}
 use Rattle.vlm_records.specs.declared.handles.Place.TheVariants.{Queued}
 use Rattle.vlm_store.specs.Kept.{beside_shown}
 use Rattle.vlm_store.specs.Store.{tables}
-use Rattle.vlm_store.proofs.Held.{length-at, length-queued}
+use Rattle.vlm_store.proofs.CountsByMode.{length-at, length-queued}
 use Rattle.vlm_store.proofs.Layouts.{HasResource-order, resource_at-found}
 use Rattle.vlm_store.proofs.store.Store.queue_length.Goals as goal
 

@@ -1,4 +1,4 @@
-use Rattle.vlm_store.proofs.Living.{is_sound}
+use Rattle.vlm_store.proofs.LivingProcesses.{is_sound}
 use Rattle.std.proofs.Common.{◌∙◌, sym, ap, subst}
 use Rattle.vlm_collections.specs.Lists.{IsIn}
 use Rattle.vlm_collections.proofs.Walks.{first_handle-in}

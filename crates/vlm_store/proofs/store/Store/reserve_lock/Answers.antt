@@ -5,43 +5,61 @@ use Rattle.vlm_store.specs.Records.{HasRoom}
 use Rattle.vlm_store.specs.Store.{tables}
 use Rattle.vlm_store.specs.Kept.{beside_shown}
 use Rattle.vlm_store.proofs.RoomShown.{has_reserved, has_room, lock_room_kept, lock_room_made, lock_room_only, room_shown, shown_room}
-use Rattle.vlm_store.proofs.Living.{is_sound}
+use Rattle.vlm_store.proofs.LivingProcesses.{is_sound}
 use Rattle.vlm_store.proofs.store.Store.reserve_lock.Goals as goal
 
 pub invariant_of-self : goal.invariant_of-self
-invariant_of-self c = lock_room_kept c.self.inside c.self.invariant c.reserve_slot.new.records c.self.inside.lock_index c.reserve_slot.ensures.records (λ number. refl)
+invariant_of-self c =
+    lock_room_kept c.self.inside c.self.invariant c.reserve_slot.new.records c.self.inside.lock_index
+    c.reserve_slot.ensures.records (λ number. refl)
 
 pub invariant_of-self-2 : goal.invariant_of-self-2
-invariant_of-self-2 c = lock_room_kept c.self.inside c.self.invariant c.reserve_slot.new.records c.reserve.new.self c.reserve_slot.ensures.records c.reserve.ensures.same
+invariant_of-self-2 c =
+    lock_room_kept c.self.inside c.self.invariant c.reserve_slot.new.records c.reserve.new.self
+    c.reserve_slot.ensures.records c.reserve.ensures.same
 
 pub returns-in_err-reserve_slot-clause-unchanged : goal.returns-in_err-reserve_slot-clause-unchanged
 returns-in_err-reserve_slot-clause-unchanged c =
     rw (← c.self.view_is)
-    (lock_room_made c.self.inside c.reserve_slot.new.records (spares_of c.self.inside.lock_index) c.reserve_slot.ensures.records c.reserve_slot.ensures.capacity (λ number. omega arith))
+    (lock_room_made c.self.inside c.reserve_slot.new.records
+    (spares_of c.self.inside.lock_index) c.reserve_slot.ensures.records c.reserve_slot.ensures.capacity
+    (λ number. omega arith))
 
 pub returns-clause-unchanged : goal.returns-clause-unchanged
 returns-clause-unchanged c =
     rw (← c.self.view_is)
-    (lock_room_made c.self.inside c.reserve_slot.new.records (spares_of c.reserve.new.self) c.reserve_slot.ensures.records c.reserve_slot.ensures.capacity c.reserve.ensures.room)
+    (lock_room_made c.self.inside c.reserve_slot.new.records
+    (spares_of c.reserve.new.self) c.reserve_slot.ensures.records c.reserve_slot.ensures.capacity
+    c.reserve.ensures.room)
 
 pub returns-in_err-reserve_slot-clause-only : goal.returns-in_err-reserve_slot-clause-only
-returns-in_err-reserve_slot-clause-only c = rw (← c.self.view_is) (lock_room_only c.self.inside c.reserve_slot.new.records (spares_of c.self.inside.lock_index) c.reserve_slot.ensures.records)
+returns-in_err-reserve_slot-clause-only c =
+    rw (← c.self.view_is)
+    (lock_room_only c.self.inside c.reserve_slot.new.records
+    (spares_of c.self.inside.lock_index) c.reserve_slot.ensures.records)
 
 pub returns-clause-only : goal.returns-clause-only
-returns-clause-only c = rw (← c.self.view_is) (lock_room_only c.self.inside c.reserve_slot.new.records (spares_of c.reserve.new.self) c.reserve_slot.ensures.records)
+returns-clause-only c =
+    rw (← c.self.view_is)
+    (lock_room_only c.self.inside c.reserve_slot.new.records
+    (spares_of c.reserve.new.self) c.reserve_slot.ensures.records)
 
 -- where there is room none is refused
 pub returns-in_err-reserve_slot-clause-succeeds : goal.returns-in_err-reserve_slot-clause-succeeds
 returns-in_err-reserve_slot-clause-succeeds c has =
     let s = c.self.inside in
-    let room = has_room s.queues.locks (spares_of s.lock_index) c.args.lkid (shown_room (λ r. HasRoom c.args.lkid r.locks) (tables s.queues s.order (beside_shown s)) (rw (← c.self.view_is) at has)) in
+    let room = has_room s.queues.locks (spares_of s.lock_index) c.args.lkid
+    (shown_room (λ r. HasRoom c.args.lkid r.locks) (tables s.queues s.order (beside_shown s))
+    (rw (← c.self.view_is) at has)) in
     let never = c.in_err-reserve_slot.ensures.succeeds room.0 room.1 in
     cc
 
 pub returns-clause-succeeds : goal.returns-clause-succeeds
 returns-clause-succeeds c has =
     let s = c.self.inside in
-    let room = has_room s.queues.locks (spares_of s.lock_index) c.args.lkid (shown_room (λ r. HasRoom c.args.lkid r.locks) (tables s.queues s.order (beside_shown s)) (rw (← c.self.view_is) at has)) in
+    let room = has_room s.queues.locks (spares_of s.lock_index) c.args.lkid
+    (shown_room (λ r. HasRoom c.args.lkid r.locks) (tables s.queues s.order (beside_shown s))
+    (rw (← c.self.view_is) at has)) in
     c.reserve.ensures.succeeds room.2
 
 pub returns-clause-room : goal.returns-clause-room

@@ -1,8 +1,8 @@
 use Rattle.vlm_collections.specs.declared.hashers.HashKeys.{HashKeys}
 use Rattle.vlm_store.specs.Index.{hash_key}
-use Rattle.vlm_store.proofs.Living.{is_sound}
+use Rattle.vlm_store.proofs.LivingProcesses.{is_sound}
 use Rattle.std.proofs.Common.{◌≡◌, ◌∙◌, ap}
-use Rattle.vlm_store.proofs.Kept.{finds_resource, found_there}
+use Rattle.vlm_store.proofs.KeptRecords.{finds_resource, found_there}
 use Rattle.vlm_store.specs.Kept.{beside_shown, found_in}
 use Rattle.vlm_store.specs.Store.{tables}
 use Rattle.vlm_store.proofs.Kinship.{records_keys}
@@ -16,17 +16,21 @@ pub returns-clause-found : goal.returns-clause-found
 returns-clause-found c =
     let s = c.self.inside in
     let kept = c.self.invariant in
-    let hash_known : c.args.hash ≡ hash_key s.keys c.args.key.now = (rw (← c.self.view_is) at c.requires) ∙ ap (λ (h : HashKeys). hash_key h c.args.key.now) (records_keys (tables s.queues s.order (beside_shown s))) in
-    rw (← c.self.view_is) (finds_resource s.queues s.order (beside_shown s) kept.placed kept.linked kept.ordered (found_in s) (by_keys (hash_key s.keys) s.resource_index s.queues kept.resources) c.args.key.now c.get.result
+    let hash_known : c.args.hash ≡ hash_key s.keys c.args.key.now = (rw (← c.self.view_is) at c.requires)
+    ∙ ap (λ (h : HashKeys). hash_key h c.args.key.now) (records_keys (tables s.queues s.order (beside_shown s))) in
+    rw (← c.self.view_is) (finds_resource s.queues s.order (beside_shown s) kept.placed kept.linked kept.ordered
+    (found_in s) (by_keys (hash_key s.keys) s.resource_index s.queues kept.resources) c.args.key.now c.get.result
     (found_hashed s.keys s.resource_index s.queues.resources c.args.key.now c.args.hash c.get.result hash_known c.get.ensures))
 
 pub returns-clause-there : goal.returns-clause-there
 returns-clause-there c =
     let s = c.self.inside in
     let kept = c.self.invariant in
-    let hash_known : c.args.hash ≡ hash_key s.keys c.args.key.now = (rw (← c.self.view_is) at c.requires) ∙ ap (λ (h : HashKeys). hash_key h c.args.key.now) (records_keys (tables s.queues s.order (beside_shown s))) in
+    let hash_known : c.args.hash ≡ hash_key s.keys c.args.key.now = (rw (← c.self.view_is) at c.requires)
+    ∙ ap (λ (h : HashKeys). hash_key h c.args.key.now) (records_keys (tables s.queues s.order (beside_shown s))) in
     rw (← c.self.view_is)
-    (found_there s.queues s.order (beside_shown s) kept.placed kept.linked kept.ordered (found_in s) (by_keys (hash_key s.keys) s.resource_index s.queues kept.resources) c.args.key.now c.get.result
+    (found_there s.queues s.order (beside_shown s) kept.placed kept.linked kept.ordered (found_in s)
+    (by_keys (hash_key s.keys) s.resource_index s.queues kept.resources) c.args.key.now c.get.result
     (found_hashed s.keys s.resource_index s.queues.resources c.args.key.now c.args.hash c.get.result hash_known c.get.ensures))
 
 pub returns-clause-sound : goal.returns-clause-sound

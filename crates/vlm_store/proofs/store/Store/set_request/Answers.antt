@@ -2,8 +2,8 @@ use Rattle.std.proofs.Common.{ap}
 use Rattle.vlm_words.specs.State.{Process as PlainProcess}
 use Rattle.vlm_records.specs.StatusBlocks.{requested, with_changed_block}
 use Rattle.vlm_store.specs.Records.{changed_process}
-use Rattle.vlm_store.proofs.Living.{is_sound, process_there}
-use Rattle.vlm_store.proofs.Rewriting.{changed_face, rewritten_kept, rewritten_shown}
+use Rattle.vlm_store.proofs.LivingProcesses.{is_sound, process_there}
+use Rattle.vlm_store.proofs.ProcessRewritten.{changed_face, rewritten_kept, rewritten_shown}
 use Rattle.vlm_store.proofs.store.Store.set_request.Goals as goal
 
 pub index_mut-requires : goal.index_mut-requires
@@ -22,7 +22,9 @@ returns-clause-written c =
     rw (← c.self.view_is, c.slot.ensures)
     (rewritten_shown c.self.inside c.self.invariant c.args.at c.index_mut.result.now c.set_request.new.self (rw c.slot.ensures at c.index_mut.ensures.value)
     put.own put.order (ap (λ (p : PlainProcess). p.pid) put.plain) (changed_process (with_changed_block c.args.number (requested c.args.status c.args.lkid)))
-    (changed_face (with_changed_block c.args.number (requested c.args.status c.args.lkid)) c.index_mut.result.now c.set_request.new.self put.plain put.due c.args.at))
+    (changed_face (with_changed_block c.args.number
+    (requested c.args.status c.args.lkid)) c.index_mut.result.now c.set_request.new.self put.plain put.due
+    c.args.at))
 
 pub returns-clause-sound : goal.returns-clause-sound
 returns-clause-sound c = rw (← c.self.view_is) (is_sound c.self.inside c.self.invariant)

@@ -2,8 +2,8 @@ use Rattle.std.proofs.Common.{ap}
 use Rattle.vlm_words.specs.State.{Process as PlainProcess}
 use Rattle.vlm_records.specs.StatusBlocks.{with_changed_block, with_status}
 use Rattle.vlm_store.specs.Records.{changed_process}
-use Rattle.vlm_store.proofs.Living.{is_sound, process_there}
-use Rattle.vlm_store.proofs.Rewriting.{changed_face, rewritten_kept, rewritten_shown}
+use Rattle.vlm_store.proofs.LivingProcesses.{is_sound, process_there}
+use Rattle.vlm_store.proofs.ProcessRewritten.{changed_face, rewritten_kept, rewritten_shown}
 use Rattle.vlm_store.proofs.store.Store.set_status.Goals as goal
 
 pub index_mut-requires : goal.index_mut-requires

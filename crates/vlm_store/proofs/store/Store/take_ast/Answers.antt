@@ -5,9 +5,9 @@ use Rattle.vlm_records.specs.declared.processes.Process.{Process}
 use Rattle.vlm_records.specs.Kin.{plain_process, process_links}
 use Rattle.vlm_store.specs.Holdings.{process_face_in}
 use Rattle.vlm_store.specs.Records.{changed_process}
-use Rattle.vlm_store.proofs.Living.{is_sound, process_is, process_there}
-use Rattle.vlm_store.proofs.Marked.{told_of}
-use Rattle.vlm_store.proofs.Rewriting.{changed_face, rewritten_shown, written_kept}
+use Rattle.vlm_store.proofs.LivingProcesses.{is_sound, process_is, process_there}
+use Rattle.vlm_store.proofs.MarkedProcesses.{told_of}
+use Rattle.vlm_store.proofs.ProcessRewritten.{changed_face, rewritten_shown, written_kept}
 use Rattle.vlm_store.proofs.store.Store.take_ast.Goals as goal
 
 pub index_mut-requires : goal.index_mut-requires
@@ -15,7 +15,8 @@ index_mut-requires c = rw c.slot.ensures (process_there c.self.inside c.self.inv
 
 pub take_ast-requires : goal.take_ast-requires
 take_ast-requires c =
-    told_of c.self.inside.processes c.self.inside.pending c.args.at c.index_mut.result.now (rw c.slot.ensures at c.index_mut.ensures.value) c.self.invariant.marked
+    told_of c.self.inside.processes c.self.inside.pending c.args.at c.index_mut.result.now
+    (rw c.slot.ensures at c.index_mut.ensures.value) c.self.invariant.marked
 
 pub invariant_of-self : goal.invariant_of-self
 invariant_of-self c =

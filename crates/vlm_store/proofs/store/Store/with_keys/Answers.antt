@@ -1,4 +1,4 @@
-use Rattle.vlm_store.proofs.Living.{is_sound}
+use Rattle.vlm_store.proofs.LivingProcesses.{is_sound}
 use Rattle.vlm_store.specs.Index.{handle_by, hash_key}
 use Rattle.vlm_store.proofs.WaitListed.{empty_wait_list}
 use Rattle.std.proofs.Common.{◌≡◌, ℕ, None, nat_eq, refl, ap}
@@ -11,12 +11,12 @@ use Rattle.vlm_records.specs.declared.queues.Queues.{Queues}
 use Rattle.vlm_store.specs.HashedKeys.{hashed_at, hashed_in}
 use Rattle.vlm_store.proofs.HashedKeys.{hashed_empty}
 use Rattle.vlm_records.specs.Kin.{pid_at, pid_of}
-use Rattle.vlm_store.proofs.Declaring.{empty_below, empty_named, empty_owned, empty_processes, empty_processes_linked, empty_processes_ordered}
+use Rattle.vlm_store.proofs.ProcessesChange.{empty_below, empty_named, empty_owned, empty_processes, empty_processes_linked, empty_processes_ordered}
 use Rattle.vlm_store.specs.Store.{lkid_at}
 use Rattle.vlm_records.proofs.Arming.{empty_armed}
-use Rattle.vlm_store.proofs.Kept.{Indexes-empty, empty_handles, empty_linked, empty_ordered, empty_placed, empty_records, empty_tallied}
+use Rattle.vlm_store.proofs.KeptRecords.{Indexes-empty, empty_handles, empty_linked, empty_ordered, empty_placed, empty_records, empty_tallied}
 use Rattle.vlm_store.specs.Pending.{is_of_nodes, waits_in}
-use Rattle.vlm_store.proofs.Marked.{empty_marked}
+use Rattle.vlm_store.proofs.MarkedProcesses.{empty_marked}
 use Rattle.vlm_store.proofs.store.Store.with_keys.Goals as goal
 use Rattle.vlm_store.proofs.Kinship.{records_keys}
 

@@ -12,7 +12,8 @@ of-requires c = c.self.invariant.linked.within c.in_ok-at.at (c.self.invariant.l
 pub invariant_of-self : goal.invariant_of-self
 invariant_of-self c = record {
   linked = c.self.invariant.linked;
-  listed = λ next is. handle_after-in c.in_ok-at.at (wait_list_handles c.self.inside.locks.now c.self.inside.wait_list) next (sym is ∙ c.next-self-inside.ensures);
+  listed = λ next is. handle_after-in c.in_ok-at.at
+      (wait_list_handles c.self.inside.locks.now c.self.inside.wait_list) next (sym is ∙ c.next-self-inside.ensures);
 }
 
 pub returns-clause-steps : goal.returns-clause-steps
@@ -25,5 +26,6 @@ returns-clause-steps c =
 
 pub returns-clause-goes : goal.returns-clause-goes
 returns-clause-goes c =
-    let steps : c.args.self.now ≡ c.of.result ∷ handles_on c.next-self-inside.result (wait_list_handles c.self.inside.locks.now c.self.inside.wait_list) = returns-clause-steps c in
+    let steps : c.args.self.now ≡ c.of.result ∷ handles_on c.next-self-inside.result
+    (wait_list_handles c.self.inside.locks.now c.self.inside.wait_list) = returns-clause-steps c in
     rw steps (search rules)

@@ -33,9 +33,11 @@ module _ (len : ℕ) (cells narrow : List ℕ) (kept : IsPadded 32 len cells) (s
 
 pub invariant_of-result : goal.invariant_of-result
 invariant_of-result c =
-    is_narrow c.self.inside.len c.self.inside.cells c.copy_from_slice.new.self c.self.invariant (rw (← c.self.view_is) at c.requires) c.copy_from_slice.ensures.after
+    is_narrow c.self.inside.len c.self.inside.cells c.copy_from_slice.new.self c.self.invariant
+    (rw (← c.self.view_is) at c.requires) c.copy_from_slice.ensures.after
     c.copy_from_slice.ensures.len (subst AreBytes (sym c.copy_from_slice.ensures.after) (take_bytes 31 c.self.inside.cells c.self.invariant.bytes))
 
 pub returns : goal.returns
 returns c =
-    text_is c.self.inside.len c.self.inside.cells c.copy_from_slice.new.self c.self.invariant (rw (← c.self.view_is) at c.requires) c.copy_from_slice.ensures.after ∙ c.self.view_is
+    text_is c.self.inside.len c.self.inside.cells c.copy_from_slice.new.self c.self.invariant
+    (rw (← c.self.view_is) at c.requires) c.copy_from_slice.ensures.after ∙ c.self.view_is

@@ -1,6 +1,0 @@
-use Rattle.vlm_collections.proofs.Cleared.{AreCleared}
-use Rattle.vlm_collections.proofs.nodes.NodeMarks.clear.Given as goal
-
--- the nodes before this one are cleared
-abbrev pub invariant-loop-place : goal.invariant-loop-place
-invariant-loop-place l = AreCleared l.place l.initial.self-inside.nodes l.self-inside.nodes

@@ -1,6 +1,0 @@
-use Rattle.vlm_collections.proofs.Placed.{none_marked}
-use Rattle.vlm_collections.proofs.nodes.NodeMarks.new.Goals as goal
-
-pub returns : goal.returns
-returns c =
-    rw (c.new.ensures, c.new-2.ensures, c.new-3.ensures, c.new-4.ensures, c.new-5.ensures, c.new-6.ensures, c.new-7.ensures, c.new-8.ensures) none_marked

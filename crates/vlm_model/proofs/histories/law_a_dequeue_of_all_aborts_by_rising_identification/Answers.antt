@@ -1,5 +1,0 @@
-use Rattle.vlm_model.proofs.AbortedInOrder.{aborts_always}
-use Rattle.vlm_model.proofs.histories.law_a_dequeue_of_all_aborts_by_rising_identification.Goals as goal
-
-pub returns : goal.returns
-returns c = aborts_always

@@ -1,3 +1,0 @@
-pub mod Watches
-pub mod WatchedPorts
-pub mod MonitoredHubs

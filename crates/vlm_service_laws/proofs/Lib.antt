@@ -1,3 +1,0 @@
-pub mod Others
-pub mod Foreign
-pub mod Reuse

@@ -1,4 +1,0 @@
-pub mod Beginnings
-pub mod Sheets
-pub mod Lengthening
-pub mod Steps

@@ -1,7 +1,0 @@
-use Rattle.std.proofs.Common.{◌≡◌, vec_len, All}
-use Rattle.vlm_watch.specs.Watching.{IsNew}
-use Rattle.vlm_watch.proofs.publisher.Publisher.watchers.Given as goal
-
-abbrev pub invariant-loop : goal.invariant-loop
-invariant-loop l =
-    (vec_len l.all ≡ l.counter) × All (IsNew l.initial.self.history.book l.initial.keys) l.all.items × (l.self.history ≡ l.initial.self.history)
