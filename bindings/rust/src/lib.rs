@@ -76,7 +76,8 @@ pub use manager::LockManager;
 pub use names::{Domain, LockId, Mode, ProcessId, Queue, ResourceId, Which};
 pub use requests::{Accepted, Declaration, Dequeue, Request, Setting};
 pub use shared::{
-    Client, Counters, Deadlock, Event, Guard, LockFuture, Options, Shared, Terms, Wait,
+    Client, ConvertFuture, Counters, Deadlock, Event, Guard, LockFuture, Options, Shared, Terms,
+    Wait,
 };
 pub use views::{Ast, AstKind, Lock, Process, Resource, StatusBlock};
 pub use walks::{Locks, Processes, Resources};

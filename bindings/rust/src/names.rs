@@ -1,14 +1,14 @@
 //! The names of processes, locks, modes, queues and domains.
 
-/// The identification of a process.
+/// The ID of a process.
 #[derive(Clone, Copy, Debug, PartialEq, Eq, PartialOrd, Ord, Hash)]
 pub struct ProcessId(pub u32);
 
-/// The identification of a lock.
+/// The ID of a lock.
 #[derive(Clone, Copy, Debug, PartialEq, Eq, PartialOrd, Ord, Hash)]
 pub struct LockId(pub u32);
 
-/// The identification of a resource. They are numbered from 1, in the order of making.
+/// The ID of a resource. They are numbered from 1, in the order of making.
 #[derive(Clone, Copy, Debug, PartialEq, Eq, PartialOrd, Ord, Hash)]
 pub struct ResourceId(pub u32);
 
@@ -47,10 +47,10 @@ pub enum Queue {
     Waiting,
 }
 
-/// A lock that a process names: by its identification, or by the number of a status block in which it stands.
+/// A lock that a process names: by its ID, or by the number of a status block in which it stands.
 #[derive(Clone, Copy, Debug, PartialEq, Eq, Hash)]
 pub enum Which {
-    /// The lock of this identification.
+    /// The lock of this ID.
     Lock(LockId),
     /// The lock in the status block of this number of the caller. Block 0 does not exist, and is refused by ACCVIO.
     Block(u8),

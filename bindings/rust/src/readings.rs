@@ -14,7 +14,7 @@ impl LockManager {
         Some(StatusBlock::of(&words))
     }
 
-    /// How many ASTs are pending for a process. None where no living process has the identification.
+    /// How many ASTs are pending for a process. None where no living process has the ID.
     pub fn pending(&self, process: ProcessId) -> Option<usize> {
         let mut count = 0;
         answered(self.handle.pending(process.0, &mut count)).ok()?;
@@ -74,7 +74,7 @@ impl LockManager {
         self.handle.queued_count()
     }
 
-    /// The lock of this identification. None where there is none. It takes constant time.
+    /// The lock of this ID. None where there is none. It takes constant time.
     pub fn lock(&self, lock: LockId) -> Option<Lock> {
         let mut words = raw::Lock::new();
         answered(self.handle.find_lock(lock.0, &mut words)).ok()?;

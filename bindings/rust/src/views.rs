@@ -46,7 +46,7 @@ pub struct StatusBlock {
 #[derive(Clone, Copy, Debug, PartialEq, Eq)]
 #[non_exhaustive]
 pub struct Process {
-    /// Its identification.
+    /// Its ID.
     pub id: ProcessId,
     /// Its node, 1 to 8.
     pub node: u8,
@@ -68,7 +68,7 @@ pub struct Process {
 #[derive(Clone, Debug, PartialEq, Eq)]
 #[non_exhaustive]
 pub struct Resource {
-    /// Its identification.
+    /// Its ID.
     pub id: ResourceId,
     /// Its parent resource; a root has none.
     pub parent: Option<ResourceId>,
@@ -90,7 +90,7 @@ pub struct Resource {
 #[derive(Clone, Copy, Debug, PartialEq, Eq)]
 #[non_exhaustive]
 pub struct Lock {
-    /// Its identification.
+    /// Its ID.
     pub id: LockId,
     /// Its process.
     pub process: ProcessId,

@@ -103,6 +103,63 @@ fn a_future_ends_as_its_request_does() {
 }
 
 #[test]
+fn a_conversion_waits_for_its_mode() {
+    let shared = Shared::new().expect("memory");
+    let (p, q) = (declared(&shared, "P"), declared(&shared, "Q"));
+    let reader = shared.lock(q, b"A", Mode::Pr).expect("a lock");
+    let terms = Terms::new().flags(EnqFlags::VALBLK);
+    let mut guard = shared.lock_with(p, b"A", Mode::Cr, terms).expect("a lock");
+    let future = guard
+        .convert_async(Mode::Ex, Terms::new())
+        .expect("a request");
+    let giver = thread::spawn(move || drop(reader));
+    assert_eq!(block_on(future), Ok(()));
+    giver.join().expect("a thread");
+    assert_eq!(guard.mode(), Mode::Ex);
+    // A conversion to a weaker mode writes the value, and one to a stronger mode returns it.
+    guard.write([7; 16]);
+    let down = guard
+        .convert_async(Mode::Nl, Terms::new())
+        .expect("a request");
+    assert_eq!(block_on(down), Ok(()));
+    let up = guard
+        .convert_async(Mode::Pr, Terms::new())
+        .expect("a request");
+    assert_eq!(block_on(up), Ok(()));
+    assert_eq!((guard.mode(), guard.value()), (Mode::Pr, Some([7; 16])));
+}
+
+#[test]
+fn a_conversion_that_is_dropped_leaves_nothing_queued() {
+    let shared = Shared::new().expect("memory");
+    let (p, q) = (declared(&shared, "P"), declared(&shared, "Q"));
+    let reader = shared.lock(q, b"A", Mode::Pr).expect("a lock");
+    let mut guard = shared.lock(p, b"A", Mode::Cr).expect("a lock");
+    drop(guard.convert_async(Mode::Ex, Terms::new()));
+    assert_eq!((shared.counters().waiting, guard.mode()), (0, Mode::Cr));
+    // One that is granted before the drop stays granted.
+    let future = guard.convert_async(Mode::Ex, Terms::new());
+    drop(reader);
+    drop(future);
+    assert_eq!(guard.mode(), Mode::Ex);
+    // One that ends otherwise leaves the mode that was held.
+    guard.convert(Mode::Cr).expect("a weaker mode");
+    let other = shared.lock(q, b"A", Mode::Pr).expect("a lock");
+    let future = guard
+        .convert_async(Mode::Ex, Terms::new())
+        .expect("a request");
+    assert_eq!(shared.cancel_all(p), Ok(1));
+    assert_eq!(block_on(future), Err(Error::Cancel));
+    drop(other);
+    let refused = guard.convert_async(Mode::Ex, Terms::new().flags(EnqFlags::QUECVT));
+    assert!(refused.is_ok());
+    drop(refused);
+    assert_eq!(shared.rundown(p), Ok(()));
+    let gone = guard.convert_async(Mode::Nl, Terms::new());
+    assert_eq!(gone.err(), Some(Error::Nonexpr));
+}
+
+#[test]
 fn the_watchdog_ends_a_deadlock_and_tells_of_it() {
     let told = Arc::new(Mutex::new(Vec::new()));
     let note = Arc::clone(&told);

@@ -53,7 +53,7 @@ impl ServedGuard {
         }
     }
 
-    /// The identification of the lock.
+    /// The ID of the lock.
     pub fn lock(&self) -> LockId {
         self.lock
     }

@@ -1,11 +1,11 @@
-//! A wait without a thread.
+//! Waits without a thread.
 
 use std::future::Future;
 use std::pin::Pin;
 use std::sync::{Arc, Mutex, MutexGuard, PoisonError};
 use std::task::{Context, Poll, Waker};
 
-use super::guard::{Granted, Guard};
+use super::guard::{Conversion, Granted, Guard};
 use super::routines::Event;
 use super::terms::Terms;
 use super::{Asked, Shared};
@@ -93,7 +93,7 @@ impl Shared {
         let asked = Asked::new(process, name, mode, terms);
         let ending = Arc::new(Mutex::new(Ending::default()));
         let teller = Teller(Arc::clone(&ending));
-        let lock = self.start_asked(&asked, move |event| teller.tell(Some(event)))?;
+        let lock = self.start_asked(&asked, [0; 64], move |event| teller.tell(Some(event)))?;
         Ok(LockFuture {
             shared: self.clone(),
             process,
@@ -122,13 +122,18 @@ impl LockFuture {
         let (event, asked) = event.zip(self.asked.take()).ok_or(Error::Nonexpr)?;
         let status = event.status.unwrap_or(Condition::Normal).success()?;
         let granted = Granted::asked_by(asked.flags).map(|mut granted| {
-            granted.value[..16].copy_from_slice(&event.value.unwrap_or_default());
-            granted.value[16..].copy_from_slice(&event.tail.unwrap_or([0; 48]));
-            granted.status = status;
+            returned(&mut granted, &event, status);
             granted
         });
         Ok(Guard::new(&self.shared, asked, event.lock, granted))
     }
+}
+
+/// Copies what a grant returned.
+fn returned(granted: &mut Granted, event: &Event, status: Condition) {
+    granted.value[..16].copy_from_slice(&event.value.unwrap_or_default());
+    granted.value[16..].copy_from_slice(&event.tail.unwrap_or([0; 48]));
+    granted.status = status;
 }
 
 impl Future for LockFuture {
@@ -154,6 +159,79 @@ impl Drop for LockFuture {
         // (a request that was granted can't be cancelled)
         if self.shared.cancel(self.process, lock) == Err(Error::Cancelgrant) {
             let _ = self.shared.deq(self.process, lock);
+        }
+    }
+}
+
+/// A conversion that waits: [`Guard::convert_async`] makes it. Dropped before its end, it cancels the conversion, and the
+/// lock holds what it held. If it was granted meanwhile, the guard has the new mode, and the value that it had.
+#[must_use = "a future that is dropped cancels its conversion"]
+pub struct ConvertFuture<'a> {
+    guard: &'a mut Guard,
+    /// None once the end was told.
+    conversion: Option<Conversion>,
+    ending: Arc<Mutex<Ending>>,
+}
+
+impl Guard {
+    /// Asks for another mode at once, and returns a future of the grant. If it fails, the lock holds what it held. A
+    /// longest wait among the terms is ignored. Refused, and ended, as [`Guard::convert`].
+    pub fn convert_async(&mut self, mode: Mode, terms: Terms) -> Result<ConvertFuture<'_>, Error> {
+        let conversion = self.conversion(mode, terms);
+        let ending = Arc::new(Mutex::new(Ending::default()));
+        let teller = Teller(Arc::clone(&ending));
+        let value = conversion.granted.value;
+        self.shared()
+            .start_asked(&conversion.asked, value, move |event| {
+                teller.tell(Some(event))
+            })?;
+        Ok(ConvertFuture {
+            guard: self,
+            conversion: Some(conversion),
+            ending,
+        })
+    }
+
+    fn conversion_ended(
+        &mut self,
+        mut conversion: Conversion,
+        event: Option<Event>,
+    ) -> Result<(), Error> {
+        let event = event.ok_or(Error::Nonexpr)?;
+        let status = event.status.unwrap_or(Condition::Normal).success()?;
+        returned(&mut conversion.granted, &event, status);
+        self.converted(conversion);
+        Ok(())
+    }
+}
+
+impl Future for ConvertFuture<'_> {
+    type Output = Result<(), Error>;
+
+    fn poll(mut self: Pin<&mut Self>, context: &mut Context<'_>) -> Poll<Self::Output> {
+        let mut ending = locked(&self.ending);
+        let Some(event) = ending.ended else {
+            ending.waker = Some(context.waker().clone());
+            return Poll::Pending;
+        };
+        drop(ending);
+        let conversion = self.conversion.take().expect("polled once after its end");
+        Poll::Ready(self.guard.conversion_ended(conversion, event))
+    }
+}
+
+impl Drop for ConvertFuture<'_> {
+    fn drop(&mut self) {
+        let Some(conversion) = self.conversion.take() else {
+            return;
+        };
+        let (process, lock) = (self.guard.process(), self.guard.lock());
+        let is_over = self.guard.shared().cancel(process, lock) == Err(Error::Cancelgrant);
+        let ended = locked(&self.ending).ended;
+        match ended {
+            Some(event) => drop(self.guard.conversion_ended(conversion, event)),
+            None if is_over => self.guard.read_mode(),
+            None => {}
         }
     }
 }

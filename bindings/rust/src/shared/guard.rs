@@ -85,6 +85,14 @@ impl Granted {
     }
 }
 
+/// A conversion of a guard's lock: what it asks, and what its grant does with the value block.
+pub(super) struct Conversion {
+    pub(super) asked: Asked<'static>,
+    pub(super) granted: Box<Granted>,
+    is_read: bool,
+    is_written: bool,
+}
+
 /// A lock that is held. Dropping it gives the lock up, and writes the value that [`Guard::write`] named. It may go to
 /// another thread.
 ///
@@ -145,7 +153,7 @@ impl Guard {
         Arc::clone(&self.held)
     }
 
-    /// The identification of the lock.
+    /// The ID of the lock.
     pub fn lock(&self) -> LockId {
         self.held.lock
     }
@@ -212,6 +220,17 @@ impl Guard {
 
     /// The same, on these terms. A blocking routine among them takes the place of the old one with the grant.
     pub fn convert_with(&mut self, mode: Mode, terms: Terms) -> Result<(), Error> {
+        let mut conversion = self.conversion(mode, terms);
+        let routines = conversion.asked.routines(None);
+        let granted = &mut conversion.granted;
+        let value = Some(&mut granted.value);
+        (_, granted.status) = self.held.shared.ask(&conversion.asked, routines, value)?;
+        self.converted(conversion);
+        Ok(())
+    }
+
+    /// A conversion to a mode, not asked for yet.
+    pub(super) fn conversion(&self, mode: Mode, terms: Terms) -> Conversion {
         let written = self.held.written().as_deref().copied();
         let written = written.filter(|_| self.mode >= Mode::Pw);
         let (is_read, has_value) = (self.is_read_by(mode), self.granted.is_some());
@@ -222,17 +241,35 @@ impl Guard {
             false => writing_flags(asked.flags, &written),
         };
         asked.blocking = asked.blocking.or_else(|| self.blocking.clone());
-        let mut granted = Granted::of(bytes_of(written), asked.flags);
-        let routines = asked.routines(None);
-        let value = Some(&mut granted.value);
-        (_, granted.status) = self.held.shared.ask(&asked, routines, value)?;
-        if is_read {
-            self.granted = has_value.then_some(granted);
-        } else if written.is_some() {
+        Conversion {
+            granted: Granted::of(bytes_of(written), asked.flags),
+            asked,
+            is_read,
+            is_written: written.is_some(),
+        }
+    }
+
+    /// Notes a conversion that was granted.
+    pub(super) fn converted(&mut self, conversion: Conversion) {
+        if conversion.is_read {
+            let has_value = self.granted.is_some();
+            self.granted = has_value.then_some(conversion.granted);
+        } else if conversion.is_written {
             *self.held.written() = None;
         }
-        (self.mode, self.blocking) = (mode, asked.blocking);
-        Ok(())
+        let asked = conversion.asked;
+        (self.mode, self.blocking) = (asked.mode, asked.blocking);
+    }
+
+    /// Notes the mode that the lock holds, where nothing else is known of its conversion.
+    pub(super) fn read_mode(&mut self) {
+        let lock = self.lock();
+        let held = self.held.shared.look(|manager| manager.lock(lock)?.held);
+        self.mode = held.unwrap_or(self.mode);
+    }
+
+    pub(super) fn shared(&self) -> &Shared {
+        &self.held.shared
     }
 
     /// Whether a conversion to a mode returns the value block with VALBLK. Others write it, or do neither.

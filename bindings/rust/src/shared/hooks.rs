@@ -99,7 +99,7 @@ impl Options {
     }
 
     /// The hook is told of each deadlock before its victim ends, in the thread that searches. It may make any call. If
-    /// it cancels a request of the circle, no victim ends.
+    /// it cancels a request of the cycle, no victim ends.
     pub fn on_deadlock(mut self, hook: impl Fn(&Deadlock<'_>) + Send + Sync + 'static) -> Options {
         self.hooks.deadlock = Some(Box::new(hook));
         self
@@ -184,12 +184,12 @@ impl<'a> Deadlock<'a> {
         ProcessId(self.words.pid)
     }
 
-    /// How many waits the circle has.
+    /// How many waits the cycle has.
     pub fn length(&self) -> usize {
         self.words.length as usize
     }
 
-    /// The first waits of the circle, at most 16, the victim's first.
+    /// The first waits of the cycle, at most 16, the victim's first.
     pub fn waits(&self) -> impl Iterator<Item = Wait<'a>> {
         let waits = self.words.waits.iter().take(self.length());
         waits.map(|words| Wait { words })

@@ -7,7 +7,7 @@
 //! | `terms` | how a process is declared, and how a lock is asked for |
 //! | `routines` | closures of requests |
 //! | `guard` | a lock that is given up on drop |
-//! | `future` | a wait without a thread |
+//! | `future` | waits without a thread |
 
 mod future;
 mod guard;
@@ -21,7 +21,7 @@ use std::os::fd::RawFd;
 use std::sync::{Arc, Mutex};
 use std::time::Duration;
 
-pub use future::LockFuture;
+pub use future::{ConvertFuture, LockFuture};
 pub use guard::Guard;
 pub use hooks::{Deadlock, Options, Wait};
 pub use raw::Counters;
@@ -270,7 +270,8 @@ impl Shared {
         terms: Terms,
         completion: impl FnOnce(Event) + Send + 'static,
     ) -> Result<LockId, Error> {
-        self.start_asked(&Asked::new(process, name, mode, terms), completion)
+        let asked = Asked::new(process, name, mode, terms);
+        self.start_asked(&asked, [0; 64], completion)
     }
 
     /// The same for another mode of a lock. Without a blocking routine among the terms the lock has none after the
@@ -283,17 +284,19 @@ impl Shared {
         terms: Terms,
         completion: impl FnOnce(Event) + Send + 'static,
     ) -> Result<(), Error> {
-        self.start_asked(&Asked::convert(process, lock, mode, terms), completion)
-            .map(drop)
+        let asked = Asked::convert(process, lock, mode, terms);
+        self.start_asked(&asked, [0; 64], completion).map(drop)
     }
 
+    /// With VALBLK, a conversion that writes the value block writes this value.
     fn start_asked(
         &self,
         asked: &Asked<'_>,
+        mut value: [u8; 64],
         completion: impl FnOnce(Event) + Send + 'static,
     ) -> Result<LockId, Error> {
         let routines = asked.routines(Some(Box::new(completion)));
-        Ok(self.ask(asked, routines, Some(&mut [0; 64]))?.0)
+        Ok(self.ask(asked, routines, Some(&mut value))?.0)
     }
 
     /// Gives a lock up, also one with a guard or a request that waits. DEPARTED, NONEXPR, IVLOCKID, SUBLOCKS.

@@ -14,7 +14,7 @@ pub struct Layer {
 
 /// How many bytes a label has.
 pub const LABEL: usize = 32;
-/// How many waits of a circle a hook is told of.
+/// How many waits of a cycle a hook is told of.
 pub const CIRCLE: usize = 16;
 /// How many entries the counters by condition and by time have.
 pub const COUNTS: usize = 32;
