@@ -88,7 +88,7 @@ enum { VLM_TIMEOUT = 100, VLM_LOST = 101, VLM_FULL = 256 };
 /* Modes. */
 enum { VLM_NL = 0, VLM_CR = 1, VLM_CW = 2, VLM_PR = 3, VLM_PW = 4, VLM_EX = 5, VLM_NO_MODE = 255 };
 
-/* How `lock` names a lock: by its identification, or by the status block in which the lock stands. */
+/* How `lock` names a lock: by its ID, or by the status block in which the lock stands. */
 enum { VLM_BY_ID = 0, VLM_BY_BLOCK = 1 };
 
 /* Queues of a resource. */
@@ -523,12 +523,12 @@ uint32_t vlm_next_process(vlm *handle, uint32_t pid, vlm_process *process);
 uint32_t vlm_next_resource(vlm *handle, vlm_resource *resource);
 uint32_t vlm_find(vlm *handle, vlm_resource *resource);
 
-/* Read single locks: by identification, by place in a walk, as blockers of another lock, or as blocked by one. Each
+/* Read single locks: by ID, by place in a walk, as blockers of another lock, or as blocked by one. Each
  * call takes constant time, except where this says more. NORMAL, or BADPARAM and nothing is written: there is no such
  * lock, process, resource or queue, or not any more. Lock, process, resource and queue are named by the first
  * arguments; a resource by its members, as for vlm_find.
  *
- * vlm_find_lock reads the lock with an identification, and vlm_lock_resource the resource of a lock. The others walk. A
+ * vlm_find_lock reads the lock with an ID, and vlm_lock_resource the resource of a lock. The others walk. A
  * first call reads the first lock: of a queue of a resource (in queue order), of a process, or below a parent lock (in
  * the order of making). A next call reads the lock after the one that it names, in the same queue, of the same process,
  * or below the same parent. After the last one they write a struct with lkid 0 and modes VLM_NO_MODE. So a walk is

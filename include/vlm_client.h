@@ -22,7 +22,7 @@
  * - Group and privilege come from the connection: `node`, `group` and `syslck` of a declaration are not looked at.
  *   `tied` and `own_queue` are 0, `released` of a request is null, and nobody is told the label of a process. A warning
  *   does not tell the wanted mode: it is VLM_NO_MODE.
- * - A limit of the service is answered EXENQLM, and a want of identifications NOLOCKID.
+ * - A limit of the service is answered EXENQLM, and a want of IDs NOLOCKID.
  * - The service searches for deadlocks. There are no calls to search, to look, to count, or for nodes.
  * - A call of a forked child answers VLM_BADPARAM: the connection is its parent's.
  * - With addresses of TCP a connection that fails is replaced, at the next address, and no call notices it. At most 64

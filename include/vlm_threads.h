@@ -77,12 +77,12 @@ typedef struct vlm_threads_wait {
     uint8_t blocks_label[VLM_THREADS_LABEL]; /* of the other process */
 } vlm_threads_wait;
 
-/* A deadlock: the circle of waits that leads from the victim's process back to it. */
+/* A deadlock: the cycle of waits that leads from the victim's process back to it. */
 typedef struct vlm_threads_deadlock {
     uint32_t size;
     uint32_t victim; /* the lock whose request is to end by DEADLOCK */
     uint32_t pid;    /* its process */
-    uint32_t length; /* how many waits the circle has */
+    uint32_t length; /* how many waits the cycle has */
     /* The first of them, at most 16. The first is the victim's request; each next one is of the process that the one
      * before waits for. */
     vlm_threads_wait waits[VLM_THREADS_CIRCLE];

@@ -20,7 +20,7 @@ struct limits {
     uint32_t lines;           /* of a client in a turn */
     uint32_t shown;           /* locks that `show`, `tails` and `who` print */
     uint32_t search;          /* milliseconds that a request waits before a search for deadlocks; 0: none is made */
-    uint32_t drain;           /* milliseconds from the last identification to the end of the epoch */
+    uint32_t drain;           /* milliseconds from the last ID to the end of the epoch */
     uint32_t identifications; /* of locks, of one lock manager */
 };
 /* clang-format off */
@@ -157,7 +157,7 @@ uint32_t dispatcher_count(const struct dispatcher *dispatcher);
 uint64_t dispatcher_search_due(const struct dispatcher *dispatcher);
 bool dispatcher_search(struct dispatcher *dispatcher);
 
-/* When the epoch has to end for want of identifications, or UINT64_MAX, and its end. */
+/* When the epoch has to end for want of IDs, or UINT64_MAX, and its end. */
 uint64_t dispatcher_drain_due(const struct dispatcher *dispatcher);
 void dispatcher_end_epoch(struct dispatcher *dispatcher);
 

@@ -1,5 +1,5 @@
-/* Identifications of locks run out: a lock manager has 4,294,967,295. A handle of a client is an epoch and an
- * identification of that epoch. From 90 % on the dispatcher changes to a new lock manager at a moment without locks,
+/* IDs of locks run out: a lock manager has 4,294,967,295. A handle of a client is an epoch and an
+ * ID of that epoch. From 90 % on the dispatcher changes to a new lock manager at a moment without locks,
  * which no client sees. At 99 % it refuses new requests, and some time after that it ends all sessions. */
 #include "parts.h"
 
@@ -12,7 +12,7 @@ uint64_t handle_of(const struct dispatcher *dispatcher, uint32_t lkid) {
     return lkid == 0 ? 0 : (uint64_t)dispatcher->epoch << 32 | lkid;
 }
 
-/* Computes from the limits when identifications are short. */
+/* Computes from the limits when IDs are short. */
 void share_identifications(struct dispatcher *dispatcher) {
     dispatcher->short_of = (uint32_t)((uint64_t)dispatcher->limits.identifications * 90 / 100);
     dispatcher->out_of = (uint32_t)((uint64_t)dispatcher->limits.identifications * 99 / 100);
@@ -141,7 +141,7 @@ void end_epoch(struct dispatcher *dispatcher) {
     use_manager(dispatcher, &manager);
 }
 
-/* Looks whether identifications are short, at a moment between two turns. */
+/* Looks whether IDs are short, at a moment between two turns. */
 void check_identifications(struct dispatcher *dispatcher) {
     if (dispatcher->last_lkid < dispatcher->out_of)
         /* (the limit may have been raised since) */

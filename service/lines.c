@@ -121,7 +121,7 @@ static bool as_declaration(const struct client *client, const struct word *words
     return vlm_read_line((const uint8_t *)text, (size_t)len, line) == VLM_NORMAL;
 }
 
-/* The identification that a handle names to the lock manager: another epoch's is no lock of anybody. */
+/* The ID that a handle names to the lock manager: another epoch's is no lock of anybody. */
 static uint32_t identification(const struct dispatcher *dispatcher, uint64_t handle) {
     return handle == 0 ? 0 : handle >> 32 == dispatcher->epoch && (uint32_t)handle != 0 ? (uint32_t)handle : NO_LOCK;
 }
@@ -153,7 +153,7 @@ static bool read_with_handle(struct dispatcher *dispatcher, struct word whole, c
     int digits = snprintf(text + before, 16, "%" PRIu32, identification(dispatcher, number));
     memcpy(text + before + digits, handle.bytes + handle.len, after);
     size_t len = before + (size_t)digits + after;
-    /* (a short handle of another epoch has fewer digits than the identification that stands for it) */
+    /* (a short handle of another epoch has fewer digits than the ID that stands for it) */
     return vlm_read_line((const uint8_t *)text, len <= LINE ? len : LINE, &dispatcher->line) == VLM_NORMAL;
 }
 

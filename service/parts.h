@@ -16,9 +16,9 @@
  * tokens.c      fencing tokens of locks
  * processes.c   processes kept for reuse, and what each user has
  * requests.c    records of requests, ASTs, and which requests wait
- * circles.c     searches for deadlocks, and the circle for the log
+ * cycles.c     searches for deadlocks, and the cycle for the log
  * leases.c      leases of sessions, and what else only replicas call
- * epochs.c      identifications that run out
+ * epochs.c      IDs that run out
  * output.c      bytes for clients, and printed lines with handles of 64 bits
  */
 #ifndef PARTS_H
@@ -48,7 +48,7 @@ enum {
 };
 
 #define NOBODY UINT32_MAX  /* no record */
-#define NO_LOCK UINT32_MAX /* an identification that no lock has: the last one is never reached */
+#define NO_LOCK UINT32_MAX /* an ID that no lock has: the last one is never reached */
 
 /* What a user has. */
 struct user {
@@ -196,7 +196,7 @@ struct dispatcher {
     uint64_t now, quiet_until, searched, drained, looked;
     uint32_t epoch;
     uint32_t last_lkid;
-    uint32_t short_of, out_of; /* identifications: from these on they are short, and no more are given */
+    uint32_t short_of, out_of; /* IDs: from these on they are short, and no more are given */
     uint64_t last_process;     /* number */
     uint32_t connections;
     struct client *clients, *ready, **ready_end, *changed;
@@ -293,7 +293,7 @@ void accept_request(struct dispatcher *dispatcher, uint32_t place, uint32_t lkid
 bool wait_if_queued(struct dispatcher *dispatcher, uint32_t place, uint32_t lkid);
 void tell(struct dispatcher *dispatcher);
 
-/* circles.c */
+/* cycles.c */
 uint64_t search_due(const struct dispatcher *dispatcher);
 void search_if_due(struct dispatcher *dispatcher);
 bool search(struct dispatcher *dispatcher);

@@ -18,7 +18,7 @@ uint32_t dispatcher_epoch(const struct dispatcher *dispatcher) {
     return reached > dispatcher->epoch ? reached : dispatcher->epoch;
 }
 
-/* Where a search for a lock begins. The random factor spreads chosen identifications too. */
+/* Where a search for a lock begins. The random factor spreads chosen IDs too. */
 static size_t home_of(const struct dispatcher *dispatcher, uint32_t lkid) {
     uint64_t factor;
     memcpy(&factor, dispatcher->keys, sizeof factor);

@@ -1,5 +1,5 @@
 """The lock service of the folder service: vlmd over its socket, by lines, by faults of its clients and its own, at its
-limits, and at the end of its identifications. The dispatcher alone gets mutated lines under sanitizers. Most tests run
+limits, and at the end of its IDs. The dispatcher alone gets mutated lines under sanitizers. Most tests run
 a daemon that is compiled with sanitizers. Without the header of libuv all are left out."""
 
 import os
@@ -542,7 +542,7 @@ def not_searched(_program):
 
 
 def deadlocked(_program):
-    """A deadlock of two clients ends, with its most recent request, and the circle is logged."""
+    """A deadlock of two clients ends, with its most recent request, and the cycle is logged."""
     with Daemon("search 200") as daemon, daemon.client().begin("P") as one, daemon.client().begin("Q") as other:
         circle(one, other)
         yield from difference(other.line(), "Q: completion 2 param 0 lock 4")
@@ -555,7 +555,7 @@ def deadlocked(_program):
         yield from difference(daemon.metric("deadlock_victims_total"), 1)
 
 
-# The end of identifications.
+# The end of IDs.
 
 def changed(_program):
     """At a moment without locks a new manager takes over, which a client sees by its handles alone."""

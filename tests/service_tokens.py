@@ -266,7 +266,7 @@ def many(_program):
 
 
 def changed(_program):
-    """The tokens of a lock manager that takes over are above 2^40 times its epoch. A lock whose identification an
+    """The tokens of a lock manager that takes over are above 2^40 times its epoch. A lock whose ID an
     earlier one has had has no token before its own grant."""
     with Daemon("identifications 100") as daemon, daemon.client().begin("P") as client, daemon.client() as other:
         for _ in range(90):

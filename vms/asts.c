@@ -19,7 +19,7 @@ static pthread_cond_t changed = PTHREAD_COND_INITIALIZER;
 static struct ast *first, *last;
 static bool are_enabled = true, is_running, is_awake, is_started;
 static uint32_t in_services; /* threads that are going to deliver */
-/* Of each thread: it runs an AST routine; its identification, or 0 if that is not known yet. */
+/* Of each thread: it runs an AST routine; its ID, or 0 if that is not known yet. */
 static _Thread_local bool is_in_routine;
 static _Thread_local pid_t thread;
 

@@ -6,7 +6,7 @@
 #include <string.h>
 
 /* What an answer says, and the handle of its lock if it has one. A text of the service's own is a limit, except that
- * identifications may have run out, and that another thread may have ended the process. A step that is sent again and
+ * IDs may have run out, and that another thread may have ended the process. A step that is sent again and
  * has an old number was not made: it was over a limit. */
 uint32_t vlmc_status(const char *answer, uint64_t *handle) {
     const char *word = strchr(answer, ':');

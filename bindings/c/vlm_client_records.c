@@ -1,4 +1,4 @@
-/* Records of requests and locks. A lock is found by its identification. */
+/* Records of requests and locks. A lock is found by its ID. */
 #include "vlm_client_parts.h"
 
 #include <stdlib.h>

@@ -27,7 +27,7 @@ uint32_t vlm_threads_look(vlm_threads *layer, vlm_threads_reader reader, void *c
 /* Opening and closing. */
 
 /* Starts a thread of the layer, with all signals blocked. */
-static bool is_started(pthread_t *thread, void *(*run)(void *), vlm_threads *layer) {
+static bool start_thread(pthread_t *thread, void *(*run)(void *), vlm_threads *layer) {
     sigset_t all, before;
     sigfillset(&all);
     pthread_sigmask(SIG_SETMASK, &all, &before);
@@ -43,27 +43,27 @@ static void make_primitives(vlm_threads *layer) {
     vlmt_make_condition(&layer->calm);
 }
 
-static bool has_manager(vlm_threads *layer) {
+static bool open_manager(vlm_threads *layer) {
     vlm_options core = VLM_OPTIONS;
     core.has_keys = layer->options.has_keys;
     memcpy(core.keys, layer->options.keys, sizeof core.keys);
-    return vlm_open(&layer->handle, &core) == VLM_NORMAL && vlmt_table_is_made(&layer->processes, 4)
-           && vlmt_table_is_made(&layer->locks, 4);
+    return vlm_open(&layer->handle, &core) == VLM_NORMAL && vlmt_make_table(&layer->processes, 4)
+           && vlmt_make_table(&layer->locks, 4);
 }
 
-static bool has_delivery(vlm_threads *layer) {
+static bool open_delivery(vlm_threads *layer) {
     if (layer->options.delivery == VLM_THREADS_BY_PROGRAM) {
         layer->queue.descriptor = eventfd(0, EFD_CLOEXEC | EFD_NONBLOCK);
         return layer->queue.descriptor >= 0;
     }
-    layer->has_dispatcher = is_started(&layer->dispatcher, vlmt_dispatch, layer);
+    layer->has_dispatcher = start_thread(&layer->dispatcher, vlmt_dispatch, layer);
     return layer->has_dispatcher;
 }
 
-static bool has_watch(vlm_threads *layer) {
+static bool start_watch(vlm_threads *layer) {
     if (!layer->options.search_milliseconds && !layer->options.long_milliseconds)
         return true;
-    layer->has_watchdog = is_started(&layer->watchdog, vlmt_watch, layer);
+    layer->has_watchdog = start_thread(&layer->watchdog, vlmt_watch, layer);
     return layer->has_watchdog;
 }
 
@@ -83,7 +83,7 @@ uint32_t vlm_threads_open(const vlm_threads_options *options, vlm_threads **made
     layer->options = whole;
     layer->queue.descriptor = -1;
     make_primitives(layer);
-    if (!has_manager(layer) || !has_delivery(layer) || !has_watch(layer)) {
+    if (!open_manager(layer) || !open_delivery(layer) || !start_watch(layer)) {
         vlm_threads_close(layer);
         return VLM_INSFMEM;
     }

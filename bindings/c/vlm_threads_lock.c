@@ -73,16 +73,16 @@ static bool sleeps_too_long(atomic_uint *word, unsigned value, const struct time
 /* Wakes threads that sleep by a word. The word may be gone: the system reads no more than its address. */
 static void wake(const atomic_uint *word, int count) { syscall(SYS_futex, word, FUTEX_WAKE_PRIVATE, count); }
 
-static bool is_taken(struct mutex *mutex, unsigned state) {
+static bool try_to_take(struct mutex *mutex, unsigned state) {
     unsigned was = FREE;
     return atomic_load_explicit(&mutex->state, memory_order_relaxed) == FREE
            && atomic_compare_exchange_strong_explicit(&mutex->state, &was, state, memory_order_acquire,
                                                       memory_order_relaxed);
 }
 
-static bool is_taken_by_looks(struct mutex *mutex, unsigned state) {
+static bool take_by_looks(struct mutex *mutex, unsigned state) {
     for (int done = 0, next = 1; done < PAUSES; done += next) {
-        if (is_taken(mutex, state))
+        if (try_to_take(mutex, state))
             return true;
         pause_often(next);
         next = next < MOST_AT_ONCE ? 2 * next : next;
@@ -91,11 +91,11 @@ static bool is_taken_by_looks(struct mutex *mutex, unsigned state) {
 }
 
 /* Yields and looks. Gives up if the mutex does not change hands meanwhile. */
-static bool is_taken_by_yields(struct mutex *mutex, unsigned state) {
+static bool take_by_yields(struct mutex *mutex, unsigned state) {
     unsigned seen = atomic_load_explicit(&mutex->taken, memory_order_relaxed);
     for (int yields = 0; yields < YIELDS; yields++) {
         sched_yield();
-        if (is_taken_by_looks(mutex, state))
+        if (take_by_looks(mutex, state))
             return true;
         unsigned taken = atomic_load_explicit(&mutex->taken, memory_order_relaxed);
         if (taken != seen)
@@ -108,7 +108,7 @@ static bool is_taken_by_yields(struct mutex *mutex, unsigned state) {
 /* A thread that has slept takes the mutex as one that is slept for, since others may sleep still. */
 static void take_by_waiting(struct mutex *mutex) {
     atomic_uint *side = begin_waiting(mutex);
-    for (unsigned state = TAKEN; !is_taken_by_yields(mutex, state); state = SLEPT_FOR) {
+    for (unsigned state = TAKEN; !take_by_yields(mutex, state); state = SLEPT_FOR) {
         if (atomic_exchange_explicit(&mutex->state, SLEPT_FOR, memory_order_acquire) == FREE)
             break;
         sleeps_too_long(&mutex->state, SLEPT_FOR, NULL);
@@ -118,7 +118,7 @@ static void take_by_waiting(struct mutex *mutex) {
 
 void vlmt_lock(vlm_threads *layer) {
     struct mutex *mutex = &layer->mutex;
-    if (!is_taken(mutex, TAKEN) && !is_taken_by_looks(mutex, TAKEN))
+    if (!try_to_take(mutex, TAKEN) && !take_by_looks(mutex, TAKEN))
         take_by_waiting(mutex);
     unsigned before = atomic_load_explicit(&mutex->taken, memory_order_relaxed);
     atomic_store_explicit(&mutex->taken, before + 1, memory_order_relaxed);

@@ -7,7 +7,7 @@
  *
  * vlm_threads.c            opening, closing, counters
  * vlm_threads_watch.c      searches, the thread that watches, and the hooks
- * vlm_threads_circles.c    the victim of a search, and its circle
+ * vlm_threads_cycles.c    the victim of a search, and its cycle
  * vlm_threads_processes.c  declare, rundown, leave, the ends of threads
  * vlm_threads_requests.c   enq, convert, deq, and the wait for a grant
  * vlm_threads_delivery.c   calls of routines
@@ -251,10 +251,10 @@ void vlmt_put(struct table *table, struct entry *entry);
 void vlmt_take_out(struct table *table, struct entry *entry);
 
 /* Room: whether it could be made. */
-bool vlmt_table_is_made(struct table *table, uint32_t bits);
-bool vlmt_table_has_room(struct table *table);
-bool vlmt_has_room_for_request(vlm_threads *layer);
-bool vlmt_has_room_for_lock(vlm_threads *layer);
+bool vlmt_make_table(struct table *table, uint32_t bits);
+bool vlmt_reserve_entry(struct table *table);
+bool vlmt_reserve_request(vlm_threads *layer);
+bool vlmt_reserve_lock(vlm_threads *layer);
 
 /* vlm_threads_ends.c: the eventfd of a queue, and events. An event joins the queue of its process. */
 void vlmt_set_readable(const struct queue *queue, bool is_readable);
@@ -311,10 +311,10 @@ bool vlmt_looks(const vlm_threads *layer);
 /* vlm_threads_watch.c: the start routine of the thread that watches, which takes the mutex itself. */
 void *vlmt_watch(void *layer);
 
-/* vlm_threads_circles.c: the request that a search of the core would end, or null; its circle; a wait of a request for
+/* vlm_threads_cycles.c: the request that a search of the core would end, or null; its cycle; a wait of a request for
  * another lock, or for none with 0. */
 struct request *vlmt_victim(vlm_threads *layer);
-void vlmt_read_circle(vlm_threads *layer, struct request *victim, vlm_threads_deadlock *deadlock);
+void vlmt_read_cycle(vlm_threads *layer, struct request *victim, vlm_threads_deadlock *deadlock);
 void vlmt_read_wait(vlm_threads *layer, const struct request *request, uint32_t blocker, vlm_threads_wait *wait);
 
 /* Copies a struct of the caller's: whether its size is right. An older header may have made it shorter. The members

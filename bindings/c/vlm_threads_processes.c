@@ -156,7 +156,7 @@ static struct queue *made_queue(void) {
  * null. */
 static struct process *made_process(vlm_threads *layer, const vlm_threads_declaration *words) {
     struct bond *bond = words->tied ? bond_of_thread(layer) : NULL;
-    if ((words->tied && !bond) || !vlmt_table_has_room(&layer->processes))
+    if ((words->tied && !bond) || !vlmt_reserve_entry(&layer->processes))
         return NULL;
     struct process *process = calloc(1, sizeof *process + words->requests);
     struct queue *queue = process && words->own_queue ? made_queue() : &layer->queue;

@@ -38,15 +38,15 @@ void vlmt_take_out(struct table *table, struct entry *entry) {
     table->count--;
 }
 
-bool vlmt_table_is_made(struct table *table, uint32_t bits) {
+bool vlmt_make_table(struct table *table, uint32_t bits) {
     table->room = table->used = UINT32_C(1) << bits;
     table->half = table->used / 2;
     table->chains = calloc(table->room, sizeof *table->chains);
     return table->chains;
 }
 
-/* Whether there is room for one more chain. Moving many chains costs little: the system moves their pages. */
-static bool has_room_for_chain(struct table *table) {
+/* Makes room for one more chain. Moving many chains costs little: the system moves their pages. */
+static bool reserve_chain(struct table *table) {
     if (table->used < table->room)
         return true;
     struct entry **moved = realloc(table->chains, 2 * sizeof *moved * table->room);
@@ -58,8 +58,8 @@ static bool has_room_for_chain(struct table *table) {
 }
 
 /* Makes one more chain, and moves the entries that belong there from the one chain that has them. */
-static bool table_has_grown(struct table *table) {
-    if (!has_room_for_chain(table))
+static bool grow_table(struct table *table) {
+    if (!reserve_chain(table))
         return false;
     if (table->used == 2 * table->half)
         table->half = table->used;
@@ -77,12 +77,12 @@ static bool table_has_grown(struct table *table) {
     return true;
 }
 
-bool vlmt_table_has_room(struct table *table) { return table->count < table->used || table_has_grown(table); }
+bool vlmt_reserve_entry(struct table *table) { return table->count < table->used || grow_table(table); }
 
 /* Room. */
 
-/* Whether the table of records has room for one more. */
-static bool has_place(vlm_threads *layer) {
+/* Makes room in the table of records for one more. */
+static bool reserve_place(vlm_threads *layer) {
     if (layer->request_count < layer->request_room)
         return true;
     uint32_t room = layer->request_room ? 2 * layer->request_room : 16;
@@ -94,10 +94,10 @@ static bool has_place(vlm_threads *layer) {
     return true;
 }
 
-bool vlmt_has_room_for_request(vlm_threads *layer) {
+bool vlmt_reserve_request(vlm_threads *layer) {
     if (layer->free_requests)
         return true;
-    struct request *request = has_place(layer) ? calloc(1, sizeof *request) : NULL;
+    struct request *request = reserve_place(layer) ? calloc(1, sizeof *request) : NULL;
     if (!request)
         return false;
     request->index = layer->request_count;
@@ -108,10 +108,10 @@ bool vlmt_has_room_for_request(vlm_threads *layer) {
     return true;
 }
 
-static bool has_free_lock(vlm_threads *layer) {
+static bool reserve_record(vlm_threads *layer) {
     if (!layer->free_locks)
         layer->free_locks = calloc(1, sizeof *layer->free_locks);
     return layer->free_locks;
 }
 
-bool vlmt_has_room_for_lock(vlm_threads *layer) { return has_free_lock(layer) && vlmt_table_has_room(&layer->locks); }
+bool vlmt_reserve_lock(vlm_threads *layer) { return reserve_record(layer) && vlmt_reserve_entry(&layer->locks); }

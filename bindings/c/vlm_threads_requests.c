@@ -121,7 +121,7 @@ static uint32_t make_request(vlm_threads *layer, const struct asked *asked, stru
         return vlmt_refusal(layer, words->pid);
     if (!process->free_count)
         return VLM_EXENQLM;
-    if (!vlmt_has_room_for_request(layer) || !(asked->is_conversion || vlmt_has_room_for_lock(layer)))
+    if (!vlmt_reserve_request(layer) || !(asked->is_conversion || vlmt_reserve_lock(layer)))
         return VLM_INSFMEM;
     struct request *request = layer->free_requests;
     request->process = process;

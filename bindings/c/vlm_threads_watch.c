@@ -14,7 +14,7 @@ static void tell_deadlock(vlm_threads *layer, struct request *victim) {
     vlm_threads_deadlock deadlock;
     struct running running;
     victim->is_told = true;
-    vlmt_read_circle(layer, victim, &deadlock);
+    vlmt_read_cycle(layer, victim, &deadlock);
     vlmt_begin_running(layer, &running);
     layer->options.deadlock(layer->options.deadlock_context, &deadlock);
     vlmt_end_running(layer, &running);

@@ -1,12 +1,12 @@
-/* Many deadlocks at once: 100 circles of two processes, and one call that searches. The latest request of each circle
- * is the victim, and the latest circle comes first. The 20 latest victims are threads that wait. One of them is told,
+/* Many deadlocks at once: 100 cycles of two processes, and one call that searches. The latest request of each cycle
+ * is the victim, and the latest cycle comes first. The 20 latest victims are threads that wait. One of them is told,
  * and another thread gets a call through, before the last search. On a busy machine these may have no processor in that
  * time, so it is tried again. */
 #include "threads_test.h"
 
 enum { CIRCLES = 100, THREADS = 20, TRIES = 20 };
 
-/* A circle: the first process holds A of the circle and waits for B, and the second the other way round. */
+/* A cycle: the first process holds A of the cycle and waits for B, and the second the other way round. */
 struct circle {
     uint32_t second;
     char names[2][16];
@@ -49,7 +49,7 @@ static void begin_circle(struct circle *circle, int number) {
     await(first, circle->names[1], count_grant);
 }
 
-/* Closes a circle, and becomes its victim. */
+/* Closes a cycle, and becomes its victim. */
 static void *close_circle(void *given) {
     struct circle *circle = given;
     vlm_threads_request request = asked(circle->second, VLM_EX);

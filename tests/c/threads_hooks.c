@@ -92,7 +92,7 @@ static void note_deadlock(void *context, const vlm_threads_deadlock *deadlock) {
     HOLD(vlm_threads_close(layer) == VLM_BADPARAM && vlm_threads_settle(layer) == VLM_BADPARAM);
 }
 
-/* A deadlock is told before its victim ends: processes, locks, modes and names. A long circle is told in part. */
+/* A deadlock is told before its victim ends: processes, locks, modes and names. A long cycle is told in part. */
 static void test_deadlock(void) {
     uint32_t pids[LONG_CIRCLE] = {0};
     open_with((vlm_threads_options){.deadlock = note_deadlock, .deadlock_context = &layer});

@@ -591,7 +591,7 @@ static void run_all_processes(void) {
     dispatcher_close(dispatcher);
 }
 
-/* Identifications run out, and then the limit is raised: the epoch goes on. */
+/* IDs run out, and then the limit is raised: the epoch goes on. */
 static void run_raised_limit(void) {
     enum { FEW = 100 };
     static const struct rights rights = {.group = 1};

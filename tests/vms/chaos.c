@@ -1,5 +1,5 @@
 /* Threads that make random calls of starlet.h for some seconds: chaos SECONDS SEED. Each has status blocks of its own
- * and waits for each of its requests. A wait that would never end is one of a circle of waits, so a search for
+ * and waits for each of its requests. A wait that would never end is one of a cycle of waits, so a search for
  * deadlocks ends it. At the end nothing is left. */
 #include <descrip.h>
 #include <iledef.h>

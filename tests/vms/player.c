@@ -96,7 +96,7 @@ static unsigned int mode_of(const char *word) {
     return NAMES;
 }
 
-/* A lock is named by its identification or by a status block. */
+/* A lock is named by its ID or by a status block. */
 static unsigned int lock_of(const char *word) {
     return word[0] == '@' ? blocks[number_of(word + 1) % BLOCKS].lkid : number_of(word);
 }

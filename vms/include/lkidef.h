@@ -11,7 +11,7 @@
 #define LKI$_GRANTCOUNT 6 /* longword: are granted */
 #define LKI$_WAITCOUNT 7  /* longword: wait */
 #define LKI$_LCKREFCNT 8  /* longword: how many locks have this one as their parent */
-#define LKI$_LKID 9       /* longword: the lock's identification */
+#define LKI$_LKID 9       /* longword: the lock's ID */
 #define LKI$_LOCKID 10    /* the same */
 #define LKI$_MSTLKID 11   /* the same */
 #define LKI$_REMLKID 12   /* the same */

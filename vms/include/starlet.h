@@ -34,7 +34,7 @@ typedef unsigned long long VMS$PARAMETER;
  *
  * efn: the event flag, 0 to 63 or EFN$C_ENF. It is cleared, and set when the request ends.
  * lkmode: LCK$K_NLMODE to LCK$K_EXMODE.
- * lksb: the lock status block. It gets the identification, and the status when the request ends: SS$_NORMAL,
+ * lksb: the lock status block. It gets the ID, and the status when the request ends: SS$_NORMAL,
  *   SS$_VALNOTVALID, SS$_XVALNOTVALID, SS$_ABORT, SS$_CANCEL, SS$_DEADLOCK or SS$_NODELEAVE. With LCK$M_CONVERT it
  *   names the lock. With LCK$M_VALBLK its 16 bytes, and with LCK$M_XVALBLK too its 64 bytes, are the value block.
  * flags: of lckdef.h.
@@ -63,7 +63,7 @@ int sys$enqw(unsigned int efn, unsigned int lkmode, void *lksb, unsigned int fla
 int sys$deq(unsigned int lkid, void *valblk, unsigned int acmode, unsigned int flags);
 
 /* Reads about a lock what the item list asks for. *lkidadr is the lock. With 0 or -1 there, a walk over all locks that
- * the process may see begins: each call reads the next lock and writes its identification, and SS$_NOMORELOCK ends it.
+ * the process may see begins: each call reads the next lock and writes its ID, and SS$_NOMORELOCK ends it.
  * The reading is made before the call returns; the status is also written to iosb, if it is not null.
  * SS$_NORMAL, SS$_ACCVIO, SS$_BADPARAM (an unknown item), SS$_EXQUOTA (too many locks for the lock service to list),
  * SS$_ILLEFC, SS$_INSFMEM, SS$_IVLOCKID, SS$_NOMORELOCK, SS$_UNASEFC, SS$_UNREACHABLE, SS$_NODELEAVE,

@@ -62,7 +62,7 @@ class SubLocksError(VlmError, condition=Condition.SUBLOCKS):
 
 
 class IvLockIdError(VlmError, condition=Condition.IVLOCKID):
-    """No lock of the process has this identification."""
+    """No lock of the process has this ID."""
 
 
 class CvtUngrantError(VlmError, condition=Condition.CVTUNGRANT):
@@ -118,7 +118,7 @@ class AccVioError(VlmError, condition=Condition.ACCVIO):
 
 
 class NonExprError(VlmError, condition=Condition.NONEXPR):
-    """No living process has this identification."""
+    """No living process has this ID."""
 
 
 class DepartedError(VlmError, condition=Condition.DEPARTED):

@@ -56,7 +56,7 @@ class LockManager(Owner):
         return victim.value or None
 
     def take_any(self) -> Optional[Tuple[int, Ast]]:
-        """Takes the oldest AST of the first process that has one, with the identification of that process: of the first
+        """Takes the oldest AST of the first process that has one, with the ID of that process: of the first
         node with such a process, the first in order of making. It takes constant time."""
         pid, words = c_uint32(), raw.Ast()
         checked(self._call("vlm_take_any", pid, words))
@@ -87,7 +87,7 @@ class LockManager(Owner):
         return None if parent == 0 else self._resource_by("vlm_find", words)
 
     def find_lock(self, lock: int) -> Optional[LockView]:
-        """The lock of this identification. It takes constant time."""
+        """The lock of this ID. It takes constant time."""
         return next(map(lock_of, self._lock_words("vlm_find_lock", None, word(lock, "the lock"))), None)
 
     def resource_of(self, lock: int) -> Optional[Resource]:

@@ -6,7 +6,7 @@ language. The library's proved `vlm_read_line` reads a line, and its `vlm_print`
             print(text, end="")
 
 A `Session` runs line by line. Its parts can be used alone: `read_line` reads a line, `Names` binds its NAME to a
-process, and `make` makes its step for the process of an identification. `plain` turns a step into a dictionary that
+process, and `make` makes its step for the process of an ID. `plain` turns a step into a dictionary that
 JSON can hold, and `step_of` turns it back. Managers that make the same steps in the same order give the same answers.
 """
 
@@ -57,7 +57,7 @@ def makes_step(line: Line) -> bool:
 
 
 class Names:
-    """The names that accepted declarations have bound, each to the identification of its process."""
+    """The names that accepted declarations have bound, each to the ID of its process."""
 
     def __init__(self) -> None:
         self.pids: Dict[str, int] = {}

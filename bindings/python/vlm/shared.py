@@ -44,7 +44,7 @@ class Deadlock:
     # The lock whose request is the victim, and its process.
     victim: int
     pid: int
-    # How many waits the circle has, and the first 16 of them, the victim's first.
+    # How many waits the cycle has, and the first 16 of them, the victim's first.
     length: int
     waits: Tuple[Wait, ...]
     # All of it as a sentence.

@@ -86,7 +86,7 @@ class DequeueFlags(IntFlag):
 
 @dataclass(frozen=True)
 class InBlock:
-    """Names the lock whose identification is in this status block of the caller."""
+    """Names the lock whose ID is in this status block of the caller."""
 
     block: int
 
@@ -194,5 +194,5 @@ class LockView:
 
 # A resource name; a str is encoded as UTF-8.
 Name = Union[str, bytes]
-# A lock, by its identification or by a status block.
+# A lock, by its ID or by a status block.
 Which = Union[int, InBlock]

@@ -1,8 +1,8 @@
-/* Which request a search would end, and the circle in which it waits.
+/* Which request a search would end, and the cycle in which it waits.
  *
  * The core tells the victim of a search that is not made yet. A process waits for another if one of its queued requests
  * waits for a lock of the other. A breadth-first walk over these waits, from the victim's process back to it, finds a
- * shortest circle. What the walk notes is in the records of the processes, so it needs no memory. */
+ * shortest cycle. What the walk notes is in the records of the processes, so it needs no memory. */
 #include "vlm_threads_parts.h"
 
 struct request *vlmt_victim(vlm_threads *layer) {
@@ -64,7 +64,7 @@ void vlmt_read_wait(vlm_threads *layer, const struct request *request, uint32_t 
 }
 
 /* The way home is known from its end, so its length is counted first. */
-void vlmt_read_circle(vlm_threads *layer, struct request *victim, vlm_threads_deadlock *deadlock) {
+void vlmt_read_cycle(vlm_threads *layer, struct request *victim, vlm_threads_deadlock *deadlock) {
     uint32_t length = 1;
     walk_home(layer, victim);
     for (const struct process *at = victim->process; at->visit.reached_by != victim; at = at->visit.reached_by->process)

@@ -1,5 +1,5 @@
 /* Searches for deadlocks. A search ends the request of its victim, and the victim's edges with it. So who waits for
- * whom is written down before, if few requests wait, and the circle is found in that for the log. */
+ * whom is written down before, if few requests wait, and the cycle is found in that for the log. */
 #include "parts.h"
 
 #include <inttypes.h>
@@ -47,7 +47,7 @@ static void write_down(struct dispatcher *dispatcher, struct waits *waits) {
 }
 
 /* The wait of a chain from the victim that waits for the victim's process, or NOWHERE. */
-static int find_circle(struct waits *waits, uint32_t victim) {
+static int find_cycle(struct waits *waits, uint32_t victim) {
     uint32_t queue[MOST_WAITS], from = 0, to = 0;
     queue[to++] = victim;
     waits->all[victim].is_seen = true;
@@ -77,7 +77,7 @@ static void log_wait(const struct dispatcher *dispatcher, const struct wait *wai
         handle_of(dispatcher, wait->lkid), session->name, session->rights.pid);
 }
 
-static void log_circle(const struct dispatcher *dispatcher, struct waits *waits, uint32_t lkid) {
+static void log_cycle(const struct dispatcher *dispatcher, struct waits *waits, uint32_t lkid) {
     uint32_t victim = 0;
     while (victim < waits->count && waits->all[victim].lkid != lkid)
         victim++;
@@ -86,7 +86,7 @@ static void log_circle(const struct dispatcher *dispatcher, struct waits *waits,
         return;
     }
     log_wait(dispatcher, &waits->all[victim], "the victim");
-    for (int at = find_circle(waits, victim); at != NOWHERE && at != (int)victim; at = waits->all[at].before)
+    for (int at = find_cycle(waits, victim); at != NOWHERE && at != (int)victim; at = waits->all[at].before)
         log_wait(dispatcher, &waits->all[at], "in its circle");
 }
 
@@ -102,7 +102,7 @@ bool search(struct dispatcher *dispatcher) {
         if (vlm_search(&dispatcher->manager, 1, &victim) != VLM_NORMAL || victim == 0)
             break;
         dispatcher->counts.victims++;
-        log_circle(dispatcher, &waits, victim);
+        log_cycle(dispatcher, &waits, victim);
         tell(dispatcher);
     }
     return victims != 0;
