@@ -163,8 +163,8 @@ impl Drop for LockFuture {
     }
 }
 
-/// A conversion that waits: [`Guard::convert_async`] makes it. Dropped before its end, it cancels the conversion, and the
-/// lock holds what it held. If it was granted meanwhile, the guard has the new mode, and the value that it had.
+/// A conversion that waits: [`Guard::convert_async`] makes it. Dropped before its end, it cancels the conversion, and
+/// the lock holds what it held. If it was granted meanwhile, the guard has the new mode, and the value that it had.
 #[must_use = "a future that is dropped cancels its conversion"]
 pub struct ConvertFuture<'a> {
     guard: &'a mut Guard,
