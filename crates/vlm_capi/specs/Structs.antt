@@ -63,8 +63,8 @@ is_options w = (w.size == 64) && (w.version / 256 == 2) && is_blank w.reserved &
 -- the keys are the 16 bytes that the options give, or the fixed keys
 pub record AreKeysOf (w : VlmOptions) (keys : HashKeys) : Type 0 where
   pub given : w.has_keys ≡ 1
-      → (keys.fields ≡ initial (key_words w.keys).0 (key_words w.keys).1) × (keys.bytes ≡ write empty w.keys)
-  pub fixed : w.has_keys ≡ 0 → (keys.fields ≡ initial 0 0) × (keys.bytes ≡ empty)
+      → (keys.words ≡ initial (key_words w.keys).0 (key_words w.keys).1) × (keys.bytes ≡ write empty w.keys)
+  pub fixed : w.has_keys ≡ 0 → (keys.words ≡ initial 0 0) × (keys.bytes ≡ empty)
 
 -- the struct has its size, its reserved fields are 0 and its numbers fit
 abbrev pub is_declaration : VlmDeclaration → Bool
