@@ -29,9 +29,9 @@ RIGHTS = "alice uid=1000 group=1\nbob uid=1001 group=2 syslck # of another group
 # How many connections are cut while how many steps are made at least, and after how many bytes at most.
 CUTS, STEPS, MOST_BYTES = 60, 60, 6000
 # How many handshakes have a wrong byte, and the bytes between two places at which one is cut.
-FLIPS, BETWEEN = 250, 37
-# How long a handshake may take.
-PATIENCE = 10
+FLIPS, BETWEEN = 150, 41
+# How long a handshake may take, and how many KiB may wait for a client.
+PATIENCE, MOST_MEMORY = 10, 2000
 
 
 def free_port():
@@ -263,10 +263,10 @@ PROGRAMS = {sanitizer: Once(partial(client_program, sanitizer)) for sanitizer in
 def cut(sanitizer, _program):
     """Counts under locks while the connections of a client are cut anywhere: none is lost, and no step is made
     twice."""
-    os.environ.update(environment("alice"))
+    env = {**os.environ, **environment("alice")}
     with Secured(made=PLAIN if sanitizer == "thread" else CHECKED) as daemon:
         with Proxy((HOST, daemon.port), seed=1) as one, Proxy((HOST, daemon.port), seed=2) as two, \
-                Program(PROGRAMS[sanitizer](), "cuts", addresses(one, two, scheme="tls"), LONG) as program:
+                Program(PROGRAMS[sanitizer](), "cuts", addresses(one, two, scheme="tls"), LONG, env) as program:
             yield from difference(program.line(), "ready")
             one.most = two.most = MOST_BYTES
             one.cut()
@@ -286,23 +286,28 @@ def cut(sanitizer, _program):
 
 
 def deaf(_program):
-    """A client that reads no answers is not heard any more, and goes on when it reads. One that is told very much and
-    does not read is cut off."""
-    with Secured("queued 400000", "search 1000000", made=PLAIN) as daemon, daemon.named("bob") as other:
-        told = daemon.named().begin("PPPPPPPPPPPPPPP quota=9000 blocks=1")
-        told.send(*(f"enq PPPPPPPPPPPPPPP PR name=N{number} block=1 bast=4000000000 param=4000000000 system"
-                    for number in range(3)))
-        yield from difference([told.line() for _ in range(3)], 3 * ["PPPPPPPPPPPPPPP: NOSYSLCK"])
-        asker = daemon.named().begin("P quota=900 blocks=1")
-        asker.send(*(f"enq P NL name=N{number} block=1" for number in range(900)))
-        yield from difference([asker.line() for _ in range(900)][-1].split(" lock")[0], "P: NORMAL")
-        asker.send(*(40 * ["show"]), "alive")
-        time.sleep(0.5)
+    """A client that reads no answers is not heard any more, and gets all of them when it reads. Others are served
+    meanwhile, and what waits for it stays little."""
+    def memory():
+        return int(re.search(r"VmRSS:\s+(\d+)", Path(f"/proc/{daemon.run.pid}/status").read_text())[1])
+
+    with Secured(made=PLAIN) as daemon, daemon.named() as other, daemon.named() as asker:
+        before = memory()
+        asker.socket.setblocking(False)
+        line, count = b"metrics\n" * 100, 0
+        try:
+            while count < 1 << 20:
+                count += asker.socket.send(line) // len(line) * 100
+        except ssl.SSLWantWriteError:
+            pass
         yield from difference(other.ask("open").split(" ")[0], "session")
-        yield from difference([len(asker.until_blank()) for _ in range(40)], 40 * [1800])
-        yield from difference(asker.line(), "alive")
-        asker.close()
-        told.close()
+        yield from difference((daemon.metric("clients_cut_off_total"), memory() - before < MOST_MEMORY), (0, True))
+        asker.socket.settimeout(SECONDS)
+        for _ in range(min(count, 3000)):
+            answer = asker.until_blank()
+            if len(answer) < 20:
+                yield f"an answer has {len(answer)} lines"
+                break
 
 
 def cut_off(_program):
@@ -384,8 +389,8 @@ WRONG = {"tls-certificate {keys}/m1.pem": (2, "tls: tls-key is not set"),
          "": (4, "listen: clients of other machines need TLS: set tls-certificate")}
 # Rights of which each line is wrong.
 WRONG_RIGHTS = ("alice", "alice uid=1", "alice group=1 uid=1", "alice uid=1 group=65536",
-                "alice uid=4294967296 group=1", "alice uid=1 group=1 root", "alice uid=1 group=1 admin admin", "alice uid= group=1",
-                "alice uid=1 group=1 admin syslck more", 65 * "a" + " uid=1 group=1",
+                "alice uid=4294967296 group=1", "alice uid=1 group=1 root", "alice uid=1 group=1 admin admin",
+                "alice uid= group=1", "alice uid=1 group=1 admin syslck more", 65 * "a" + " uid=1 group=1",
                 "alice uid=1 group=1 " + 600 * "x")
 
 

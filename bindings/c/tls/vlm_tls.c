@@ -50,10 +50,8 @@ static const char *read_files(SSL_CTX *context, const struct vlm_tls_files *file
     return NULL;
 }
 
-/* Threads may still run when the program ends, so OpenSSL frees nothing of its own then. No session is resumed by TLS:
- * each connection shows its certificate. */
+/* No session is resumed by TLS: each connection shows its certificate. */
 static SSL_CTX *new_context(void) {
-    OPENSSL_init_crypto(OPENSSL_INIT_NO_ATEXIT, NULL);
     SSL_CTX *context = SSL_CTX_new(TLS_method());
     if (context == NULL || SSL_CTX_set_min_proto_version(context, TLS1_3_VERSION) != 1) {
         SSL_CTX_free(context);
@@ -72,7 +70,9 @@ static void free_keys(vlm_tls_keys *keys) {
     free(keys);
 }
 
+/* Threads may still run when the program ends, so OpenSSL is told before all else to free nothing of its own then. */
 static vlm_tls_keys *read_keys(const struct vlm_tls_files *files, char *reason) {
+    OPENSSL_init_crypto(OPENSSL_INIT_NO_ATEXIT, NULL);
     ERR_clear_error();
     vlm_tls_keys *keys = calloc(1, sizeof *keys);
     if (keys != NULL)
