@@ -11,7 +11,8 @@
 #include <sys/socket.h>
 #include <unistd.h>
 
-enum { READ = 64 << 10, ACCEPTED = 64, PAUSE = 100, NOBODY = 65534, MOST_MADE = 64 << 10 };
+/* (what TLS has heard takes memory of the connection as long as that lasts) */
+enum { READ = 64 << 10, READ_SECURED = 16 << 10, ACCEPTED = 64, PAUSE = 100, NOBODY = 65534, MOST_MADE = 64 << 10 };
 
 struct listener {
     uv_poll_t poll;
@@ -137,7 +138,8 @@ static void go_on(struct connection *connection) {
 
 static void hear(struct connection *connection) {
     static uint8_t bytes[READ];
-    ssize_t len = recv(connection->descriptor, bytes, sizeof bytes, MSG_DONTWAIT);
+    size_t room = connection->tls != NULL ? READ_SECURED : READ;
+    ssize_t len = recv(connection->descriptor, bytes, room, MSG_DONTWAIT);
     if (len < 0 && (errno == EAGAIN || errno == EINTR))
         return;
     if (len < 0) {

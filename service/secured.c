@@ -143,7 +143,8 @@ static void note_waiting(struct connection *connection) {
     secured.count++;
     if (!secured.has_timer)
         secured.has_timer = uv_timer_init(&vlmd.loop, &secured.timer) == 0;
-    uv_timer_start(&secured.timer, on_time, LOOK, LOOK);
+    if (!uv_is_active((const uv_handle_t *)&secured.timer))
+        uv_timer_start(&secured.timer, on_time, LOOK, LOOK);
 }
 
 bool secure(struct connection *connection) {

@@ -155,7 +155,7 @@ static uint32_t open_session(const vlm_client_options *options, vlm_client **cli
     if (status != VLM_NORMAL) {
         stop(opened);
         if (options->reason != NULL && options->reason_len > 0)
-            snprintf(options->reason, options->reason_len, "%s", opened->reason);
+            snprintf(options->reason, options->reason_len, "%s", status == VLM_LOST ? opened->reason : "");
         free_client(opened);
         return status;
     }

@@ -127,7 +127,7 @@ static int begin(vlm_client *client, const char *first, struct told *told, uint6
 static bool is_secured(vlm_client *client, struct channel *channel, uint64_t until) {
     const struct handshake how = {client->keys, client->addresses[client->address].host, client->wake_descriptor, until,
                                   client->reason};
-    return client->keys == NULL || vlmc_shake_hands(channel, &how);
+    return !vlmc_is_secured(client->path) || (client->keys != NULL && vlmc_shake_hands(channel, &how));
 }
 
 /* Connects to the address whose turn it is, and begins with a line. */
