@@ -119,7 +119,8 @@ class Maker:
                               cwd=self.room, capture_output=True, text=True)
         if told.returncode:
             fail(UNANSWERED, "the calls of the library are not those of packaging/libvlm.symbols:\n" + told.stdout)
-        (tree / "DEBIAN" / "shlibs").write_text(f"libvlm {fits} libvlm{fits} (>= {self.version})\n")
+        names = (f"libvlm {fits}", TLS_LIBRARY.replace(".so.", " "))
+        (tree / "DEBIAN" / "shlibs").write_text("".join(f"{it} libvlm{fits} (>= {self.version})\n" for it in names))
         (tree / "DEBIAN" / "triggers").write_text("activate-noawait ldconfig\n")
 
     def finish_development(self):
