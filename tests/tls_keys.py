@@ -29,7 +29,8 @@ openssl x509 -req -in late.csr -CA locks.pem -CAkey locks.key -days 0 -copy_exte
 def page_commands():
     """The commands of the page, for this machine instead of the first of three."""
     page = (TOP / "docs" / "CLUSTER.md").read_text()
-    return re.search(r"^```sh\n(authority\(\).*?)^```", page, re.M | re.S)[1].replace("10.0.0.1", HOST).replace("m1.example", "localhost")
+    commands = re.search(r"^```sh\n(authority\(\).*?)^```", page, re.M | re.S)[1]
+    return commands.replace("10.0.0.1", HOST).replace("m1.example", "localhost")
 
 
 def made_keys():
