@@ -46,18 +46,29 @@ typedef struct vlm_client_options {
     uint32_t size;
     uint32_t delivery;              /* VLM_THREADS_BY_LAYER or VLM_THREADS_BY_PROGRAM */
     const char *socket;             /* null: that of VLM_SOCKET in the environment, or /run/vlm/lock.sock. A path, or
-                                       addresses of replicas as in tcp:HOST:PORT,HOST:PORT */
+                                       addresses of replicas as in tcp:HOST:PORT,HOST:PORT or, with TLS,
+                                       tls:HOST:PORT,HOST:PORT */
     void (*on_lost)(void *context); /* called as a routine after the locks are lost; or null */
     void *lost_context;
     uint32_t lease_seconds; /* with addresses of TCP: 2 to 600; 0 means 10 */
     uint32_t reserved[7];
+    /* With addresses as in tls:HOST:PORT, files in PEM's form: the certificate that the client shows, its key, and the
+     * authority that has signed those of the replicas. Null: the file that VLM_TLS_CERTIFICATE, VLM_TLS_KEY or
+     * VLM_TLS_AUTHORITY names in the environment. They are read again for each connection. */
+    const char *certificate;
+    const char *key;
+    const char *authority;
+    char *reason;        /* gets a text that says why vlm_client_open answers VLM_LOST; or null */
+    uint64_t reason_len; /* bytes of it, with a zero at the end */
 } vlm_client_options;
 
 /* Connects and begins a session. Starts a thread that reads, and one that runs routines (VLM_THREADS_BY_LAYER).
  * *client is null unless the answer is NORMAL. Addresses of TCP are tried in turn, each once, and names of hosts are
  * resolved here and in vlm_client_reopen.
  * VLM_LOST: there is no service, it speaks another protocol, it refuses the connection, or a Unix socket is a
- * replica's: sessions there have leases, which a client keeps at addresses of TCP alone.
+ * replica's: sessions there have leases, which a client keeps at addresses of TCP alone. With TLS also: a file can't be
+ * read, the certificate of the replica is not of the host that the address names, or there is no libvlm-tls.so.1, by
+ * which this library calls OpenSSL.
  * INSFMEM: memory, a thread or an eventfd was refused. BADPARAM: the options are malformed. */
 uint32_t vlm_client_open(const vlm_client_options *options, vlm_client **client);
 
@@ -109,7 +120,7 @@ uint32_t vlm_client_fd(vlm_client *client, int *descriptor);
 uint32_t vlm_client_dispatch(vlm_client *client, uint32_t *delivered);
 uint32_t vlm_client_settle(vlm_client *client);
 
-VLM_ASSERT(sizeof(struct vlm_client_options) == 64);
+VLM_ASSERT(sizeof(struct vlm_client_options) == 104);
 
 #ifdef __cplusplus
 }

@@ -60,10 +60,18 @@ static uint32_t *limit_of(struct config *config, const char *word) {
 
 /* The place of a text of a replica by its word, or null. */
 static char *text_of(struct config *config, const char *word) {
-    return strcmp(word, "etcd") == 0     ? config->etcd
-           : strcmp(word, "prefix") == 0 ? config->prefix
-           : strcmp(word, "listen") == 0 ? config->listen
-                                         : NULL;
+    const struct {
+        const char *word;
+        char *place;
+    } rows[] = {{"etcd", config->etcd},         {"prefix", config->prefix},
+                {"listen", config->listen},     {"tls-certificate", config->tls_certificate},
+                {"tls-key", config->tls_key},   {"tls-authority", config->tls_authority},
+                {"rights", config->rights},     {"etcd-certificate", config->etcd_certificate},
+                {"etcd-key", config->etcd_key}, {"etcd-authority", config->etcd_authority}};
+    for (size_t at = 0; at < sizeof rows / sizeof *rows; at++)
+        if (strcmp(word, rows[at].word) == 0)
+            return rows[at].place;
+    return NULL;
 }
 
 static bool add_group(struct config *config, const char *group, const char *uic) {
@@ -137,6 +145,14 @@ bool read_config(const char *file, bool must_be_there, struct config *config) {
     snprintf(text, sizeof text, "%s line %u: no such setting, or a wrong value", file, number);
     write_log(text);
     return false;
+}
+
+bool fits_etcd(const struct config *config) {
+    bool has_certificate = config->etcd_certificate[0] != 0, has_key = config->etcd_key[0] != 0;
+    bool fits = has_certificate == has_key && (!has_key || config->etcd_authority[0] != 0);
+    if (!fits)
+        write_log("etcd-certificate and etcd-key come together, and with etcd-authority");
+    return fits;
 }
 
 static bool is_in(const gid_t *gids, size_t count, gid_t gid) {

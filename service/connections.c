@@ -1,7 +1,7 @@
 /* Connections of clients: accepted, read, sent to and closed. A daemon that is alone hands what it reads to the
  * dispatcher; a replica hands it to a link, whose lines come to the dispatcher by the list. */
 #define _GNU_SOURCE
-#include "daemon.h"
+#include "connections.h"
 
 #include <errno.h>
 #include <netinet/in.h>
@@ -11,15 +11,8 @@
 #include <sys/socket.h>
 #include <unistd.h>
 
-enum { READ = 64 << 10, ACCEPTED = 64, PAUSE = 100, NOBODY = 65534 };
-
-struct connection {
-    uv_poll_t poll;
-    int descriptor;
-    int events;
-    struct client *client; /* of a daemon that is alone */
-    struct link *link;     /* of a replica */
-};
+/* (what TLS has heard takes memory of the connection as long as that lasts) */
+enum { READ = 64 << 10, READ_SECURED = 16 << 10, ACCEPTED = 64, PAUSE = 100, NOBODY = 65534, MOST_MADE = 64 << 10 };
 
 struct listener {
     uv_poll_t poll;
@@ -34,16 +27,16 @@ static struct connection *connection_of(const struct client *client) {
     return vlmd.replica != NULL ? link_context(client_context(client)) : client_context(client);
 }
 
-/* The dispatcher's client; null while a replica's connection waits for its entry. */
-static struct client *client_of(const struct connection *connection) {
+struct client *client_of(const struct connection *connection) {
     return connection->link != NULL ? link_client(connection->link) : connection->client;
 }
 
-/* Closes a connection at once. */
-static void hang_up(struct connection *connection) {
+void hang_up(struct connection *connection) {
+    if (connection->tls != NULL)
+        end_secured(connection);
     if (connection->link != NULL)
         link_close(connection->link);
-    else
+    else if (connection->client != NULL)
         client_close(connection->client);
     uv_poll_stop(&connection->poll);
     close(connection->descriptor);
@@ -52,10 +45,20 @@ static void hang_up(struct connection *connection) {
 
 static void on_events(uv_poll_t *poll, int status, int events);
 
+/* Whether more should be read: also of a client that is not let in. What TLS answers by itself has a limit too. */
+static bool is_heard(const struct connection *connection) {
+    size_t made = 0;
+    if (connection->tls != NULL)
+        tls->output(connection->tls, &made);
+    return made <= MOST_MADE
+           && (connection->link != NULL     ? link_is_heard(connection->link)
+               : connection->client != NULL ? client_is_heard(connection->client)
+                                            : true);
+}
+
 /* Has the loop wait for what the client's state asks for. */
 static void wait_for(struct connection *connection, size_t unsent) {
-    bool is_heard = connection->link != NULL ? link_is_heard(connection->link) : client_is_heard(connection->client);
-    int events = (is_heard ? UV_READABLE : 0) | (unsent != 0 ? UV_WRITABLE : 0);
+    int events = (is_heard(connection) ? UV_READABLE : 0) | (unsent != 0 ? UV_WRITABLE : 0);
     if (events == connection->events)
         return;
     connection->events = events;
@@ -69,6 +72,8 @@ static void wait_for(struct connection *connection, size_t unsent) {
 static bool send_output(struct connection *connection, size_t *len) {
     struct client *client = client_of(connection);
     const uint8_t *bytes;
+    if (connection->tls != NULL)
+        return send_secured(connection, len);
     while (bytes = client_output(client, len), *len != 0) {
         ssize_t sent = send(connection->descriptor, bytes, *len, MSG_NOSIGNAL | MSG_DONTWAIT);
         if (sent < 0 && errno == EINTR)
@@ -85,17 +90,20 @@ static bool send_output(struct connection *connection, size_t *len) {
 }
 
 static bool is_over(const struct connection *connection) {
-    return connection->link != NULL ? link_is_over(connection->link) : client_is_over(connection->client);
+    return connection->link != NULL     ? link_is_over(connection->link)
+           : connection->client != NULL ? client_is_over(connection->client)
+                                        : false;
 }
 
-static void flush(struct connection *connection) {
+void flush(struct connection *connection) {
     size_t len = 0;
     struct client *client = client_of(connection);
-    if (client == NULL)
+    if (client == NULL && connection->tls == NULL)
         return;
     if (connection->link != NULL)
         link_go(connection->link);
-    if (!send_output(connection, &len) || client_is_cut(client) || (is_over(connection) && len == 0))
+    if (!send_output(connection, &len) || (client != NULL && client_is_cut(client))
+        || (is_over(connection) && len == 0))
         hang_up(connection);
     else
         wait_for(connection, len);
@@ -107,27 +115,44 @@ void flush_all(void) {
             flush(connection_of(client));
 }
 
+void hand_on(struct connection *connection, const uint8_t *bytes, size_t len) {
+    if (connection->link != NULL)
+        link_hear(connection->link, bytes, len);
+    else
+        client_hear(connection->client, bytes, len);
+}
+
+/* After bytes were handed on. What they were answered is sent at the end of the turn; what TLS has to say, at once. */
+static void go_on(struct connection *connection) {
+    struct client *client = client_of(connection);
+    size_t unsent = 0, made = 0;
+    if (client != NULL)
+        client_output(client, &unsent);
+    if (connection->tls != NULL)
+        tls->output(connection->tls, &made);
+    if (made != 0 || (is_over(connection) && connection->link != NULL))
+        flush(connection);
+    else if (!is_over(connection))
+        wait_for(connection, unsent != 0 && (connection->events & UV_WRITABLE) != 0);
+}
+
 static void hear(struct connection *connection) {
     static uint8_t bytes[READ];
-    ssize_t len = recv(connection->descriptor, bytes, sizeof bytes, MSG_DONTWAIT);
+    size_t room = connection->tls != NULL ? READ_SECURED : READ;
+    ssize_t len = recv(connection->descriptor, bytes, room, MSG_DONTWAIT);
     if (len < 0 && (errno == EAGAIN || errno == EINTR))
         return;
     if (len < 0) {
         hang_up(connection);
         return;
     }
-    if (connection->link != NULL)
-        link_hear(connection->link, bytes, (size_t)len);
-    else
-        client_hear(connection->client, bytes, (size_t)len);
-    struct client *client = client_of(connection);
-    size_t unsent = 0;
-    if (client != NULL)
-        client_output(client, &unsent);
-    if (!is_over(connection))
-        wait_for(connection, unsent != 0 && (connection->events & UV_WRITABLE) != 0);
-    else if (connection->link != NULL)
-        flush(connection);
+    if (connection->tls != NULL) {
+        if (hear_secured(connection, bytes, (size_t)len))
+            go_on(connection);
+        return;
+    }
+    hand_on(connection, bytes, (size_t)len);
+    go_on(connection);
 }
 
 /* Tells the time before anything is done. */
@@ -149,7 +174,7 @@ static void on_events(uv_poll_t *poll, int status, int events) {
         flush(connection);
 }
 
-/* The rights of a client. One of TCP is nobody. */
+/* The rights of a client. One of TCP without TLS is nobody. */
 static bool find_rights(const struct listener *listener, int descriptor, struct rights *rights) {
     static const char refusal[] = "no group\n";
     int yes = 1;
@@ -165,8 +190,7 @@ static bool find_rights(const struct listener *listener, int descriptor, struct 
     return true;
 }
 
-/* Begins a client, by a link if this is a replica. */
-static bool begin(struct connection *connection, const struct rights *rights) {
+bool let_in(struct connection *connection, const struct rights *rights) {
     uint32_t salt = 0;
     if (vlmd.replica == NULL) {
         connection->client = client_open(vlmd.dispatcher, rights, 0, connection);
@@ -191,7 +215,7 @@ static void welcome(const struct listener *listener, int descriptor) {
     }
     connection->poll.data = connection;
     connection->descriptor = descriptor;
-    if (!begin(connection, &rights)) {
+    if (listener->is_tcp && has_tls() ? !secure(connection) : !let_in(connection, &rights)) {
         close(descriptor);
         uv_close((uv_handle_t *)&connection->poll, forget);
     }

@@ -2,6 +2,8 @@
  *
  * vlmd.c         the event loop: turns, signals, time
  * connections.c  connections of clients
+ * secured.c      those with TLS
+ * names.c        the file of rights, for clients with TLS
  * list.c         the list of a replica, which a program of its own keeps in etcd
  * config.c       the configuration
  * start.c        the sockets, the state file, the log, and what systemd is told
@@ -40,6 +42,9 @@ struct config {
     char etcd[WORD], prefix[WORD], listen[WORD];
     uint32_t tcp_group, chunk;
     bool is_network_trusted;
+    /* Files: of its TLS, with the rights of its clients; and of the TLS to etcd. No text: there is none. */
+    char tls_certificate[WORD], tls_key[WORD], tls_authority[WORD], rights[WORD];
+    char etcd_certificate[WORD], etcd_key[WORD], etcd_authority[WORD];
 };
 
 /* The daemon: vlmd.c. */
@@ -65,6 +70,9 @@ void write_log(const char *text);
 
 /* A setting, as a line of the configuration has it. False if it is wrong. */
 bool set_words(struct config *config, char *const *words, size_t count);
+
+/* Whether etcd's files fit each other: a certificate comes with its key, and both with an authority. Logs if not. */
+bool fits_etcd(const struct config *config);
 
 /* The listening sockets for TCP. Returns how many there are; 0, and logs why, if one can't be made. */
 size_t open_tcp_listeners(const struct config *config, int listeners[MOST_LISTENERS]);

@@ -143,13 +143,19 @@ static bool find_program(char path[LONGEST_PATH]) {
 }
 
 bool list_open(const struct config *config, void (*is_ready)(void)) {
-    char path[LONGEST_PATH], members[WORD], prefix[WORD], chunk[WORD];
+    char path[LONGEST_PATH], chunk[WORD];
+    struct config copy = *config;
     if (!find_program(path))
         return false;
-    snprintf(members, WORD, "%s", config->etcd);
-    snprintf(prefix, WORD, "%s", config->prefix);
     snprintf(chunk, WORD, "%u", (unsigned)config->chunk);
-    char *words[] = {path, members, prefix, chunk, NULL};
+    /* (a list without TLS has no more than the first four) */
+    char *words[] = {path, copy.etcd, copy.prefix, chunk, NULL, NULL, NULL, NULL};
+    if (copy.etcd_authority[0] != 0)
+        words[4] = copy.etcd_authority;
+    if (copy.etcd_key[0] != 0) {
+        words[5] = copy.etcd_certificate;
+        words[6] = copy.etcd_key;
+    }
     uv_pipe_init(&vlmd.loop, &list.to, 0);
     uv_pipe_init(&vlmd.loop, &list.from, 0);
     uv_stdio_container_t stdio[] = {

@@ -1,7 +1,7 @@
 /* The socket, the state file, the log, and what systemd is told. The protocols of systemd are a few lines each, so the
  * daemon needs no library for them. */
 #define _GNU_SOURCE
-#include "daemon.h"
+#include "names.h"
 
 #include <errno.h>
 #include <fcntl.h>
@@ -114,8 +114,9 @@ size_t open_tcp_listeners(const struct config *config, int listeners[MOST_LISTEN
         return 0;
     }
     for (const struct addrinfo *it = found; it != NULL && count < MOST_LISTENERS; it = it->ai_next) {
-        if (!is_loopback(it) && !config->is_network_trusted) {
-            write_log("listen: clients of other machines are asked for no name: say `network trusted` to let them in");
+        if (!is_loopback(it) && !config->is_network_trusted && !has_tls()) {
+            write_log("listen: clients of other machines need TLS: set tls-certificate, tls-key, tls-authority and "
+                      "rights, or say `network trusted` to let in everybody");
             count = 0;
             break;
         }

@@ -1,7 +1,7 @@
 /* vlmd: the lock manager for the processes of a machine, or one of several replicas. The event loop around the
  * dispatcher: docs/SERVICE.md, docs/CLUSTER.md. libuv waits. Nothing here is proved. */
 #define _GNU_SOURCE
-#include "daemon.h"
+#include "names.h"
 
 #include <getopt.h>
 #include <signal.h>
@@ -87,6 +87,14 @@ static void on_watchdog(uv_timer_t *timer) {
     notify("WATCHDOG=1");
 }
 
+/* Reads the files of TLS again, if this replica began with it. Wrong ones leave those that it has. */
+static void read_tls_again(const struct config *read) {
+    if (has_tls() && !read_tls(read))
+        write_log("the certificates and rights stay as they were");
+    else if (!has_tls() && read->tls_certificate[0] != 0)
+        write_log("TLS begins at the next start");
+}
+
 /* Reads the configuration again. The socket stays, and whether this is a replica. */
 static void on_hangup(uv_signal_t *handle, int number) {
     (void)handle, (void)number;
@@ -96,6 +104,7 @@ static void on_hangup(uv_signal_t *handle, int number) {
     read.grace = old->grace;
     if (!read_config(vlmd.file, vlmd.is_file_named, &read))
         return;
+    read_tls_again(&read);
     memcpy(read.socket, old->socket, sizeof read.socket);
     memcpy(read.etcd, old->etcd, sizeof read.etcd);
     memcpy(read.prefix, old->prefix, sizeof read.prefix);
@@ -233,7 +242,7 @@ static bool set_named(const char *setting, char *text) {
 static bool read_words(int count, char **words) {
     struct named_words named = {.socket = getenv("VLM_SOCKET")};
     /* (clients may have the address of a replica there) */
-    if (named.socket != NULL && strncmp(named.socket, "tcp:", 4) == 0)
+    if (named.socket != NULL && (strncmp(named.socket, "tcp:", 4) == 0 || strncmp(named.socket, "tls:", 4) == 0))
         named.socket = NULL;
     bool is_right = take_words(count, words, &named);
     vlmd.config = usual_config;
@@ -276,6 +285,8 @@ int main(int count, char **words) {
         write_log("usage: vlmd [-c FILE] [-s SOCKET] [--etcd MEMBERS [--prefix WORD] [--listen HOST:PORT]]");
         return WRONG_WORDS;
     }
+    if (!fits_etcd(&vlmd.config) || !read_tls(&vlmd.config))
+        return WRONG_WORDS;
     raise_limit();
     signal(SIGPIPE, SIG_IGN);
     if (!start()) {

@@ -16,7 +16,7 @@ from harness import ROOM, TOP, Once
 
 SOURCES = sorted((TOP / "service").glob("*.c"))
 # The files of the dispatcher and of a replica, without the daemon around them.
-DAEMON = ("vlmd.c", "connections.c", "config.c", "list.c", "start.c")
+DAEMON = ("vlmd.c", "connections.c", "secured.c", "names.c", "config.c", "list.c", "start.c")
 DISPATCHER = [it for it in SOURCES if it.name not in DAEMON]
 # How long an answer may take.
 SECONDS = 20
@@ -25,11 +25,12 @@ NOBODY = 65534
 FOUND = re.compile(r"Sanitizer|runtime error")
 
 
-def compiled(name, *words):
+def compiled(name, *words, tls=None):
     """Compiles the daemon. Gives its path, or raises what the compiler says."""
     made = Path(ROOM().name) / name
     wrong = list(library.ran("cc", "-std=gnu11", *library.STRICT, f"-I{library.prefix()}/include", *words, *SOURCES,
-                             library.prefix() / "lib" / "libvlm.a", "-luv", "-pthread", "-o", made))
+                             library.prefix() / "lib" / "libvlm.a", "-luv", *(tls or library.tls_words()), "-pthread",
+                             "-o", made))
     if wrong:
         raise RuntimeError(wrong[0])
     return made

@@ -400,7 +400,7 @@ def is_kept(machine):
 def with_systemd(program):
     """What is wrong with the lock service on a machine that systemd has booted."""
     with root_with_packages("a-machine", program) as root:
-        root.need("apt-get install systemd-sysv dbus libuv1")
+        root.need("apt-get install systemd-sysv dbus libuv1 libssl3")
         with Machine(root.folder) as machine:
             for step in (is_served, is_replicated, is_kept):
                 yield from (f"{step.__name__}: {it}" for it in step(machine))
@@ -412,7 +412,7 @@ USERS = {
                          (plays, locks, reads, uses_python, tells_proof, has_units, upgrades, leaves)),
     "a user who programs": (f"apt-get install {COMPILERS} /packages/libvlm*.deb",
                             (compiles, uses_cmake, uses_cargo, goes_on)),
-    "a user of pip and the archive": ("apt-get install python3-venv libuv1", (has_wheel, has_archive)),
+    "a user of pip and the archive": ("apt-get install python3-venv libuv1 libssl3", (has_wheel, has_archive)),
 }
 
 

@@ -47,6 +47,10 @@ FILES = ("bin/vlm", *(f"{folder}{it.relative_to(TOP)}" for folder, files in COPI
 SERVICE_FILES = ("bin/vlmd", "lib/systemd/system/vlmd.service", "lib/systemd/system/vlmd.socket",
                  *(f"libexec/vlm/list/{name}" for name in ("chunks.py", "etcd_list.py", "members.py", "vlm-list")),
                  "share/man/man8/vlmd.8", "share/vlm/vlmd.conf")
+# For connections with TLS, where the headers of OpenSSL are.
+TLS_FILES = ("lib/libvlm-tls.so.1",)
+TLS = TOP / "bindings" / "c" / "tls" / "vlm_tls.c"
+OPENSSL = ("-lssl", "-lcrypto")
 VALGRIND = ["valgrind", "-q", "--leak-check=full", "--show-leak-kinds=all", "--error-exitcode=9"]
 HELGRIND = ["valgrind", "-q", "--tool=helgrind", f"--suppressions={TOP}/tests/c/helgrind.supp", "--error-exitcode=9"]
 # The layers for threads and for the threads of a hub, and the functions that some tests put their own in the place of.
@@ -85,6 +89,19 @@ def has_uv():
                                                            capture_output=True).returncode
 
 
+@functools.lru_cache(maxsize=None)
+def has_openssl():
+    """Whether the headers of OpenSSL 3 or later are there."""
+    test = b"#include <openssl/ssl.h>\n#if OPENSSL_VERSION_NUMBER < 0x30000000L\n#error too old\n#endif\n"
+    return bool(shutil.which("cc")) and not subprocess.run(["cc", "-E", "-x", "c", "-"], input=test,
+                                                           capture_output=True).returncode
+
+
+def tls_words():
+    """The words by which vlmd has TLS, or none."""
+    return [TLS, *OPENSSL] if has_openssl() else ["-DVLM_WITHOUT_TLS"]
+
+
 def installed(_program):
     """The installation leaves its files, with each shared library under three names."""
     yield from ran(TOP / "vlm", "install", prefix(), seconds=INSTALL_SECONDS)
@@ -94,7 +111,7 @@ def installed(_program):
     named = {f"lib/{it.rpartition('.')[0]}": it for it in shared}
     named |= {f"lib/{it.partition('.')[0]}.so": it.rpartition(".")[0] for it in shared}
     pages = [f"share/man/man3/{call}.3" for call in calls() | {"vlm_condition_name"}]
-    service = SERVICE_FILES * has_uv()
+    service = (*SERVICE_FILES * has_uv(), *TLS_FILES * has_openssl())
     yield from difference(sorted(left), sorted([*FILES, *pages, *service, *(f"lib/{it}" for it in shared), *links]))
     yield from difference(links, named)
 
@@ -459,23 +476,24 @@ def cpp_of_page(_program):
     yield from wrong or printed(source, room() / "page")
 
 
-# Members that a header of the layer for threads did not have at first.
-LATER_MEMBERS = {"options": "victim_milliseconds", "declaration": "own_queue", "request": "released"}
+# Members that a header did not have at first, by the structs.
+LATER_MEMBERS = {"vlm_threads": {"options": "victim_milliseconds", "declaration": "own_queue", "request": "released"},
+                 "vlm_client": {"options": "certificate"}}
 # Programs that use none of them.
 OLDER = ("count", "cache", "timed_wait", "event_loop")
 
 
-def older_header():
-    """A folder with the header of the layer for threads as it would be without its later members."""
-    folder = room() / "an older header"
+def older_header(header="vlm_threads"):
+    """A folder with a header as it would be without its later members."""
+    folder = room() / f"an older header {header}"
     folder.mkdir(exist_ok=True)
-    text = (TOP / "include" / "vlm_threads.h").read_text()
-    for name, first in LATER_MEMBERS.items():
-        text, count = re.subn(rf"\n {{4}}[^\n]*\b{first};.*?(?=\n}} vlm_threads_{name};)", "", text, flags=re.S)
+    text = (TOP / "include" / f"{header}.h").read_text()
+    for name, first in LATER_MEMBERS[header].items():
+        text, count = re.subn(rf"\n {{4}}[^\n]*\b{first};.*?(?=\n}} {header}_{name};)", "", text, flags=re.S)
         if not count:
-            raise LookupError(f"{first} of vlm_threads_{name}")
-        text = re.sub(rf"VLM_ASSERT\(sizeof\(struct vlm_threads_{name}\).*", "", text)
-    (folder / "vlm_threads.h").write_text(text)
+            raise LookupError(f"{first} of {header}_{name}")
+        text = re.sub(rf"VLM_ASSERT\(sizeof\(struct {header}_{name}\).*", "", text)
+    (folder / f"{header}.h").write_text(text)
     return folder
 
 

@@ -13,7 +13,7 @@ from pathlib import Path
 from bench import has_db
 from daemons import DAEMON
 from harness import ROOM, TOP, Test, kit_folder
-from library import has_uv
+from library import has_openssl, has_uv
 
 TOOLS = ("clang-format", "clang-tidy", "mypy", "pyflakes3", "shellcheck", "cargo", "rustfmt", "cargo-clippy")
 # The longest time of a tool.
@@ -42,7 +42,7 @@ LANGUAGES = {".c": "c", ".h": "c", ".rs": "rust", ".rt": "rust", ".rattle": "rus
 def missing():
     """What is not there that some checks need."""
     return [tool for tool in TOOLS if not shutil.which(tool)] + ["db.h of libdb5.3-dev"] * (not has_db()) \
-        + ["uv.h of libuv1-dev"] * (not has_uv())
+        + ["uv.h of libuv1-dev"] * (not has_uv()) + ["openssl/ssl.h of libssl-dev"] * (not has_openssl())
 
 
 @functools.lru_cache(maxsize=None)
@@ -65,7 +65,8 @@ def pythons():
 
 def c_files(*suffixes):
     """The files in C that can be compiled here."""
-    absent = ["berkeley_db.c"] * (not has_db()) + [f"service/{name}" for name in DAEMON] * (not has_uv())
+    absent = ["berkeley_db.c"] * (not has_db()) + [f"service/{name}" for name in DAEMON] * (not has_uv()) \
+        + ["vlm_tls.c"] * (not has_openssl())
     return [name for name in files(*suffixes) if not name.endswith(tuple(absent))]
 
 

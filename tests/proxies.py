@@ -1,5 +1,5 @@
-"""Proxies from TCP to the Unix socket of one vlmd: several of them look like several replicas. A proxy may cut its
-connections, keep bytes back, or refuse connections."""
+"""Proxies from TCP to the Unix socket of one vlmd, or to a port of it: several of them look like several replicas. A
+proxy may cut its connections, keep bytes back, or refuse connections."""
 
 import random
 import select
@@ -75,7 +75,7 @@ class Proxy:
             threading.Thread(target=self._carry, args=[made], daemon=True).start()
 
     def _carry(self, client):
-        service = socket.socket(socket.AF_UNIX)
+        service = socket.socket(socket.AF_INET if isinstance(self.path, tuple) else socket.AF_UNIX)
         with client, service:
             try:
                 service.connect(self.path)
@@ -109,6 +109,6 @@ class Proxy:
                     return
 
 
-def addresses(*proxies):
+def addresses(*proxies, scheme="tcp"):
     """The address by which a client takes each of these for a replica."""
-    return "tcp:" + ",".join(it.address for it in proxies)
+    return f"{scheme}:" + ",".join(it.address for it in proxies)

@@ -8,12 +8,15 @@ import subprocess
 
 import library
 import replicated_clients
+import tls_keys
 from harness import Test, TOP
 
 PROGRAMS = TOP / "tests" / "replicated"
 # The Python for which Debian packs the client library of etcd.
 DEBIAN_PYTHON = "/usr/bin/python3"
 FAULT_SECONDS, LONGEST = 120, 400
+# The tests that need certificates.
+WITH_KEYS = "test_tls.py"
 
 
 def has_etcd3():
@@ -37,7 +40,8 @@ def installed(_program):
 def runs(name, *words):
     """A test that a program ends well."""
     def check(_program):
-        env = {**os.environ, "VLM_PREFIX": str(library.prefix()), "PYTHONDONTWRITEBYTECODE": "1"}
+        keys = {"VLM_KEYS": str(tls_keys.KEYS())} if name == WITH_KEYS else {}
+        env = {**os.environ, **keys, "VLM_PREFIX": str(library.prefix()), "PYTHONDONTWRITEBYTECODE": "1"}
         return library.ran(DEBIAN_PYTHON, name, *words, cwd=PROGRAMS, env=env, seconds=LONGEST)
 
     return check
@@ -53,6 +57,7 @@ def over_etcd():
             Test("replicas by their lines", runs("test_service.py")),
             Test("settings of replicas", runs("test_settings.py")),
             Test("the sessions of the page", runs("test_page.py")),
+            *[Test("TLS to clients and to etcd", runs(WITH_KEYS))] * library.has_openssl(),
             Test("a leader of etcd that hangs", runs("hang.py", "--clients", 12, "--seconds", 5, "--lease", 5)),
             Test("leases while etcd's leader or their clients hang",
                  runs("leases.py", "--pairs", 10, "--fault", "leader for long", "--fault", "clients")),

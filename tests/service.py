@@ -21,6 +21,7 @@ import library
 import service_commands
 import service_replicas
 import service_scripts
+import service_tls
 import service_tokens
 from daemons import CHECKED, DISPATCHER, NOBODY, PLAIN, Client, Daemon
 from harness import PLAY, ROOM, TOP, Test, difference
@@ -40,9 +41,14 @@ ZEROS = 32 * "0"
 FAKED_TIME = Path("/usr/lib/x86_64-linux-gnu/faketime/libfaketime.so.1")
 
 
-def missing():
-    """What is not there that these tests need."""
+def needed():
+    """What is not there that all these tests need."""
     return ["uv.h of libuv1-dev"] * (not library.has_uv()) + ["cc"] * (not shutil.which("cc"))
+
+
+def missing():
+    """What is not there that some of them need."""
+    return needed() + service_tls.missing()
 
 
 # What each line answers.
@@ -734,7 +740,7 @@ def installed(_program):
 
 
 def first():
-    return [] if missing() else [Test("the library", installed)]
+    return [] if needed() else [Test("the library", installed)]
 
 
 def once():
@@ -749,4 +755,5 @@ def once():
               for compiler in library.COMPILERS for sanitizer in library.SANITIZERS[1:]
               if library.links(compiler, sanitizer)]
     found += service_scripts.tests() + service_commands.tests() + service_tokens.tests() + service_replicas.tests()
-    return [] if missing() else found
+    found += service_tls.tests()
+    return [] if needed() else found

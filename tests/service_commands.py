@@ -26,11 +26,14 @@ SECONDS = 60
 def compiled():
     """The command vlm where an installation has it, with a stub in the place of the proved program. Its path."""
     prefix = Path(ROOM().name) / "commands"
-    for folder in ("bin", "libexec/vlm"):
+    for folder in ("bin", "lib", "libexec/vlm"):
         (prefix / folder).mkdir(parents=True)
-    wrong = list(library.ran("cc", "-std=gnu11", *library.STRICT, "-O1", "-g", "-fsanitize=address,undefined",
-                             "-fno-sanitize-recover=all", f"-I{TOP}/include", *SOURCES, "-pthread", "-o",
-                             prefix / "bin" / "vlm"))
+    sanitized = ["-O1", "-g", "-fsanitize=address,undefined", "-fno-sanitize-recover=all"]
+    wrong = list(library.ran("cc", "-std=gnu11", *library.STRICT, *sanitized, f"-I{TOP}/include",
+                             '-DVLM_TLS_BESIDE="../lib/"', *SOURCES, "-pthread", "-o", prefix / "bin" / "vlm"))
+    if library.has_openssl():
+        wrong += library.ran("cc", "-std=c11", *library.STRICT, *sanitized, "-shared", "-fPIC", library.TLS,
+                             *library.OPENSSL, "-o", prefix / "lib" / "libvlm-tls.so.1")
     if wrong:
         raise RuntimeError(wrong[0])
     stub = prefix / "libexec" / "vlm" / "vlm"

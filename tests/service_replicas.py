@@ -53,9 +53,9 @@ CHECKED = Once(lambda: compiled("cc", "address,undefined"))
 class Program:
     """A running program. It must end well."""
 
-    def __init__(self, made, test, address, lease):
+    def __init__(self, made, test, address, lease, env=None):
         self.run = subprocess.Popen([made, test, address, str(lease)], stdin=subprocess.PIPE, stdout=subprocess.PIPE,
-                                    stderr=subprocess.PIPE, text=True)
+                                    stderr=subprocess.PIPE, text=True, env=env)
         self._lines = queue.Queue()
         threading.Thread(target=self._read, daemon=True).start()
 

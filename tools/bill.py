@@ -46,17 +46,19 @@ def write_bill(staged, version, folder):
     built_with = package_row("rattle-kit", kit.replace("rattle-kit-", ""),
                              comment=f"{logic}; its heap and crates are compiled into the program and the libraries")
     libuv, libc = package_row("libuv", "1", comment="vlmd links it"), package_row("glibc", "2", comment="all link it")
+    openssl = package_row("openssl", "3", comment="vlmd and libvlm-tls link it")
     etcd3 = package_row("python-etcd3", "0.12", comment="replicas of vlmd run it, with Python 3")
     made = datetime.fromtimestamp(int(os.environ["SOURCE_DATE_EPOCH"]), timezone.utc)
     relations = [related("SPDXRef-DOCUMENT", "DESCRIBES", vlm["SPDXID"]),
                  related(vlm["SPDXID"], "STATIC_LINK", built_with["SPDXID"]),
                  related(vlm["SPDXID"], "DYNAMIC_LINK", libuv["SPDXID"]),
                  related(vlm["SPDXID"], "DYNAMIC_LINK", libc["SPDXID"]),
+                 related(vlm["SPDXID"], "DYNAMIC_LINK", openssl["SPDXID"]),
                  related(etcd3["SPDXID"], "OPTIONAL_DEPENDENCY_OF", vlm["SPDXID"]),
                  *(related(vlm["SPDXID"], "CONTAINS", row["SPDXID"]) for row in rows)]
     bill = {"spdxVersion": "SPDX-2.3", "dataLicense": "CC0-1.0", "SPDXID": "SPDXRef-DOCUMENT",
             "name": f"vlm-{version}",
             "documentNamespace": f"https://vlm.invalid/spdx/vlm-{version}-{code}",
             "creationInfo": {"created": made.strftime("%Y-%m-%dT%H:%M:%SZ"), "creators": ["Tool: vlm-package"]},
-            "packages": [vlm, built_with, libuv, libc, etcd3], "files": rows, "relationships": relations}
+            "packages": [vlm, built_with, libuv, libc, openssl, etcd3], "files": rows, "relationships": relations}
     (folder / f"vlm-{version}.spdx.json").write_text(json.dumps(bill, indent=1) + "\n")

@@ -11,7 +11,7 @@ from datetime import datetime, timezone
 from email.utils import format_datetime
 from pathlib import Path
 
-from libraries import fits_of
+from libraries import TLS_LIBRARY, fits_of
 from packages import write_packages
 from project import MISSING, TOP, UNANSWERED, fail
 from staging import DOCUMENTS, names_in
@@ -24,7 +24,7 @@ PLACE = "lib/x86_64-linux-gnu"
 MODULES = "usr/lib/python3/dist-packages"
 # What each package has of an installation: files and folders there, and their place in the package.
 CONTENT = {
-    "libvlm@FITS@": (("lib/libvlm.so.*", f"usr/{PLACE}"),),
+    "libvlm@FITS@": (("lib/libvlm.so.*", f"usr/{PLACE}"), ("lib/libvlm-tls.so.*", f"usr/{PLACE}")),
     "libvlm-dev": (("include/*", "usr/include"), ("lib/libvlm*.a", f"usr/{PLACE}"), ("lib/libvlm.so", f"usr/{PLACE}"),
                    ("share/man/man3/*", "usr/share/man/man3")),
     "vlm": (("bin/*", "usr/bin"), ("libexec/vlm/vlm", "usr/libexec/vlm"),
@@ -110,15 +110,17 @@ class Maker:
         """Checks that the library shows the calls of its list of symbols, and tells the loader of it."""
         fits, tree = fits_of(self.version), self.tree(f"libvlm{fits_of(self.version)}")
         library = tree / "usr" / PLACE / f"libvlm.so.{self.version}"
-        ran("strip", "--strip-unneeded", "--remove-section=.comment", library, folder=self.room)
-        library.chmod(0o644)
+        for made in (library, tree / "usr" / PLACE / TLS_LIBRARY):
+            ran("strip", "--strip-unneeded", "--remove-section=.comment", made, folder=self.room)
+            made.chmod(0o644)
         # (told the version in which a call came, dpkg-gensymbols would let it go again)
         told = subprocess.run(["dpkg-gensymbols", "-c4", f"-plibvlm{fits}", f"-v{self.version}+", f"-P{tree}",
                                f"-e{library}", f"-I{self.room}/debian/libvlm.symbols", f"-O{tree}/DEBIAN/symbols"],
                               cwd=self.room, capture_output=True, text=True)
         if told.returncode:
             fail(UNANSWERED, "the calls of the library are not those of packaging/libvlm.symbols:\n" + told.stdout)
-        (tree / "DEBIAN" / "shlibs").write_text(f"libvlm {fits} libvlm{fits} (>= {self.version})\n")
+        names = (f"libvlm {fits}", TLS_LIBRARY.replace(".so.", " "))
+        (tree / "DEBIAN" / "shlibs").write_text("".join(f"{it} libvlm{fits} (>= {self.version})\n" for it in names))
         (tree / "DEBIAN" / "triggers").write_text("activate-noawait ldconfig\n")
 
     def finish_development(self):
@@ -148,10 +150,14 @@ class Maker:
         """Makes a package of its tree."""
         tree, room = self.tree(package), self.room
         programs = [it for it in sorted(tree.rglob("*")) if is_program(it)]
+        # (programs without TLS need no OpenSSL)
+        optional = [it for it in programs if it.name == TLS_LIBRARY]
+        needed = [it for it in programs if it not in optional]
         substitutes = room / f"{package}.substvars"
         substitutes.touch()
         if programs:
-            ran("dpkg-shlibdeps", f"-T{substitutes}", f"-xlibvlm{fits_of(self.version)}", *programs, folder=room)
+            ran("dpkg-shlibdeps", f"-T{substitutes}", f"-xlibvlm{fits_of(self.version)}", *needed,
+                *["-dRecommends"] * bool(optional), *optional, folder=room)
         for folder_of_tree in sorted(it for it in tree.rglob("*") if it.is_dir()):
             folder_of_tree.chmod(0o755)
         write(tree / "DEBIAN" / "md5sums", sums_of(tree).encode())

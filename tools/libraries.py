@@ -1,7 +1,7 @@
 """Makes the libraries for programs in C: libvlm.a and libvlm.so, from the archive of the proved crate and the layers in
-C, and over them libvlmvms.a and libvlmvms.so for programs of OpenVMS. Makes the daemon of the lock service, and its
-commands. The kit's tools link and pack. The C compiler of the system compiles the layers and makes the shared
-libraries, so that both fit its C library."""
+C, and over them libvlmvms.a and libvlmvms.so for programs of OpenVMS. Makes the daemon of the lock service, its
+commands, and the library by which its clients call OpenSSL. The kit's tools link and pack. The C compiler of the system
+compiles the layers and makes the shared libraries, so that both fit its C library."""
 
 import os
 import shlex
@@ -16,13 +16,16 @@ from project import MISSING, TOP, fail
 SOURCES = sorted((TOP / "bindings" / "c").glob("*.c"))
 LAYERS = {layer: [it for it in SOURCES if it.stem.startswith(layer)]
           for layer in ("vlm_threads", "vlm_hub_wait", "vlm_client")}
-LAYER = sorted((TOP / "bindings" / "c").glob("*.c"))
 # The names that both libraries show. All others are local to them.
 SHOWN = ("vlm_*",)
 COMPILE = ["-std=c11", "-O2", "-fPIC", "-pthread", f"-I{TOP / 'include'}", "-c"]
 # The layer for OpenVMS, and the names that its libraries show.
 VMS = sorted((TOP / "vms").glob("*.c"))
 VMS_SHOWN = ("sys$*", "lib$*")
+# TLS over OpenSSL: a part of the daemon, and a library that the client loads. The number is VLM_TLS_VERSION.
+TLS = TOP / "bindings" / "c" / "tls" / "vlm_tls.c"
+TLS_LIBRARY = "libvlm-tls.so.1"
+OPENSSL = ("-lssl", "-lcrypto")
 # The daemon of the service.
 DAEMON = sorted((TOP / "service").glob("*.c"))
 # The commands of the service, which hand all other words to the proved program, and its client.
@@ -94,16 +97,35 @@ def has_uv():
                               text=True).returncode
 
 
+def has_openssl():
+    """Whether the compiler finds the headers of OpenSSL 3 or later, by which connections have TLS."""
+    test = "#include <openssl/ssl.h>\n#if OPENSSL_VERSION_NUMBER < 0x30000000L\n#error too old\n#endif\n"
+    return not subprocess.run([*compiler(), "-E", "-x", "c", "-"], input=test, capture_output=True,
+                              text=True).returncode
+
+
+def tls_words():
+    """The words by which the daemon has TLS, or none."""
+    return [TLS, *OPENSSL] if has_openssl() else ["-DVLM_WITHOUT_TLS"]
+
+
 def make_daemon(made, lib):
     """Makes the daemon over the static library in the folder lib."""
     make(made, *compiler(), "-std=gnu11", "-O2", "-pthread", f"-I{TOP / 'include'}", *DAEMON, lib / "libvlm.a", "-luv",
-         "-Wl,-z,now", "-Wl,-z,relro", "-o", made)
+         *tls_words(), "-Wl,-z,now", "-Wl,-z,relro", "-o", made)
 
 
 def make_commands(made):
-    """Makes the command vlm."""
-    make(made, *compiler(), "-std=gnu11", "-O2", "-pthread", f"-I{TOP / 'include'}", *COMMANDS, "-Wl,-z,now",
-         "-Wl,-z,relro", "-o", made)
+    """Makes the command vlm, which finds the library of TLS from its own folder."""
+    make(made, *compiler(), "-std=gnu11", "-O2", "-pthread", f"-I{TOP / 'include'}", '-DVLM_TLS_BESIDE="../lib/"',
+         *COMMANDS, "-Wl,-z,now", "-Wl,-z,relro", "-o", made)
+
+
+def make_tls(made):
+    """Makes the library that the client loads for TLS. Nothing is linked with it, so it has one name."""
+    with tempfile.TemporaryDirectory() as room:
+        make_shared(made, Path(room), made.name, ("vlm_tls_calls",),
+                    ["-std=c11", "-O2", "-fPIC", f"-I{TOP / 'include'}", TLS, *OPENSSL])
 
 
 def fits_of(version):

@@ -12,7 +12,7 @@ Name: vlm
 Description: The lock manager of OpenVMS, proved: a library for programs in C
 Version: {version}
 Libs: -L${{libdir}} -lvlm
-Libs.private: -pthread
+Libs.private: -pthread -ldl
 Cflags: -I${{includedir}}
 """
 
@@ -42,7 +42,7 @@ if(NOT TARGET vlm::vlm)
   set_target_properties(vlm::static PROPERTIES
     IMPORTED_LOCATION "${{_vlm_prefix}}/{place}/libvlm.a"
     INTERFACE_INCLUDE_DIRECTORIES "${{_vlm_prefix}}/include"
-    INTERFACE_LINK_LIBRARIES Threads::Threads)
+    INTERFACE_LINK_LIBRARIES "Threads::Threads;${{CMAKE_DL_LIBS}}")
 endif()
 unset(_vlm_prefix)
 """

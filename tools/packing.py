@@ -11,7 +11,7 @@ from pathlib import Path
 from archives import need_cargo, pack_crates, pack_installation, pack_python
 from bill import write_bill
 from debian import make_debian, need_tools
-from libraries import has_uv, need_compiler
+from libraries import has_openssl, has_uv, need_compiler
 from project import MISSING, TOP, VERSION, fail
 from staging import make_files
 
@@ -32,6 +32,8 @@ def need_tools_of_packages():
     need_cargo()
     if not has_uv():
         fail(MISSING, "there is no uv.h for the lock service: Debian has it in libuv1-dev")
+    if not has_openssl():
+        fail(MISSING, "there are no headers of OpenSSL 3 for TLS: Debian has them in libssl-dev")
     need_epoch()
 
 

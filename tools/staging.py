@@ -4,7 +4,7 @@ of."""
 import shutil
 import subprocess
 
-from libraries import has_uv, make_commands, make_daemon, make_libraries
+from libraries import TLS_LIBRARY, has_openssl, has_uv, make_commands, make_daemon, make_libraries, make_tls
 from manual_pages import write_manual_pages
 from packages import write_packages
 from project import TOP, UNANSWERED, VERSION, fail, say
@@ -64,6 +64,10 @@ def make_files(made, program, archive, version=VERSION):
     shutil.copy(program, made / "libexec" / "vlm" / "vlm")
     make_commands(made / "bin" / "vlm")
     shutil.copy(TOP / "service" / "commands" / "completion.bash", made / "share/bash-completion/completions/vlm")
+    if has_openssl():
+        make_tls(made / "lib" / TLS_LIBRARY)
+    else:
+        say("TLS is left out: there are no headers of OpenSSL 3 (Debian has them in libssl-dev)")
     copied = dict(COPIED)
     if has_uv():
         make_daemon(made / "bin" / "vlmd", made / "lib")

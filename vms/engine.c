@@ -37,7 +37,8 @@ static const struct engine *named(const char **address) {
         return &vms_in_process;
     if (begins(service, "unix:"))
         *address = service + strlen("unix:");
-    return begins(service, "unix:") || begins(service, "tcp:") || strchr(service, '/') != NULL ? &vms_by_vlmd : NULL;
+    bool is_address = begins(service, "unix:") || begins(service, "tcp:") || begins(service, "tls:");
+    return is_address || strchr(service, '/') != NULL ? &vms_by_vlmd : NULL;
 }
 
 static uint32_t quota(void) {

@@ -9,7 +9,7 @@
 #include <sys/socket.h>
 #include <unistd.h>
 
-enum { FIRST_QUEUE = 16 };
+enum { FIRST_QUEUE = 16, FIRST_OPTIONS = offsetof(vlm_client_options, certificate) };
 
 static const char usual_socket[] = "/run/vlm/lock.sock";
 
@@ -24,7 +24,7 @@ static bool are_zeros(const uint32_t *words, size_t count) {
 }
 
 static bool is_valid(const vlm_client_options *options) {
-    return options->size == sizeof *options && options->delivery <= VLM_THREADS_BY_PROGRAM
+    return options->delivery <= VLM_THREADS_BY_PROGRAM
            && (options->lease_seconds == 0
                || (options->lease_seconds >= LEAST_LEASE && options->lease_seconds <= MOST_LEASE))
            && are_zeros(options->reserved, sizeof options->reserved / sizeof *options->reserved);
@@ -32,8 +32,8 @@ static bool is_valid(const vlm_client_options *options) {
 
 /* Frees what a client has, whose threads have ended. */
 static void free_client(vlm_client *client) {
-    if (client->descriptor >= 0)
-        close(client->descriptor);
+    vlmc_channel_close(&client->channel);
+    vlmc_free_keys(client->keys);
     if (client->event_descriptor >= 0)
         close(client->event_descriptor);
     if (client->wake_descriptor >= 0)
@@ -51,6 +51,8 @@ static void free_client(vlm_client *client) {
     free(client->processes);
     free(client->addresses);
     free(client->kept);
+    for (size_t at = 0; at < sizeof client->files / sizeof *client->files; at++)
+        free(client->files[at]);
     free(client->path);
     free(client);
 }
@@ -62,7 +64,7 @@ static const char *path_of(const vlm_client_options *options) {
 
 /* Makes the queue. With a lease it does not grow, and its lines are kept. */
 static bool has_queue(vlm_client *client) {
-    if (strncmp(client->path, "tcp:", strlen("tcp:")) == 0)
+    if (vlmc_is_replicated(client->path))
         client->lease = 1000 * (client->options.lease_seconds != 0 ? client->options.lease_seconds : USUAL_LEASE);
     client->room = client->lease != 0 ? LEASED_QUEUE : FIRST_QUEUE;
     client->queue = malloc(client->room * sizeof *client->queue);
@@ -75,6 +77,20 @@ static bool has_descriptors(vlm_client *client) {
     client->event_descriptor = is_by_program ? eventfd(0, EFD_CLOEXEC | EFD_NONBLOCK) : -1;
     client->wake_descriptor = client->lease != 0 ? eventfd(0, EFD_CLOEXEC | EFD_NONBLOCK) : -1;
     return (!is_by_program || client->event_descriptor >= 0) && (client->lease == 0 || client->wake_descriptor >= 0);
+}
+
+/* Copies the names of the files of TLS: the program's strings and its environment may change. */
+static bool has_files(vlm_client *client) {
+    const vlm_client_options *options = &client->options;
+    const struct vlm_tls_files named = {options->certificate, options->key, options->authority};
+    const struct vlm_tls_files files = vlmc_files(&named);
+    const char *const names[] = {files.certificate, files.key, files.authority};
+    bool has_memory = true;
+    for (size_t at = 0; vlmc_is_secured(client->path) && at < sizeof names / sizeof *names; at++) {
+        client->files[at] = names[at] != NULL ? strdup(names[at]) : NULL;
+        has_memory &= names[at] == NULL || client->files[at] != NULL;
+    }
+    return has_memory;
 }
 
 static vlm_client *made(const vlm_client_options *options) {
@@ -90,9 +106,9 @@ static vlm_client *made(const vlm_client_options *options) {
     client->options = *options;
     client->last_event = &client->first_event;
     client->free_record = NO_RECORD;
-    client->descriptor = client->event_descriptor = client->wake_descriptor = -1;
+    client->channel.descriptor = client->event_descriptor = client->wake_descriptor = -1;
     client->path = strdup(path_of(options));
-    if (client->path != NULL && has_queue(client) && has_descriptors(client))
+    if (client->path != NULL && has_queue(client) && has_descriptors(client) && has_files(client))
         return client;
     free_client(client);
     return NULL;
@@ -113,8 +129,7 @@ static void stop(vlm_client *client) {
     pthread_mutex_lock(&client->state);
     client->is_ending = true;
     pthread_cond_broadcast(&client->events);
-    if (client->descriptor >= 0)
-        shutdown(client->descriptor, SHUT_RDWR);
+    vlmc_channel_end(&client->channel);
     pthread_mutex_unlock(&client->state);
     if (client->wake_descriptor >= 0)
         eventfd_write(client->wake_descriptor, 1);
@@ -139,6 +154,8 @@ static uint32_t open_session(const vlm_client_options *options, vlm_client **cli
     }
     if (status != VLM_NORMAL) {
         stop(opened);
+        if (options->reason != NULL && options->reason_len > 0)
+            snprintf(options->reason, options->reason_len, "%s", status == VLM_LOST ? opened->reason : "");
         free_client(opened);
         return status;
     }
@@ -146,12 +163,22 @@ static uint32_t open_session(const vlm_client_options *options, vlm_client **cli
     return VLM_NORMAL;
 }
 
+/* Copies options. An older header may have made them shorter. */
+static bool is_copied(vlm_client_options *whole, const vlm_client_options *options) {
+    *whole = (vlm_client_options){0};
+    if (!is_sized(options->size, FIRST_OPTIONS, sizeof *whole))
+        return false;
+    memcpy(whole, options, options->size);
+    return is_valid(whole);
+}
+
 uint32_t vlm_client_open(const vlm_client_options *options, vlm_client **client) {
+    vlm_client_options whole;
     *client = NULL;
-    if (!is_valid(options))
+    if (!is_copied(&whole, options))
         return VLM_BADPARAM;
     int before = cancels_off();
-    uint32_t status = open_session(options, client);
+    uint32_t status = open_session(&whole, client);
     cancels_back(before);
     return status;
 }
@@ -187,9 +214,7 @@ static uint32_t begin_again(vlm_client *client) {
     if (client->has_reader)
         pthread_join(client->reader, NULL);
     client->has_reader = false;
-    if (client->descriptor >= 0)
-        close(client->descriptor);
-    client->descriptor = -1;
+    vlmc_channel_close(&client->channel);
     if (vlmc_connect(client) != VLM_NORMAL)
         return VLM_LOST;
     forget(client);

@@ -14,14 +14,15 @@
 #include <unistd.h>
 
 /* The socket's buffer holds all lines that may be under way: a sender never waits. */
-enum { ADDRESS = 512, SEND_BUFFER = 1 << 17, LONGEST_WAIT = 1 << 20 };
+enum { SEND_BUFFER = 1 << 17, LONGEST_WAIT = 1 << 20 };
 
-static bool add(vlm_client *client, const void *name, size_t len) {
+static bool add(vlm_client *client, const struct sockaddr *name, size_t len) {
     struct address *more = realloc(client->addresses, (client->address_count + 1) * sizeof *more);
     if (more == NULL)
         return false;
     client->addresses = more;
     more[client->address_count].len = (socklen_t)len;
+    more[client->address_count].host[0] = 0;
     memcpy(&more[client->address_count++].name, name, len);
     return true;
 }
@@ -31,9 +32,8 @@ static void add_host(vlm_client *client, const char *host, const char *port) {
     struct addrinfo wanted = {.ai_family = AF_UNSPEC, .ai_socktype = SOCK_STREAM}, *found = NULL;
     if (getaddrinfo(host, port, &wanted, &found) != 0)
         return;
-    for (const struct addrinfo *at = found; at != NULL; at = at->ai_next)
-        if (!add(client, at->ai_addr, at->ai_addrlen))
-            break;
+    for (const struct addrinfo *at = found; at != NULL && add(client, at->ai_addr, at->ai_addrlen); at = at->ai_next)
+        snprintf(client->addresses[client->address_count - 1].host, ADDRESS, "%s", host);
     freeaddrinfo(found);
 }
 
@@ -58,7 +58,7 @@ bool vlmc_find_addresses(vlm_client *client) {
     client->address_count = client->address = 0;
     if (client->lease == 0 && strlen(path) < sizeof name.sun_path) {
         memcpy(name.sun_path, path, strlen(path));
-        return add(client, &name, sizeof name);
+        return add(client, (const struct sockaddr *)&name, sizeof name);
     }
     if (client->lease == 0)
         return false;
@@ -73,12 +73,9 @@ bool vlmc_find_addresses(vlm_client *client) {
     return client->address_count > 0;
 }
 
-/* Without an end it does not wait: the descriptor's own calls do. */
-bool vlmc_wait_for(const vlm_client *client, int descriptor, short events, uint64_t until) {
-    struct pollfd ready[] = {{.fd = descriptor, .events = events}, {.fd = client->wake_descriptor, .events = POLLIN}};
+bool vlmc_poll(int descriptor, int wake, short events, uint64_t until) {
+    struct pollfd ready[] = {{.fd = descriptor, .events = events}, {.fd = wake, .events = POLLIN}};
     int count = -1;
-    if (until == NEVER)
-        return true;
     while (count < 0) {
         uint64_t now = vlmc_now(), left = until > now ? until - now : 0;
         count = poll(ready, 2, left < LONGEST_WAIT ? (int)left : LONGEST_WAIT);
@@ -86,6 +83,11 @@ bool vlmc_wait_for(const vlm_client *client, int descriptor, short events, uint6
             return false;
     }
     return ready[0].revents != 0 && ready[1].revents == 0;
+}
+
+/* Without an end it does not wait: the descriptor's own calls do. */
+bool vlmc_wait_for(const vlm_client *client, int descriptor, short events, uint64_t until) {
+    return until == NEVER || vlmc_poll(descriptor, client->wake_descriptor, events, until);
 }
 
 /* A connection of a port of this machine to itself, which is possible while nobody listens there. */
@@ -112,12 +114,14 @@ static void set_options(int descriptor) {
 }
 
 /* A signal may interrupt a call. With a lease none waits: vlmc_wait_for does. */
-int vlmc_connect_to(vlm_client *client, const struct address *address, uint64_t until) {
+bool vlmc_connect_to(const vlm_client *client, struct channel *channel, uint64_t until) {
+    const struct address *address = &client->addresses[client->address];
     const struct sockaddr *name = (const struct sockaddr *)&address->name;
     int kind = SOCK_STREAM | SOCK_CLOEXEC | (client->lease != 0 ? SOCK_NONBLOCK : 0), done;
     int descriptor = socket(name->sa_family, kind, 0);
+    *channel = (struct channel){descriptor, NULL};
     if (descriptor < 0)
-        return -1;
+        return false;
     if (client->lease != 0)
         set_options(descriptor);
     while ((done = connect(descriptor, name, address->len)) < 0 && errno == EINTR && client->lease == 0)
@@ -125,7 +129,7 @@ int vlmc_connect_to(vlm_client *client, const struct address *address, uint64_t 
     if (client->lease != 0 && done < 0 && (errno == EINPROGRESS || errno == EINTR))
         done = 0;
     if (done == 0 && (client->lease == 0 || is_connected(client, descriptor, until)))
-        return descriptor;
-    close(descriptor);
-    return -1;
+        return true;
+    vlmc_channel_close(channel);
+    return false;
 }

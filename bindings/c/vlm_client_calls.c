@@ -58,12 +58,12 @@ static uint32_t may_send(vlm_client *client, const struct call *call, uint32_t c
 
 static void send_whole(const vlm_client *client, const char *lines) {
     for (size_t len = strlen(lines); len > 0;) {
-        ssize_t sent = send(client->descriptor, lines, len, MSG_NOSIGNAL);
+        ssize_t sent = send(client->channel.descriptor, lines, len, MSG_NOSIGNAL);
         if (sent < 0 && errno == EINTR)
             continue;
         if (sent < 0) {
             /* the reader sees the end of the connection, and answers for it; no line comes after half a line */
-            shutdown(client->descriptor, SHUT_RDWR);
+            shutdown(client->channel.descriptor, SHUT_RDWR);
             return;
         }
         lines += sent;

@@ -50,8 +50,8 @@ void vlmc_renew(vlm_client *client, uint64_t asked) {
 /* The session can't go on: the reader is to see the end of the connection. */
 void vlmc_ruin(vlm_client *client) {
     client->is_ruined = true;
-    if (client->descriptor >= 0)
-        shutdown(client->descriptor, SHUT_RDWR);
+    if (client->channel.descriptor >= 0)
+        shutdown(client->channel.descriptor, SHUT_RDWR);
 }
 
 static void ask_for_more(vlm_client *client) {
@@ -91,7 +91,7 @@ bool vlmc_await(vlm_client *client) {
     if (client->lease == 0)
         return true;
     while (vlmc_may_go_on(client)) {
-        if (vlmc_wait_for(client, client->descriptor, POLLIN, look(client)))
+        if (vlmc_wait_for(client, client->channel.descriptor, POLLIN, look(client)))
             return true;
         pthread_mutex_lock(&client->state);
         bool is_overdue = vlmc_now() >= overdue(client);

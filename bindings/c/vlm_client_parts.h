@@ -9,6 +9,7 @@
  *
  * vlm_client.c            opening, closing, processes
  * vlm_client_addresses.c  where the service is, and connecting
+ * vlm_client_tls.c        connections that may have TLS
  * vlm_client_sessions.c   the first lines of a connection, which open a session or resume it
  * vlm_client_resume.c     lines that are kept, and another connection of a session
  * vlm_client_lease.c      until when a session surely has its locks, and waiting for bytes meanwhile
@@ -33,6 +34,7 @@
 #define _GNU_SOURCE
 
 #include "vlm_client.h"
+#include "vlm_client_tls.h"
 
 #include <pthread.h>
 #include <sys/socket.h>
@@ -45,6 +47,9 @@ enum { MOST_REQUESTS = 255, SHORT_VALUE = 16, WHOLE_VALUE = 64, LINE_ROOM = 512,
 enum { MOST_UNDER_WAY = 64, LEASED_QUEUE = MOST_UNDER_WAY + 2 };
 
 enum { SESSION_NAME = 17, USUAL_LEASE = 10, LEAST_LEASE = 2, MOST_LEASE = 600 };
+
+/* Bytes of the text of an address: HOST:PORT. */
+enum { ADDRESS = 512 };
 
 #define NEVER UINT64_MAX
 
@@ -90,10 +95,11 @@ struct early {
     uint8_t value[SHORT_VALUE];
 };
 
-/* Where a service may be. */
+/* Where a service may be, and the host that the program named. */
 struct address {
     struct sockaddr_storage name;
     socklen_t len;
+    char host[ADDRESS];
 };
 
 /* A request, and then its lock. */
@@ -141,7 +147,10 @@ struct vlm_client {
     char *path;
     struct address *addresses;
     uint32_t address_count, address; /* `address`: of the last connection */
-    int descriptor;                  /* -1 while there is no connection */
+    struct channel channel;          /* TLS of it wants `state` held */
+    char *files[3];                  /* with TLS: its files, in the order of vlm_tls_files */
+    vlm_tls_keys *keys;
+    char reason[VLM_TLS_REASON]; /* why no session was opened */
     uint64_t epoch;
     uint32_t session; /* how often it was opened again */
     bool is_lost, is_ending, has_reader, has_deliverer;
@@ -184,10 +193,10 @@ struct vlm_client {
 bool vlmc_is_usable(const vlm_client *client);
 
 /* vlm_client_addresses.c: none takes a mutex held. vlmc_find_addresses tells whether there is an address.
- * vlmc_connect_to gives a descriptor, or -1. vlmc_wait_for waits until a descriptor is ready for events of poll, a
- * moment has come, or the client is to end: whether it is ready. */
+ * vlmc_connect_to makes a connection, without TLS yet, and tells whether it could. vlmc_wait_for waits until a
+ * descriptor is ready for events of poll, a moment has come, or the client is to end: whether it is ready. */
 bool vlmc_find_addresses(vlm_client *client);
-int vlmc_connect_to(vlm_client *client, const struct address *address, uint64_t until);
+bool vlmc_connect_to(const vlm_client *client, struct channel *channel, uint64_t until);
 bool vlmc_wait_for(const vlm_client *client, int descriptor, short events, uint64_t until);
 
 /* vlm_client_sessions.c: none takes a mutex held. vlmc_connect begins a session: VLM_NORMAL or VLM_LOST. vlmc_go_on
@@ -205,12 +214,11 @@ bool vlmc_is_own_move(vlm_client *client, const char *line);
 bool vlmc_resume(vlm_client *client);
 const char *vlmc_keep_line(vlm_client *client, struct pending *noted, const char *line);
 void vlmc_send_kept(vlm_client *client, uint32_t count);
-void vlmc_link(vlm_client *client, int descriptor, uint64_t asked);
+void vlmc_link(vlm_client *client, const struct channel *channel, uint64_t asked);
 
 /* vlm_client_lease.c. vlmc_now takes no mutex, and vlmc_await none held: it waits until bytes have come, and tells
  * whether they have. vlmc_is_lost tells whether the locks are lost, vlmc_is_gone whether those of a session are, where
  * there is a lease. */
-uint64_t vlmc_now(void);
 uint64_t vlmc_patience(const vlm_client *client);
 bool vlmc_is_out(const vlm_client *client);
 bool vlmc_is_lost(const vlm_client *client);

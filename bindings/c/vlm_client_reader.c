@@ -14,6 +14,25 @@ struct lines {
     char bytes[READ];
 };
 
+/* Receives what has come by now. A thread that sends may use the TLS meanwhile. */
+static ssize_t receive_now(vlm_client *client, void *bytes, size_t room) {
+    pthread_mutex_lock(&client->state);
+    ssize_t len = vlmc_channel_receive(&client->channel, bytes, room, MSG_DONTWAIT);
+    pthread_mutex_unlock(&client->state);
+    return len;
+}
+
+/* Waits for bytes: 0 at the end of the connection, or once it is to be given up. TLS may have some that have come. */
+static ssize_t receive(vlm_client *client, void *bytes, size_t room) {
+    ssize_t len = client->channel.tls != NULL ? receive_now(client, bytes, room) : 0;
+    if (client->channel.tls != NULL && (len >= 0 || errno != EAGAIN))
+        return len;
+    if (!vlmc_await(client))
+        return 0;
+    return client->channel.tls != NULL ? receive_now(client, bytes, room)
+                                       : recv(client->channel.descriptor, bytes, room, 0);
+}
+
 /* The next line without its line feed, or null at the end of the connection, or once it is to be given up. */
 static char *next_line(vlm_client *client, struct lines *lines) {
     for (;;) {
@@ -26,9 +45,7 @@ static char *next_line(vlm_client *client, struct lines *lines) {
         }
         memmove(lines->bytes, begin, lines->len);
         lines->from = 0;
-        if (!vlmc_await(client))
-            return NULL;
-        ssize_t len = recv(client->descriptor, lines->bytes + lines->len, READ - lines->len, 0);
+        ssize_t len = receive(client, lines->bytes + lines->len, READ - lines->len);
         if (len < 0 && (errno == EINTR || errno == EAGAIN))
             continue;
         if (len <= 0)
@@ -182,8 +199,8 @@ void *vlmc_read(void *argument) {
         continue;
     free(lines);
     pthread_mutex_lock(&client->state);
-    if (client->descriptor >= 0)
-        shutdown(client->descriptor, SHUT_RDWR); /* no thread waits to send what nobody would answer */
+    if (client->channel.descriptor >= 0)
+        shutdown(client->channel.descriptor, SHUT_RDWR); /* no thread waits to send what nobody would answer */
     lose(client);
     pthread_mutex_unlock(&client->state);
     return NULL;

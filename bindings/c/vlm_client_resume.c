@@ -12,9 +12,8 @@ enum { PAUSE = 20, MOST_PAUSES = 10 };
 
 /* Sends a line whole. A connection that does not take it at once has failed, which the reader sees. */
 static void transmit(const vlm_client *client, const char *line) {
-    size_t len = strlen(line);
-    if (send(client->descriptor, line, len, MSG_NOSIGNAL | MSG_DONTWAIT) != (ssize_t)len)
-        shutdown(client->descriptor, SHUT_RDWR);
+    if (!vlmc_channel_send(&client->channel, line, strlen(line), MSG_DONTWAIT))
+        shutdown(client->channel.descriptor, SHUT_RDWR);
 }
 
 static bool is_step(const struct pending *noted) { return noted->taken == STATUS || noted->taken == NOTHING; }
@@ -37,8 +36,8 @@ void vlmc_send_kept(vlm_client *client, uint32_t count) {
 }
 
 /* What has no answer is sent again, in its order. A reading begins anew. */
-void vlmc_link(vlm_client *client, int descriptor, uint64_t asked) {
-    client->descriptor = descriptor;
+void vlmc_link(vlm_client *client, const struct channel *channel, uint64_t asked) {
+    client->channel = *channel;
     client->asked = asked;
     client->awaited = vlmc_now();
     if (client->lease == 0)
@@ -56,8 +55,7 @@ void vlmc_link(vlm_client *client, int descriptor, uint64_t asked) {
 static void unlink_failed(vlm_client *client) {
     pthread_mutex_lock(&client->state);
     client->is_linked = false;
-    close(client->descriptor);
-    client->descriptor = -1;
+    vlmc_channel_close(&client->channel);
     pthread_mutex_unlock(&client->state);
 }
 

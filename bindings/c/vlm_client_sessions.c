@@ -14,8 +14,8 @@ enum { NAME_DIGITS = SESSION_NAME - 1 };
 
 /* What the service tells of a session, on a connection. */
 struct told {
-    int descriptor; /* -1 without a session */
-    bool is_asked;  /* the first line was sent */
+    struct channel channel; /* without a session there is none */
+    bool is_asked;          /* the first line was sent */
     uint64_t epoch;
     char name[SESSION_NAME];
     uint64_t seconds, number, asts;
@@ -23,25 +23,18 @@ struct told {
 
 static const char greeting[] = "vlm protocol 1 ";
 
-static bool send_first(const vlm_client *client, int descriptor, const char *line) {
-    ssize_t sent;
-    while ((sent = send(descriptor, line, strlen(line), MSG_NOSIGNAL)) < 0 && errno == EINTR && client->lease == 0)
-        continue;
-    return sent == (ssize_t)strlen(line);
-}
-
-static bool read_byte(const vlm_client *client, int descriptor, char *byte, uint64_t until) {
+static bool read_byte(const vlm_client *client, const struct channel *channel, char *byte, uint64_t until) {
     ssize_t len;
-    while ((len = recv(descriptor, byte, 1, 0)) < 0)
-        if (errno != EINTR && (errno != EAGAIN || !vlmc_wait_for(client, descriptor, POLLIN, until)))
+    while ((len = vlmc_channel_receive(channel, byte, 1, 0)) < 0)
+        if (errno != EINTR && (errno != EAGAIN || !vlmc_wait_for(client, channel->descriptor, POLLIN, until)))
             return false;
     return len == 1;
 }
 
 /* Reads a line without its line feed, byte by byte, so that nothing is taken from the reader. */
-static bool read_line(const vlm_client *client, int descriptor, char *line, uint64_t until) {
+static bool read_line(const vlm_client *client, const struct channel *channel, char *line, uint64_t until) {
     for (size_t len = 0; len < LINE_ROOM; len++) {
-        if (!read_byte(client, descriptor, line + len, until))
+        if (!read_byte(client, channel, line + len, until))
             return false;
         if (line[len] != '\n')
             continue;
@@ -94,30 +87,71 @@ static bool has_lease(const vlm_client *client, const struct told *told) {
     return client->lease != 0 ? told->seconds * 1000 >= client->lease : told->seconds == 0;
 }
 
+/* Notes why an address does not do. The other side may have sent any bytes. */
+static int refused(vlm_client *client, int found, const char *why) {
+    size_t len = 0;
+    for (; why[len] != 0 && len < sizeof client->reason - 1; len++)
+        client->reason[len] = (char)(why[len] >= ' ' && why[len] <= '~' ? why[len] : '?');
+    client->reason[len] = 0;
+    return found;
+}
+
+static int gone(vlm_client *client, const struct channel *channel) {
+    const char *why = vlmc_channel_reason(channel);
+    return refused(client, NOT_THERE, why != NULL ? why : "no answer");
+}
+
+/* Whether another address may do better after this line. */
+static bool is_passing(const char *line) {
+    return strcmp(line, "too many connections") == 0 || strcmp(line, "no rights") == 0;
+}
+
 /* Sends the first line and reads the two answers: WENT_ON with a session, OVER with another answer, also one with
  * another lease, and NOT_THERE if another address may do better. */
-static int begin(const vlm_client *client, const char *first, struct told *told, uint64_t until) {
+static int begin(vlm_client *client, const char *first, struct told *told, uint64_t until) {
     char line[LINE_ROOM];
-    told->is_asked = send_first(client, told->descriptor, first);
-    if (!told->is_asked || !read_line(client, told->descriptor, line, until))
-        return NOT_THERE;
+    told->is_asked = vlmc_channel_send(&told->channel, first, strlen(first), 0);
+    if (!told->is_asked || !read_line(client, &told->channel, line, until))
+        return gone(client, &told->channel);
     if (strncmp(line, greeting, strlen(greeting)) != 0)
-        return OVER;
+        return refused(client, is_passing(line) ? NOT_THERE : OVER, line);
     told->epoch = strtoull(line + strlen(greeting) + strlen("epoch "), NULL, 10);
-    if (!read_line(client, told->descriptor, line, until) || strcmp(line, "too many connections") == 0)
-        return NOT_THERE;
-    return read_session(line, told) && has_lease(client, told) ? WENT_ON : OVER;
+    if (!read_line(client, &told->channel, line, until))
+        return gone(client, &told->channel);
+    if (read_session(line, told))
+        return has_lease(client, told) ? WENT_ON : refused(client, OVER, "the session has another lease");
+    return refused(client, is_passing(line) ? NOT_THERE : OVER, line);
+}
+
+/* Begins TLS, if the program asked for it. */
+static bool is_secured(vlm_client *client, struct channel *channel, uint64_t until) {
+    const struct handshake how = {client->keys, client->addresses[client->address].host, client->wake_descriptor, until,
+                                  client->reason};
+    return !vlmc_is_secured(client->path) || (client->keys != NULL && vlmc_shake_hands(channel, &how));
 }
 
 /* Connects to the address whose turn it is, and begins with a line. */
 static int begin_at(vlm_client *client, const char *first, struct told *told, uint64_t until) {
-    told->descriptor = vlmc_connect_to(client, &client->addresses[client->address], until);
-    int found = told->descriptor >= 0 ? begin(client, first, told, until) : NOT_THERE;
-    if (found == WENT_ON || told->descriptor < 0)
-        return found;
-    close(told->descriptor);
-    told->descriptor = -1;
+    if (!vlmc_connect_to(client, &told->channel, until))
+        return refused(client, NOT_THERE, "no connection");
+    int found = is_secured(client, &told->channel, until) ? begin(client, first, told, until) : NOT_THERE;
+    if (found != WENT_ON)
+        vlmc_channel_close(&told->channel);
     return found;
+}
+
+/* Reads the files of TLS for the connections that follow: by now they may have new certificates. Wrong ones leave those
+ * that were read. */
+static bool has_keys(vlm_client *client) {
+    const struct vlm_tls_files files = {client->files[0], client->files[1], client->files[2]};
+    if (!vlmc_is_secured(client->path))
+        return true;
+    vlm_tls_keys *keys = vlmc_read_keys(&files, client->reason);
+    if (keys == NULL)
+        return client->keys != NULL;
+    vlmc_free_keys(client->keys);
+    client->keys = keys;
+    return true;
 }
 
 /* A session without steps and ASTs, and a whole lease. */
@@ -130,7 +164,7 @@ static void begin_session(vlm_client *client, const struct told *told, uint64_t 
     client->abandoned = 0;
     client->lease_end = asked + client->lease;
     vlmc_drop_early(client);
-    vlmc_link(client, told->descriptor, asked);
+    vlmc_link(client, &told->channel, asked);
     pthread_mutex_unlock(&client->state);
 }
 
@@ -139,10 +173,11 @@ uint32_t vlmc_connect(vlm_client *client) {
     char first[LINE_ROOM] = "open\n";
     if (client->lease != 0)
         snprintf(first, sizeof first, "open seconds=%" PRIu32 "\n", client->lease / 1000);
-    if (!vlmc_find_addresses(client))
+    refused(client, NOT_THERE, "no such address");
+    if (!vlmc_find_addresses(client) || !has_keys(client))
         return VLM_LOST;
     for (; client->address < client->address_count; client->address++) {
-        struct told told = {.descriptor = -1};
+        struct told told = {.channel = {-1, NULL}};
         uint64_t asked = vlmc_now(), until = client->lease != 0 ? asked + vlmc_patience(client) : NEVER;
         if (begin_at(client, first, &told, until) != WENT_ON)
             continue;
@@ -161,9 +196,10 @@ static uint64_t turn_of(const vlm_client *client, uint64_t now) {
 /* A service that knows fewer steps or ASTs than the client has lost them, and with them locks. */
 int vlmc_go_on(vlm_client *client) {
     char first[LINE_ROOM];
-    struct told told = {.descriptor = -1};
+    struct told told = {.channel = {-1, NULL}};
     uint64_t asked = vlmc_now();
     snprintf(first, sizeof first, "resume %s asts=%" PRIu64 "\n", client->session_name, client->asts);
+    has_keys(client);
     int found = begin_at(client, first, &told, turn_of(client, asked));
     client->abandoned += found == NOT_THERE && told.is_asked;
     if (found != WENT_ON)
@@ -171,10 +207,10 @@ int vlmc_go_on(vlm_client *client) {
     pthread_mutex_lock(&client->state);
     bool is_same = told.number >= client->answered && told.asts >= client->asts && !vlmc_is_out(client);
     if (is_same)
-        vlmc_link(client, told.descriptor, asked);
+        vlmc_link(client, &told.channel, asked);
     pthread_mutex_unlock(&client->state);
     if (is_same)
         return WENT_ON;
-    close(told.descriptor);
+    vlmc_channel_close(&told.channel);
     return OVER;
 }

@@ -17,14 +17,12 @@
 /* How long a replica may take, in milliseconds. */
 enum { PATIENCE = 3000 };
 
-static const char usual_socket[] = "/run/vlm/lock.sock", greeting[] = "vlm protocol 1 ", replicated[] = "tcp:";
+static const char usual_socket[] = "/run/vlm/lock.sock", greeting[] = "vlm protocol 1 ", no_rights[] = "no rights";
 
 const char *usual_address(void) {
     const char *address = getenv("VLM_SOCKET");
     return address != NULL ? address : usual_socket;
 }
-
-bool is_replicated(const char *address) { return strncmp(address, replicated, strlen(replicated)) == 0; }
 
 int64_t milliseconds(void) {
     struct timespec now;
@@ -50,16 +48,7 @@ int read_address(int count, char **words, const char **address) {
 }
 
 bool link_send(const struct link *link, const char *text) {
-    for (size_t len = strlen(text); len > 0;) {
-        ssize_t sent = send(link->descriptor, text, len, MSG_NOSIGNAL);
-        if (sent < 0 && errno == EINTR)
-            continue;
-        if (sent < 0)
-            return false;
-        text += sent;
-        len -= (size_t)sent;
-    }
-    return true;
+    return vlmc_channel_send(&link->channel, text, strlen(text), 0);
 }
 
 /* Takes a line that has come whole. */
@@ -75,21 +64,30 @@ static bool take_line(struct link *link, char *line) {
     return true;
 }
 
+/* Receives what has come. Returns false at the end. */
+static bool receive(struct link *link) {
+    ssize_t len = vlmc_channel_receive(&link->channel, link->in + link->len, sizeof link->in - link->len, MSG_DONTWAIT);
+    if (len > 0)
+        link->len += (size_t)len;
+    return len > 0 || (len < 0 && (errno == EAGAIN || errno == EINTR));
+}
+
 int link_line(struct link *link, char *line, int64_t until) {
     while (!take_line(link, line)) {
+        size_t before = link->len;
+        /* (TLS may have bytes that the socket has not any more) */
+        if (link->channel.tls != NULL && !receive(link))
+            return -1;
+        if (link->len != before)
+            continue;
         int64_t left = until == FOREVER ? -1 : until - milliseconds();
-        struct pollfd ready = {.fd = link->descriptor, .events = POLLIN};
+        struct pollfd ready = {.fd = link->channel.descriptor, .events = POLLIN};
         if (until != FOREVER && left < 0)
             left = 0;
         int count = poll(&ready, 1, left > 1000000 ? 1000000 : (int)left);
         if (count == 0 && left == 0)
             return 0;
-        if (count <= 0)
-            continue;
-        ssize_t len = recv(link->descriptor, link->in + link->len, sizeof link->in - link->len, MSG_DONTWAIT);
-        if (len > 0)
-            link->len += (size_t)len;
-        else if (len == 0 || (errno != EAGAIN && errno != EINTR))
+        if (count > 0 && !receive(link))
             return -1;
     }
     return 1;
@@ -98,7 +96,9 @@ int link_line(struct link *link, char *line, int64_t until) {
 /* Reads the greeting. Returns false if another protocol is spoken, or nobody answers. */
 static bool is_greeted(struct link *link, int64_t until) {
     char line[LINE_ROOM];
-    return link_line(link, line, until) == 1 && strncmp(line, greeting, strlen(greeting)) == 0;
+    bool is_heard = link_line(link, line, until) == 1;
+    link->is_refused = is_heard && strcmp(line, no_rights) == 0;
+    return is_heard && strncmp(line, greeting, strlen(greeting)) == 0;
 }
 
 static bool open_socket(struct link *link, const char *path) {
@@ -108,8 +108,9 @@ static bool open_socket(struct link *link, const char *path) {
         return false;
     }
     memcpy(address.sun_path, path, strlen(path));
-    link->descriptor = socket(AF_UNIX, SOCK_STREAM, 0);
-    if (link->descriptor < 0 || connect(link->descriptor, (const struct sockaddr *)&address, sizeof address) != 0) {
+    link->channel = (struct channel){socket(AF_UNIX, SOCK_STREAM, 0), NULL};
+    if (link->channel.descriptor < 0
+        || connect(link->channel.descriptor, (const struct sockaddr *)&address, sizeof address) != 0) {
         fprintf(stderr, "vlm: %s: %s: is vlmd running?\n", path, strerror(errno));
         return false;
     }
@@ -119,8 +120,26 @@ static bool open_socket(struct link *link, const char *path) {
     return false;
 }
 
+/* How replicas are asked: by which keys, or null, and why the last one does not answer. */
+struct asking {
+    vlm_tls_keys *keys;
+    char reason[VLM_TLS_REASON];
+};
+
+/* Begins TLS if it is asked for, and reads the greeting. */
+static bool is_begun(struct link *link, const char *host, struct asking *asking) {
+    const struct handshake how = {asking->keys, host, -1, vlmc_now() + PATIENCE, asking->reason};
+    if (asking->keys != NULL && !vlmc_shake_hands(&link->channel, &how))
+        return false;
+    if (is_greeted(link, milliseconds() + PATIENCE))
+        return true;
+    const char *why = vlmc_channel_reason(&link->channel);
+    snprintf(asking->reason, sizeof asking->reason, "%s", why != NULL ? why : link->is_refused ? no_rights : "");
+    return false;
+}
+
 /* Connects to one of the addresses of a host. */
-static bool open_host(struct link *link, const char *host, const char *port) {
+static bool open_host(struct link *link, const char *host, const char *port, struct asking *asking) {
     static const struct timeval patience = {PATIENCE / 1000, 0};
     struct addrinfo wanted = {.ai_family = AF_UNSPEC, .ai_socktype = SOCK_STREAM}, *found = NULL;
     bool is_open = false;
@@ -128,20 +147,19 @@ static bool open_host(struct link *link, const char *host, const char *port) {
         return false;
     for (const struct addrinfo *at = found; at != NULL && !is_open; at = at->ai_next) {
         link->len = 0;
-        link->descriptor = socket(at->ai_family, SOCK_STREAM, 0);
+        link->channel = (struct channel){socket(at->ai_family, SOCK_STREAM, 0), NULL};
         /* (this limits how long connect waits, too) */
-        setsockopt(link->descriptor, SOL_SOCKET, SO_SNDTIMEO, &patience, sizeof patience);
-        is_open =
-            connect(link->descriptor, at->ai_addr, at->ai_addrlen) == 0 && is_greeted(link, milliseconds() + PATIENCE);
-        if (!is_open && link->descriptor >= 0)
-            close(link->descriptor);
+        setsockopt(link->channel.descriptor, SOL_SOCKET, SO_SNDTIMEO, &patience, sizeof patience);
+        is_open = connect(link->channel.descriptor, at->ai_addr, at->ai_addrlen) == 0 && is_begun(link, host, asking);
+        if (!is_open)
+            vlmc_channel_close(&link->channel);
     }
     freeaddrinfo(found);
     return is_open;
 }
 
 /* HOST:PORT, where HOST may be in brackets. */
-static bool open_word(struct link *link, const char *word, size_t len) {
+static bool open_word(struct link *link, const char *word, size_t len, struct asking *asking) {
     char text[LINE_ROOM];
     if (len >= sizeof text)
         return false;
@@ -155,19 +173,32 @@ static bool open_word(struct link *link, const char *word, size_t len) {
         colon[-1] = 0;
         host++;
     }
-    return open_host(link, host, colon + 1);
+    return open_host(link, host, colon + 1, asking);
+}
+
+/* Connects to the first replica that answers. */
+static bool open_replica(struct link *link, const char *address, struct asking *asking) {
+    const struct vlm_tls_files files = vlmc_files(&(struct vlm_tls_files){NULL, NULL, NULL});
+    asking->keys = vlmc_is_secured(address) ? vlmc_read_keys(&files, asking->reason) : NULL;
+    bool is_open = false;
+    if (asking->keys == NULL && vlmc_is_secured(address))
+        return false;
+    for (const char *word = strchr(address, ':') + 1; *word != 0 && !is_open;) {
+        size_t len = strcspn(word, ",");
+        is_open = open_word(link, word, len, asking);
+        word += len + (word[len] == ',');
+    }
+    vlmc_free_keys(asking->keys);
+    return is_open;
 }
 
 bool link_open(struct link *link, const char *address) {
+    struct asking asking = {.reason = ""};
     link->len = 0;
-    if (!is_replicated(address))
+    if (!vlmc_is_replicated(address))
         return open_socket(link, address);
-    for (const char *word = address + strlen(replicated); *word != 0;) {
-        size_t len = strcspn(word, ",");
-        if (open_word(link, word, len))
-            return true;
-        word += len + (word[len] == ',');
-    }
-    fprintf(stderr, "vlm: no replica answers at %s\n", address);
+    if (open_replica(link, address, &asking))
+        return true;
+    fprintf(stderr, "vlm: no replica answers at %s%s%s\n", address, asking.reason[0] != 0 ? ": " : "", asking.reason);
     return false;
 }

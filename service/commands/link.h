@@ -2,6 +2,8 @@
 #ifndef LINK_H
 #define LINK_H
 
+#include "../../bindings/c/vlm_client_tls.h"
+
 #include <stdbool.h>
 #include <stddef.h>
 #include <stdint.h>
@@ -14,18 +16,18 @@ enum { LINE_ROOM = 512 };
 #define FOREVER INT64_MAX
 
 struct link {
-    int descriptor;
+    struct channel channel;
     char in[8192];
     size_t len;
+    bool is_refused; /* by a replica, in which the name of the certificate has no rights */
 };
 
 /* Connects to the service at an address: a socket of Unix, or the first that answers of replicas at addresses of TCP.
  * Says why not, and returns false. */
 bool link_open(struct link *link, const char *address);
 
-/* The address that VLM_SOCKET names, or the usual socket, and whether an address is of replicas. */
+/* The address that VLM_SOCKET names, or the usual socket. */
 const char *usual_address(void);
-bool is_replicated(const char *address);
 
 /* Reads the option `--connect ADDRESS` of a command that has no others. Returns the place of the next word, or 0 if the
  * words are wrong. */

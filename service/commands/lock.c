@@ -193,7 +193,7 @@ int run_lock(int count, char **words) {
     }
     if (!read_words(count, words, &wanted))
         return wrong_words(usage);
-    holding.way = is_replicated(wanted.address) ? &by_lease : &by_connection;
+    holding.way = vlmc_is_replicated(wanted.address) ? &by_lease : &by_connection;
     switch (holding.way->get(&holding, &wanted)) {
     case GRANTED: return run_command(&holding, &wanted);
     case CONFLICT: return wanted.conflict;

@@ -100,7 +100,7 @@ static int await(struct holding *holding, const struct wanted *wanted) {
 static int get(struct holding *holding, const struct wanted *wanted) {
     if (!link_open(&holding->link, wanted->address) || !ask(&holding->link, wanted))
         return REFUSED;
-    holding->descriptor = holding->link.descriptor;
+    holding->descriptor = holding->link.channel.descriptor;
     int found = await(holding, wanted);
     return found == GRANTED && !hand_on_token(holding) ? GONE : found;
 }

@@ -50,18 +50,21 @@ static void hand_on_token(const struct holding *holding) {
 
 /* Begins a session with a process. */
 static bool begin(struct holding *holding, const struct wanted *wanted) {
+    char reason[LINE_ROOM] = "";
     vlm_client_options options = {.size = sizeof options,
                                   .delivery = VLM_THREADS_BY_PROGRAM,
                                   .socket = wanted->address,
                                   .on_lost = on_lost,
-                                  .lost_context = holding};
+                                  .lost_context = holding,
+                                  .reason = reason,
+                                  .reason_len = sizeof reason};
     vlm_threads_declaration declaration = {.size = sizeof declaration, .quota = 1, .requests = 1};
     uint32_t status = vlm_client_open(&options, &holding->client);
     if (status == VLM_NORMAL)
         status = vlm_client_declare(holding->client, &declaration, &holding->pid);
     if (status == VLM_NORMAL)
         return true;
-    fprintf(stderr, "vlm lock: %s: %s\n", wanted->address, vlm_condition_name(status));
+    fprintf(stderr, "vlm lock: %s: %s\n", wanted->address, reason[0] != 0 ? reason : vlm_condition_name(status));
     return false;
 }
 

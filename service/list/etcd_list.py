@@ -75,10 +75,13 @@ def _after(prefix: bytes) -> bytes:
 class EtcdList:
     """The list of one lock service. Threads may share it."""
 
-    def __init__(self, members: Sequence[str], prefix: str = "vlm/") -> None:
-        """Members are written HOST:PORT."""
+    def __init__(self, members: Sequence[str], prefix: str = "vlm/", files: Sequence[str] = ()) -> None:
+        """Members are written HOST:PORT. With files all connections have TLS: the authority of the members, and then
+        the own certificate and its key, if members ask for one."""
         pairs = [member.rsplit(":", 1) for member in members]
-        self._clients = [etcd3.client(host, int(port), timeout=_SECONDS, grpc_options=_OPTIONS) for host, port in pairs]
+        secured = dict(zip(("ca_cert", "cert_cert", "cert_key"), files))
+        self._clients = [etcd3.client(host, int(port), timeout=_SECONDS, grpc_options=_OPTIONS, **secured)
+                         for host, port in pairs]
         self._places = {kind: Place(len(pairs)) for kind in ("append", "read", "watch")}
         self._entries, self._chunks = prefix + "entries/", prefix + "packed/"
 

@@ -36,16 +36,33 @@ def start(words: List[str], log: Path) -> "subprocess.Popen[bytes]":
                                 start_new_session=True)
 
 
+# Settings of replicas with TLS, and options of members. The keys of both are in one folder.
+_SECURED = """tls-certificate {keys}/m1.pem
+tls-key {keys}/m1.key
+tls-authority {keys}/locks.pem
+rights {keys}/rights
+etcd-authority {keys}/etcd.pem
+etcd-certificate {keys}/list.pem
+etcd-key {keys}/list.key
+"""
+_SECURED_MEMBER = ("--cert-file {keys}/etcd1.pem --key-file {keys}/etcd1.key --trusted-ca-file {keys}/etcd.pem "
+                   "--client-cert-auth --peer-cert-file {keys}/etcd1.pem --peer-key-file {keys}/etcd1.key "
+                   "--peer-trusted-ca-file {keys}/etcd.pem --peer-client-cert-auth")
+
+
 class Local:
     """A number of etcd's members and of replicas, in a temporary folder. Each can be killed and started again."""
 
-    def __init__(self, members: int, replicas: int, chunk: int = 1 << 20, search: int = 1000) -> None:
+    def __init__(self, members: int, replicas: int, chunk: int = 1 << 20, search: int = 1000,
+                 keys: Optional[str] = None) -> None:
         """`chunk` is how many bytes of entries a chunk has, and `search` how many milliseconds a request waits before a
-        search for deadlocks."""
+        search for deadlocks. With a folder of keys all connections of TCP have TLS."""
+        self._keys = keys
         self.folder = Path(tempfile.mkdtemp(prefix="vlm-replicated-"))
         ports = free_ports(2 * members + replicas)
         self._clients, self._peers, self.ports = ports[:members], ports[members:2 * members], ports[2 * members:]
-        (self.folder / "conf").write_text(f"chunk {chunk}\nsearch {search}\n")
+        secured = _SECURED.format(keys=keys) if keys is not None else ""
+        (self.folder / "conf").write_text(f"chunk {chunk}\nsearch {search}\n{secured}")
         self.processes: Dict[str, "subprocess.Popen[bytes]"] = {}
         for number in range(members):
             self.start_member(number)
@@ -63,14 +80,16 @@ class Local:
         return [(HOST, port) for port in self.ports]
 
     def start_member(self, number: int, state: str = "new") -> None:
-        peers = [f"http://{HOST}:{port}" for port in self._peers]
-        client = f"http://{self.members[number]}"
+        scheme = "http" if self._keys is None else "https"
+        secured = [] if self._keys is None else _SECURED_MEMBER.format(keys=self._keys).split()
+        peers = [f"{scheme}://{HOST}:{port}" for port in self._peers]
+        client = f"{scheme}://{self.members[number]}"
         self._start(f"etcd {number}", [
             "etcd", "--name", f"m{number}", "--data-dir", str(self.folder / f"m{number}"), "--log-level", "error",
             "--listen-client-urls", client, "--advertise-client-urls", client,
             "--listen-peer-urls", peers[number], "--initial-advertise-peer-urls", peers[number],
             "--initial-cluster", ",".join(f"m{at}={url}" for at, url in enumerate(peers)),
-            "--initial-cluster-state", state])
+            "--initial-cluster-state", state, *secured])
 
     def empty_member(self, number: int) -> None:
         """Kills a member, which loses its disk, and has it join again as a new one. The others are up."""
@@ -132,14 +151,18 @@ class Local:
 
     def wait(self) -> None:
         """Waits until all replicas serve."""
-        for port in self.ports:
-            self.wait_for(port)
+        for number, port in enumerate(self.ports):
+            self.wait_for(port, self.socket(number))
 
-    def wait_for(self, port: int) -> None:
+    def wait_for(self, port: int, path: str = "") -> None:
+        """Waits for a replica at a port. One with TLS greets nobody there, so it is asked at its Unix socket."""
         end = time.monotonic() + START
+        is_plain = self._keys is None
         while True:
             try:
-                with socket.create_connection((HOST, port), 1.0) as made:
+                with socket.socket(socket.AF_INET if is_plain else socket.AF_UNIX) as made:
+                    made.settimeout(1.0)
+                    made.connect((HOST, port) if is_plain else path)
                     if not made.recv(1):
                         raise ConnectionError
                     return

@@ -121,6 +121,15 @@ static void test_malformed(void) {
     CHECK(vlm_client_open(&options, &none) == VLM_BADPARAM && none == NULL);
     options = (vlm_client_options){.size = sizeof options, .socket = "/nowhere"};
     CHECK(vlm_client_open(&options, &none) == VLM_LOST && none == NULL);
+    const uint32_t sizes[] = {0, 63, sizeof options + 1, UINT32_MAX};
+    for (size_t at = 0; at < sizeof sizes / sizeof *sizes; at++) {
+        options.size = sizes[at];
+        CHECK(vlm_client_open(&options, &none) == VLM_BADPARAM && none == NULL);
+    }
+    char reason[] = "unchanged";
+    options = (vlm_client_options){
+        .size = sizeof options, .socket = "tls:127.0.0.1:1", .certificate = "/", .reason = reason, .reason_len = 4};
+    CHECK(vlm_client_open(&options, &none) == VLM_LOST && none == NULL && strcmp(reason, "TLS") == 0);
     vlm_threads_declaration declaration = {.size = sizeof declaration, .quota = 9, .requests = 0};
     CHECK(vlm_client_declare(client, &declaration, &made) == VLM_BADPARAM && made == 0);
     vlm_threads_request request = wanted(pid, VLM_EX, VLM_VALBLK);

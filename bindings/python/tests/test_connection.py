@@ -213,6 +213,12 @@ class Connections(unittest.TestCase):
         for lease in (1, 601):
             self.assertRaises(BadParamError, connect, f"tcp:{two.address}", lease=lease)
 
+    def test_an_opening_in_vain_says_why(self):
+        for address, files, why in (("tcp:127.0.0.1:1", {}, "no connection"), ("tcp:nowhere", {}, "no such address"),
+                                    ("tls:127.0.0.1:1", {"certificate": "a"}, "no key is named")):
+            with self.subTest(address), self.assertRaisesRegex(LostError, why):
+                connect(address, **files)
+
     def test_a_closed_connection_and_a_child_are_refused(self):
         p = self.connection().declare()
         child = os.fork()

@@ -12,8 +12,11 @@ BY_PROGRAM = 1
 LOST = 101
 Declaration, Request, Dequeue = ThreadsDeclaration, ThreadsRequest, ThreadsDequeue
 
-Options = _struct("Options", 64, *_words("delivery"), ("socket", c_char_p), ("on_lost", LOSS),
-                  ("lost_context", c_void_p), *_words("lease_seconds"), _reserved(7))
+Options = _struct("Options", 104, *_words("delivery"), ("socket", c_char_p), ("on_lost", LOSS),
+                  ("lost_context", c_void_p), *_words("lease_seconds"), _reserved(7), ("certificate", c_char_p),
+                  ("key", c_char_p), ("authority", c_char_p), ("reason", c_void_p), ("reason_len", c_uint64))
+# Bytes of the reason that an opening gets.
+REASON = 256
 
 _HANDLE, _NUMBER, _BYTES = c_void_p, POINTER(c_uint32), c_char_p
 _CALLS: Dict[str, List[Any]] = {

@@ -4,7 +4,7 @@ import os
 import select
 import weakref
 from contextlib import suppress
-from ctypes import byref, c_int, c_uint32, c_uint64, c_void_p
+from ctypes import addressof, byref, c_int, c_uint32, c_uint64, c_void_p, create_string_buffer
 from dataclasses import dataclass
 from types import TracebackType
 from typing import Any, Callable, Dict, Optional, Type
@@ -43,10 +43,13 @@ class Connection:
     session, in which nothing is held."""
 
     def __init__(self, socket: Optional[str] = None, on_lost: Optional[Callable[[], object]] = None,
-                 lease: int = 0) -> None:
+                 lease: int = 0, *, certificate: Optional[str] = None, key: Optional[str] = None,
+                 authority: Optional[str] = None) -> None:
         """Connects to the socket, by default that of VLM_SOCKET or /run/vlm/lock.sock, or to the replicas at
-        `tcp:HOST:PORT,HOST:PORT..` with a lease of 2 to 600 seconds: 0 means 10. `deliver` calls `on_lost` once the
-        locks are lost."""
+        `tcp:HOST:PORT,HOST:PORT..` with a lease of 2 to 600 seconds: 0 means 10. At `tls:HOST:PORT,HOST:PORT..` it
+        shows a certificate. These files in PEM's form are those of VLM_TLS_CERTIFICATE, VLM_TLS_KEY and
+        VLM_TLS_AUTHORITY if they are not named. `deliver` calls `on_lost` once the locks are lost. LostError says why
+        there is no connection."""
         self._routines: Dict[int, Routine] = {}
         self._next = 0
         self._on_lost = on_lost
@@ -54,10 +57,15 @@ class Connection:
         self._called = ROUTINE(self._run)
         self._told = raw.LOSS(self._tell_loss)
         handle = c_void_p()
-        path = None if socket is None else os.fsencode(socket)
+        path, *files = [None if it is None else os.fsencode(it) for it in (socket, certificate, key, authority)]
+        reason = create_string_buffer(raw.REASON)
         options = raw.Options(delivery=raw.BY_PROGRAM, socket=path, on_lost=self._told,
-                              lease_seconds=word(lease, "the lease"))
-        checked(raw.call("open")(byref(options), byref(handle)))
+                              lease_seconds=word(lease, "the lease"), reason=addressof(reason), reason_len=raw.REASON,
+                              **dict(zip(("certificate", "key", "authority"), files)))
+        try:
+            checked(raw.call("open")(byref(options), byref(handle)))
+        except LostError:
+            raise LostError(reason.value.decode(errors="replace")) from None
         self._handle = handle
         self._closing = weakref.finalize(self, raw.call("close"), handle)
         self._closing.atexit = False
@@ -279,8 +287,9 @@ class ServedLock(HeldLock):
             self.release()
 
 
-def connect(socket: Optional[str] = None, on_lost: Optional[Callable[[], object]] = None, *,
-            lease: int = 0) -> Connection:
-    """Connects to the lock service of this machine, or to replicas of it. LostError: there is none. BadParamError: the
-    lease is none of 2 to 600 seconds, or 0."""
-    return Connection(socket, on_lost, lease)
+def connect(socket: Optional[str] = None, on_lost: Optional[Callable[[], object]] = None, *, lease: int = 0,
+            certificate: Optional[str] = None, key: Optional[str] = None,
+            authority: Optional[str] = None) -> Connection:
+    """Connects to the lock service of this machine, or to replicas of it. LostError: there is none, or it refuses the
+    connection. BadParamError: the lease is none of 2 to 600 seconds, or 0."""
+    return Connection(socket, on_lost, lease, certificate=certificate, key=key, authority=authority)

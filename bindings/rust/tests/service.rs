@@ -13,7 +13,7 @@ use std::sync::{Arc, Mutex};
 use std::thread;
 use std::time::{Duration, Instant};
 
-use vlm::service::Connection;
+use vlm::service::{Connection, TlsFiles};
 use vlm::{AstKind, Condition, DeqFlags, EnqFlags, Error, Mode, ProcessId, Terms};
 
 const LONG: Duration = Duration::from_secs(30);
@@ -263,6 +263,16 @@ fn begins_anew(connection: &Connection, old: ProcessId) {
     guard.release().unwrap();
     let absent = Connection::open_at("/nowhere", || ());
     assert_eq!(absent.unwrap_err(), Error::Lost);
+    for (name, error) in [("/nowhere", Error::Lost), ("a\0", Error::Badparam)] {
+        let (key, authority) = ("/nowhere".into(), "/nowhere".into());
+        let files = TlsFiles {
+            certificate: name.into(),
+            key,
+            authority,
+        };
+        let refused = Connection::open_secured("tls:127.0.0.1:1", Duration::ZERO, &files, || ());
+        assert_eq!(refused.unwrap_err(), error);
+    }
 }
 
 #[test]

@@ -24,14 +24,25 @@ mod raw;
 use std::ffi::CString;
 use std::fmt;
 use std::os::unix::ffi::OsStrExt;
-use std::path::Path;
+use std::path::{Path, PathBuf};
 use std::sync::{Arc, Mutex};
 use std::time::Duration;
 
 use crate::condition::answered;
 use crate::{DeqFlags, EnqFlags, Error, Event, LockId, Mode, ProcessId, Terms};
 pub use guard::ServedGuard;
-use raw::{Answered, Connected, Known, Wanted};
+use raw::{Answered, Connected, Known, Opening, Wanted};
+
+/// Files in PEM's form, for addresses as in `tls:HOST:PORT`.
+#[derive(Clone, Debug, PartialEq, Eq)]
+pub struct TlsFiles {
+    /// The certificate that the client shows.
+    pub certificate: PathBuf,
+    /// Its key.
+    pub key: PathBuf,
+    /// The authority that has signed the certificates of the replicas.
+    pub authority: PathBuf,
+}
 
 /// A session of the lock service. A clone is the same session, and threads may share it. It ends, with all its locks,
 /// when its last clone and guard are dropped.
@@ -69,11 +80,11 @@ fn whole_seconds(time: Duration) -> Option<u32> {
 impl Connection {
     /// Connects to the socket that VLM_SOCKET names, or to /run/vlm/lock.sock. Lost: there is no service.
     pub fn open() -> Result<Connection, Error> {
-        Connection::opened(None, 0, 0)
+        Connection::opened(&Opening::default(), 0)
     }
 
-    /// Connects to a socket, or to the replicas at `tcp:HOST:PORT,HOST:PORT..`. `on_lost` is told once by
-    /// [`Connection::deliver`] that the locks are lost. BADPARAM: the path has a byte 0.
+    /// Connects to a socket, or to the replicas at `tcp:HOST:PORT,HOST:PORT..` or, by TLS, `tls:HOST:PORT,HOST:PORT..`.
+    /// `on_lost` is told once by [`Connection::deliver`] that the locks are lost. BADPARAM: the path has a byte 0.
     pub fn open_at(
         socket: impl AsRef<Path>,
         on_lost: impl FnMut() + Send + 'static,
@@ -88,18 +99,48 @@ impl Connection {
         lease: Duration,
         on_lost: impl FnMut() + Send + 'static,
     ) -> Result<Connection, Error> {
-        let path =
-            CString::new(socket.as_ref().as_os_str().as_bytes()).map_err(|_| Error::Badparam)?;
-        let seconds = whole_seconds(lease).ok_or(Error::Badparam)?;
+        Connection::open_told(socket.as_ref(), lease, Default::default(), on_lost)
+    }
+
+    /// The same, with files for TLS. Without them they are those of VLM_TLS_CERTIFICATE, VLM_TLS_KEY and
+    /// VLM_TLS_AUTHORITY. Lost also: a file is wrong, or the replica refuses the certificate.
+    pub fn open_secured(
+        socket: impl AsRef<Path>,
+        lease: Duration,
+        files: &TlsFiles,
+        on_lost: impl FnMut() + Send + 'static,
+    ) -> Result<Connection, Error> {
+        let named = [&files.certificate, &files.key, &files.authority];
+        Connection::open_told(
+            socket.as_ref(),
+            lease,
+            named.map(|it| Some(it.as_path())),
+            on_lost,
+        )
+    }
+
+    fn open_told(
+        socket: &Path,
+        lease: Duration,
+        files: [Option<&Path>; 3],
+        on_lost: impl FnMut() + Send + 'static,
+    ) -> Result<Connection, Error> {
+        let text =
+            |path: &Path| CString::new(path.as_os_str().as_bytes()).map_err(|_| Error::Badparam);
+        let [certificate, key, authority] = files.map(|it| it.map(text).transpose());
+        let how = Opening {
+            socket: Some(text(socket)?),
+            lease_seconds: whole_seconds(lease).ok_or(Error::Badparam)?,
+            files: [certificate?, key?, authority?],
+        };
         Connection::opened(
-            Some(path),
-            seconds,
+            &how,
             raw::number_of(Known::Loss(Arc::new(Mutex::new(on_lost)))),
         )
     }
 
-    fn opened(path: Option<CString>, lease: u32, loss: usize) -> Result<Connection, Error> {
-        match Connected::open(path.as_deref(), lease, loss) {
+    fn opened(how: &Opening, loss: usize) -> Result<Connection, Error> {
+        match Connected::open(how, loss) {
             Ok(client) => Ok(Connection {
                 client: Arc::new(Session { client, loss }),
             }),

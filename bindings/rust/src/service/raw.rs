@@ -1,7 +1,7 @@
 //! The structs and calls of include/vlm_client.h. All that is unsafe about connections stands here.
 
 use std::collections::BTreeMap;
-use std::ffi::{c_void, CStr};
+use std::ffi::{c_char, c_void, CStr, CString};
 use std::panic::{catch_unwind, resume_unwind, AssertUnwindSafe};
 use std::ptr;
 use std::sync::{Arc, Mutex, MutexGuard, PoisonError};
@@ -115,19 +115,34 @@ unsafe impl Send for Connected {}
 // SAFETY: the same.
 unsafe impl Sync for Connected {}
 
+/// Where a client connects to, for how long a lease, and the files of TLS: certificate, key and authority.
+#[derive(Default)]
+pub struct Opening {
+    pub socket: Option<CString>,
+    pub lease_seconds: u32,
+    pub files: [Option<CString>; 3],
+}
+
+fn pointer_of(text: &Option<CString>) -> *const c_char {
+    text.as_deref().map_or(ptr::null(), CStr::as_ptr)
+}
+
 impl Connected {
     /// Connects to a socket, or to addresses with a lease. `loss` is the number of a closure, or 0.
-    pub fn open(socket: Option<&CStr>, lease_seconds: u32, loss: usize) -> Result<Connected, u32> {
+    pub fn open(how: &Opening, loss: usize) -> Result<Connected, u32> {
         let mut options = ClientOptions::new();
         options.delivery = BY_PROGRAM;
-        options.lease_seconds = lease_seconds;
-        options.socket = socket.map_or(ptr::null(), CStr::as_ptr);
+        options.lease_seconds = how.lease_seconds;
+        options.socket = pointer_of(&how.socket);
+        options.certificate = pointer_of(&how.files[0]);
+        options.key = pointer_of(&how.files[1]);
+        options.authority = pointer_of(&how.files[2]);
         if loss != 0 {
             options.on_lost = Some(tell_loss);
             options.lost_context = loss as *mut c_void;
         }
         let mut raw = ptr::null_mut();
-        // SAFETY: the options and the path live as long as the call, which copies them.
+        // SAFETY: the options and their texts live as long as the call, which copies them.
         let status = unsafe { vlm_client_open(&options, &mut raw) };
         if status == NORMAL {
             Ok(Connected(raw))

@@ -19,9 +19,11 @@ pub const LOST: u32 = 101;
 pub type Loss = extern "C" fn(*mut c_void);
 
 structs! {
-    ClientOptions 64 {
+    ClientOptions 104 {
         delivery: u32 = 0, socket: *const c_char = null(), on_lost: Option<Loss> = None,
         lost_context: *mut c_void = null_mut(), lease_seconds: u32 = 0, reserved: [u32; 7] = [0; 7],
+        certificate: *const c_char = null(), key: *const c_char = null(), authority: *const c_char = null(),
+        reason: *mut c_char = null_mut(), reason_len: u64 = 0,
     }
 }
 
