@@ -138,6 +138,8 @@ static void go_on(struct connection *connection) {
 
 static void hear(struct connection *connection) {
     static uint8_t bytes[READ];
+    if (connection->tls != NULL && !may_step(connection))
+        return; /* (the loop tells of the bytes again) */
     size_t room = connection->tls != NULL ? READ_SECURED : READ;
     ssize_t len = recv(connection->descriptor, bytes, room, MSG_DONTWAIT);
     if (len < 0 && (errno == EAGAIN || errno == EINTR))

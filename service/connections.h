@@ -34,7 +34,11 @@ void hand_on(struct connection *connection, const uint8_t *bytes, size_t len);
 /* The dispatcher's client; null while it is not let in, or a replica's connection waits for its entry. */
 struct client *client_of(const struct connection *connection);
 
-/* secured.c. Begins TLS on a connection; false without memory. */
+/* secured.c. Whether bytes of a connection may be read in this turn. Handshakes are costly, so a turn makes few steps of
+ * them. */
+bool may_step(const struct connection *connection);
+
+/* Begins TLS on a connection; false without memory. */
 bool secure(struct connection *connection);
 
 /* Takes bytes of a connection with TLS; no bytes: no more come. Returns whether they were handed on: else the

@@ -32,4 +32,7 @@ bool read_tls(const struct config *config);
 /* Whether clients of TCP have to show a certificate. */
 bool has_tls(void);
 
+/* A turn of the loop begins: so many steps of handshakes may be made again. */
+void begin_turn(void);
+
 #endif

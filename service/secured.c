@@ -5,6 +5,7 @@
 #include "connections.h"
 
 #include <errno.h>
+#include <inttypes.h>
 #include <netdb.h>
 #include <stdio.h>
 #include <stdlib.h>
@@ -18,6 +19,9 @@ enum {
     GOODBYE = 2000,
     LOOK = 500,
     MOST_WAITING = 1000, /* connections that are not let in */
+    MOST_STEPS = 16,     /* of handshakes in a turn of the loop: each takes about a millisecond */
+    MOST_TOLD = 10,      /* lines of the log a second */
+    SECOND = 1000,
     TEXT = 512,
     HOST = 64,
     PORT = 16
@@ -36,6 +40,9 @@ static struct {
     uint32_t count;
     uv_timer_t timer;
     bool has_timer;
+    uint32_t steps;     /* of this turn */
+    uint64_t told_from; /* the lines of the log since then, and those that were left out */
+    uint32_t told, untold;
 } secured;
 
 bool has_tls(void) { return secured.keys != NULL; }
@@ -86,11 +93,34 @@ bool read_tls(const struct config *config) {
     return true;
 }
 
+void begin_turn(void) { secured.steps = 0; }
+
+bool may_step(const struct connection *connection) { return !connection->is_shaking || secured.steps++ < MOST_STEPS; }
+
+/* Whether the log takes one more line of what strangers do. */
+static bool may_tell(void) {
+    char text[TEXT];
+    uint64_t now = uv_now(&vlmd.loop);
+    if (now >= secured.told_from + SECOND) {
+        uint32_t untold = secured.untold;
+        secured.told_from = now;
+        secured.told = secured.untold = 0;
+        snprintf(text, sizeof text, "tls: %" PRIu32 " more", untold);
+        if (untold != 0)
+            write_log(text);
+    }
+    bool may = secured.told++ < MOST_TOLD;
+    secured.untold += !may;
+    return may;
+}
+
 /* Logs what becomes of a connection. */
 static void tell(const struct connection *connection, const char *what) {
     char text[TEXT], host[HOST] = "?", port[PORT] = "?";
     struct sockaddr_storage peer;
     socklen_t len = sizeof peer;
+    if (!may_tell())
+        return;
     if (getpeername(connection->descriptor, (struct sockaddr *)&peer, &len) == 0)
         getnameinfo((const struct sockaddr *)&peer, len, host, sizeof host, port, sizeof port,
                     NI_NUMERICHOST | NI_NUMERICSERV);
@@ -261,7 +291,7 @@ static bool hand_on_secured(struct connection *connection, bool is_end) {
         return false;
     }
     if (is_end || count == VLM_TLS_ENDED)
-        hand_on(connection, NULL, 0);
+        hand_on(connection, plain, 0);
     return true;
 }
 

@@ -148,6 +148,13 @@ static void move(struct client *client, struct session *session) {
     tell_session(client);
 }
 
+/* Whether a client may go on with a session: the session's processes have the rights of the client that opened it. */
+static bool may_resume(const struct client *client, const struct session *session) {
+    const struct rights *own = &client->rights, *had = &session->rights;
+    return own->uid == had->uid && own->group == had->group && own->has_syslck == had->has_syslck
+           && session->seconds != 0;
+}
+
 /* `resume S [asts=N]` */
 static void run_resume(struct client *client, const struct word *words, size_t count) {
     struct word rest;
@@ -160,7 +167,7 @@ static void run_resume(struct client *client, const struct word *words, size_t c
     struct session *session = find_session(client->dispatcher, words[1]);
     if (client->session != NULL) {
         answer_text(client, "session open\n");
-    } else if (session == NULL || session->rights.uid != client->rights.uid || session->seconds == 0) {
+    } else if (session == NULL || !may_resume(client, session)) {
         answer_text(client, "session ended\n");
         client->is_over = true;
     } else {

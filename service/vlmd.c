@@ -66,6 +66,7 @@ static void write_epoch(void) {
 static void on_turn(uv_check_t *check) {
     (void)check;
     uint64_t now = uv_now(&vlmd.loop);
+    begin_turn();
     if (vlmd.replica != NULL)
         replica_tick(vlmd.replica, now);
     else

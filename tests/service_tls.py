@@ -351,6 +351,50 @@ def named(_program):
             yield from difference((last.greeting, last.line()), ("vlm protocol 1 epoch 0", "too many connections"))
 
 
+def resumed(_program):
+    """A session goes on for a client with the rights of the one that opened it, and for no other."""
+    with Secured(rights=RIGHTS + "mallory uid=1000 group=1 syslck\n") as daemon:
+        with daemon.named("alice") as first:
+            session = first.ask("open seconds=60").split(" ")[1]
+        with daemon.named("mallory") as other:
+            yield from difference(other.ask(f"resume {session}"), "session ended")
+        with daemon.named("alice") as second:
+            yield from difference(second.ask(f"resume {session}").split(" ")[1], session)
+
+
+def told_often(_program):
+    """The log has few lines of what strangers do, and how many more there were."""
+    with Secured() as daemon:
+        for _ in range(40):
+            with socket.create_connection((HOST, daemon.port), SECONDS) as raw:
+                raw.sendall(b"open\n")
+                raw.shutdown(socket.SHUT_WR)
+                raw.recv(1)
+        time.sleep(1.1)
+        sent(daemon.port, 100, False)
+        yield from difference(daemon.has_told(" more\n"), True)
+        if (count := daemon.log.read_text().count("wrong version number")) > 20:
+            yield f"the log has {count} lines of 40 strangers"
+
+
+def new_keys(_program):
+    """A client that changes its keys again and again is cut off."""
+    words = ["openssl", "s_client", "-connect", f"{HOST}:PORT", "-cert", KEYS() / "bob.pem", "-key",
+             KEYS() / "bob.key", "-CAfile", KEYS() / "locks.pem"]
+    with Secured() as daemon:
+        words[3] = f"{HOST}:{daemon.port}"
+        none = subprocess.DEVNULL
+        with subprocess.Popen(words, stdin=subprocess.PIPE, stdout=none, stderr=none) as raw:
+            for _ in range(2 * 64):
+                for line in (b"K\n", b"metrics\n"):
+                    if raw.poll() is None:
+                        raw.stdin.write(line)
+                        raw.stdin.flush()
+                        time.sleep(0.01)
+            raw.kill()
+        yield from difference(daemon.has_told("it changes its keys too often"), True)
+
+
 def reread(_program):
     """SIGHUP has certificates and rights read again. Wrong ones leave those that are there."""
     def shown(daemon):
@@ -442,6 +486,14 @@ def no_library(_program):
             env = {**os.environ, **environment("alice"), "VLM_SOCKET": address}
             ended = subprocess.run([made, "who"], env=env, capture_output=True, text=True, timeout=SECONDS)
             yield from difference((ended.returncode, "no TLS here: libvlm-tls.so.1" in ended.stderr), wanted)
+        # The one who starts a program chooses its first word, so the library is not looked for beside that.
+        (folder / "other.c").write_text('#include <unistd.h>\n__attribute__((constructor)) static void load(void) '
+                                        '{ write(1, "loaded", 6); }\n')
+        yield from library.ran("cc", "-shared", "-fPIC", folder / "other.c", "-o", folder / "libvlm-tls.so.1")
+        env = {**os.environ, **environment("alice"), "VLM_SOCKET": daemon.secured}
+        ended = subprocess.run([f"{folder}/libvlm.so", "who"], executable=made, env=env, capture_output=True, text=True,
+                               timeout=SECONDS)
+        yield from difference((ended.returncode, ended.stdout), (69, ""))
 
 
 def older_header(_program):
@@ -473,6 +525,8 @@ def tests():
                     Test("TLS: plain text", without_tls), Test("TLS: a handshake that hangs", hung),
                     Test("TLS: wrong bytes", wrong_bytes), Test("TLS: a client that reads late", deaf),
                     Test("TLS: a client that does not read", cut_off), Test("TLS: rights by name", named),
-                    Test("TLS: files that are read again", reread), Test("TLS: wrong settings", configured),
+                    Test("TLS: a session for other rights", resumed), Test("TLS: lines of the log", told_often),
+                    Test("TLS: keys that change", new_keys), Test("TLS: files that are read again", reread),
+                    Test("TLS: wrong settings", configured),
                     Test("TLS: all addresses", everywhere), Test("TLS: no library of it", no_library),
                     Test("the header of an older client", older_header)]

@@ -58,7 +58,7 @@ static void free_client(vlm_client *client) {
 }
 
 static const char *path_of(const vlm_client_options *options) {
-    const char *given = getenv("VLM_SOCKET");
+    const char *given = secure_getenv("VLM_SOCKET");
     return options->socket != NULL ? options->socket : given != NULL ? given : usual_socket;
 }
 

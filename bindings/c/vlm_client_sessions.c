@@ -26,7 +26,8 @@ static const char greeting[] = "vlm protocol 1 ";
 static bool read_byte(const vlm_client *client, const struct channel *channel, char *byte, uint64_t until) {
     ssize_t len;
     while ((len = vlmc_channel_receive(channel, byte, 1, 0)) < 0)
-        if (errno != EINTR && (errno != EAGAIN || !vlmc_wait_for(client, channel->descriptor, POLLIN, until)))
+        if (errno != EINTR
+            && (errno != EAGAIN || vlmc_now() >= until || !vlmc_wait_for(client, channel->descriptor, POLLIN, until)))
             return false;
     return len == 1;
 }

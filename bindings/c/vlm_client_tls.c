@@ -5,6 +5,7 @@
 #include <dlfcn.h>
 #include <errno.h>
 #include <limits.h>
+#include <link.h>
 #include <poll.h>
 #include <pthread.h>
 #include <stdio.h>
@@ -36,17 +37,19 @@ bool vlmc_is_replicated(const char *address) {
 }
 
 /* The file of this code: of the program, if that says where the library is, else of libvlm.so. In the folder of another
- * program the library might be anybody's. */
+ * program the library might be anybody's. So a static program, or a path that is not whole, has no such file. */
 static bool find_own(char path[PATH_MAX]) {
     Dl_info found;
+    struct link_map *map = NULL;
     if (beside[0] != 0) {
         ssize_t len = readlink("/proc/self/exe", path, PATH_MAX - 1);
         path[len > 0 ? len : 0] = 0;
         return len > 0;
     }
-    if (dladdr(&loaded, &found) == 0 || found.dli_fname == NULL || strlen(found.dli_fname) >= PATH_MAX)
+    if (dladdr1(&loaded, &found, (void **)&map, RTLD_DL_LINKMAP) == 0 || map == NULL || map->l_name[0] != '/'
+        || strlen(map->l_name) >= PATH_MAX)
         return false;
-    snprintf(path, PATH_MAX, "%s", found.dli_fname);
+    snprintf(path, PATH_MAX, "%s", map->l_name);
     const char *slash = strrchr(path, '/');
     return slash != NULL && strncmp(slash + 1, own, strlen(own)) == 0;
 }
@@ -78,7 +81,9 @@ static const struct vlm_tls_calls *calls(void) {
     return loaded.calls;
 }
 
-static const char *file_of(const char *named, const char *variable) { return named != NULL ? named : getenv(variable); }
+static const char *file_of(const char *named, const char *variable) {
+    return named != NULL ? named : secure_getenv(variable);
+}
 
 struct vlm_tls_files vlmc_files(const struct vlm_tls_files *named) {
     return (struct vlm_tls_files){file_of(named->certificate, "VLM_TLS_CERTIFICATE"),
@@ -195,7 +200,7 @@ static const char *shake(struct channel *channel, const struct handshake *how) {
             return "the connection fails";
         if (found > 0)
             return NULL;
-        if (!vlmc_poll(channel->descriptor, how->wake, POLLIN, how->until))
+        if (vlmc_now() >= how->until || !vlmc_poll(channel->descriptor, how->wake, POLLIN, how->until))
             return "no answer";
         ssize_t len = hear(channel, MSG_DONTWAIT);
         if (len == 0 || (len < 0 && errno != EAGAIN && errno != EINTR))

@@ -85,10 +85,10 @@ int link_line(struct link *link, char *line, int64_t until) {
         if (until != FOREVER && left < 0)
             left = 0;
         int count = poll(&ready, 1, left > 1000000 ? 1000000 : (int)left);
-        if (count == 0 && left == 0)
-            return 0;
         if (count > 0 && !receive(link))
             return -1;
+        if (left == 0)
+            return take_line(link, line) ? 1 : 0;
     }
     return 1;
 }

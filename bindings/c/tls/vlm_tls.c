@@ -9,8 +9,9 @@
 #include <stdlib.h>
 #include <string.h>
 
-/* OpenSSL tells an alert by the number of a reason: that of the alert, and this. */
-enum { ALERTS = 1000, SCRATCH = 4096 };
+/* OpenSSL tells an alert by the number of a reason: that of the alert, and this. The bytes of the certificates that the
+ * other side may show: to read many costs long, before any is checked. How often it may change its keys. */
+enum { ALERTS = 1000, SCRATCH = 4096, MOST_CERTIFICATES = 8 << 10, MOST_UPDATES = 64 };
 
 struct vlm_tls_keys {
     SSL_CTX *context;
@@ -19,6 +20,7 @@ struct vlm_tls_keys {
 struct vlm_tls {
     SSL *ssl;
     BIO *in, *out; /* of `ssl` */
+    unsigned updates;
     char reason[VLM_TLS_REASON];
 };
 
@@ -34,6 +36,20 @@ static int no_passphrase(char *text, int room, int is_for_writing, void *context
     return 0;
 }
 
+/* Has clients told which authority is asked for. */
+static bool name_authority(SSL_CTX *context, const char *file) {
+    BIO *from = BIO_new_file(file, "r");
+    size_t count = 0;
+    X509 *read;
+    while (from != NULL && (read = PEM_read_bio_X509(from, NULL, no_passphrase, NULL)) != NULL) {
+        count += SSL_CTX_add_client_CA(context, read) == 1;
+        X509_free(read);
+    }
+    BIO_free(from);
+    ERR_clear_error(); /* (the end of the file is one) */
+    return count != 0;
+}
+
 /* Reads the files into a context. Returns the name of the one that is wrong, or null. */
 static const char *read_files(SSL_CTX *context, const struct vlm_tls_files *files) {
     if (SSL_CTX_use_certificate_chain_file(context, files->certificate) != 1)
@@ -41,12 +57,8 @@ static const char *read_files(SSL_CTX *context, const struct vlm_tls_files *file
     if (SSL_CTX_use_PrivateKey_file(context, files->key, SSL_FILETYPE_PEM) != 1
         || SSL_CTX_check_private_key(context) != 1)
         return files->key;
-    STACK_OF(X509_NAME) *names = SSL_load_client_CA_file(files->authority);
-    if (names == NULL || SSL_CTX_load_verify_file(context, files->authority) != 1) {
-        sk_X509_NAME_pop_free(names, X509_NAME_free);
+    if (SSL_CTX_load_verify_file(context, files->authority) != 1 || !name_authority(context, files->authority))
         return files->authority;
-    }
-    SSL_CTX_set_client_CA_list(context, names);
     return NULL;
 }
 
@@ -61,6 +73,7 @@ static SSL_CTX *new_context(void) {
     SSL_CTX_set_mode(context, SSL_MODE_RELEASE_BUFFERS | SSL_MODE_AUTO_RETRY);
     SSL_CTX_set_session_cache_mode(context, SSL_SESS_CACHE_OFF);
     SSL_CTX_set_num_tickets(context, 0);
+    SSL_CTX_set_max_cert_list(context, MOST_CERTIFICATES);
     return context;
 }
 
@@ -104,6 +117,15 @@ static bool want_host(SSL *ssl, const char *host) {
     return X509_VERIFY_PARAM_set1_host(wanted, host, 0) == 1 && SSL_set_tlsext_host_name(ssl, host) == 1;
 }
 
+/* Counts how often the other side changes its keys. Each change costs, so too many end the connection. */
+static void on_message(int is_out, int version, int kind, const void *bytes, size_t len, SSL *ssl, void *context) {
+    vlm_tls *tls = context;
+    (void)version, (void)ssl;
+    if (!is_out && kind == SSL3_RT_HANDSHAKE && len > 0 && *(const uint8_t *)bytes == SSL3_MT_KEY_UPDATE
+        && ++tls->updates > MOST_UPDATES)
+        BIO_reset(tls->in);
+}
+
 static bool begin(vlm_tls *tls, const vlm_tls_keys *keys, const char *host) {
     tls->ssl = SSL_new(keys->context);
     tls->in = BIO_new(BIO_s_mem());
@@ -114,6 +136,8 @@ static bool begin(vlm_tls *tls, const vlm_tls_keys *keys, const char *host) {
         return false;
     }
     SSL_set_bio(tls->ssl, tls->in, tls->out);
+    SSL_set_msg_callback(tls->ssl, on_message);
+    SSL_set_msg_callback_arg(tls->ssl, tls);
     SSL_set_verify(tls->ssl, SSL_VERIFY_PEER | SSL_VERIFY_FAIL_IF_NO_PEER_CERT, NULL);
     if (host == NULL)
         SSL_set_accept_state(tls->ssl);
@@ -174,6 +198,10 @@ static int shake(vlm_tls *tls) {
 static long tls_read(vlm_tls *tls, void *bytes, size_t room) {
     ERR_clear_error();
     int count = SSL_read(tls->ssl, bytes, room < INT_MAX ? (int)room : INT_MAX);
+    if (tls->updates > MOST_UPDATES) {
+        snprintf(tls->reason, sizeof tls->reason, "it changes its keys too often");
+        return VLM_TLS_FAILED;
+    }
     return count > 0 ? count : ended(tls, count);
 }
 
