@@ -9,7 +9,7 @@
 #include <string.h>
 #include <sys/socket.h>
 
-enum { LINE = 512, WORDS = 3, MOST_GIDS = 4096, FEWEST_IDENTIFICATIONS = 100, MOST_CHUNK = 1 << 20 };
+enum { LINE = 512, WORDS = 3, MOST_GIDS = 4096, FEWEST_IDS = 100, MOST_CHUNK = 1 << 20 };
 
 static bool number_of(const char *word, unsigned long most, uint32_t *number) {
     char *end;
@@ -51,7 +51,7 @@ static uint32_t *limit_of(struct config *config, const char *word) {
                 {"grace", &config->grace},
                 {"tcp-group", &config->tcp_group},
                 {"chunk", &config->chunk},
-                {"identifications", &limits->identifications}};
+                {"identifications", &limits->ids}};
     for (size_t at = 0; at < sizeof rows / sizeof *rows; at++)
         if (strcmp(word, rows[at].word) == 0)
             return rows[at].place;
@@ -90,7 +90,7 @@ bool set_words(struct config *config, char *const *words, size_t count) {
     uint32_t *limit = limit_of(config, words[0]);
     if (limit != NULL)
         return number_of(words[1], UINT32_MAX, limit) && config->limits.lines != 0 && config->chunk != 0
-               && config->chunk <= MOST_CHUNK && config->limits.identifications >= FEWEST_IDENTIFICATIONS;
+               && config->chunk <= MOST_CHUNK && config->limits.ids >= FEWEST_IDS;
     if (strcmp(words[0], "socket") == 0)
         return snprintf(config->socket, PATH, "%s", words[1]) < PATH;
     char *text = text_of(config, words[0]);

@@ -32,7 +32,7 @@ struct dispatcher *dispatcher_open(const struct limits *limits, uint32_t epoch, 
 
 void dispatcher_limit(struct dispatcher *dispatcher, const struct limits *limits) {
     dispatcher->limits = *limits;
-    share_identifications(dispatcher);
+    share_ids(dispatcher);
 }
 
 static void free_pools(struct dispatcher *dispatcher) {
@@ -87,7 +87,7 @@ void dispatcher_tick(struct dispatcher *dispatcher, uint64_t now) {
         end_left_sessions(dispatcher);
     }
     search_if_due(dispatcher);
-    check_identifications(dispatcher);
+    check_ids(dispatcher);
 }
 
 static uint64_t earlier(uint64_t one, uint64_t other) { return one < other ? one : other; }

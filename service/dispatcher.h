@@ -11,17 +11,17 @@
 
 /* How much a user, a session or a client may have. docs/SERVICE.md has the meaning and the usual value of each. */
 struct limits {
-    uint32_t connections;     /* of a user */
-    uint32_t processes;       /* of a user */
-    uint32_t locks;           /* of a user */
-    uint32_t waiting;         /* requests of a user */
-    uint32_t queued;          /* bytes that wait for the clients of a user */
-    uint32_t names;           /* of a session */
-    uint32_t lines;           /* of a client in a turn */
-    uint32_t shown;           /* locks that `show`, `tails` and `who` print */
-    uint32_t search;          /* milliseconds that a request waits before a search for deadlocks; 0: none is made */
-    uint32_t drain;           /* milliseconds from the last ID to the end of the epoch */
-    uint32_t identifications; /* of locks, of one lock manager */
+    uint32_t connections; /* of a user */
+    uint32_t processes;   /* of a user */
+    uint32_t locks;       /* of a user */
+    uint32_t waiting;     /* requests of a user */
+    uint32_t queued;      /* bytes that wait for the clients of a user */
+    uint32_t names;       /* of a session */
+    uint32_t lines;       /* of a client in a turn */
+    uint32_t shown;       /* locks that `show`, `tails` and `who` print */
+    uint32_t search;      /* milliseconds that a request waits before a search for deadlocks; 0: none is made */
+    uint32_t drain;       /* milliseconds from the last ID to the end of the epoch */
+    uint32_t ids;         /* of locks, of one lock manager */
 };
 /* clang-format off */
 #define USUAL_LIMITS { 20000, 20000, 10000, 2000, 8 << 20, 1024, 64, 10000, 1000, 60000, UINT32_MAX }

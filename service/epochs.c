@@ -13,12 +13,12 @@ uint64_t handle_of(const struct dispatcher *dispatcher, uint32_t lkid) {
 }
 
 /* Computes from the limits when IDs are short. */
-void share_identifications(struct dispatcher *dispatcher) {
-    dispatcher->short_of = (uint32_t)((uint64_t)dispatcher->limits.identifications * 90 / 100);
-    dispatcher->out_of = (uint32_t)((uint64_t)dispatcher->limits.identifications * 99 / 100);
+void share_ids(struct dispatcher *dispatcher) {
+    dispatcher->short_of = (uint32_t)((uint64_t)dispatcher->limits.ids * 90 / 100);
+    dispatcher->out_of = (uint32_t)((uint64_t)dispatcher->limits.ids * 99 / 100);
 }
 
-bool has_identifications(const struct dispatcher *dispatcher) { return dispatcher->last_lkid < dispatcher->out_of; }
+bool has_ids(const struct dispatcher *dispatcher) { return dispatcher->last_lkid < dispatcher->out_of; }
 
 static bool open_manager(struct dispatcher *dispatcher, vlm *manager) {
     vlm_options options = VLM_OPTIONS;
@@ -142,7 +142,7 @@ void end_epoch(struct dispatcher *dispatcher) {
 }
 
 /* Looks whether IDs are short, at a moment between two turns. */
-void check_identifications(struct dispatcher *dispatcher) {
+void check_ids(struct dispatcher *dispatcher) {
     if (dispatcher->last_lkid < dispatcher->out_of)
         /* (the limit may have been raised since) */
         dispatcher->drained = 0;
@@ -150,7 +150,7 @@ void check_identifications(struct dispatcher *dispatcher) {
         return;
     if (vlm_lock_count(&dispatcher->manager) == 0) {
         change_manager(dispatcher);
-    } else if (!has_identifications(dispatcher) && dispatcher->drained == 0) {
+    } else if (!has_ids(dispatcher) && dispatcher->drained == 0) {
         dispatcher->drained = dispatcher->now + dispatcher->limits.drain;
         say(dispatcher,
             "no identifications left: new requests are refused, and epoch %" PRIu32 " ends in %" PRIu32

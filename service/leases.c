@@ -15,7 +15,7 @@ enum { GRACE = 1000, GROWING = 1500 };
 void dispatcher_follow(struct dispatcher *dispatcher) { dispatcher->is_replica = true; }
 
 void dispatcher_pass(struct dispatcher *dispatcher, uint64_t place) {
-    check_identifications(dispatcher);
+    check_ids(dispatcher);
     dispatcher->place = place;
 }
 

@@ -122,7 +122,7 @@ static bool as_declaration(const struct client *client, const struct word *words
 }
 
 /* The ID that a handle names to the lock manager: another epoch's is no lock of anybody. */
-static uint32_t identification(const struct dispatcher *dispatcher, uint64_t handle) {
+static uint32_t lkid_of(const struct dispatcher *dispatcher, uint64_t handle) {
     return handle == 0 ? 0 : handle >> 32 == dispatcher->epoch && (uint32_t)handle != 0 ? (uint32_t)handle : NO_LOCK;
 }
 
@@ -150,7 +150,7 @@ static bool read_with_handle(struct dispatcher *dispatcher, struct word whole, c
     char text[LINE + 24];
     size_t before = (size_t)(handle.bytes - whole.bytes), after = whole.len - before - handle.len;
     memcpy(text, whole.bytes, before);
-    int digits = snprintf(text + before, 16, "%" PRIu32, identification(dispatcher, number));
+    int digits = snprintf(text + before, 16, "%" PRIu32, lkid_of(dispatcher, number));
     memcpy(text + before + digits, handle.bytes + handle.len, after);
     size_t len = before + (size_t)digits + after;
     /* (a short handle of another epoch has fewer digits than the ID that stands for it) */

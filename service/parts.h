@@ -302,9 +302,9 @@ bool search(struct dispatcher *dispatcher);
 void keep_lease(struct session *session);
 
 /* epochs.c */
-bool has_identifications(const struct dispatcher *dispatcher);
-void share_identifications(struct dispatcher *dispatcher);
-void check_identifications(struct dispatcher *dispatcher);
+bool has_ids(const struct dispatcher *dispatcher);
+void share_ids(struct dispatcher *dispatcher);
+void check_ids(struct dispatcher *dispatcher);
 void end_epoch(struct dispatcher *dispatcher);
 uint64_t handle_of(const struct dispatcher *dispatcher, uint32_t lkid);
 

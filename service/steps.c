@@ -91,7 +91,7 @@ static void resolve_lock(const struct process *process, uint32_t *lock, uint32_t
 static const char *own_refusal(const struct client *client, const vlm_line *line) {
     if (client->user->waiting >= client->dispatcher->limits.waiting)
         return "too many waiting requests\n";
-    if (line->kind == VLM_LINE_ENQ && !has_identifications(client->dispatcher))
+    if (line->kind == VLM_LINE_ENQ && !has_ids(client->dispatcher))
         return "no identifications left\n";
     return NULL;
 }

@@ -597,7 +597,7 @@ static void run_raised_limit(void) {
     static const struct rights rights = {.group = 1};
     static const uint8_t keys[16];
     struct limits limits = USUAL_LIMITS;
-    limits.identifications = FEW;
+    limits.ids = FEW;
     struct dispatcher *dispatcher = dispatcher_open(&limits, 0, keys, say_nothing);
     struct bytes told = {NULL, 0, 0};
     dispatcher_follow(dispatcher);
@@ -609,12 +609,12 @@ static void run_raised_limit(void) {
         tell_line(client, "enq P NL name=A block=1", &told);
     dispatcher_pass(dispatcher, 1);
     if (dispatcher_drain_due(dispatcher) == UINT64_MAX)
-        fail("identifications do not run out");
-    limits.identifications = UINT32_MAX;
+        fail("IDs do not run out");
+    limits.ids = UINT32_MAX;
     dispatcher_limit(dispatcher, &limits);
     dispatcher_pass(dispatcher, 2);
     if (dispatcher_drain_due(dispatcher) != UINT64_MAX)
-        fail("an epoch ends that has identifications");
+        fail("an epoch ends that has IDs");
     free(told.all);
     dispatcher_close(dispatcher);
 }

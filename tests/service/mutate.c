@@ -23,7 +23,7 @@ static const struct limits limits = {.connections = 3,
                                      .shown = 40,
                                      .search = 30,
                                      .drain = 100,
-                                     .identifications = 10};
+                                     .ids = 10};
 
 static struct dispatcher *dispatcher;
 static struct client *clients[CLIENTS];
