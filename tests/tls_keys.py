@@ -71,6 +71,12 @@ class SecuredClient(Client):
         self.heard = b""
         self.greeting = self.line()
 
+    def begin(self, *names):
+        """Opens a session with processes of these names. Its lease outlasts a slow machine."""
+        for line in ("open seconds=60", *(f"declare {name}" for name in names)):
+            self.ask(line)
+        return self
+
 
 class Halves:
     """The bytes of a handshake and of lines, which a test sends as it likes."""
