@@ -18,7 +18,7 @@ from pathlib import Path
 import library
 import service_commands
 from daemons import CHECKED, PLAIN, SECONDS, Daemon, compiled
-from harness import ROOM, TOP, Once, Test, difference
+from harness import INTERPOSERS, ROOM, TOP, Once, Test, difference
 from proxies import Proxy, addresses
 from service_replicas import CLIENT, LONG, Program, until
 from tls_keys import HOST, KEYS, Halves, SecuredClient, environment
@@ -42,7 +42,7 @@ def free_port():
 class Secured(Daemon):
     """A replica with TLS over a list in memory."""
 
-    def __init__(self, *settings, rights=RIGHTS, name="m1", made=CHECKED):
+    def __init__(self, *settings, rights=RIGHTS, name="m1", made=CHECKED, preload=""):
         self.port = free_port()
         folder = tempfile.mkdtemp(prefix="vlmd")
         self.rights = Path(folder) / "rights"
@@ -51,7 +51,7 @@ class Secured(Daemon):
             shutil.copy(KEYS() / f"{name}.{kind}", f"{folder}/own.{kind}")
         super().__init__("etcd none:1", f"listen {HOST}:{self.port}", f"tls-certificate {folder}/own.pem",
                          f"tls-key {folder}/own.key", f"tls-authority {KEYS()}/locks.pem", f"rights {self.rights}",
-                         *settings, made=made, folder=folder, env={"VLM_LIST": str(LIST)})
+                         *settings, made=made, folder=folder, env={"VLM_LIST": str(LIST), "LD_PRELOAD": preload})
         self.owns_folder = True
 
     @property
@@ -312,9 +312,10 @@ def deaf(_program):
 
 def cut_off(_program):
     """A client that is told very much and does not read is cut off at the limit."""
-    names, name = range(6000), 15 * "P"
+    names, name, preload = range(6000), 15 * "P", INTERPOSERS["small_buffers"]()
     settings = ("locks 70000", "waiting 70000", "search 1000000", "queued 300000")
-    with Secured(*settings, made=PLAIN) as daemon, daemon.named("alice").begin("Q quota=65535") as other:
+    with Secured(*settings, made=PLAIN, preload=preload) as daemon, \
+            daemon.named("alice").begin("Q quota=65535") as other:
         told = daemon.named("operator").begin(f"{name} quota=65535 blocks=1")
         told.socket.setsockopt(socket.SOL_SOCKET, socket.SO_RCVBUF, 4096)
         for begin in range(0, len(names), 1000):
