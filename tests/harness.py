@@ -113,7 +113,7 @@ def built_library(source):
 # Libraries that come before the C library where LD_PRELOAD names them.
 INTERPOSERS = {name: Once(partial(built_library, f"interpose/{name}.c"))
                for name in ("refuse_allocation", "refuse_thread", "no_random_bytes", "zero_random_bytes",
-                            "single_bytes", "small_buffers")}
+                            "single_bytes")}
 
 
 class Case(NamedTuple):

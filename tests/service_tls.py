@@ -18,7 +18,7 @@ from pathlib import Path
 import library
 import service_commands
 from daemons import CHECKED, PLAIN, SECONDS, Daemon, compiled
-from harness import INTERPOSERS, ROOM, TOP, Once, Test, difference
+from harness import ROOM, TOP, Once, Test, difference
 from proxies import Proxy, addresses
 from service_replicas import CLIENT, LONG, Program, until
 from tls_keys import HOST, KEYS, Halves, SecuredClient, environment
@@ -42,7 +42,7 @@ def free_port():
 class Secured(Daemon):
     """A replica with TLS over a list in memory."""
 
-    def __init__(self, *settings, rights=RIGHTS, name="m1", made=CHECKED, preload=""):
+    def __init__(self, *settings, rights=RIGHTS, name="m1", made=CHECKED):
         self.port = free_port()
         folder = tempfile.mkdtemp(prefix="vlmd")
         self.rights = Path(folder) / "rights"
@@ -51,7 +51,7 @@ class Secured(Daemon):
             shutil.copy(KEYS() / f"{name}.{kind}", f"{folder}/own.{kind}")
         super().__init__("etcd none:1", f"listen {HOST}:{self.port}", f"tls-certificate {folder}/own.pem",
                          f"tls-key {folder}/own.key", f"tls-authority {KEYS()}/locks.pem", f"rights {self.rights}",
-                         *settings, made=made, folder=folder, env={"VLM_LIST": str(LIST), "LD_PRELOAD": preload})
+                         *settings, made=made, folder=folder, env={"VLM_LIST": str(LIST)})
         self.owns_folder = True
 
     @property
@@ -285,6 +285,18 @@ def cut(sanitizer, _program):
             yield from program.ended()
 
 
+def flood(client):
+    """Sends lines until nothing more is taken, and reads no answers. Returns how many were sent."""
+    client.socket.setblocking(False)
+    lines, count = b"metrics\n" * 100, 0
+    try:
+        while count < 1 << 20:
+            count += client.socket.send(lines) // len(lines) * 100
+    except (ssl.SSLWantWriteError, OSError):
+        pass
+    return count
+
+
 def deaf(_program):
     """A client that reads no answers is not heard any more, and gets all of them when it reads. Others are served
     meanwhile, and what waits for it stays little."""
@@ -292,14 +304,7 @@ def deaf(_program):
         return int(re.search(r"VmRSS:\s+(\d+)", Path(f"/proc/{daemon.run.pid}/status").read_text())[1])
 
     with Secured(made=PLAIN) as daemon, daemon.named() as other, daemon.named() as asker:
-        before = memory()
-        asker.socket.setblocking(False)
-        line, count = b"metrics\n" * 100, 0
-        try:
-            while count < 1 << 20:
-                count += asker.socket.send(line) // len(line) * 100
-        except ssl.SSLWantWriteError:
-            pass
+        before, count = memory(), flood(asker)
         yield from difference(other.ask("open").split(" ")[0], "session")
         yield from difference((daemon.metric("clients_cut_off_total"), memory() - before < MOST_MEMORY), (0, True))
         asker.socket.settimeout(SECONDS)
@@ -311,25 +316,13 @@ def deaf(_program):
 
 
 def cut_off(_program):
-    """A client that is told very much and does not read is cut off at the limit."""
-    names, name, preload = range(6000), 15 * "P", INTERPOSERS["small_buffers"]()
-    settings = ("locks 70000", "waiting 70000", "search 1000000", "queued 300000")
-    with Secured(*settings, made=PLAIN, preload=preload) as daemon, \
-            daemon.named("alice").begin("Q quota=65535") as other:
-        told = daemon.named("operator").begin(f"{name} quota=65535 blocks=1")
-        told.socket.setsockopt(socket.SOL_SOCKET, socket.SO_RCVBUF, 4096)
-        for begin in range(0, len(names), 1000):
-            told.send(*(f"enq {name} PR name=N{it} block=1 bast=4000000000 param=4000000000"
-                        for it in names[begin:begin + 1000]))
-            for _ in range(1000):
-                told.line()
-        for begin in range(0, len(names), 1000):
-            other.send(*(f"enq Q EX name=N{it} block=1" for it in names[begin:begin + 1000]))
-            for _ in range(1000):
-                other.line()
-        yield from difference(until(lambda: daemon.metric("clients_cut_off_total") == 1, SECONDS), True)
+    """Two clients of a user that read nothing: what waits for both is over the limit, so they are cut off."""
+    with Secured("queued 100000") as daemon, daemon.named() as one, daemon.named() as two, daemon.named("bob") as other:
+        flood(one)
+        yield from difference((daemon.metric("clients_cut_off_total"), other.ask("open").split(" ")[0]), (0, "session"))
+        flood(two)
+        yield from difference(until(lambda: daemon.metric("clients_cut_off_total") > 0, SECONDS), True)
         yield from difference(other.ask("alive"), "alive")
-        told.close()
 
 
 def named(_program):
