@@ -265,7 +265,8 @@ def replicas_lost(_program):
             status, wrong = run(daemon, *asked, socket=words)
             yield from difference((asked, status, words in wrong), (asked, 69, True))
         proxy.listen()
-        script = "trap 'echo told' TERM; echo ready; sleep 50 >/dev/null 2>&1 & wait"
+        # (the system sends the signal once for each thread of the wrapper that ends)
+        script = "trap 'trap \"\" TERM; echo told; exit 1' TERM; echo ready; sleep 50 >/dev/null 2>&1 & wait"
         wrapper = start(daemon, "lock", "A", "sh", "-c", script, socket=words)
         wrapper.stdout.readline()
         wrapper.kill()
