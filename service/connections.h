@@ -34,8 +34,8 @@ void hand_on(struct connection *connection, const uint8_t *bytes, size_t len);
 /* The dispatcher's client; null while it is not let in, or a replica's connection waits for its entry. */
 struct client *client_of(const struct connection *connection);
 
-/* secured.c. Whether bytes of a connection may be read in this turn. Handshakes are costly, so a turn makes few steps of
- * them. */
+/* secured.c. Whether bytes of a connection may be read in this turn. Handshakes are costly, so a turn makes few steps
+ * of them. */
 bool may_step(const struct connection *connection);
 
 /* Begins TLS on a connection; false without memory. */
