@@ -1,4 +1,5 @@
 /* TLS between memory and memory, by OpenSSL. */
+#define OPENSSL_NO_FILENAMES /* (so what is made is the same in each folder) */
 #include "vlm_tls.h"
 
 #include <limits.h>
