@@ -121,7 +121,7 @@ def bindings(_program):
         yield from difference("none.pem: No such file or directory" in made.stdout, True)
 
 
-# Clients that are turned away: the certificate and the authority, what they are told, and what the log has.
+# Clients that are turned away: their certificate, the text that they get, and the text in the log.
 TURNED_AWAY = {"of another authority": ("stranger", "it refuses: unknown CA", "unable to get local issuer certificate"),
                "with an old certificate": ("late", "it refuses: certificate expired", "certificate has expired"),
                "with the certificate of a replica": ("m1", "it refuses: unsupported certificate",

@@ -111,6 +111,16 @@ fn locked(ending: &Mutex<Ending>) -> MutexGuard<'_, Ending> {
     ending.lock().unwrap_or_else(PoisonError::into_inner)
 }
 
+/// The end of a request, once it was told. Until then it has the task woken by the end.
+fn polled(ending: &Mutex<Ending>, context: &mut Context<'_>) -> Poll<Option<Event>> {
+    let mut ending = locked(ending);
+    if let Some(event) = ending.ended {
+        return Poll::Ready(event);
+    }
+    ending.waker = Some(context.waker().clone());
+    Poll::Pending
+}
+
 impl LockFuture {
     /// The lock for which it waits.
     pub fn lock(&self) -> Option<LockId> {
@@ -140,12 +150,9 @@ impl Future for LockFuture {
     type Output = Result<Guard, Error>;
 
     fn poll(mut self: Pin<&mut Self>, context: &mut Context<'_>) -> Poll<Self::Output> {
-        let mut ending = locked(&self.ending);
-        let Some(event) = ending.ended else {
-            ending.waker = Some(context.waker().clone());
+        let Poll::Ready(event) = polled(&self.ending, context) else {
             return Poll::Pending;
         };
-        drop(ending);
         self.lock = None;
         Poll::Ready(self.guard(event))
     }
@@ -209,12 +216,9 @@ impl Future for ConvertFuture<'_> {
     type Output = Result<(), Error>;
 
     fn poll(mut self: Pin<&mut Self>, context: &mut Context<'_>) -> Poll<Self::Output> {
-        let mut ending = locked(&self.ending);
-        let Some(event) = ending.ended else {
-            ending.waker = Some(context.waker().clone());
+        let Poll::Ready(event) = polled(&self.ending, context) else {
             return Poll::Pending;
         };
-        drop(ending);
         let conversion = self.conversion.take().expect("polled once after its end");
         Poll::Ready(self.guard.conversion_ended(conversion, event))
     }
