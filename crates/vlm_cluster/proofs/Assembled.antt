@@ -16,15 +16,15 @@ use Rattle.vlm_journal.specs.Journals.{Journal}
 use Rattle.vlm_journal.specs.Told.{asked, told}
 use Rattle.vlm_ports.specs.declared.hub.Hub.{Hub}
 use Rattle.vlm_ports.specs.declared.port.Port.{Port}
-use Rattle.vlm_ports.specs.Hubs.{HubTakesAlone, rings}
+use Rattle.vlm_ports.specs.Hubs.{rings}
 use Rattle.vlm_ports.specs.Ports.{AreNew, identity}
 use Rattle.vlm_ports.specs.Rings.{RingName}
 use Rattle.vlm_cluster.specs.declared.report.Report.{Report}
 use Rattle.vlm_cluster.specs.declared.threads.WorkerPromise.{WorkerPromise}
 use Rattle.vlm_cluster.specs.declared.worker.WorkerResult.{WorkerResult}
+use Rattle.vlm_cluster.specs.Assembly.{IsSoundReport}
 use Rattle.vlm_cluster.specs.Headline.{AreAllPosted, AreServed, AreServedInPart, IsReport, Items, StepList}
-use Rattle.vlm_cluster.specs.Parts.{AreNumbered}
-use Rattle.vlm_cluster.specs.Reports.{entries_of, parts_of}
+use Rattle.vlm_cluster.specs.Reports.{entries_of}
 use Rattle.vlm_cluster.specs.Works.{ArePortsOf, IsBegun, IsWhole, IsWorkOn, work_of}
 use Rattle.vlm_cluster.proofs.Outcomes.{begun_asked, begun_told, whole_asked, whole_told}
 use Rattle.vlm_journal.proofs.Lists.{element}
@@ -46,16 +46,31 @@ AreWorks {G} never ports lists results = (k : ℕ) (d : WorkerResult G) (p : Por
 abbrev pub AreNoted : {G : Type 0} → List (WorkerResult G) → List ℕ → Type 0
 AreNoted {G} results posted = (k : ℕ) (d : WorkerResult G) → k < length results → get_or posted k 0 ≡ (get_or results k d).posted
 
-module _ {G : Type 0} (never : Bool) (ports : List Port) (lists : List StepList) (results : List (WorkerResult G)) (r : Report)
-    (new : AreNew ports) (as_many : length ports ≡ length lists) (few : length results ≤ length lists) (works : AreWorks never ports lists results)
-    (noted : AreNoted results r.posted.items) where
+-- the workers on these lists, each with a port of its own, have ended
+pub record HaveEnded {G : Type 0} (never : Bool) (ports : List Port) (lists : List StepList) (results : List (WorkerResult G)) : Type 0 where
+  pub new : AreNew ports
+  pub as_many : length ports ≡ length lists
+  pub few : length results ≤ length lists
+  pub works : AreWorks never ports lists results
+
+module _ {G : Type 0} {never : Bool} {ports : List Port} {lists : List StepList} {results : List (WorkerResult G)}
+    (ended : HaveEnded never ports lists results) (r : Report) (noted : AreNoted results r.posted.items) where
+  new : AreNew ports
+  new = ended.new
+
+  as_many : length ports ≡ length lists
+  as_many = ended.as_many
+
+  few : length results ≤ length lists
+  few = ended.few
+
   -- the work on a list, and how much of it is noted
   on_list : (k n : ℕ) (list : StepList) → slice_get lists k ≡ Some list → slice_get r.posted.items k ≡ Some n
       → k < length results → (p : Port) (d : WorkerResult G)
       → IsWorkOn never (get_or ports k p) list.items (work_of (get_or results k d)) × (n ≡ (get_or results k d).posted)
   on_list k n list at_list at_n lt p d = (
     subst (λ (l : StepList). IsWorkOn never (get_or ports k p) l.items (work_of (get_or results k d)))
-        (get_or_from_slice_get lists k list list at_list) (works k d p list lt),
+        (get_or_from_slice_get lists k list list at_list) (ended.works k d p list lt),
     sym (get_or_from_slice_get r.posted.items k n 0 at_n) ∙ noted k d lt,
   )
 
@@ -65,16 +80,16 @@ module _ {G : Type 0} (never : Bool) (ports : List Port) (lists : List StepList)
       let on = on_list k n list at_list at_n lt (element ports k (omega (arith, lt, few, as_many))) (element results k lt) in
       subst (λ (m : ℕ). m ≤ length list.items) (sym on.1) on.0.within
 
-  module _ (all : length results ≡ length lists) (items : length r.items.items ≡ length results) (posted : length r.posted.items ≡ length results)
-      (legal : Journal (entries_of r) r.core) (numbered : AreNumbered (parts_of r)) (takes : HubTakesAlone (entries_of r)) (law : DepartedLaw) where
+  module _ {every bound : ℕ} (all : length results ≡ length lists) (items : length r.items.items ≡ length results)
+      (posted : length r.posted.items ≡ length results) (sound : IsSoundReport every bound r) (law : DepartedLaw) where
     report_of : IsReport lists r
     report_of = record {
       counts = (items ∙ all, posted ∙ all);
       within = λ k n list at_list at_n. noted_within k n list at_list at_n (let lt = slice_get_within lists k list at_list in omega (arith, lt, all));
-      legal = legal;
-      numbered = numbered;
-      takes = takes;
-      departed = law (entries_of r) r.core legal;
+      legal = sound.legal;
+      numbered = sound.numbered;
+      takes = sound.takes;
+      departed = law (entries_of r) r.core sound.legal;
     }
 
     pub served : ((k : ℕ) (d : WorkerResult G) (v : Items) → k < length results
@@ -97,7 +112,7 @@ module _ {G : Type 0} (never : Bool) (ports : List Port) (lists : List StepList)
           let some : k < length ports = omega (arith, lt, few, as_many) in
           let p = element ports k some in let d = element results k lt in let list = element lists k (omega (arith, lt, few)) in
           let told = whole_told never ports new k p some (get_or lists k list).items (work_of (get_or results k d))
-          (works k d p list lt) (entries_of r) (get_or r.items.items k v).items
+          (ended.works k d p list lt) (entries_of r) (get_or r.items.items k v).items
           (get_or results k d).posted refl (whole k d v lt) in
           subst (λ (x : Items). x.items ≡ told_items r k) (get_or_from_slice_get r.items.items k v v at_v) told;
     }
@@ -122,7 +137,7 @@ module _ {G : Type 0} (never : Bool) (ports : List Port) (lists : List StepList)
           let some : k < length ports = omega (arith, lt, few, as_many) in
           let p = element ports k some in let d = element results k lt in let list = element lists k (omega (arith, lt, few)) in
           let told = begun_told never ports new k p some (get_or lists k list).items (work_of (get_or results k d))
-          (works k d p list lt) (entries_of r) (get_or r.items.items k v).items
+          (ended.works k d p list lt) (entries_of r) (get_or r.items.items k v).items
           (get_or results k d).posted refl (each k d v lt) in
           subst (λ (x : Items). IsPrefix x.items (told_items r k)) (get_or_from_slice_get r.items.items k v v at_v) told;
     }
@@ -141,21 +156,20 @@ module _ {G : Type 0} (never : Bool) (ports : List Port) (lists : List StepList)
         on.1 ∙ on.0.whole set (whole k d v lt).left
 
   -- where the hub has made no turn
-  pub given_up : entries_of r ≡ [] → length r.items.items ≡ length lists → length r.posted.items ≡ length lists
-      → Journal (entries_of r) r.core → AreNumbered (parts_of r) → HubTakesAlone (entries_of r) → DepartedLaw
-      → ((k : ℕ) (v : Items) → k < length lists → (get_or r.items.items k v).items ≡ []) → ((k : ℕ) → length results ≤ k → get_or r.posted.items k 0 ≡ 0)
-      → AreServedInPart lists r
-  given_up none items posted legal numbered takes law empty others = record {
+  pub given_up : {every bound : ℕ} → entries_of r ≡ [] → length r.items.items ≡ length lists → length r.posted.items ≡ length lists
+      → IsSoundReport every bound r → DepartedLaw → ((k : ℕ) (v : Items) → k < length lists → (get_or r.items.items k v).items ≡ [])
+      → ((k : ℕ) → length results ≤ k → get_or r.posted.items k 0 ≡ 0) → AreServedInPart lists r
+  given_up none items posted sound law empty others = record {
     report = record {
       counts = (items, posted);
       within = λ k n list at_list at_n. elim (cases_lt k (length results)) [
         | inl lt ↦ noted_within k n list at_list at_n lt
         | inr le ↦ let is : n ≡ 0 = sym (get_or_from_slice_get r.posted.items k n 0 at_n) ∙ others k le in omega (arith, is)
       ];
-      legal = legal;
-      numbered = numbered;
-      takes = takes;
-      departed = law (entries_of r) r.core legal;
+      legal = sound.legal;
+      numbered = sound.numbered;
+      takes = sound.takes;
+      departed = law (entries_of r) r.core sound.legal;
     };
     asked = λ k n list at_list at_n.
         subst (λ (es : List Entry). IsPrefix (asked (k + 1) es) (take n list.items ++ Leave (k + 1) ∷ [])) (sym none)

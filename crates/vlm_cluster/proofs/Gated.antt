@@ -10,7 +10,7 @@ use Rattle.vlm_cluster.specs.declared.report.Report.{Report}
 use Rattle.vlm_cluster.specs.declared.threads.WorkerPromise.{WorkerPromise}
 use Rattle.vlm_cluster.specs.declared.worker.WorkerResult.{WorkerResult}
 use Rattle.vlm_cluster.specs.Gates.{IsFollowed, IsToldOn, Moves}
-use Rattle.vlm_cluster.specs.Headline.{AreGated, AreGatedInPart, Items, StepList}
+use Rattle.vlm_cluster.specs.Headline.{AreGated, Items, StepList}
 use Rattle.vlm_cluster.specs.Works.{IsGatedWork, point_of}
 use Rattle.vlm_cluster.proofs.Assembled.{AreNoted}
 use Rattle.vlm_cluster.proofs.Guides.{followed_cancelled, followed_none, followed_told}
@@ -51,7 +51,7 @@ module _ {G : Type 0} (moves : Moves G) (gates : List G) (lists : List StepList)
               (work_on k n gate list at_gate at_list at_n lt d) more.1),
         )
 
-    pub gated : ((k : ℕ) (d : WorkerResult G) → k < length results → (get_or results k d).left ≡ true) → AreGated moves gates lists r
+    pub gated : ((k : ℕ) (d : WorkerResult G) → k < length results → (get_or results k d).left ≡ true) → AreGated true moves gates lists r
     gated left k n gate list v at_gate at_list at_n at_v =
         let within = slice_get_within r.items.items k v at_v in
         let lt : k < length results = omega (arith, within, items) in
@@ -59,7 +59,7 @@ module _ {G : Type 0} (moves : Moves G) (gates : List G) (lists : List StepList)
         let on = told_on k n gate list v at_gate at_list at_n at_v lt d in
         (on.0, subst (λ (b : Bool). IsFollowed moves (gate, []) (on.0, v.items) (length list.items) n b) (left k d lt) on.1)
 
-    pub gated_in_part : AreGatedInPart moves gates lists r
+    pub gated_in_part : AreGated false moves gates lists r
     gated_in_part k n gate list v at_gate at_list at_n at_v =
         let within = slice_get_within r.items.items k v at_v in
         let lt : k < length results = omega (arith, within, items) in
@@ -70,7 +70,7 @@ module _ {G : Type 0} (moves : Moves G) (gates : List G) (lists : List StepList)
   -- where the hub has made no turn
   pub gated_by_none : ((k : ℕ) (v : Items) → k < length r.items.items → (get_or r.items.items k v).items ≡ [])
       → ((k : ℕ) → length results ≤ k → get_or r.posted.items k 0 ≡ 0)
-      → AreGatedInPart moves gates lists r
+      → AreGated false moves gates lists r
   gated_by_none empty others k n gate list v at_gate at_list at_n at_v =
       let none : v.items ≡ [] = ap (λ (x : Items). x.items) (sym (get_or_from_slice_get r.items.items k v v at_v))
       ∙ empty k v (slice_get_within r.items.items k v at_v) in

@@ -3,6 +3,7 @@ mod Assembled
 mod Results
 mod Gated
 mod Guides
+mod Joined
 mod Outcomes
 mod Settled
 mod Throughout

@@ -6,7 +6,7 @@ use Rattle.std.specs.List.{slice_get}
 use Rattle.std.proofs.Math.Seq.{map-set_same}
 use Rattle.std.proofs.lemmas.Bool.{cases_eq}
 use Rattle.std.proofs.lemmas.List.{get_or-map, get_or_default, length-map, take-append-le, take_all}
-use Rattle.vlm_journal.specs.declared.entries.Entry.{Entry}
+use Rattle.vlm_journal.specs.declared.entries.Item.{Item}
 use Rattle.vlm_ports.specs.declared.hub.Hub.{Hub}
 use Rattle.vlm_ports.specs.Hubs.{rings}
 use Rattle.vlm_ports.specs.Ports.{identity}
@@ -14,7 +14,7 @@ use Rattle.vlm_ports.specs.Rings.{RingName}
 use Rattle.vlm_cluster.specs.declared.worker.WorkerResult.{WorkerResult}
 use Rattle.vlm_cluster.specs.Headline.{Items}
 use Rattle.vlm_cluster.specs.Gates.{IsTold, IsToldOn, Moves, Point}
-use Rattle.vlm_cluster.specs.Works.{AreBegun, ArePortsOf, AreTold, AreWhole, IsBegun, IsWhole, Work, point_of, work_of}
+use Rattle.vlm_cluster.specs.Works.{ArePortsOf, AreTold, HoldsOfWorks, Work, point_of, work_of}
 use Rattle.vlm_cluster.proofs.Guides.{told_none, told_then}
 
 -- what holds of each element, and of one that is put at the end, holds of each
@@ -60,24 +60,14 @@ module _ {G : Type 0} where
       let port : identity (get_or bs k d).client.port ≡ identity (get_or xs k d).client.port = ap (λ (w : Work). w.port) (work_at bs xs same k d lt) in
       subst (λ rs. P rs (identity (get_or bs k d).client.port)) (sym same_rings) (subst (λ port. P (rings h) port) (sym port) (are k d (omega (arith, n, lt))))
 
-  pub begun_more : (es : List Entry) (ds : List (WorkerResult G)) (at : ℕ) (d : WorkerResult G) → at < length ds
-      → AreBegun es ds at → IsBegun es (work_of d) d.client.items.items
-      → AreBegun es (set ds at d) (at + 1)
-  begun_more es ds at d lt before here k e below =
-      let P : WorkerResult G → Type 0 = λ x. IsBegun es (work_of x) x.client.items.items in
-      below_more (λ m. P (get_or (set ds at d) m e)) at
-      (λ m low. let ne : m ≢ at = omega (arith, low) in subst P (sym (get_or-set_other ds at m d e ne)) (before m e low))
-      (subst P (sym (get_or-set_same ds at d e lt)) here)
-      k below
-
-  pub whole_more : (es : List Entry) (ds : List (WorkerResult G)) (at : ℕ) (d : WorkerResult G) → at < length ds
-      → AreWhole es ds at → IsWhole es (work_of d) d.client.items.items
-      → AreWhole es (set ds at d) (at + 1)
-  whole_more es ds at d lt before here k e below =
-      let P : WorkerResult G → Type 0 = λ x. IsWhole es (work_of x) x.client.items.items in
-      below_more (λ m. P (get_or (set ds at d) m e)) at
-      (λ m low. let ne : m ≢ at = omega (arith, low) in subst P (sym (get_or-set_other ds at m d e ne)) (before m e low))
-      (subst P (sym (get_or-set_same ds at d e lt)) here)
+  -- what holds of the first results, and of the next one, holds of one more
+  pub one_more : (P : Work → List Item → Type 0) (ds : List (WorkerResult G)) (at : ℕ) (d : WorkerResult G) → at < length ds
+      → HoldsOfWorks P ds at → P (work_of d) d.client.items.items → HoldsOfWorks P (set ds at d) (at + 1)
+  one_more P ds at d lt before here k e below =
+      let Q : WorkerResult G → Type 0 = λ x. P (work_of x) x.client.items.items in
+      below_more (λ m. Q (get_or (set ds at d) m e)) at
+      (λ m low. let ne : m ≢ at = omega (arith, low) in subst Q (sym (get_or-set_other ds at m d e ne)) (before m e low))
+      (subst Q (sym (get_or-set_same ds at d e lt)) here)
       k below
 
   pub told_same : (moves : Moves G) (ds : List (WorkerResult G)) → AreTold moves ds ds
@@ -102,26 +92,18 @@ module _ {G : Type 0} where
       ]
 
   -- what was taken and settled, of what was handed back
-  module _ (ds xs : List (WorkerResult G)) (es : List Entry) (vs : List Items) (same : map work_of xs ≡ map work_of ds)
+  module _ (ds xs : List (WorkerResult G)) (vs : List Items) (same : map work_of xs ≡ map work_of ds)
       (are : vs ≡ map (λ (x : WorkerResult G). x.client.items) xs) where
     item_at : (k : ℕ) (d : WorkerResult G) (v : Items) → k < length xs → get_or vs k v ≡ (get_or xs k d).client.items
     item_at k d v lt = ap (λ (ys : List Items). get_or ys k v) are ∙ get_or-map (λ (x : WorkerResult G). x.client.items) xs k d v lt
 
-    pub begun_at : AreBegun es xs (length xs) → (k : ℕ) (d : WorkerResult G) (v : Items) → k < length ds
-        → IsBegun es (work_of (get_or ds k d)) (get_or vs k v).items
-    begun_at begun k d v below =
+    pub reported_at : (P : Work → List Item → Type 0) → HoldsOfWorks P xs (length xs) → (k : ℕ) (d : WorkerResult G) (v : Items)
+        → k < length ds → P (work_of (get_or ds k d)) (get_or vs k v).items
+    reported_at P holds k d v below =
         let n = as_many xs ds same in
         let lt : k < length xs = omega (arith, n, below) in
-        subst (λ (w : Work). IsBegun es w (get_or vs k v).items) (work_at xs ds same k d lt)
-        (subst (λ (x : Items). IsBegun es (work_of (get_or xs k d)) x.items) (sym (item_at k d v lt)) (begun k d lt))
-
-    pub whole_at : AreWhole es xs (length xs) → (k : ℕ) (d : WorkerResult G) (v : Items) → k < length ds
-        → IsWhole es (work_of (get_or ds k d)) (get_or vs k v).items
-    whole_at whole k d v below =
-        let n = as_many xs ds same in
-        let lt : k < length xs = omega (arith, n, below) in
-        subst (λ (w : Work). IsWhole es w (get_or vs k v).items) (work_at xs ds same k d lt)
-        (subst (λ (x : Items). IsWhole es (work_of (get_or xs k d)) x.items) (sym (item_at k d v lt)) (whole k d lt))
+        subst (λ (w : Work). P w (get_or vs k v).items) (work_at xs ds same k d lt)
+        (subst (λ (x : Items). P (work_of (get_or xs k d)) x.items) (sym (item_at k d v lt)) (holds k d lt))
 
     pub told_at : (moves : Moves G) → AreTold moves ds xs → (k : ℕ) (d : WorkerResult G) (v : Items) → k < length ds
         → IsToldOn moves (point_of (get_or ds k d)) (get_or vs k v).items

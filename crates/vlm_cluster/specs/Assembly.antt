@@ -1,20 +1,20 @@
 -- What a run starts with, and the report that is made from the results of its workers.
-use Rattle.std.specs.Prelude.{◌≡◌, ◌<◌, ◌≤◌, ℕ, List, Result, MatchResult, slice_index, slice_index_or, vec_capacity, vec_len}
+use Rattle.std.specs.Prelude.{◌≡◌, ◌<◌, ◌≤◌, ℕ, List, slice_index, slice_index_or, vec_capacity, vec_len}
 use Rattle.std.specs.declared.alloc.Global.{Global}
 use Rattle.std.specs.declared.thread.PromisedHandle.{PromisedHandle}
 use Rattle.std.specs.declared.vec.Vec.{Vec}
+use Rattle.vlm_journal.specs.declared.entries.Item.{Item}
 use Rattle.vlm_journal.specs.Journals.{Journal}
 use Rattle.vlm_ports.specs.declared.port.Port.{Port}
 use Rattle.vlm_ports.specs.Hubs.{HubTakesAlone}
-use Rattle.vlm_cluster.specs.declared.report.Fault.{Fault}
 use Rattle.vlm_cluster.specs.declared.report.Report.{Report}
 use Rattle.vlm_cluster.specs.declared.threads.WorkerPromise.{WorkerPromise}
 use Rattle.vlm_cluster.specs.declared.worker.WorkerResult.{WorkerResult}
 use Rattle.vlm_cluster.specs.Gates.{IsToldOn, Moves}
-use Rattle.vlm_cluster.specs.Headline.{AreGated, IsGatedFault, Items, StepList}
+use Rattle.vlm_cluster.specs.Headline.{Items, StepList}
 use Rattle.vlm_cluster.specs.Parts.{AreNumbered, HaveEnough, HaveFewer}
 use Rattle.vlm_cluster.specs.Reports.{entries_of, parts_of}
-use Rattle.vlm_cluster.specs.Works.{IsBegun, IsWhole, point_of, work_of}
+use Rattle.vlm_cluster.specs.Works.{Work, point_of, work_of}
 
 -- an empty vector with room for this many
 abbrev pub IsRoomFor : {T : Type 0} → ℕ → Vec T Global → Type 0
@@ -47,21 +47,12 @@ abbrev pub ArePostedBy : {G : Type 0} → ℕ → Report → List (WorkerResult 
 ArePostedBy {G} n r results = (k : ℕ) (d : WorkerResult G) → k < n
     → slice_index r.posted.items k ≡ (slice_index_or results k d).posted
 
--- what each worker posted and took has begun as the journal says
-abbrev pub AreBegunBy : {G : Type 0} → ℕ → Report → List (WorkerResult G) → Type 0
-AreBegunBy {G} n r results = (k : ℕ) (d : WorkerResult G) (v : Items) → k < n
-    → IsBegun (entries_of r) (work_of (slice_index_or results k d)) (slice_index_or r.items.items k v).items
-
--- what each worker posted and took is what the journal says
-abbrev pub AreWholeBy : {G : Type 0} → ℕ → Report → List (WorkerResult G) → Type 0
-AreWholeBy {G} n r results = (k : ℕ) (d : WorkerResult G) (v : Items) → k < n
-    → IsWhole (entries_of r) (work_of (slice_index_or results k d)) (slice_index_or r.items.items k v).items
+-- the fact holds of each worker's work and of the items that the report has for it
+abbrev pub HoldsAsReported : {G : Type 0} → (Work → List Item → Type 0) → ℕ → Report → List (WorkerResult G) → Type 0
+HoldsAsReported {G} P n r results = (k : ℕ) (d : WorkerResult G) (v : Items) → k < n
+    → P (work_of (slice_index_or results k d)) (slice_index_or r.items.items k v).items
 
 -- the gate of each worker was told the items of the report
 abbrev pub AreToldBy : {G : Type 0} → Moves G → ℕ → Report → List (WorkerResult G) → Type 0
 AreToldBy {G} moves n r results = (k : ℕ) (d : WorkerResult G) (v : Items) → k < n
     → IsToldOn moves (point_of (slice_index_or results k d)) (slice_index_or r.items.items k v).items
-
--- the workers posted as their gates said, as far as the run came
-abbrev pub IsGatedRun : {G : Type 0} → Moves G → List G → List StepList → Result Report Fault → Type 0
-IsGatedRun moves gates lists result = MatchResult result (AreGated moves gates lists) (IsGatedFault moves gates lists)

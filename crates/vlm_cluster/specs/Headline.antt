@@ -1,6 +1,6 @@
 -- What the report of a run says.
 use Rattle.std.specs.Prelude.{◌≡◌, ◌<◌, ◌≤◌, ◌+◌, ◌++◌, ℕ, Bool, true, false, IfErr, IfOk, Result, List, [], ◌∷◌, None}
-use Rattle.std.specs.Prelude.{Option, Some, length, slice_get, take, ⊤}
+use Rattle.std.specs.Prelude.{MatchResult, Option, Some, length, slice_get, take, ⊤}
 use Rattle.std.specs.declared.alloc.Global.{Global}
 use Rattle.std.specs.declared.vec.Vec.{Vec}
 use mathlib.Core.List.{IsPrefix}
@@ -112,23 +112,28 @@ pub record IsServing (never_stops : Bool) (lists : List StepList) (result : Resu
   pub order : IfOk result (λ r. GrantsKeepOrder (entries_of r) r.core)
   pub cut_short : IfErr result (λ fault. IsCutShort lists fault)
 
--- each list was posted as its gate said: the gate was told the items of the report, and let through what was posted,
--- which is the whole list or all steps before a stop
-abbrev pub AreGated : {G : Type 0} → Moves G → List G → List StepList → Report → Type 0
-AreGated {G} moves gates lists r = (k n : ℕ) (gate : G) (list : StepList) (items : Items)
-    → slice_get gates k ≡ Some gate → slice_get lists k ≡ Some list
-    → slice_get r.posted.items k ≡ Some n → slice_get r.items.items k ≡ Some items
-    → (last : G) × IsFollowed moves (gate, []) (last, items.items) (length list.items) n true
-
--- the same for workers that may be cancelled: the items of the report are a prefix of those that the gate was told
-abbrev pub AreGatedInPart : {G : Type 0} → Moves G → List G → List StepList → Report → Type 0
-AreGatedInPart {G} moves gates lists r = (k n : ℕ) (gate : G) (list : StepList) (items : Items)
-    → slice_get gates k ≡ Some gate → slice_get lists k ≡ Some list
-    → slice_get r.posted.items k ≡ Some n → slice_get r.items.items k ≡ Some items
-    → (last : G) × (told : List Item) × IsPrefix items.items told
+-- a list was posted as its gate said: the gate heard these items and let through n steps, which is the whole list or
+-- all steps before a stop; or, of a worker that may be cancelled, the items are a prefix of those that the gate heard
+abbrev pub IsGated : {G : Type 0} → Bool → Moves G → G → StepList → ℕ → Items → Type 0
+IsGated {G} true moves gate list n items =
+    (last : G) × IsFollowed moves (gate, []) (last, items.items) (length list.items) n true
+IsGated {G} false moves gate list n items =
+    (last : G) × (told : List Item) × IsPrefix items.items told
     × IsFollowed moves (gate, []) (last, told) (length list.items) n false
 
--- if memory was refused after a worker was started, the lists were posted in that way
+-- each list was posted so, by what the report says of it; `ended` tells that no worker was cancelled
+abbrev pub AreGated : {G : Type 0} → Bool → Moves G → List G → List StepList → Report → Type 0
+AreGated {G} ended moves gates lists r = (k n : ℕ) (gate : G) (list : StepList) (items : Items)
+    → slice_get gates k ≡ Some gate → slice_get lists k ≡ Some list
+    → slice_get r.posted.items k ≡ Some n → slice_get r.items.items k ≡ Some items
+    → IsGated ended moves gate list n items
+
+-- if memory was refused after a worker was started, the lists were posted as far as the workers came
 abbrev pub IsGatedFault : {G : Type 0} → Moves G → List G → List StepList → Fault → Type 0
 IsGatedFault moves gates lists (Memory None) = ⊤
-IsGatedFault moves gates lists (Memory (Some r)) = AreGatedInPart moves gates lists r
+IsGatedFault moves gates lists (Memory (Some r)) = AreGated false moves gates lists r
+
+-- the workers posted as their gates said, as far as the run came
+abbrev pub IsGatedRun : {G : Type 0} → Moves G → List G → List StepList → Result Report Fault → Type 0
+IsGatedRun moves gates lists result =
+    MatchResult result (AreGated true moves gates lists) (IsGatedFault moves gates lists)

@@ -65,15 +65,10 @@ pub record IsWhole (entries : List Entry) (w : Work) (items : List Item) : Type 
   pub asked : asked w.port.0 entries ≡ w.posts
   pub told : items ≡ told w.port.0 entries
 
--- `IsBegun` holds of the first n results
-abbrev pub AreBegun : {G : Type 0} → List Entry → List (WorkerResult G) → ℕ → Type 0
-AreBegun {G} entries results n = (k : ℕ) (d : WorkerResult G) → k < n
-    → IsBegun entries (work_of (slice_index_or results k d)) (slice_index_or results k d).client.items.items
-
--- `IsWhole` holds of the first n results
-abbrev pub AreWhole : {G : Type 0} → List Entry → List (WorkerResult G) → ℕ → Type 0
-AreWhole {G} entries results n = (k : ℕ) (d : WorkerResult G) → k < n
-    → IsWhole entries (work_of (slice_index_or results k d)) (slice_index_or results k d).client.items.items
+-- the fact holds of the work and the items in each of the first n results
+abbrev pub HoldsOfWorks : {G : Type 0} → (Work → List Item → Type 0) → List (WorkerResult G) → ℕ → Type 0
+HoldsOfWorks {G} P results n = (k : ℕ) (d : WorkerResult G) → k < n
+    → P (work_of (slice_index_or results k d)) (slice_index_or results k d).client.items.items
 
 -- a worker's gate, and the items that it has taken
 abbrev pub point_of : {G : Type 0} → WorkerResult G → Point G

@@ -4,8 +4,8 @@ ghost use Rattle.std.specs.Prelude.{◌≡◌, ◌<◌, ◌≤◌, [], ℕ, IsTr
 ghost use Rattle.vlm_cluster.specs.Gates.{moves};
 ghost use Rattle.vlm_cluster.specs.Parts.{IsAccounted, bound_of};
 ghost use Rattle.vlm_cluster.specs.Reports.{entries_of};
-ghost use Rattle.vlm_cluster.specs.Works.{ArePortsOf, entries_at};
-ghost use Rattle.vlm_cluster.specs.Assembly.{AreBegunBy, ArePostedBy, AreToldBy, AreWholeBy, IsRoomFor, IsSoundReport};
+ghost use Rattle.vlm_cluster.specs.Works.{ArePortsOf, IsBegun, IsWhole, entries_at};
+ghost use Rattle.vlm_cluster.specs.Assembly.{ArePostedBy, AreToldBy, HoldsAsReported, IsRoomFor, IsSoundReport};
 
 use crate::gate::Gate;
 use crate::hub_driver::HubDriver;
@@ -44,8 +44,9 @@ pub(crate) fn finish<G: Gate>(
     ensures counts { (vec_len result.report.items ≡ vec_len results)
         × (vec_len result.report.posted ≡ vec_len results) }
     ensures posted { ArePostedBy (vec_len results) result.report results.items }
-    ensures begun { AreBegunBy (vec_len results) result.report results.items }
-    ensures whole { IsTrue result.whole → AreWholeBy (vec_len results) result.report results.items }
+    ensures begun { HoldsAsReported (IsBegun (entries_of result.report)) (vec_len results) result.report results.items }
+    ensures whole { IsTrue result.whole
+        → HoldsAsReported (IsWhole (entries_of result.report)) (vec_len results) result.report results.items }
     ensures told { AreToldBy (moves G.answers G.hears) (vec_len results) result.report results.items }
 {
     let mut driver = driver;

@@ -5,12 +5,12 @@ ghost use Rattle.vlm_words.specs.State.{start};
 ghost use Rattle.vlm_ports.specs.Hubs.{rings};
 ghost use Rattle.vlm_ports.specs.Ports.{AreNew, identity};
 ghost use Rattle.vlm_cluster.specs.Gates.{moves};
-ghost use Rattle.vlm_cluster.specs.Headline.{AreGated, IsGatedFault, IsServing};
+ghost use Rattle.vlm_cluster.specs.Headline.{IsGatedRun, IsServing};
 ghost use Rattle.vlm_cluster.specs.Parts.{IsAccounted};
 ghost use Rattle.vlm_cluster.specs.Posts.{AreListsOfPosts};
 ghost use Rattle.vlm_cluster.specs.Reports.{IsParted, IsPartedFault};
 ghost use Rattle.vlm_cluster.specs.Works.{entries_at};
-ghost use Rattle.vlm_cluster.specs.Assembly.{IsGatedRun, IsRoomFor};
+ghost use Rattle.vlm_cluster.specs.Assembly.{IsRoomFor};
 
 use crate::finish::{finish, give_up};
 use crate::gate::Gate;
@@ -46,9 +46,7 @@ pub fn serve_lists<R: Threads + Wait + Clock + Copy + Send + 'static, G: Gate + 
     requires posts { AreListsOfPosts lists.items }
     requires every { 0 < every }
     ensures serving { IsServing G.never_stops lists.items result }
-    ensures gated { MatchResult result
-        (AreGated (moves G.answers G.hears) gates.items lists.items)
-        (IsGatedFault (moves G.answers G.hears) gates.items lists.items) }
+    ensures gated { IsGatedRun (moves G.answers G.hears) gates.items lists.items result }
     ensures parts { MatchResult result (IsParted every (vec_len lists)) (IsPartedFault every (vec_len lists)) }
 {
     serve_lists_over(rt, alloc, Core::new(alloc), gates, lists, every)
@@ -71,9 +69,7 @@ pub fn serve_lists_over<
     requires posts { AreListsOfPosts lists.items }
     requires every { 0 < every }
     ensures serving { IsServing G.never_stops lists.items result }
-    ensures gated { MatchResult result
-        (AreGated (moves G.answers G.hears) gates.items lists.items)
-        (IsGatedFault (moves G.answers G.hears) gates.items lists.items) }
+    ensures gated { IsGatedRun (moves G.answers G.hears) gates.items lists.items result }
     ensures parts { MatchResult result (IsParted every (vec_len lists)) (IsPartedFault every (vec_len lists)) }
 {
     let Ok(preallocated) = Preallocated::new(alloc, lists.len()) else {

@@ -5,7 +5,7 @@ ghost use Rattle.std.specs.Prelude.{◌≡◌, ◌<◌, IsTrue, OnOk, length, ma
 ghost use Rattle.vlm_ports.specs.Hubs.{IsPortOf, journal, rings};
 ghost use Rattle.vlm_cluster.specs.Gates.{IsTold, moves};
 ghost use Rattle.vlm_cluster.specs.Parts.{IsAccounted};
-ghost use Rattle.vlm_cluster.specs.Works.{AreBegun, ArePortsOf, AreTold, AreWhole, IsBegun, IsWhole, entries_at, point_of, work_of};
+ghost use Rattle.vlm_cluster.specs.Works.{ArePortsOf, AreTold, HoldsOfWorks, IsBegun, IsWhole, entries_at, point_of, work_of};
 
 use crate::gate::Gate;
 use crate::hub_driver::HubDriver;
@@ -30,8 +30,8 @@ pub(crate) fn close<G: Gate>(
     ensures accounted { IsAccounted driver.new.parts.items driver.new.hub }
     ensures every { driver.new.every ≡ driver.old.every }
     ensures few { IsTrue result → length (journal driver.new.hub) < driver.new.every }
-    ensures begun { AreBegun (entries_at driver.new) results.new (length results.new) }
-    ensures whole { IsTrue result → AreWhole (entries_at driver.new) results.new (length results.new) }
+    ensures begun { HoldsOfWorks (IsBegun (entries_at driver.new)) results.new (length results.new) }
+    ensures whole { IsTrue result → HoldsOfWorks (IsWhole (entries_at driver.new)) results.new (length results.new) }
 {
     let served = serve_rest(rt, signals, driver, results);
     settle_all(driver, results) && served.is_ok()
@@ -75,8 +75,8 @@ fn settle_all<G: Gate>(driver: &mut HubDriver, results: &mut [WorkerResult<G>]) 
     ensures accounted { IsAccounted driver.new.parts.items driver.new.hub }
     ensures journal { journal driver.new.hub ≡ journal driver.old.hub }
     ensures every { driver.new.every ≡ driver.old.every }
-    ensures begun { AreBegun (entries_at driver.new) results.new (length results.new) }
-    ensures whole { IsTrue result → AreWhole (entries_at driver.new) results.new (length results.new) }
+    ensures begun { HoldsOfWorks (IsBegun (entries_at driver.new)) results.new (length results.new) }
+    ensures whole { IsTrue result → HoldsOfWorks (IsWhole (entries_at driver.new)) results.new (length results.new) }
 {
     let mut all = true;
     for at in 0..results.len() {

@@ -196,12 +196,6 @@ module _ (s : Records) (res lock : ℕ) (sound : IsSound s) (on : IsOn lock res 
 
 -- ---- walks
 
--- the locks that the walk has left give what it is to give
-abbrev pub Leads : (Resource → LockState → Type 0) → Records → ℕ → Option ℕ → Option ℕ → Type 0
-Leads P s res from at =
-    (own : StoredResource) → resource_at res s.resources ≡ Some own → (found : Option ℕ)
-    → IsFirstOf (P (plain_resource own)) (locks_from at (all_locks own)) found → IsFirstFrom (P (plain_resource own)) from (all_locks own) found
-
 -- the locks that a walk has left
 abbrev pub left_at : Records → ℕ → Option ℕ → List StoredLock
 left_at s res at = locks_from at (all_locks_at res s)
@@ -213,8 +207,14 @@ locks_on : (s : Records) (res : ℕ) (own : StoredResource) → resource_at res 
 locks_on s res own found = ap (λ o. option_map_or all_locks o []) found
 
 module _ (P : Resource → LockState → Type 0) (s : Records) (res : ℕ) where
+  -- the locks that the walk has left give what it is to give
+  abbrev pub Leads : Option ℕ → Option ℕ → Type 0
+  Leads from at =
+      (own : StoredResource) → resource_at res s.resources ≡ Some own → (found : Option ℕ)
+      → IsFirstOf (P (plain_resource own)) (locks_from at (all_locks own)) found → IsFirstFrom (P (plain_resource own)) from (all_locks own) found
+
   -- a walk from the first lock
-  leads_first : (at : Option ℕ) → IsSound s → at ≡ first_at (all_locks_at res s) → Leads P s res None at
+  leads_first : (at : Option ℕ) → IsSound s → at ≡ first_at (all_locks_at res s) → Leads None at
   leads_first at sound is own found result first =
       let apart = all_apart s sound own (resource_among res s.resources own found) in
       let begins : at ≡ first_at (all_locks own) = is ∙ ap first_at (locks_on s res own found) in
@@ -222,7 +222,7 @@ module _ (P : Resource → LockState → Type 0) (s : Records) (res : ℕ) where
       (ap (λ o. locks_from o (all_locks own)) begins ∙ locks_from-first [] (all_locks own) apart) first
 
   -- a walk from the lock after one
-  leads_after : (lock : ℕ) (at : Option ℕ) → IsSound s → at ≡ at_after lock (all_locks_at res s) → Leads P s res (Some lock) at
+  leads_after : (lock : ℕ) (at : Option ℕ) → IsSound s → at ≡ at_after lock (all_locks_at res s) → Leads (Some lock) at
   leads_after lock at sound is own found result first before rest row split =
       let k : StoredLock = record { at = lock; row = row } in
       let apart : AreApart (before ++ k ∷ rest) = subst AreApart split (all_apart s sound own (resource_among res s.resources own found)) in
@@ -234,13 +234,13 @@ module _ (P : Resource → LockState → Type 0) (s : Records) (res : ℕ) where
       (ap (λ o. locks_from o (all_locks own)) after ∙ ap (locks_from (first_at rest)) split ∙ behind) first
 
   -- a walk from either
-  pub leads_from : (from at : Option ℕ) → IsSound s → at ≡ first_from from (all_locks_at res s) → Leads P s res from at
+  pub leads_from : (from at : Option ℕ) → IsSound s → at ≡ first_from from (all_locks_at res s) → Leads from at
   leads_from None at sound is = leads_first at sound is
   leads_from (Some lock) at sound is = leads_after lock at sound is
 
   -- this lock does not pass
   pub leads_on : (from : Option ℕ) (lock : ℕ) (next : Option ℕ) → IsSound s → IsOn lock res s → next ≡ at_after lock (all_locks_at res s)
-      → (PassesOn P s res lock → ⊥) → Leads P s res from (Some lock) → Leads P s res from next
+      → (PassesOn P s res lock → ⊥) → Leads from (Some lock) → Leads from next
   leads_on from lock next sound on is not leads own found result first =
       let there = resource_among res s.resources own found in
       let stands = at_lock lock (all_locks own) (all_apart s sound own there) (on_locks s res lock own found on) in
@@ -251,7 +251,7 @@ module _ (P : Resource → LockState → Type 0) (s : Records) (res : ℕ) where
       )))
 
   -- it does
-  pub leads_found : (from : Option ℕ) (lock : ℕ) → IsSound s → IsOn lock res s → PassesOn P s res lock → Leads P s res from (Some lock)
+  pub leads_found : (from : Option ℕ) (lock : ℕ) → IsSound s → IsOn lock res s → PassesOn P s res lock → Leads from (Some lock)
       → IsNextOn P s res from (Some lock)
   leads_found from lock sound on passes leads own found =
       let there = resource_among res s.resources own found in
@@ -260,7 +260,7 @@ module _ (P : Resource → LockState → Type 0) (s : Records) (res : ℕ) where
       (inl (row_passes P s res lock stands.row own sound found (all_stored s sound own there lock stands.row stands.among) passes, refl)))
 
   -- no lock is left
-  pub leads_none : (from at : Option ℕ) → at ≡ None → Leads P s res from at → IsNextOn P s res from None
+  pub leads_none : (from at : Option ℕ) → at ≡ None → Leads from at → IsNextOn P s res from None
   leads_none from at none leads own found =
       leads own found None (subst (λ o. IsFirstOf (P (plain_resource own)) (locks_from o (all_locks own)) None) (sym none) refl)
 

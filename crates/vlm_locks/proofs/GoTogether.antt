@@ -91,9 +91,14 @@ last_of (x ∷ y ∷ notes) (suc many) is =
     let rest = last_of (y ∷ notes) many (omega (arith, is)) in
     (x ∷ rest.0, rest.1, (ap (λ (ts : List Note). x ∷ ts) rest.2.0, omega (arith, rest.2.1)))
 
+-- as many are left by another name
+pub leaving_by : {invalidates : Bool} {owner pid : ℕ} {old s : Records} {before now : Touches} {many : ℕ} (other : ℕ) → many ≡ other
+    → AreLeaving invalidates owner pid old s before now many → AreLeaving invalidates owner pid old s before now other
+leaving_by {invalidates} {owner} {pid} {old} {s} {before} {now} other same = subst (AreLeaving invalidates owner pid old s before now) same
+
 -- ---- a turn
 
-module _ (invalidates : Bool) (owner pid : ℕ) (old s : Records) (before now : Touches) (many : ℕ)
+module _ {invalidates : Bool} {owner pid : ℕ} {old s : Records} {before now : Touches} (many : ℕ)
     (so_far : AreLeaving invalidates owner pid old s before now (many + 1)) (can_go : CanGo pid before old) where
   lkids : List ℕ
   lkids = noted_lkids before.noted
@@ -270,7 +275,7 @@ module _ (invalidates : Bool) (owner pid : ℕ) (old s : Records) (before now : 
 
 -- ---- at the end
 
-module _ (invalidates : Bool) (owner pid : ℕ) (old s : Records) (before now : Touches) (many : ℕ)
+module _ {invalidates : Bool} {owner pid : ℕ} {old s : Records} {before now : Touches} (many : ℕ)
     (so_far : AreLeaving invalidates owner pid old s before now many) (over : many ≡ 0) where
   none_in_front : so_far.front ≡ []
   none_in_front = none so_far.front (omega (arith, so_far.count, over))

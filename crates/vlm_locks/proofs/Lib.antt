@@ -13,6 +13,7 @@ pub mod LockOwners
 pub mod Keyed
 pub mod NewResources
 pub mod MovedToEnd
+pub mod MovedForGrant
 pub mod OtherLocks
 pub mod FoundInLists
 pub mod InOrder

@@ -42,19 +42,18 @@ module _ (pid : ℕ) where
       of_want None = tt
       of_want (Some request) = (foreign, tt)
 
+  -- the row is served before those behind it, or stops the service: the endings are of others either way
+  served_or_not : (row : LockState) → IsForeign row → (more : Service) → AllByRecursion (IsOthers pid) more.endings → (r : Resource) (is_served : Bool)
+      → AllByRecursion (IsOthers pid) (cond is_served (service_after_grant row more) (no_service r)).endings
+  served_or_not row foreign more later r true = each_append (IsOthers pid) (grant_endings false row) more.endings (granted_others row foreign) later
+  served_or_not row foreign more later r false = tt
+
   conversions_others : (rows : List LockState) → AllByRecursion IsForeign rows → (r : Resource)
       → AllByRecursion (IsOthers pid) (service_of_conversions r rows).endings
   conversions_others [] each r = tt
   conversions_others (row ∷ rows) each r =
-      of_test (wanted_fits row.want r.granted rows) (conversions_others rows each.1 (record (resource_after_grant r row) { converting = rows }))
-    where
-      more : Service
-      more = service_of_conversions (record (resource_after_grant r row) { converting = rows }) rows
-
-      of_test : (b : Bool) → AllByRecursion (IsOthers pid) more.endings
-          → AllByRecursion (IsOthers pid) (cond b (service_after_grant row more) (no_service r)).endings
-      of_test true later = each_append (IsOthers pid) (grant_endings false row) more.endings (granted_others row each.0) later
-      of_test false later = tt
+      let left : Resource = record (resource_after_grant r row) { converting = rows } in
+      served_or_not row each.0 (service_of_conversions left rows) (conversions_others rows each.1 left) r (wanted_fits row.want r.granted rows)
 
   conversions_keep : (rows : List LockState) (r : Resource) → (service_of_conversions r rows).resource.waiting ≡ r.waiting
   conversions_keep [] r = refl
@@ -71,15 +70,8 @@ module _ (pid : ℕ) where
   waiting_others : (rows : List LockState) → AllByRecursion IsForeign rows → (r : Resource) → AllByRecursion (IsOthers pid) (service_of_waiting r rows).endings
   waiting_others [] each r = tt
   waiting_others (row ∷ rows) each r =
-      of_test (wanted_fits row.want r.granted r.converting) (waiting_others rows each.1 (record (resource_after_grant r row) { waiting = rows }))
-    where
-      more : Service
-      more = service_of_waiting (record (resource_after_grant r row) { waiting = rows }) rows
-
-      of_test : (b : Bool) → AllByRecursion (IsOthers pid) more.endings
-          → AllByRecursion (IsOthers pid) (cond b (service_after_grant row more) (no_service r)).endings
-      of_test true later = each_append (IsOthers pid) (grant_endings false row) more.endings (granted_others row each.0) later
-      of_test false later = tt
+      let left : Resource = record (resource_after_grant r row) { waiting = rows } in
+      served_or_not row each.0 (service_of_waiting left rows) (waiting_others rows each.1 left) r (wanted_fits row.want r.granted r.converting)
 
   new_requests_others : (r : Resource) → AllByRecursion IsForeign r.waiting → AllByRecursion (IsOthers pid) (service_of_new_requests r).endings
   new_requests_others r each = of_test (is_empty r.converting)

@@ -8,8 +8,8 @@ use Rattle.std.proofs.lemmas.Option.{none-some, same_Some}
 use Rattle.slab.specs.Slab.{Slab, get, ContainsKey, Updates, with_value}
 use Rattle.slab.proofs.SlabLemmas.{Updates-with_value}
 use Rattle.vlm_collections.specs.declared.link.TheConstants.{LAST_HANDLE}
-use Rattle.vlm_collections.specs.Lists.{IsIn, IsApart, IsLinked, handles_of, without}
-use Rattle.vlm_collections.proofs.Keeping.{updated-handles}
+use Rattle.vlm_collections.specs.Lists.{IsIn, IsApart, IsLinked, handles_of, next_in, prev_in, without}
+use Rattle.vlm_collections.proofs.Keeping.{updated-handles, vacant_unlisted}
 use Rattle.vlm_collections.proofs.HandleLists.{IsIn-without, IsApart-without, IsApart-push, length-below, without_head, without_past, without_absent}
 use Rattle.vlm_words.specs.declared.locks.LockState.{LockState}
 use Rattle.vlm_words.specs.declared.modes.Mode.{Mode}
@@ -21,13 +21,14 @@ use Rattle.vlm_records.specs.declared.locks.Lock.{Lock}
 use Rattle.vlm_records.specs.declared.queues.Queues.{Queues}
 use Rattle.vlm_records.specs.declared.resources.Resource.{Resource}
 use Rattle.vlm_records.specs.declared.tallies.Tally.{Tally}
+use Rattle.vlm_records.specs.Armed.{IsLaidOut}
 use Rattle.vlm_records.specs.Kept.{Recounts}
 use Rattle.vlm_records.specs.Shown.{IsPlaced, IsTallied, SameBut, but_lists, handles_at, handles_but, list_at, noted}
 use Rattle.vlm_records.specs.Shown.{noted_in, own_share, queue_links, row_in, rows, share_of, shares, tally_in}
 use Rattle.vlm_records.specs.Tallies.{Count, counted_request, how_many, is_mode, one_if, total, weight_of}
 use Rattle.vlm_records.proofs.Totals.{total-length}
-use Rattle.vlm_records.proofs.Families.{family-added, family-removed}
-use Rattle.vlm_records.proofs.PlacesOnLists.{noted_as, noted_is, one_place, place_cases, tally_but_lists}
+use Rattle.vlm_records.proofs.Families.{family-grown, family-shrunk}
+use Rattle.vlm_records.proofs.PlacesOnLists.{lists_same, noted_as, noted_is, one_place, place_cases, tally_but_lists}
 
 pub total-without : (weight : LockState → ℕ) (rows : ℕ → LockState) (ks : List ℕ) (at : ℕ) → IsApart ks → IsIn at ks
     → total weight rows (without at ks) + weight (rows at) ≡ total weight rows ks
@@ -307,15 +308,25 @@ module _ (q q' : Queues) (at : ℕ) (slot : Option Lock) (updates : Updates q.lo
   other_handle : (p : Place) (k : ℕ) → IsIn k (handles_at q p) → k ≢ at
   other_handle p k found same = unlisted p (subst (λ x. IsIn x (handles_at q p)) same found)
 
+  -- any part of the other records is what it was
+  part_kept : {Part : Type 0} (part : Option Lock → Part) (k : ℕ) → k ≢ at → part (get q'.locks k) ≡ part (get q.locks k)
+  part_kept part k differs = ap part (updates.others k differs)
+
+  still_there : (k : ℕ) → k ≢ at → ContainsKey q.locks k → ContainsKey q'.locks k
+  still_there k differs there = rw (updates.others k differs) there
+
   -- the record is new
   pub added_placed : IsPlaced q None → IsPlaced q' (Some at)
-  added_placed placed = family-added queue_links noted_in q.locks (list_at q) None placed q'.locks (list_at q') lists at slot updates unlisted refl
+  added_placed placed =
+      family-grown queue_links noted_in q.locks (list_at q) None placed q'.locks (list_at q') lists at unlisted
+      (part_kept (next_in queue_links)) (part_kept (prev_in queue_links)) still_there (part_kept noted_in) refl
 
   -- the record is gone, or notes no place
   pub removed_placed : noted_in slot ≡ None → IsPlaced q (Some at) → IsPlaced q' None
   removed_placed nothing placed =
-      family-removed queue_links noted_in q.locks (list_at q) (Some at) placed q'.locks
-      (list_at q') lists at slot updates unlisted (λ p e. none-some p (sym nothing ∙ e)) refl
+      family-shrunk queue_links noted_in q.locks (list_at q) (Some at) placed q'.locks (list_at q') lists at unlisted
+      (part_kept (next_in queue_links)) (part_kept (prev_in queue_links)) still_there (part_kept noted_in)
+      (λ p is. none-some p (sym (ap noted_in updates.changed ∙ nothing) ∙ is)) refl
 
   module _ (resources : q'.resources ≡ q.resources) where
     part_updated : (weight : Queue → LockState → ℕ) (r : ℕ) (queue : Queue)
@@ -437,3 +448,27 @@ module _ (q q' : Queues) (at : ℕ) (now : LockState) (placed : IsPlaced q None)
               shares_same q q' (weight_of count mode) (Some at) r handles (λ k differs. others k (λ e. differs (ap Some e))),
             );
       }
+
+-- a record comes into a vacant slot of the locks, and is in no queue yet
+module _ {q : Queues} {locks : Slab Lock} {at : ℕ} {slot : Option Lock} (laid_out : IsLaidOut q) (vacant : get q.locks at ≡ None)
+    (updates : Updates q.locks locks at slot) where
+  -- the queues with the record
+  abbrev pub with_record : Queues
+  with_record = record q { locks = locks }
+
+  pub inserted_unlisted : (p : Place) → ¬ IsIn at (handles_at q p)
+  inserted_unlisted p = vacant_unlisted queue_links q.locks (list_at q p) (laid_out.placed.linked p) at vacant
+
+  pub inserted_handles : (p : Place) → handles_at with_record p ≡ handles_at q p
+  inserted_handles =
+      updated_handles q with_record at slot updates laid_out.placed.linked inserted_unlisted (lists_same q with_record refl)
+
+  pub inserted_placed : IsPlaced with_record (Some at)
+  inserted_placed =
+      added_placed q with_record at slot updates laid_out.placed.linked inserted_unlisted
+      (lists_same q with_record refl) laid_out.placed
+
+  pub inserted_tallied : IsTallied with_record (Some at)
+  inserted_tallied =
+      added_tallied q with_record at slot updates laid_out.placed.linked inserted_unlisted
+      (lists_same q with_record refl) refl laid_out.tallied

@@ -2,7 +2,7 @@
 use Rattle.std.proofs.Common.{◌≡◌, ◌≢◌, ◌⊎◌, ℕ, [], ◌∷◌, ◌++◌, Option, None, Some, refl, sym, ap, ◌∙◌, subst, inl, inr}
 use Rattle.std.proofs.lemmas.Bool.{cases_eq}
 use Rattle.std.proofs.lemmas.Option.{none-some, same_Some}
-use Rattle.slab.specs.Slab.{Slab, get, ContainsKey, Updates}
+use Rattle.slab.specs.Slab.{Slab, get, ContainsKey}
 use Rattle.vlm_collections.specs.declared.link.Links.{Links}
 use Rattle.vlm_collections.specs.declared.lists.LinkedList.{LinkedList}
 use Rattle.vlm_collections.specs.Lists.{IsIn, IsLinked, IsNoList, handles_of, next_in, prev_in, without}
@@ -97,23 +97,6 @@ module _ {I Kind : Type 0} (links : Lock → Links) (noted : Option Lock → Opt
           ];
           gone = λ i k is found. none-some k (sym is);
         }
-
-    -- a record comes or goes that stands in no list
-    module _ (locks' : Slab Lock) (lists' : I → LinkedList Kind) (same : (i : I)
-        → lists' i ≡ lists i) (at : ℕ) (slot : Option Lock) (updates : Updates locks locks' at slot)
-        (unlisted : (i : I) → ¬ IsIn at (handles_of links locks (lists i))) where
-      pub family-added : out ≡ None → IsFamily links noted locks' lists' (Some at)
-      family-added =
-          family-grown locks' lists' same at unlisted (λ k differs. ap (next_in links) (updates.others k differs))
-          (λ k differs. ap (prev_in links) (updates.others k differs))
-          (λ k differs here. rw (updates.others k differs) here) (λ k differs. ap noted (updates.others k differs))
-
-      pub family-removed : ((i : I) → noted slot ≢ Some i) → out ≡ Some at → IsFamily links noted locks' lists' None
-      family-removed none =
-          family-shrunk locks' lists' same at unlisted (λ k differs. ap (next_in links) (updates.others k differs))
-          (λ k differs. ap (prev_in links) (updates.others k differs))
-          (λ k differs here. rw (updates.others k differs) here) (λ k differs. ap noted (updates.others k differs))
-          (λ i is. none i (ap noted (sym updates.changed) ∙ is))
 
   -- no lock is there
   pub family-empty : (locks : Slab Lock) (lists : I → LinkedList Kind) → ((i : I) → IsNoList (lists i))

@@ -1,6 +1,7 @@
 pub mod ArmedSeen
 pub mod Counted
 pub mod ProcessesChange
+pub mod ProcessAdded
 pub mod Dues
 pub mod FirstOf
 pub mod Fitting
@@ -12,6 +13,7 @@ pub mod KeptRecords
 pub mod Kinship
 pub mod Layouts
 pub mod LockLeaves
+pub mod LocksChange
 pub mod WaitListed
 pub mod LivingProcesses
 pub mod MarkedProcesses

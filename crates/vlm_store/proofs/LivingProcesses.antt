@@ -15,7 +15,7 @@ use Rattle.vlm_words.specs.declared.locks.LockState.{LockState}
 use Rattle.vlm_records.specs.declared.locks.Lock.{Lock}
 use Rattle.vlm_records.specs.declared.processes.Process.{Process}
 use Rattle.vlm_store.specs.declared.store.Store.TheInside.{Inside}
-use Rattle.vlm_store.specs.Records.{AreOwnApart, AreOwned, AreProcessesApart, FindsProcess, HasNoSublocks, HasProcess}
+use Rattle.vlm_store.specs.Records.{AreOwnApart, AreOwned, AreProcessesApart, FindsLock, FindsProcess, HasNoSublocks, HasProcess}
 use Rattle.vlm_store.specs.Records.{IsParentOf, IsProcess, IsSound, OwnLock, StoredProcess, Stores, own_at, process_at}
 use Rattle.vlm_store.specs.Records.{HasLock, IsLooseRow, NoneIsLoose}
 use Rattle.vlm_store.specs.Kept.{IsKept, beside_shown, found_in, processes_shown, records_shown}
@@ -24,7 +24,7 @@ use Rattle.vlm_store.specs.Holdings.{Holding, holding, own_of, process_face_in, 
 use Rattle.vlm_records.specs.Kin.{NamesParent, OwnerFits, ParentFits, below_handles, own_handles, owner_in, parent_in, pid_at, pid_of, process_links}
 use Rattle.vlm_store.specs.Store.{tables}
 use Rattle.vlm_store.proofs.HashedKeys.{by_keys}
-use Rattle.vlm_store.proofs.KeptRecords.{keys_apart, lkids_apart, stored_there, there_stored}
+use Rattle.vlm_store.proofs.KeptRecords.{keys_apart, lkids_apart, no_lock, stored_there, there_stored}
 use Rattle.vlm_store.proofs.Layouts.{IsSound-records_of, Stores-listed}
 use Rattle.vlm_records.proofs.PlacesOnLists.{lkid_told, one_place}
 use Rattle.vlm_store.proofs.Kinship.{records_processes, loose_there, loose_told, noted_not_loose}
@@ -331,6 +331,10 @@ module _ (s : Inside) (kept : IsKept s) where
   found_there pid (Some at) is =
       let there = pid_there (get s.processes at) pid (kept.processes.sound pid at (sym is)) in
       rw (ap (process_at at) shown ∙ process_at-found held at (kept.processes_ordered at there.0)) refl
+
+  -- what a caller does not find is not in the index
+  pub no_lock_found : (lkid : ℕ) → FindsLock (records_shown s) lkid None → handle_in s.lock_index lkid ≡ None
+  no_lock_found = no_lock s.queues s.order (beside_shown s) kept.placed kept.linked kept.ordered has_there there_has (handle_in s.lock_index) kept.locks
 
   pub no_process_found : (pid : ℕ) → FindsProcess (records_shown s) pid None → handle_by s.process_index pid ≡ None
   no_process_found pid absent = by_answer (handle_by s.process_index pid) refl

@@ -1,7 +1,8 @@
 -- What stays as processes come, go and are written.
-use Rattle.std.proofs.Common.{◌≡◌, ◌≢◌, ℕ, List, Bool, [], map, Option, None, Some, IsSome, refl, sym, ap, ◌∙◌, subst, inl, inr}
+use Rattle.std.proofs.Common.{◌≡◌, ◌≢◌, ℕ, nat_eq, List, Bool, [], map, Option, None, Some, IsSome, refl, sym, ap, ◌∙◌, subst, inl, inr}
 use Rattle.std.proofs.lemmas.Bool.{cases_eq}
 use Rattle.std.proofs.lemmas.Option.{none-some}
+use Rattle.std.specs.Map.{lookup}
 use Rattle.std.specs.Option.{option_map}
 use Rattle.slab.specs.Slab.{Slab, get, ContainsKey, with_value}
 use Rattle.slab.proofs.SlabLemmas.{Updates-with_value}
@@ -213,6 +214,13 @@ module _ (s : Inside) (kept : IsKept s) (processes : Slab Process) (index : Hand
     marked = kept_marked waits_in s.processes processes s.pending (λ p. ap (option_map pid_of) (same p)) (λ p. ap waits_in (same p)) kept.marked;
     living = kept_marked is_of_nodes s.processes processes s.living (λ p. ap (option_map pid_of) (same p)) (λ p. ap is_of_nodes (same p)) kept.living;
   }
+
+-- so it is after room was made in the slab and in the index
+pub reserved_kept : {s : Inside} → IsKept s → (processes : Slab Process) (index : HandleMap)
+    → processes ≡ record s.processes { capacity = processes.capacity } → index.entries ≡ s.process_index.entries
+    → IsKept (record s { processes = processes; process_index = index })
+reserved_kept {s} kept processes index same entries =
+    roomier s kept processes index (λ p. ap (λ x. get x p) same) (λ number. ap (lookup (nat_eq number)) entries)
 
 -- more room for marks does so too
 pub more_marks : (s : Inside) → IsKept s → (marks : List (List Bool)) → MarksGrow s.living marks → IsKept (record s { living = marks })

@@ -24,7 +24,7 @@ use Rattle.vlm_records.specs.Shown.{but_queued, lkid_of, order_links, room_in, t
 use Rattle.vlm_records.proofs.Rooms.{room_has, room_handle, room_slot, room_reserved}
 use Rattle.vlm_store.specs.Store.{Layout, lkid_at, records_of, room_of, tables}
 use Rattle.vlm_store.specs.Holdings.{holding, processes_of}
-use Rattle.vlm_store.specs.Kept.{IsKept, processes_shown, records_shown, rooms_shown}
+use Rattle.vlm_store.specs.Kept.{IsKept, beside_shown, processes_shown, records_shown, rooms_shown}
 use Rattle.vlm_store.proofs.Indexing.{Indexes-same}
 use Rattle.vlm_store.proofs.KeptRecords.{reserved_handles, reserved_placed, reserved_tallied}
 use Rattle.vlm_records.proofs.Arming.{armed_reserved, armed_resources}
@@ -147,6 +147,12 @@ module _ (s : Inside) where
     processes = room_of_less s.processes processes (spares_by s.process_index) finds is more finds_more;
   }
 
+  pub process_index_room_made : (processes : Slab Process) (index : HandleMap)
+      → processes ≡ record s.processes { capacity = processes.capacity } → s.processes.capacity ≤ processes.capacity
+      → spare s.process_index ≤ spare index
+      → IsUnchanged (records_shown s) (with_processes (record (rooms_shown s) { processes = room_of processes (spares_by index) }) processes)
+  process_index_room_made processes index is more spares = process_room_made processes (spares_by index) is more (spares_kept s.process_index index spares)
+
 -- the room stays where the queues keep it
 pub queues_room : (s : Inside) (q' : Queues) → room_in q'.locks ≡ room_in s.queues.locks
     → room_in q'.resources ≡ room_in s.queues.resources → rooms_shown (record s { queues = q' }) ≡ rooms_shown s
@@ -181,6 +187,24 @@ pub has_room : {T : Type 0} (nodes : Slab T) (finds : List ℕ) (number : ℕ) �
 has_room nodes finds number room =
     let slot = has_slot nodes finds room.slot in
     (slot.0, slot.1, room.find)
+
+-- room for a record, as a caller knows it, is room in the slab, for a link, and in the index
+pub lock_room : (s : Inside) (lkid : ℕ) → HasRoom lkid (records_shown s).room.locks → HasRoomFor s.queues.locks 1
+    × (s.queues.locks.vacant_key ≤ LAST_HANDLE) × (0 < spare_for (spares_of s.lock_index) lkid)
+lock_room s lkid has = has_room s.queues.locks (spares_of s.lock_index) lkid
+    (shown_room (λ r. HasRoom lkid r.locks) (tables s.queues s.order (beside_shown s)) has)
+
+pub resource_room : (s : Inside) (hash : ℕ) → HasRoom hash (records_shown s).room.resources → HasRoomFor s.queues.resources 1
+    × (s.queues.resources.vacant_key ≤ LAST_HANDLE) × (0 < spare_for (spares_in s.resource_index) hash)
+resource_room s hash has = has_room s.queues.resources (spares_in s.resource_index) hash
+    (shown_room (λ r. HasRoom hash r.resources) (tables s.queues s.order (beside_shown s)) has)
+
+pub process_room : (s : Inside) (pid : ℕ) → HasRoom pid (records_shown s).room.processes → HasRoomFor s.processes 1
+    × (s.processes.vacant_key ≤ LAST_HANDLE) × (1 ≤ spare s.process_index)
+process_room s pid has =
+    let room = has_room s.processes (spares_by s.process_index) pid
+    (shown_room (λ r. HasRoom pid r.processes) (tables s.queues s.order (beside_shown s)) has) in
+    (room.0, room.1, omega (arith, room_by s.process_index pid, room.2))
 
 -- more room for locks leaves all that the fields keep
 pub lock_room_kept : (s : Inside) → IsKept s → (locks : Slab Lock) (index : Parts)

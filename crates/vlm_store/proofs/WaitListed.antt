@@ -213,6 +213,17 @@ wait_list_removed q q' wait_list at placed placed' gone links loose handles is =
 
 -- ---- a lock comes
 
+-- who stands in a place still stands there after a lock joined one of the places
+stays_placed : (q q' : Queues) (at : ℕ) (to : Place) → handles_at q' to ≡ handles_at q to ++ at ∷ []
+    → ((p : Place) → p ≢ to → handles_at q' p ≡ handles_at q p) → (k : ℕ) (p : Place) → IsIn k (handles_at q p) → IsIn k (handles_at q' p)
+stays_placed q q' at to here elsewhere k p found =
+    elim (place_cases p to) [
+      | inl is ↦ subst (λ x. IsIn k (handles_at q' x)) (sym is)
+          (subst (IsIn k) (sym here)
+          (IsIn-push_kept at k (handles_at q to) (subst (λ x. IsIn k (handles_at q x)) is found)))
+      | inr other ↦ subst (IsIn k) (sym (elsewhere p other)) found
+    ]
+
 pub wait_list_added : (q q' : Queues) (wait_list : LinkedList InWaitList) (at : ℕ) (to : Place) → IsPlaced q None → IsPlaced q' None → get q.locks at ≡ None
     → ((k : ℕ) → k ≢ at → option_map wait_list_links (get q'.locks k) ≡ option_map wait_list_links (get q.locks k))
     → LooseStay q q' → handles_at q' to ≡ handles_at q to ++ at ∷ []
@@ -222,16 +233,7 @@ wait_list_added q q' wait_list at to placed placed' fresh links loose here elsew
     (λ i. vacant_unlisted wait_list_links q.locks wait_list (is.linked i) at fresh)
     (λ k differs. next_by (get q'.locks k) (get q.locks k) (links k differs)) (λ k differs. prev_by (get q'.locks k) (get q.locks k) (links k differs))
     (λ k differs. there_by_part wait_list_links (get q'.locks k) (get q.locks k) (links k differs))
-    (λ k differs. noted_still q q' placed placed' k (links k differs) (loose k) (stays k)) refl
-  where
-    stays : (k : ℕ) (p : Place) → IsIn k (handles_at q p) → IsIn k (handles_at q' p)
-    stays k p found =
-        elim (place_cases p to) [
-          | inl is ↦ subst (λ x. IsIn k (handles_at q' x)) (sym is)
-              (subst (IsIn k) (sym here)
-              (IsIn-push_kept at k (handles_at q to) (subst (λ x. IsIn k (handles_at q x)) is found)))
-          | inr other ↦ subst (IsIn k) (sym (elsewhere p other)) found
-        ]
+    (λ k differs. noted_still q q' placed placed' k (links k differs) (loose k) (stays_placed q q' at to here elsewhere k)) refl
 
 -- ---- a loose lock joins a queue
 
@@ -240,14 +242,6 @@ pub wait_list_pushed : (q q' : Queues) (wait_list : LinkedList InWaitList) (at :
     → ((k : ℕ) → k ≢ at → is_loose_in (get q'.locks k) ≡ is_loose_in (get q.locks k)) → handles_at q' to ≡ handles_at q to ++ at ∷ []
     → ((p : Place) → p ≢ to → handles_at q' p ≡ handles_at q p) → IsWaitList q.locks wait_list None → IsWaitList q'.locks wait_list (Some at)
 wait_list_pushed q q' wait_list at to placed placed' flag links loose here elsewhere is =
-    wait_list_stays_but q.locks q'.locks wait_list at links (λ k differs. noted_still q q' placed placed' k (links k) (loose k differs) (stays k))
+    wait_list_stays_but q.locks q'.locks wait_list at links
+    (λ k differs. noted_still q q' placed placed' k (links k) (loose k differs) (stays_placed q q' at to here elsewhere k))
     (unqueued_left q.locks wait_list at is (wait_list_noted (get q.locks at) ∙ ap wait_list_at (loose_unnoted (get q.locks at) flag)))
-  where
-    stays : (k : ℕ) (p : Place) → IsIn k (handles_at q p) → IsIn k (handles_at q' p)
-    stays k p found =
-        elim (place_cases p to) [
-          | inl is ↦ subst (λ x. IsIn k (handles_at q' x)) (sym is)
-              (subst (IsIn k) (sym here)
-              (IsIn-push_kept at k (handles_at q to) (subst (λ x. IsIn k (handles_at q x)) is found)))
-          | inr other ↦ subst (IsIn k) (sym (elsewhere p other)) found
-        ]

@@ -3,7 +3,7 @@ use Rattle.vlm_journal.specs.declared.entries.Entry.{Entry}
 use Rattle.vlm_cluster.specs.declared.worker.WorkerResult.{WorkerResult}
 use Rattle.vlm_cluster.specs.Gates.{moves}
 use Rattle.vlm_cluster.specs.Works.{AreTold, IsBegun, IsWhole, Work, entries_at, work_of}
-use Rattle.vlm_cluster.proofs.Results.{after_lend, as_many, begun_at, told_at, whole_at, work_at}
+use Rattle.vlm_cluster.proofs.Results.{after_lend, as_many, reported_at, told_at, work_at}
 use Rattle.vlm_cluster.proofs.finish.finish.Goals as goal
 
 pub returns-clause-sound : goal.returns-clause-sound
@@ -46,7 +46,7 @@ returns-clause-begun g c k d v below =
     ∙ ap (λ (ys : List D). map (λ (x : D). x.client.items) ys) (after_lend c.args.results.len xs (drop (length xs) ds) long) in
     let lt : k < length ds = (let ok = c.args.results.ok in omega (arith, below)) in
     subst (λ (es : List Entry). IsBegun es (work_of (get_or ds k d)) (get_or c.report.result.items.items k v).items) (sym c.report.ensures.entries)
-    (begun_at ds xs (entries_at c.close-whole.new.driver) c.report.result.items.items same are c.close-whole.ensures.begun k d v lt)
+    (reported_at ds xs c.report.result.items.items same are (IsBegun (entries_at c.close-whole.new.driver)) c.close-whole.ensures.begun k d v lt)
 
 pub returns-clause-whole : goal.returns-clause-whole
 returns-clause-whole g c is k d v below =
@@ -60,7 +60,7 @@ returns-clause-whole g c is k d v below =
     ∙ ap (λ (ys : List D). map (λ (x : D). x.client.items) ys) (after_lend c.args.results.len xs (drop (length xs) ds) long) in
     let lt : k < length ds = (let ok = c.args.results.ok in omega (arith, below)) in
     subst (λ (es : List Entry). IsWhole es (work_of (get_or ds k d)) (get_or c.report.result.items.items k v).items) (sym c.report.ensures.entries)
-    (whole_at ds xs (entries_at c.close-whole.new.driver) c.report.result.items.items same are (c.close-whole.ensures.whole is) k d v lt)
+    (reported_at ds xs c.report.result.items.items same are (IsWhole (entries_at c.close-whole.new.driver)) (c.close-whole.ensures.whole is) k d v lt)
 
 pub returns-clause-told : goal.returns-clause-told
 returns-clause-told g c k d v below =
@@ -74,5 +74,5 @@ returns-clause-told g c k d v below =
     ap (λ vs. vs.items) c.report.ensures.items ∙ c.take_items.ensures
     ∙ ap (λ (ys : List D). map (λ (x : D). x.client.items) ys) (after_lend c.args.results.len xs (drop (length xs) ds) long) in
     let lt : k < length ds = (let ok = c.args.results.ok in omega (arith, below)) in
-    told_at ds xs (entries_at c.close-whole.new.driver) c.report.result.items.items same are M
+    told_at ds xs c.report.result.items.items same are M
     (subst (λ (ys : List D). AreTold M ys xs) c.as_mut_slice.ensures.value c.close-whole.ensures.told) k d v lt

@@ -3,8 +3,8 @@ use Rattle.std.specs.Prelude.{IsTrue}
 use Rattle.std.proofs.Math.Seq.{map-set_same}
 use Rattle.vlm_journal.specs.declared.entries.Entry.{Entry}
 use Rattle.vlm_cluster.specs.Gates.{moves}
-use Rattle.vlm_cluster.specs.Works.{AreBegun, AreWhole, entries_at, work_of}
-use Rattle.vlm_cluster.proofs.Results.{begun_more, ports_kept, told_set, whole_more}
+use Rattle.vlm_cluster.specs.Works.{HoldsOfWorks, IsBegun, IsWhole, entries_at, work_of}
+use Rattle.vlm_cluster.proofs.Results.{one_more, ports_kept, told_set}
 use Rattle.vlm_cluster.proofs.settlement.settle_all.Goals as goal
 use Rattle.vlm_cluster.proofs.settlement.settle_all.Goals.{then-not-settle, else-not-settle}
 
@@ -24,13 +24,14 @@ loop-at-preserved g c =
       accounted = new.accounted;
       journal = new.journal ∙ was.journal;
       every = new.every ∙ was.every;
-      begun = begun_more (entries_at c.settle.new.driver) ds at d lt (subst (λ (es : List Entry). AreBegun es ds at) (sym new.entries) was.begun) new.begun;
+      begun = one_more (IsBegun (entries_at c.settle.new.driver)) ds at d lt
+          (subst (λ (es : List Entry). HoldsOfWorks (IsBegun es) ds at) (sym new.entries) was.begun) new.begun;
       whole = λ all. elim c.if-not-settle.branch [
         | then-not-settle w ↦ let f : true ≡ false = sym all ∙ w.all-is in absurd (grind rules)
         | else-not-settle w ↦
             let t : IsTrue c.settle.result = search rules in
             let before : c.loop-at.all ≡ true = sym w.all-is ∙ all in
-            whole_more (entries_at c.settle.new.driver) ds at d lt
-            (subst (λ (es : List Entry). AreWhole es ds at) (sym new.entries) (was.whole before)) (new.whole t)
+            one_more (IsWhole (entries_at c.settle.new.driver)) ds at d lt
+            (subst (λ (es : List Entry). HoldsOfWorks (IsWhole es) ds at) (sym new.entries) (was.whole before)) (new.whole t)
       ];
     }

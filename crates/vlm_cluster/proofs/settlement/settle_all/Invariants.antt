@@ -2,7 +2,7 @@ use Rattle.std.proofs.Common.{◌≡◌, true}
 use Rattle.vlm_ports.specs.Hubs.{journal, rings}
 use Rattle.vlm_cluster.specs.Parts.{IsAccounted}
 use Rattle.vlm_cluster.specs.Gates.{moves}
-use Rattle.vlm_cluster.specs.Works.{AreBegun, AreTold, AreWhole, entries_at, WorksStay}
+use Rattle.vlm_cluster.specs.Works.{AreTold, HoldsOfWorks, IsBegun, IsWhole, entries_at, WorksStay}
 use Rattle.vlm_cluster.proofs.settlement.settle_all.Given as goal
 
 abbrev pub invariant-loop-at : goal.invariant-loop-at
@@ -13,6 +13,6 @@ invariant-loop-at g l = record {
   accounted : IsAccounted l.driver.parts.items l.driver.hub;
   journal : journal l.driver.hub ≡ journal l.initial.driver.hub;
   every : l.driver.every ≡ l.initial.driver.every;
-  begun : AreBegun (entries_at l.driver) l.results l.at;
-  whole : l.all ≡ true → AreWhole (entries_at l.driver) l.results l.at;
+  begun : HoldsOfWorks (IsBegun (entries_at l.driver)) l.results l.at;
+  whole : l.all ≡ true → HoldsOfWorks (IsWhole (entries_at l.driver)) l.results l.at;
 }

@@ -7,7 +7,7 @@ use Rattle.vlm_locks.specs.GivingUp.{noted_lkids}
 use Rattle.vlm_locks.specs.Left.{is_among}
 use Rattle.vlm_locks.specs.Touched.{Touches}
 use Rattle.vlm_locks.specs.Withdrawals.{plain_withdrawal}
-use Rattle.vlm_locks.proofs.GoTogether.{AreLeaving, all_gone, can_end_still, count_now, init, it_goes, it_is_own, last}
+use Rattle.vlm_locks.proofs.GoTogether.{AreLeaving, all_gone, can_end_still, count_now, init, it_goes, it_is_own, last, leaving_by}
 use Rattle.vlm_locks.proofs.GoTogether.{lock_stored, no_sublocks, none_is_gone, note_is, split_now, went}
 use Rattle.vlm_locks.proofs.RunsDown.{IsTurn}
 use Rattle.vlm_locks.proofs.joint_withdrawals.remove_noted.Goals as goal
@@ -22,74 +22,38 @@ loop-left-init c =
 
 pub located_lock-located-requires-clause-stored : goal.located_lock-located-requires-clause-stored
 located_lock-located-requires-clause-stored c =
-    let so_far : AreLeaving c.args.joint.now.invalidates c.args.joint.now.owner c.args.joint.now.pid c.args.store.now
-    c.loop-left.store c.args.touched.now c.loop-left.touched (c.loop-left.left - 1 + 1) =
-    subst (AreLeaving c.args.joint.now.invalidates c.args.joint.now.owner c.args.joint.now.pid c.args.store.now
-    c.loop-left.store c.args.touched.now c.loop-left.touched)
-    (omega (arith, c.loop-left-test.true)) c.loop-left.invariant in
-    let here : c.lock.result ≡
-    (last c.args.joint.now.invalidates c.args.joint.now.owner c.args.joint.now.pid c.args.store.now
-    c.loop-left.store c.args.touched.now c.loop-left.touched (c.loop-left.left - 1) so_far c.requires.can_go).at =
-    c.lock.ensures ∙ ap (λ (t : Note). t.at)
-    (note_is c.args.joint.now.invalidates c.args.joint.now.owner c.args.joint.now.pid c.args.store.now c.loop-left.store
-    c.args.touched.now c.loop-left.touched (c.loop-left.left - 1) so_far c.requires.can_go c.index-notes-left.result
-    (subst (λ (ts : List Note). c.index-notes-left.result ≡ get_or ts
-    (c.loop-left.left - 1) c.index-notes-left.result) c.notes.ensures c.index-notes-left.is)) in
-    subst (λ at. IsStored at c.loop-left.store) (sym here)
-    (lock_stored c.args.joint.now.invalidates c.args.joint.now.owner c.args.joint.now.pid c.args.store.now
-    c.loop-left.store c.args.touched.now c.loop-left.touched (c.loop-left.left - 1) so_far c.requires.can_go)
+    let many = c.loop-left.left - 1 in
+    let so_far = leaving_by (many + 1) (omega (arith, c.loop-left-test.true)) c.loop-left.invariant in
+    let here : c.lock.result ≡ (last many so_far c.requires.can_go).at =
+    c.lock.ensures ∙ ap (λ (t : Note). t.at) (note_is many so_far c.requires.can_go c.index-notes-left.result
+    (subst (λ (ts : List Note). c.index-notes-left.result ≡ get_or ts many c.index-notes-left.result) c.notes.ensures c.index-notes-left.is)) in
+    subst (λ at. IsStored at c.loop-left.store) (sym here) (lock_stored many so_far c.requires.can_go)
 
 pub give_up-requires-clause-childless : goal.give_up-requires-clause-childless
 give_up-requires-clause-childless c =
-    let so_far : AreLeaving c.args.joint.now.invalidates c.args.joint.now.owner c.args.joint.now.pid c.args.store.now
-    c.loop-left.store c.args.touched.now c.loop-left.touched (c.loop-left.left - 1 + 1) =
-    subst (AreLeaving c.args.joint.now.invalidates c.args.joint.now.owner c.args.joint.now.pid c.args.store.now
-    c.loop-left.store c.args.touched.now c.loop-left.touched)
-    (omega (arith, c.loop-left-test.true)) c.loop-left.invariant in
-    let here : c.lock.result ≡
-    (last c.args.joint.now.invalidates c.args.joint.now.owner c.args.joint.now.pid c.args.store.now
-    c.loop-left.store c.args.touched.now c.loop-left.touched (c.loop-left.left - 1) so_far c.requires.can_go).at =
-    c.lock.ensures ∙ ap (λ (t : Note). t.at)
-    (note_is c.args.joint.now.invalidates c.args.joint.now.owner c.args.joint.now.pid c.args.store.now c.loop-left.store
-    c.args.touched.now c.loop-left.touched (c.loop-left.left - 1) so_far c.requires.can_go c.index-notes-left.result
-    (subst (λ (ts : List Note). c.index-notes-left.result ≡ get_or ts
-    (c.loop-left.left - 1) c.index-notes-left.result) c.notes.ensures c.index-notes-left.is)) in
+    let many = c.loop-left.left - 1 in
+    let so_far = leaving_by (many + 1) (omega (arith, c.loop-left-test.true)) c.loop-left.invariant in
+    let here : c.lock.result ≡ (last many so_far c.requires.can_go).at =
+    c.lock.ensures ∙ ap (λ (t : Note). t.at) (note_is many so_far c.requires.can_go c.index-notes-left.result
+    (subst (λ (ts : List Note). c.index-notes-left.result ≡ get_or ts many c.index-notes-left.result) c.notes.ensures c.index-notes-left.is)) in
     let f = c.located_lock-located.result in
-    let stored : Stores c.loop-left.store
-    (last c.args.joint.now.invalidates c.args.joint.now.owner c.args.joint.now.pid c.args.store.now
-    c.loop-left.store c.args.touched.now c.loop-left.touched
-    (c.loop-left.left - 1) so_far c.requires.can_go).at f.row =
+    let stored : Stores c.loop-left.store (last many so_far c.requires.can_go).at f.row =
     subst (λ at. Stores c.loop-left.store at f.row) here c.located_lock-located.ensures.row in
     subst (λ at. HasNoSublocks at c.loop-left.store) (sym (c.located_lock-located.ensures.lock ∙ here))
-    (no_sublocks c.args.joint.now.invalidates c.args.joint.now.owner c.args.joint.now.pid c.args.store.now
-    c.loop-left.store c.args.touched.now c.loop-left.touched
-    (c.loop-left.left - 1) so_far c.requires.can_go f.row stored)
+    (no_sublocks many so_far c.requires.can_go f.row stored)
 
 pub loop-left-preserved : goal.loop-left-preserved
 loop-left-preserved c =
-    let so_far : AreLeaving c.args.joint.now.invalidates c.args.joint.now.owner c.args.joint.now.pid c.args.store.now
-    c.loop-left.store c.args.touched.now c.loop-left.touched (c.loop-left.left - 1 + 1) =
-    subst (AreLeaving c.args.joint.now.invalidates c.args.joint.now.owner c.args.joint.now.pid c.args.store.now
-    c.loop-left.store c.args.touched.now c.loop-left.touched)
-    (omega (arith, c.loop-left-test.true)) c.loop-left.invariant in
-    let here : c.lock.result ≡
-    (last c.args.joint.now.invalidates c.args.joint.now.owner c.args.joint.now.pid c.args.store.now
-    c.loop-left.store c.args.touched.now c.loop-left.touched (c.loop-left.left - 1) so_far c.requires.can_go).at =
-    c.lock.ensures ∙ ap (λ (t : Note). t.at)
-    (note_is c.args.joint.now.invalidates c.args.joint.now.owner c.args.joint.now.pid c.args.store.now c.loop-left.store
-    c.args.touched.now c.loop-left.touched (c.loop-left.left - 1) so_far c.requires.can_go c.index-notes-left.result
-    (subst (λ (ts : List Note). c.index-notes-left.result ≡ get_or ts
-    (c.loop-left.left - 1) c.index-notes-left.result) c.notes.ensures c.index-notes-left.is)) in
+    let many = c.loop-left.left - 1 in
+    let so_far = leaving_by (many + 1) (omega (arith, c.loop-left-test.true)) c.loop-left.invariant in
+    let its = last many so_far c.requires.can_go in
+    let here : c.lock.result ≡ its.at =
+    c.lock.ensures ∙ ap (λ (t : Note). t.at) (note_is many so_far c.requires.can_go c.index-notes-left.result
+    (subst (λ (ts : List Note). c.index-notes-left.result ≡ get_or ts many c.index-notes-left.result) c.notes.ensures c.index-notes-left.is)) in
     let f = c.located_lock-located.result in
-    let stored : Stores c.loop-left.store
-    (last c.args.joint.now.invalidates c.args.joint.now.owner c.args.joint.now.pid c.args.store.now
-    c.loop-left.store c.args.touched.now c.loop-left.touched
-    (c.loop-left.left - 1) so_far c.requires.can_go).at f.row =
+    let stored : Stores c.loop-left.store its.at f.row =
     subst (λ at. Stores c.loop-left.store at f.row) here c.located_lock-located.ensures.row in
-    let is_last : f.lock ≡
-    (last c.args.joint.now.invalidates c.args.joint.now.owner c.args.joint.now.pid c.args.store.now
-    c.loop-left.store c.args.touched.now c.loop-left.touched (c.loop-left.left - 1) so_far c.requires.can_go).at =
-    c.located_lock-located.ensures.lock ∙ here in
+    let is_last : f.lock ≡ its.at = c.located_lock-located.ensures.lock ∙ here in
     let touch : Note = record { number = c.of_resource.result.number; at = f.res } in
     let noted : Touches = record { noted = so_far.touched.noted ++ touch ∷ []; room = so_far.touched.room } in
     let turn : IsTurn (is_among
@@ -98,12 +62,8 @@ loop-left-preserved c =
       sound = c.of_resource.ensures.sound;
       located = c.located_lock-located.ensures.located;
       mine = subst (λ at. IsIn at (own_handles_at c.args.joint.now.owner c.loop-left.store)) (sym is_last)
-          (it_is_own c.args.joint.now.invalidates c.args.joint.now.owner c.args.joint.now.pid c.args.store.now
-          c.loop-left.store c.args.touched.now c.loop-left.touched
-          (c.loop-left.left - 1) so_far c.requires.can_go f.row stored);
-      its = it_goes c.args.joint.now.invalidates c.args.joint.now.owner c.args.joint.now.pid c.args.store.now
-          c.loop-left.store c.args.touched.now c.loop-left.touched
-          (c.loop-left.left - 1) so_far c.requires.can_go f.row stored;
+          (it_is_own many so_far c.requires.can_go f.row stored);
+      its = it_goes many so_far c.requires.can_go f.row stored;
       waiting = by_abort;
       converting = by_abort;
       withdrawal = rw c.lkid.ensures at c.together-withdrawal.ensures;
@@ -116,38 +76,17 @@ loop-left-preserved c =
       notes = refl;
       room = refl;
     } in
-    went c.args.joint.now.invalidates c.args.joint.now.owner c.args.joint.now.pid c.args.store.now c.loop-left.store
-    c.args.touched.now c.loop-left.touched
-    (c.loop-left.left - 1) so_far c.requires.can_go f.row stored c.give_up.new.store noted c.replace.new.self f
+    went many so_far c.requires.can_go f.row stored c.give_up.new.store noted c.replace.new.self f
     (plain_withdrawal c.together-withdrawal.result) turn
     is_last refl c.give_up.ensures.own_locks c.give_up.ensures.loses touch refl
-    (c.replace.ensures.noted
-    (init c.args.joint.now.invalidates c.args.joint.now.owner c.args.joint.now.pid c.args.store.now
-    c.loop-left.store c.args.touched.now c.loop-left.touched
-    (c.loop-left.left - 1) so_far c.requires.can_go) so_far.resources
-    (last c.args.joint.now.invalidates c.args.joint.now.owner c.args.joint.now.pid c.args.store.now
-    c.loop-left.store c.args.touched.now c.loop-left.touched (c.loop-left.left - 1) so_far c.requires.can_go)
-    (split_now c.args.joint.now.invalidates c.args.joint.now.owner c.args.joint.now.pid c.args.store.now
-    c.loop-left.store c.args.touched.now c.loop-left.touched (c.loop-left.left - 1) so_far c.requires.can_go)
-    (count_now c.args.joint.now.invalidates c.args.joint.now.owner c.args.joint.now.pid c.args.store.now
-    c.loop-left.store c.args.touched.now c.loop-left.touched (c.loop-left.left - 1) so_far c.requires.can_go)
-    ∙ ap (λ (res : ℕ). init c.args.joint.now.invalidates c.args.joint.now.owner c.args.joint.now.pid c.args.store.now
-    c.loop-left.store c.args.touched.now c.loop-left.touched
-    (c.loop-left.left - 1) so_far c.requires.can_go ++ record {
-      number = c.of_resource.result.number;
-      at =
-          res;
-    } ∷ so_far.resources) c.of_resource.ensures.res)
+    (c.replace.ensures.noted (init many so_far c.requires.can_go) so_far.resources its
+    (split_now many so_far c.requires.can_go) (count_now many so_far c.requires.can_go)
+    ∙ ap (λ (res : ℕ). init many so_far c.requires.can_go ++ record { number = c.of_resource.result.number; at = res } ∷ so_far.resources)
+    c.of_resource.ensures.res)
     c.replace.ensures.room
 
 pub returns-clause-gone : goal.returns-clause-gone
-returns-clause-gone c =
-    all_gone c.args.joint.now.invalidates c.args.joint.now.owner c.args.joint.now.pid c.args.store.now c.loop-left.store
-    c.args.touched.now c.loop-left.touched c.loop-left.left c.loop-left.invariant
-    (omega (arith, c.loop-left-test.false))
+returns-clause-gone c = all_gone c.loop-left.left c.loop-left.invariant (omega (arith, c.loop-left-test.false))
 
 pub returns-clause-can_end : goal.returns-clause-can_end
-returns-clause-can_end c =
-    can_end_still c.args.joint.now.invalidates c.args.joint.now.owner c.args.joint.now.pid c.args.store.now
-    c.loop-left.store c.args.touched.now c.loop-left.touched c.loop-left.left c.loop-left.invariant
-    (omega (arith, c.loop-left-test.false))
+returns-clause-can_end c = can_end_still c.loop-left.left c.loop-left.invariant (omega (arith, c.loop-left-test.false))

@@ -1,43 +1,27 @@
 use Rattle.vlm_records.proofs.Rooms.{room_taken}
-use Rattle.std.proofs.Common.{◌≡◌, ◌∙◌, ◌+◌, ◌++◌, ◌∷◌, [], None, Some, ℕ, ap, refl, rules}
+use Rattle.std.proofs.Common.{◌≡◌, ◌∙◌, ◌+◌, ◌++◌, ◌∷◌, [], None, Some, ℕ, ap, rules}
 use Rattle.std.specs.Option.{option_map}
 use Rattle.slab.specs.Slab.{get}
-use Rattle.vlm_collections.specs.Lists.{IsIn}
 use Rattle.vlm_collections.proofs.Keeping.{vacant_unlisted}
-use Rattle.vlm_records.specs.declared.handles.Place.{Place}
-use Rattle.vlm_records.specs.declared.queues.Queues.{Queues}
 use Rattle.vlm_records.specs.Armed.{armed_links, armed_list}
-use Rattle.vlm_records.specs.Shown.{but_counted, but_queued, but_requeued, handles_at, list_at, new_lock, queue_links, room_in, row_in}
+use Rattle.vlm_records.specs.Shown.{but_counted, but_queued, but_requeued, new_lock, room_in, row_in}
 use Rattle.vlm_records.proofs.Arming.{added_granted, added_last, armed_but_one, armed_lists, armed_queues}
 use Rattle.vlm_records.proofs.Arming.{counted_queues, in_armed_is, lists_counted, requeued_is, tally_counted}
-use Rattle.vlm_records.proofs.Counting.{added_placed, added_tallied, tallied_put, updated_handles}
-use Rattle.vlm_records.proofs.PlacesOnLists.{counted_handles, counted_placed, lists_same, same_then}
+use Rattle.vlm_records.proofs.Counting.{inserted_handles, inserted_placed, inserted_tallied, inserted_unlisted, tallied_put}
+use Rattle.vlm_records.proofs.PlacesOnLists.{counted_handles, counted_placed, same_then}
 use Rattle.vlm_records.proofs.queues.Queues.add.Goals as goal
 
 pub push_at-requires-clause-placed : goal.push_at-requires-clause-placed
 push_at-requires-clause-placed c =
-    let q = c.args.self.now in
-    let q1 : Queues = record q { locks = c.insert_reserved-at.new.self } in
-    added_placed q q1 c.insert_reserved-at.result _ c.insert_reserved-at.ensures.updates c.requires.laid_out.placed.linked
-    (λ p. vacant_unlisted queue_links q.locks (list_at q p)
-    (c.requires.laid_out.placed.linked p) c.insert_reserved-at.result c.insert_reserved-at.ensures.was_vacant)
-    (lists_same q q1 refl) c.requires.laid_out.placed
+    inserted_placed c.requires.laid_out c.insert_reserved-at.ensures.was_vacant c.insert_reserved-at.ensures.updates
 
 pub count_in-requires-clause-tallied : goal.count_in-requires-clause-tallied
 count_in-requires-clause-tallied c =
-    let q = c.args.self.now in
-    let at = c.insert_reserved-at.result in
-    let q1 : Queues = record q { locks = c.insert_reserved-at.new.self } in
-    let unlisted : (p : Place)
-    → ¬ IsIn at (handles_at q p) =
-    λ p. vacant_unlisted queue_links q.locks (list_at q p)
-    (c.requires.laid_out.placed.linked p) at c.insert_reserved-at.ensures.was_vacant in
-    let placed1 = added_placed q q1 at _ c.insert_reserved-at.ensures.updates c.requires.laid_out.placed.linked unlisted
-    (lists_same q q1 refl) c.requires.laid_out.placed in
-    let tallied1 = added_tallied q q1 at _ c.insert_reserved-at.ensures.updates c.requires.laid_out.placed.linked
-    unlisted (lists_same q q1 refl) refl c.requires.laid_out.tallied in
-    tallied_put q1 c.push_at.new.self at c.args.to placed1 c.push_at.ensures.here c.push_at.ensures.elsewhere
-    c.push_at.ensures.rows c.push_at.ensures.kept.rest tallied1
+    let vacant = c.insert_reserved-at.ensures.was_vacant in
+    let updates = c.insert_reserved-at.ensures.updates in
+    tallied_put (record c.args.self.now { locks = c.insert_reserved-at.new.self }) c.push_at.new.self c.insert_reserved-at.result c.args.to
+    (inserted_placed c.requires.laid_out vacant updates) c.push_at.ensures.here c.push_at.ensures.elsewhere
+    c.push_at.ensures.rows c.push_at.ensures.kept.rest (inserted_tallied c.requires.laid_out vacant updates)
 
 pub join_armed-requires-clause-placed : goal.join_armed-requires-clause-placed
 join_armed-requires-clause-placed c =
@@ -47,44 +31,37 @@ pub join_armed-requires-clause-armed : goal.join_armed-requires-clause-armed
 join_armed-requires-clause-armed c which =
     let q = c.args.self.now in
     let at = c.insert_reserved-at.result in
-    let q1 : Queues = record q { locks = c.insert_reserved-at.new.self } in
     let q2 = c.push_at.new.self in
     let q3 = c.count_in.new.self in
     let put = c.push_at.ensures in
     let counts = c.count_in.ensures.counts in
-    let others = c.insert_reserved-at.ensures.updates.others in
-    let linked = c.requires.laid_out.placed.linked in
-    let unlisted : (p : Place)
-    → ¬ IsIn at (handles_at q p) =
-    λ p. vacant_unlisted queue_links q.locks (list_at q p) (linked p) at c.insert_reserved-at.ensures.was_vacant in
-    let handles1 = updated_handles q q1 at _ c.insert_reserved-at.ensures.updates linked unlisted (lists_same q q1 refl) in
+    let vacant = c.insert_reserved-at.ensures.was_vacant in
+    let updates = c.insert_reserved-at.ensures.updates in
+    let handles1 = inserted_handles c.requires.laid_out vacant updates in
     let handles3 = counted_handles q2 q3 None put.placed counts.rest counts.locks in
     armed_but_one which q q3 None (Some at) at (c.requires.laid_out.armed which)
-    (λ res. vacant_unlisted (armed_links which) q.locks (armed_list which q res)
-    ((c.requires.laid_out.armed which).linked res) at c.insert_reserved-at.ensures.was_vacant)
+    (λ res. vacant_unlisted (armed_links which) q.locks (armed_list which q res) ((c.requires.laid_out.armed which).linked res) at vacant)
     (armed_lists which q.resources q3.resources
     (same_then but_counted q.resources q2.resources q3.resources (lists_counted q.resources q2.resources put.kept.rest)
     (tally_counted q2.resources q3.resources counts.rest)))
-    (λ k differs. ap (λ s. option_map but_requeued (get s k)) counts.locks ∙ put.kept.kin k ∙ ap (option_map but_requeued) (others k differs))
-    (added_granted which q q3 at (λ k differs. ap (λ s. row_in (get s k)) counts.locks ∙ put.rows k ∙ ap row_in (others k differs)) unlisted c.args.to
+    (λ k differs. ap (λ s. option_map but_requeued (get s k)) counts.locks ∙ put.kept.kin k ∙ ap (option_map but_requeued) (updates.others k differs))
+    (added_granted which q q3 at
+    (λ k differs. ap (λ s. row_in (get s k)) counts.locks ∙ put.rows k ∙ ap row_in (updates.others k differs))
+    (inserted_unlisted c.requires.laid_out vacant updates) c.args.to
     (handles3 c.args.to ∙ put.here ∙ ap (λ ks. ks ++ at ∷ []) (handles1 c.args.to)) (λ p differs. handles3 p ∙ put.elsewhere p differs ∙ handles1 p))
 
 pub join_armed-requires-clause-last : goal.join_armed-requires-clause-last
 join_armed-requires-clause-last c =
-    let q = c.args.self.now in
     let at = c.insert_reserved-at.result in
-    let q1 : Queues = record q { locks = c.insert_reserved-at.new.self } in
     let q2 = c.push_at.new.self in
     let q3 = c.count_in.new.self in
     let put = c.push_at.ensures in
     let counts = c.count_in.ensures.counts in
-    let linked = c.requires.laid_out.placed.linked in
-    let unlisted : (p : Place)
-    → ¬ IsIn at (handles_at q p) =
-    λ p. vacant_unlisted queue_links q.locks (list_at q p) (linked p) at c.insert_reserved-at.ensures.was_vacant in
-    let handles1 = updated_handles q q1 at _ c.insert_reserved-at.ensures.updates linked unlisted (lists_same q q1 refl) in
+    let vacant = c.insert_reserved-at.ensures.was_vacant in
+    let updates = c.insert_reserved-at.ensures.updates in
+    let handles1 = inserted_handles c.requires.laid_out vacant updates in
     let handles3 = counted_handles q2 q3 None put.placed counts.rest counts.locks in
-    added_last q q3 at unlisted c.args.to
+    added_last c.args.self.now q3 at (inserted_unlisted c.requires.laid_out vacant updates) c.args.to
     (handles3 c.args.to ∙ put.here ∙ ap (λ ks. ks ++ at ∷ []) (handles1 c.args.to)) (λ p differs. handles3 p ∙ put.elsewhere p differs ∙ handles1 p)
     (counted_placed q2 q3 None put.placed counts.rest counts.locks)
 
@@ -98,30 +75,18 @@ returns c = record {
     armed = c.join_armed.ensures.armed;
   };
   here =
-      let q = c.args.self.now in
-      let at = c.insert_reserved-at.result in
-      let q1 : Queues = record q { locks = c.insert_reserved-at.new.self } in
       let counts = c.count_in.ensures.counts in
-      let linked = c.requires.laid_out.placed.linked in
       c.join_armed.ensures.places.handles c.args.to
       ∙ counted_handles c.push_at.new.self c.count_in.new.self None c.push_at.ensures.placed counts.rest counts.locks c.args.to
       ∙ c.push_at.ensures.here
-      ∙ ap (λ ks. ks ++ at ∷ [])
-      (updated_handles q q1 at _ c.insert_reserved-at.ensures.updates linked
-      (λ p. vacant_unlisted queue_links q.locks (list_at q p) (linked p) at c.insert_reserved-at.ensures.was_vacant)
-      (lists_same q q1 refl) c.args.to);
+      ∙ ap (λ ks. ks ++ c.insert_reserved-at.result ∷ [])
+      (inserted_handles c.requires.laid_out c.insert_reserved-at.ensures.was_vacant c.insert_reserved-at.ensures.updates c.args.to);
   elsewhere = λ p differs.
-      let q = c.args.self.now in
-      let at = c.insert_reserved-at.result in
-      let q1 : Queues = record q { locks = c.insert_reserved-at.new.self } in
       let counts = c.count_in.ensures.counts in
-      let linked = c.requires.laid_out.placed.linked in
       c.join_armed.ensures.places.handles p
       ∙ counted_handles c.push_at.new.self c.count_in.new.self None c.push_at.ensures.placed counts.rest counts.locks p
       ∙ c.push_at.ensures.elsewhere p differs
-      ∙ updated_handles q q1 at _ c.insert_reserved-at.ensures.updates linked
-      (λ p. vacant_unlisted queue_links q.locks (list_at q p) (linked p) at c.insert_reserved-at.ensures.was_vacant)
-      (lists_same q q1 refl) p;
+      ∙ inserted_handles c.requires.laid_out c.insert_reserved-at.ensures.was_vacant c.insert_reserved-at.ensures.updates p;
   row = search rules;
   rows = search rules;
   lock =

@@ -3,7 +3,7 @@ use Rattle.std.specs.Option.{option_map}
 use Rattle.slab.specs.Slab.{get, with_value}
 use Rattle.vlm_records.specs.Tallies.{how_many, weight_of}
 use Rattle.vlm_records.specs.declared.queues.Queues.{Queues}
-use Rattle.vlm_records.specs.Shown.{SameBut, but_tally, noted_in, tally_in}
+use Rattle.vlm_records.specs.Shown.{SameBut, but_tally, tally_in}
 use Rattle.vlm_records.proofs.Counting.{counted_in, shares-room, tally_more, weight_of-le}
 use Rattle.vlm_records.proofs.OwnLocks.{written_same}
 use Rattle.vlm_records.proofs.PlacesOnLists.{lists_but_tally, noted_as, noted_stands}

@@ -6,7 +6,7 @@ use Rattle.vlm_records.specs.declared.queues.Queues.{Queues}
 use Rattle.vlm_records.specs.Shown.{SameBut, but_tally, tally_in}
 use Rattle.vlm_records.proofs.Counting.{counted_out, tally_less, weighs_here}
 use Rattle.vlm_records.proofs.OwnLocks.{written_same}
-use Rattle.vlm_records.proofs.PlacesOnLists.{lists_but_tally, noted_as, noted_stands}
+use Rattle.vlm_records.proofs.PlacesOnLists.{lists_but_tally, noted_stands}
 use Rattle.vlm_records.proofs.Rooms.{room_written}
 use Rattle.vlm_records.proofs.queues.Queues.count_out.Goals as goal
 

@@ -3,7 +3,7 @@ use Rattle.std.proofs.lemmas.Bool.{OnTrue_from}
 use Rattle.std.proofs.lemmas.Option.{none-some, same_Some}
 use Rattle.vlm_collections.specs.Lists.{handle_after, handles_of}
 use Rattle.vlm_records.specs.Armed.{IsLast}
-use Rattle.vlm_records.specs.Shown.{handles_at, noted_in, queue_links, list_at}
+use Rattle.vlm_records.specs.Shown.{handles_at, queue_links, list_at}
 use Rattle.vlm_records.proofs.PlacesOnLists.{noted_as}
 use Rattle.vlm_records.proofs.LastStaysLast.{is_nothing, none_after}
 use Rattle.vlm_records.proofs.queues.Queues.is_last.Goals as goal

@@ -1,14 +1,12 @@
-use Rattle.std.proofs.Common.{◌≡◌, ◌∙◌, ◌++◌, ◌∷◌, [], None, Some, ℕ, ap, false, refl, rules, sym}
+use Rattle.std.proofs.Common.{◌∙◌, ◌++◌, ◌∷◌, [], None, Some, ap, false, refl, rules}
 use Rattle.std.specs.Option.{option_map}
 use Rattle.slab.specs.Slab.{get, with_value}
 use Rattle.slab.proofs.SlabLemmas.{Updates-with_value}
-use Rattle.vlm_collections.specs.Lists.{IsIn}
-use Rattle.vlm_records.specs.declared.handles.Place.{Place}
 use Rattle.vlm_records.specs.declared.locks.Lock.{Lock}
 use Rattle.vlm_records.specs.declared.queues.Queues.{Queues}
-use Rattle.vlm_records.specs.Shown.{but_counted, but_queued, but_requeued, handles_at, room_in, row_in}
+use Rattle.vlm_records.specs.Shown.{but_counted, but_requeued, room_in, row_in}
 use Rattle.vlm_records.proofs.Arming.{added_granted, added_last, armed_but_one, armed_lists, armed_queues}
-use Rattle.vlm_records.proofs.Arming.{counted_queues, in_armed_is, loose_unarmed, lists_counted, requeued_is}
+use Rattle.vlm_records.proofs.Arming.{counted_queues, loose_unarmed, lists_counted}
 use Rattle.vlm_records.proofs.Arming.{tally_counted}
 use Rattle.vlm_records.proofs.Counting.{added_placed, added_tallied, tallied_put, updated_handles}
 use Rattle.vlm_records.proofs.PlacesOnLists.{counted_handles, counted_placed, lists_same, loose_unlisted, same_then}

@@ -1,7 +1,7 @@
 use Rattle.std.proofs.Common.{ap, refl, arith}
 use Rattle.std.specs.Option.{option_map}
 use Rattle.vlm_records.specs.Tallies.{how_many, weight_of}
-use Rattle.vlm_records.specs.Shown.{but_tally, noted_in, tally_in}
+use Rattle.vlm_records.specs.Shown.{but_tally, tally_in}
 use Rattle.vlm_records.proofs.Counting.{recounts, shares-room, weighs_here, weight_of-le}
 use Rattle.vlm_records.proofs.OwnLocks.{written_same}
 use Rattle.vlm_records.proofs.PlacesOnLists.{noted_as, noted_stands}

@@ -2,7 +2,7 @@ use Rattle.std.proofs.Common.{ap, refl, rules, subst, sym, ◌∙◌}
 use Rattle.std.proofs.lemmas.Option.{none-some}
 use Rattle.vlm_collections.specs.Lists.{IsIn, Lists, handles_of, without}
 use Rattle.vlm_records.specs.declared.handles.Place.TheVariants.{Queued}
-use Rattle.vlm_records.specs.Shown.{noted_in, queue_links, queue_list, with_queue_links}
+use Rattle.vlm_records.specs.Shown.{queue_links, queue_list, with_queue_links}
 use Rattle.vlm_records.proofs.PlacesOnLists.{noted_as, stands_there, taken-handles, taken-placed}
 use Rattle.vlm_records.proofs.WrittenQueue.{list_elsewhere, list_found, list_is, lists_alone, relisted}
 use Rattle.vlm_records.proofs.Rooms.{room_relinked, room_written}

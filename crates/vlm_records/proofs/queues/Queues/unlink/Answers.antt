@@ -1,4 +1,4 @@
-use Rattle.std.proofs.Common.{◌≡◌, ◌∙◌, None, Some, ap, refl, rules, true}
+use Rattle.std.proofs.Common.{◌∙◌, None, Some, ap, refl, rules, true}
 use Rattle.std.specs.Option.{option_map}
 use Rattle.slab.specs.Slab.{get, with_value}
 use Rattle.slab.proofs.SlabLemmas.{Updates-with_value}
@@ -7,9 +7,9 @@ use Rattle.vlm_records.specs.declared.handles.Place.{Place}
 use Rattle.vlm_records.specs.declared.locks.Lock.{Lock}
 use Rattle.vlm_records.specs.declared.queues.Queues.{Queues}
 use Rattle.vlm_records.specs.Shown.{but_requeued, handles_at, room_in, row_in}
-use Rattle.vlm_records.proofs.Arming.{armed_but_one, armed_lists, armed_queues, counted_queues, lists_counted, out_unlisted, removed_granted, tally_counted}
+use Rattle.vlm_records.proofs.Arming.{armed_but_one, armed_lists, lists_counted, out_unlisted, removed_granted, tally_counted}
 use Rattle.vlm_records.proofs.Counting.{removed_placed, removed_tallied, tallied_taken, updated_handles}
-use Rattle.vlm_records.proofs.PlacesOnLists.{counted_handles, counted_placed, lists_same, rows_relinked, same_then}
+use Rattle.vlm_records.proofs.PlacesOnLists.{counted_handles, counted_placed, lists_same, rows_relinked}
 use Rattle.vlm_records.proofs.Rooms.{room_written}
 use Rattle.vlm_records.proofs.queues.Queues.unlink.Goals as goal
 
