@@ -88,7 +88,7 @@ enum { VLM_TIMEOUT = 100, VLM_LOST = 101, VLM_FULL = 256 };
 /* Modes. */
 enum { VLM_NL = 0, VLM_CR = 1, VLM_CW = 2, VLM_PR = 3, VLM_PW = 4, VLM_EX = 5, VLM_NO_MODE = 255 };
 
-/* How `lock` names a lock: by its ID, or by the status block in which the lock stands. */
+/* How `lock` names a lock: by its ID, or by the status block that has its ID. */
 enum { VLM_BY_ID = 0, VLM_BY_BLOCK = 1 };
 
 /* Queues of a resource. */
@@ -115,7 +115,7 @@ enum {
     VLM_SYNCSTS = 4,     /* answers SYNCH where it is granted at once */
     VLM_SYSTEM = 8,      /* a root of the system's domain */
     VLM_EXPEDITE = 16,   /* a new request at NL is granted whatever is queued */
-    VLM_QUECVT = 32,     /* a conversion waits behind those that are queued */
+    VLM_QUECVT = 32,     /* a conversion waits after those that are queued */
     VLM_NODLCKWT = 64,   /* waits for nobody in a search for a deadlock */
     VLM_NODLCKBLK = 128, /* nobody waits for it in a search for a deadlock */
     VLM_WIDE = 256       /* with VALBLK: the value block's 64 bytes */
@@ -179,7 +179,7 @@ typedef struct vlm_request {
     uint32_t flags;
     uint32_t block;     /* the caller's status block */
     uint32_t lock;      /* vlm_enq: the parent lock, or 0; vlm_convert: the lock */
-    uint32_t lock_kind; /* VLM_BY_ID, or VLM_BY_BLOCK where `lock` is the status block in which that lock stands */
+    uint32_t lock_kind; /* VLM_BY_ID, or VLM_BY_BLOCK where `lock` is the status block that has its ID */
     uint32_t has_ast;   /* 1 where ast names a completion routine */
     uint32_t ast;
     uint32_t has_bast; /* 1 where bast names a blocking routine */
@@ -193,7 +193,7 @@ typedef struct vlm_dequeue {
     uint32_t pid;
     uint32_t flags;
     uint32_t lock;
-    uint32_t lock_kind; /* VLM_BY_ID, or VLM_BY_BLOCK where `lock` is the status block in which the lock stands */
+    uint32_t lock_kind; /* VLM_BY_ID, or VLM_BY_BLOCK where `lock` is the status block that has its ID */
     uint32_t has_value; /* 1 where the value block is written */
     uint32_t has_tail;  /* 1 where the tail is written with it */
     uint8_t value[16];
@@ -232,7 +232,7 @@ typedef struct vlm_resource {
     uint32_t value_valid;
     uint32_t tail_valid;
     uint32_t name_len;
-    uint8_t name[32]; /* with zeros behind it */
+    uint8_t name[32]; /* with zeros after it */
     uint8_t value[16];
     uint8_t tail[48];
     uint32_t reserved[4];
@@ -298,8 +298,8 @@ typedef struct vlm_line {
     uint32_t number;       /* the node of a leave or search, or the status block of a block or tail */
     uint32_t name_len;     /* 1 to 15, or 0 where a line names no process */
     uint32_t resource_len; /* of an enq, 0 where the word is no name: vlm_enq then answers VLM_IVBUFLEN */
-    uint8_t name[16];      /* the process, with zeros behind it */
-    uint8_t resource[32];  /* with zeros behind it */
+    uint8_t name[16];      /* the process, with zeros after it */
+    uint8_t resource[32];  /* with zeros after it */
     vlm_declaration declaration;
     vlm_setting setting;
     vlm_request request; /* of an enq or cvt */
@@ -311,7 +311,7 @@ typedef struct vlm_line {
 typedef struct vlm_text {
     uint32_t size;
     uint32_t len;
-    uint8_t bytes[248]; /* with zeros behind the line */
+    uint8_t bytes[248]; /* with zeros after the line */
 } vlm_text;
 
 VLM_ASSERT(sizeof(struct vlm_options) == 64);

@@ -176,6 +176,10 @@ size_t vlm_hub_entries(vlm_hub *hub);
  * written. */
 uint32_t vlm_hub_entry(vlm_hub *hub, size_t place, vlm_entry *entry);
 
+/* Copies a status block of a process of the hub, as vlm_block does. The items of a node bring no status blocks:
+ * vlm_port_block of vlm_hub_wait.h lets the thread of a port read them. NORMAL, or BADPARAM and nothing is written. */
+uint32_t vlm_hub_block(vlm_hub *hub, uint32_t pid, uint32_t block, vlm_lksb *lksb);
+
 /* Hands out all entries since the last cut, in order, and begins a new part of the journal. The parts in their order
  * are the whole journal. It takes no memory. NORMAL; IVBUFLEN if there are more than `capacity` entries, or BADPARAM:
  * then nothing is written and nothing is cut. Elements of `entries` after the last entry stay as they were. A hub that

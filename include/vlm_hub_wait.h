@@ -66,11 +66,28 @@ void vlm_bell_ring(vlm_bell *bell);
  * closed, or its descriptor is no eventfd. */
 uint32_t vlm_bell_wait(vlm_bell *bell, int milliseconds);
 
+/* A status block that the thread of a port reads. A completion AST tells only that a request has ended. The status
+ * block tells how, and has the value. The hub's thread looks it up between two turns. Each node has one read at a time,
+ * which stays at its place as a bell does. */
+typedef struct vlm_block_read {
+    uint32_t size;
+    uint32_t state;  /* 0; the calls write it */
+    uint32_t pid;    /* a process of the port's node */
+    uint32_t block;  /* the number of its status block, from 1 */
+    uint32_t status; /* what vlm_hub_block answered */
+    uint32_t reserved;
+    vlm_lksb lksb; /* the status block, if it answered NORMAL; its size need not be set */
+} vlm_block_read;
+
 /* The hub's thread. */
 
 /* Makes a turn, and rings the bell of each node that got an item in it. bells has the bells of `count` nodes, node 1
  * first. Answers as vlm_hub_turn. */
 uint32_t vlm_hub_turn_ringing(vlm_hub *hub, vlm_bell *bells, size_t count, size_t *made);
+
+/* Looks up the status blocks that threads of ports have asked for, and rings the bells of their nodes. reads and bells
+ * have those of `count` nodes, node 1 first. Answers how many there were. */
+size_t vlm_hub_answer_reads(vlm_hub *hub, vlm_block_read *reads, vlm_bell *bells, size_t count);
 
 /* A hub that a thread serves. */
 typedef struct vlm_hub_service {
@@ -86,12 +103,14 @@ typedef struct vlm_hub_service {
     size_t capacity;    /* how many entries fit there, VLM_LEAST_CAPACITY or more; else 0 */
     /* Gets each part, or null. */
     uint32_t (*keep)(void *context, const vlm_entry *entries, const vlm_cut *cut);
-    void *context; /* the first argument of keep */
+    void *context;         /* the first argument of keep */
+    vlm_block_read *reads; /* those of the nodes, as many as bells, or null: no thread of a port reads a block */
 } vlm_hub_service;
 
 enum { VLM_LEAST_CAPACITY = 32 };
 
-/* Makes turns until vlm_hub_stop is called. Sleeps on the hub's bell after a turn that made nothing. With `entries`, it
+/* Makes turns until vlm_hub_stop is called, and answers the reads after each. Sleeps on the hub's bell after a turn
+ * that made nothing. With `entries`, it
  * cuts the journal while there is still place for a turn, and at the end, and calls keep with each part.
  * NORMAL: it was stopped. Posts that it has not made stay at their ports.
  * INSFMEM: the journal got no more memory. Nothing is lost: cut, and call it again.
@@ -119,6 +138,16 @@ uint32_t vlm_port_posted(uint32_t status, vlm_bell *hub_bell);
  * TIMEOUT: *item is of the kind VLM_NO_ITEM.
  * BADPARAM: the port or the bell is closed, or the item has another size. */
 uint32_t vlm_port_next(vlm_port *port, vlm_bell *bell, vlm_bell *hub_bell, int milliseconds, vlm_item *item);
+
+/* Reads the status block that `read` names, by the hub's thread: rings the hub's bell, and waits for the answer on the
+ * bell of the node. The block is as it is after all items that the thread has taken. The wait takes no item, and
+ * vlm_port_next after it misses none.
+ * NORMAL: read->lksb is the block, and the read is free for another one.
+ * TIMEOUT: the answer has not come yet; the same call with the same read waits for it further. With 0 milliseconds the
+ * call never waits.
+ * BADPARAM: no living process has the ID, or it has no such block; then the read is free too. Or the process is of
+ * another node, the port or a bell is closed, or the read is malformed; then a read that was asked for stays so. */
+uint32_t vlm_port_block(vlm_port *port, vlm_bell *bell, vlm_bell *hub_bell, int milliseconds, vlm_block_read *read);
 
 #ifdef __cplusplus
 }

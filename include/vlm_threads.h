@@ -146,7 +146,7 @@ typedef struct vlm_threads_declaration {
     uint32_t requests;                /* how many of its requests may be under way at once, 1 to 255 */
     uint32_t tied;                    /* 1: the process is run down when the calling thread ends */
     uint32_t own_queue;               /* 1: its events wait in a queue of its own, for vlm_threads_process_dispatch */
-    uint8_t label[VLM_THREADS_LABEL]; /* a text for people, with zeros behind it, or zeros */
+    uint8_t label[VLM_THREADS_LABEL]; /* a text for people, with zeros after it, or zeros */
 } vlm_threads_declaration;
 
 /* Declares a process. *pid is 0 unless the answer is NORMAL. A tied process ends when the thread returns from its start
@@ -394,7 +394,7 @@ uint32_t vlm_threads_print(const vlm_threads_counters *counters, FILE *file);
 uint32_t vlm_threads_print_prometheus(const vlm_threads_counters *counters, FILE *file);
 
 /* Print what a hook was given: a wait or a deadlock as a line of text, with the locks, modes and processes. A process
- * without a label is called by its number.
+ * without a label is called by its number. Of a deadlock without waits only the victim is printed.
  * BADPARAM: the size is wrong; nothing is printed. */
 uint32_t vlm_threads_print_wait(const vlm_threads_wait *wait, FILE *file);
 uint32_t vlm_threads_print_deadlock(const vlm_threads_deadlock *deadlock, FILE *file);

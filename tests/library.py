@@ -238,7 +238,8 @@ def printed(source, *words, **how):
 
 
 def uses_layer(source):
-    return re.search(r'#include ["<](vlm_threads|threads_test|vlm_hub_wait)\.h', source.read_text()) is not None
+    headers = "vlm_threads|threads_test|vlm_hub_wait|hub_service"
+    return re.search(rf'#include ["<]({headers})\.h', source.read_text()) is not None
 
 
 def is_for_helgrind(source):

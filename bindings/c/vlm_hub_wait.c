@@ -24,6 +24,13 @@
 
 enum { NODES = 8, NODE_SHIFT = 16 };
 
+/* The states of a read. The port's thread makes it ASKED from FREE, and FREE from ANSWERED; the hub's thread makes it
+ * ANSWERED from ASKED. Each writes the other members only before it makes its change. */
+enum { FREE, ASKED, ANSWERED };
+
+/* The part of a service that programs with an older header have too. */
+enum { FIRST_SERVICE = offsetof(vlm_hub_service, reads) };
+
 static const int64_t MILLISECOND = 1000000, FOR_EVER = INT64_MAX;
 
 /* The moment at which a wait of so many milliseconds ends, in nanoseconds. */
@@ -153,9 +160,36 @@ uint32_t vlm_hub_turn_ringing(vlm_hub *hub, vlm_bell *bells, size_t count, size_
     return status;
 }
 
+static uint32_t state_of(const vlm_block_read *read) { return __atomic_load_n(&read->state, __ATOMIC_SEQ_CST); }
+
+static void answer_read(vlm_hub *hub, vlm_block_read *read) {
+    read->lksb.size = sizeof read->lksb;
+    read->status = vlm_hub_block(hub, read->pid, read->block, &read->lksb);
+    __atomic_store_n(&read->state, ANSWERED, __ATOMIC_SEQ_CST);
+}
+
+size_t vlm_hub_answer_reads(vlm_hub *hub, vlm_block_read *reads, vlm_bell *bells, size_t count) {
+    size_t answered = 0;
+    for (size_t i = 0; i < count && i < NODES; i++) {
+        if (state_of(&reads[i]) != ASKED)
+            continue;
+        answer_read(hub, &reads[i]);
+        vlm_bell_ring(&bells[i]);
+        answered++;
+    }
+    return answered;
+}
+
 static bool is_well_formed(const vlm_hub_service *service) {
     bool has_room = service->entries ? service->capacity >= VLM_LEAST_CAPACITY : !service->capacity;
-    return service->size == sizeof *service && !service->reserved && has_room && is_open(service->bell);
+    bool is_sized = service->size == FIRST_SERVICE || service->size == sizeof *service;
+    return is_sized && !service->reserved && has_room && is_open(service->bell);
+}
+
+static size_t answer_reads(vlm_hub_service *service) {
+    if (service->size == FIRST_SERVICE || !service->reads)
+        return 0;
+    return vlm_hub_answer_reads(service->hub, service->reads, service->bells, service->bell_count);
 }
 
 static uint32_t cut(vlm_hub_service *service) {
@@ -193,12 +227,14 @@ static uint32_t prepare(vlm_hub_service *service) {
     return status == VLM_NORMAL ? lose_nodes(service) : status;
 }
 
-/* Makes a turn, and sleeps after one that made nothing. */
+/* Makes a turn and answers the reads. Sleeps if there was nothing to do. */
 static uint32_t serve(vlm_hub_service *service) {
     size_t made;
     uint32_t status = prepare(service);
     if (status == VLM_NORMAL)
         status = vlm_hub_turn_ringing(service->hub, service->bells, service->bell_count, &made);
+    if (status == VLM_NORMAL)
+        made += answer_reads(service);
     return status == VLM_NORMAL && !made ? vlm_bell_wait(service->bell, -1) : status;
 }
 
@@ -257,4 +293,29 @@ uint32_t vlm_port_next(vlm_port *port, vlm_bell *bell, vlm_bell *hub_bell, int m
             status = take(port, bell, hub_bell, item);
     }
     return status;
+}
+
+/* Asks for a status block, if that is not done yet. */
+static uint32_t ask(vlm_port *port, vlm_bell *hub_bell, vlm_block_read *read) {
+    uint32_t state = state_of(read), node = vlm_port_node(port);
+    if (read->size != sizeof *read || read->reserved || state > ANSWERED || !node || !is_open(hub_bell))
+        return VLM_BADPARAM;
+    if (state != FREE)
+        return VLM_NORMAL;
+    if (read->pid >> NODE_SHIFT != node)
+        return VLM_BADPARAM;
+    __atomic_store_n(&read->state, ASKED, __ATOMIC_SEQ_CST);
+    vlm_bell_ring(hub_bell);
+    return VLM_NORMAL;
+}
+
+uint32_t vlm_port_block(vlm_port *port, vlm_bell *bell, vlm_bell *hub_bell, int milliseconds, vlm_block_read *read) {
+    int64_t end = end_of(milliseconds);
+    uint32_t status = is_open(bell) ? ask(port, hub_bell, read) : VLM_BADPARAM;
+    while (status == VLM_NORMAL && state_of(read) != ANSWERED)
+        status = left_until(end) ? vlm_bell_wait(bell, left_until(end)) : VLM_TIMEOUT;
+    if (status != VLM_NORMAL)
+        return status;
+    __atomic_store_n(&read->state, FREE, __ATOMIC_SEQ_CST);
+    return read->status;
 }

@@ -46,6 +46,25 @@ static vlm_request armed(uint32_t pid, uint32_t mode) {
     return request;
 }
 
+/* A status block of the first process of node 1, once its lock 1 is granted with this value. What is not there leaves
+ * the struct as it was. */
+static void its_block(vlm_hub *hub, uint8_t value) {
+    static const uint32_t others[] = {0, 5, 256, 257, UINT32_MAX};
+    uint32_t pid = first_of(1);
+    vlm_lksb lksb = {.size = sizeof lksb}, before = {.size = sizeof before, .status = 77};
+    EXPECT(vlm_hub_block(hub, pid, 1, &lksb), VLM_NORMAL);
+    HOLD(lksb.size == sizeof lksb && lksb.status == VLM_NORMAL && lksb.lkid == 1 && lksb.value[0] == value);
+    lksb = before;
+    for (size_t i = 0; i < sizeof others / sizeof *others; i++)
+        EXPECT(vlm_hub_block(hub, pid, others[i], &lksb), VLM_BADPARAM);
+    EXPECT(vlm_hub_block(hub, pid + 1, 1, &lksb), VLM_BADPARAM);
+    EXPECT(vlm_hub_block(hub, 0, 1, &lksb), VLM_BADPARAM);
+    HOLD(!memcmp(&lksb, &before, sizeof lksb));
+    lksb.size--;
+    EXPECT(vlm_hub_block(hub, pid, 1, &lksb), VLM_BADPARAM);
+    HOLD(lksb.status == 77);
+}
+
 /* Each step once: lock 1 of node 1 is granted, lock 2 of node 2 waits for it, and gets it. */
 static void each_step(vlm_hub *hub, vlm_port *ports) {
     uint32_t p = declared(hub, &ports[0]), q = declared(hub, &ports[1]);
@@ -58,6 +77,7 @@ static void each_step(vlm_hub *hub, vlm_port *ports) {
     ANSWER(&ports[0], VLM_NORMAL, 0);
     ANSWER(&ports[0], VLM_NORMAL, 1);
     AST(&ports[0], p, VLM_COMPLETION, 1);
+    its_block(hub, 1);
     EXPECT(vlm_port_enq(&ports[1], &second, name, sizeof name), VLM_NORMAL);
     HOLD(turns(hub) == 2);
     ANSWER(&ports[1], VLM_NORMAL, 2);
@@ -400,6 +420,7 @@ static void closed_handles(vlm_hub *hub, vlm_port *port) {
     vlm_item item = {.size = sizeof item, .kind = 9};
     vlm_entry entry = {.size = sizeof entry, .step = 77};
     vlm_cut cut = {.size = sizeof cut, .entry_size = sizeof entry, .count = 9};
+    vlm_lksb lksb = {.size = sizeof lksb, .status = 77};
     vlm_declaration declaration = declaration_of(1);
     vlm_setting setting = {.size = sizeof setting, .pid = first_of(1), .block = 1};
     vlm_request request = request_of(first_of(1), VLM_EX);
@@ -411,7 +432,9 @@ static void closed_handles(vlm_hub *hub, vlm_port *port) {
     EXPECT(vlm_hub_lost(hub, 1), VLM_BADPARAM);
     EXPECT(vlm_hub_entry(hub, 0, &entry), VLM_BADPARAM);
     EXPECT(vlm_hub_cut(hub, &entry, 1, &cut), VLM_BADPARAM);
+    EXPECT(vlm_hub_block(hub, first_of(1), 1, &lksb), VLM_BADPARAM);
     HOLD(vlm_hub_nodes(hub) == 0 && vlm_hub_entries(hub) == 0 && entry.step == 77 && cut.count == 9);
+    HOLD(lksb.status == 77);
     EXPECT(DECLARE, VLM_BADPARAM);
     EXPECT(SET, VLM_BADPARAM);
     EXPECT(ENQ, VLM_BADPARAM);

@@ -1,8 +1,6 @@
 /* Bells, the hub's thread and the thread of a port: rings before a wait, time-outs, bells of functions, full rings, and
  * posts that race with sleeps without a lost wake-up. */
-#include "hub_test.h"
-
-#include "vlm_hub_wait.h"
+#include "hub_service.h"
 
 #include <errno.h>
 #include <poll.h>
@@ -11,25 +9,12 @@
 #include <time.h>
 #include <unistd.h>
 
-/* A wait that lasts so long has lost its wake-up. */
-enum { LOST = 20000, PLACES = 64, RACES = 20000 };
+enum { PLACES = 64, RACES = 20000 };
 
 static int64_t milliseconds_now(void) {
     struct timespec now;
     clock_gettime(CLOCK_MONOTONIC, &now);
     return (int64_t)now.tv_sec * 1000 + now.tv_nsec / 1000000;
-}
-
-static pthread_t started(void *(*run)(void *), void *given) {
-    pthread_t thread;
-    if (pthread_create(&thread, NULL, run, given))
-        abort();
-    return thread;
-}
-
-static void open_bell(vlm_bell *bell) {
-    *bell = (vlm_bell)VLM_BELL_CLOSED;
-    EXPECT(vlm_bell_open(bell), VLM_NORMAL);
 }
 
 /* A bell of functions, by a mutex and a condition variable. */
@@ -190,53 +175,6 @@ static void race_of_bells(void) {
     pthread_join(thread, NULL);
     vlm_bell_close(&ping);
     vlm_bell_close(&pong);
-}
-
-/* A hub of two nodes with its service. */
-
-static vlm_hub hub;
-static vlm_port ports[2];
-static vlm_bell hub_bell, bells[2];
-static vlm_hub_service service;
-
-static void open_all(void) {
-    hub = (vlm_hub)VLM_HUB_CLOSED;
-    open_hub(&hub, 2);
-    open_bell(&hub_bell);
-    for (uint32_t i = 0; i < 2; i++) {
-        ports[i] = (vlm_port)VLM_PORT_CLOSED;
-        EXPECT(vlm_hub_port(&hub, i + 1, &ports[i]), VLM_NORMAL);
-        open_bell(&bells[i]);
-    }
-    service =
-        (vlm_hub_service){.size = sizeof service, .hub = &hub, .bell = &hub_bell, .bells = bells, .bell_count = 2};
-}
-
-static void close_all(void) {
-    vlm_hub_close(&hub);
-    vlm_bell_close(&hub_bell);
-    for (int i = 0; i < 2; i++) {
-        vlm_port_close(&ports[i]);
-        vlm_bell_close(&bells[i]);
-    }
-}
-
-static void *serve(void *given) {
-    EXPECT(vlm_hub_run(&service), VLM_NORMAL);
-    return given;
-}
-
-static uint32_t next(uint32_t node, int milliseconds, vlm_item *item) {
-    *item = (vlm_item){.size = sizeof *item};
-    return vlm_port_next(&ports[node - 1], &bells[node - 1], &hub_bell, milliseconds, item);
-}
-
-/* Posts a search, and waits for its answer. */
-static void search(uint32_t node) {
-    vlm_item item;
-    EXPECT(vlm_port_posted(vlm_port_search(&ports[node - 1]), &hub_bell), VLM_NORMAL);
-    EXPECT(next(node, LOST, &item), VLM_NORMAL);
-    HOLD(item.kind == VLM_ANSWER && item.status == VLM_NORMAL);
 }
 
 /* Each post comes a little later after the answer to the last one, so it meets the hub before its sleep and in it. */

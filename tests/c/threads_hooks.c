@@ -83,12 +83,20 @@ static void check_circle(const vlm_threads_deadlock *deadlock) {
 
 static bool is_random;
 
+/* With its cycle, and without. */
+static void print_both_ways(const vlm_threads_deadlock *deadlock) {
+    vlm_threads_deadlock alone = *deadlock;
+    EXPECT(vlm_threads_print_deadlock(deadlock, stdout), VLM_NORMAL);
+    alone.length = 0;
+    EXPECT(vlm_threads_print_deadlock(&alone, stdout), VLM_NORMAL);
+}
+
 static void note_deadlock(void *context, const vlm_threads_deadlock *deadlock) {
     HOLD(context == &layer && counters_of(layer).victims == told_count);
     check_circle(deadlock);
     told[told_count++] = deadlock->victim;
     if (!is_random && deadlock->length == CIRCLE)
-        EXPECT(vlm_threads_print_deadlock(deadlock, stdout), VLM_NORMAL);
+        print_both_ways(deadlock);
     HOLD(vlm_threads_close(layer) == VLM_BADPARAM && vlm_threads_settle(layer) == VLM_BADPARAM);
 }
 

@@ -13,7 +13,8 @@ from pathlib import Path
 import vlm
 from test_arguments import ANY, REFUSALS
 from vlm import (Answer, Ast, AstItem, AstKind, BadParamError, ClosedError, Condition, DepartedError, DequeueFlags,
-                 Flags, FullError, Hub, InBlock, InsfMemError, IvLockIdError, Mode, StepKind, TurnEndedError)
+                 Flags, FullError, Hub, InBlock, InsfMemError, IvLockIdError, Mode, StatusBlock, StepKind,
+                 TurnEndedError)
 
 SECONDS = 30
 NODES, ROUNDS = 4, 50
@@ -92,6 +93,9 @@ class Calls(unittest.TestCase):
             self.made(port, port.enq, pid, "A", Mode.EX, 1, Flags.VALBLK, completion=8, blocking=9, param=5)
         self.assertEqual(self.hub.turn(), 1)
         self.assertEqual(self.first.take(), AstItem(p, Ast(AstKind.COMPLETION, 8, 5, 1)))
+        self.assertEqual(self.hub.status_block(p, 1), StatusBlock(Condition.NORMAL, 1, bytes(16), bytes(48)))
+        self.assertEqual(self.hub.status_block(q, 1), StatusBlock(None, 2, bytes(16), bytes(48)))
+        self.assertRaises(BadParamError, self.hub.status_block, p, 3)
         self.hub.turn()
         self.assertEqual(self.first.take(), AstItem(p, Ast(AstKind.BLOCKING, 9, 5, 1)))
         self.assertEqual((self.first.take(), self.hub.turn()), (None, 0))

@@ -149,6 +149,7 @@ _CALLS: Dict[str, List[Any]] = {
     "vlm_hub_turn": [POINTER(c_size_t)],
     "vlm_hub_lost": [c_uint32],
     "vlm_hub_waiting": [c_uint32, POINTER(c_size_t)],
+    "vlm_hub_block": [c_uint32, c_uint32, POINTER(Lksb)],
     "vlm_hub_nodes": [],
     "vlm_hub_entries": [],
     "vlm_hub_entry": [c_size_t, POINTER(Entry)],

@@ -10,8 +10,8 @@ from . import _words
 from ._arguments import name_bytes, word
 from ._owner import Owner
 from .errors import TurnEndedError, checked
-from .process import ast_of
-from .values import Ast, Condition, DequeueFlags, Flags, Mode, Name, Which
+from .process import ast_of, status_block_of
+from .values import Ast, Condition, DequeueFlags, Flags, Mode, Name, StatusBlock, Which
 
 class StepKind(IntEnum):
     """A kind of step in a journal."""
@@ -103,6 +103,14 @@ class Hub(Owner):
         posts = c_size_t()
         checked(self._call("vlm_hub_waiting", word(node, "the node"), posts))
         return posts.value
+
+    def status_block(self, pid: int, number: int) -> StatusBlock:
+        """The status block of this number, from 1, of a process: how its request ended, and the value. The items of a
+        node bring no status blocks, so the hub's thread reads them for the threads of ports. BadParamError without
+        one."""
+        words = raw.Lksb()
+        checked(self._call("vlm_hub_block", word(pid, "the process"), word(number, "the status block"), words))
+        return status_block_of(words)
 
     def nodes(self) -> int:
         """How many nodes the hub serves."""

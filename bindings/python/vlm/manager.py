@@ -100,7 +100,7 @@ class LockManager(Owner):
         return self._walk_locks("vlm_first_row", "vlm_next_row", words, int(Queue(queue)))
 
     def rows_after(self, lock: int) -> Iterator[LockView]:
-        """The locks behind this one in its queue, as they are at the call."""
+        """The locks after this one in its queue, as they are at the call."""
         return self._walk_locks("vlm_next_row", "vlm_next_row", word(lock, "the lock"))
 
     def locks_of(self, process: Process) -> Iterator[LockView]:

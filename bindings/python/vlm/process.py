@@ -79,8 +79,7 @@ class Process:
         """The status block of this number, from 1. BadParamError without one."""
         words = raw.Lksb()
         checked(self.manager._call("vlm_block", self.pid, word(number, "the status block"), words))
-        status = Condition(words.status) if words.status else None
-        return StatusBlock(status, words.lkid or None, bytes(words.value), bytes(words.tail))
+        return status_block_of(words)
 
     def pending(self) -> int:
         """How many ASTs are pending. BadParamError after the end of the process."""
@@ -97,3 +96,9 @@ def _routine(number: Optional[int]) -> Tuple[int, int]:
 def ast_of(words: raw.Sized) -> Ast:
     """The AST of these words."""
     return Ast(AstKind(words.kind), words.routine, words.param, words.lkid)
+
+
+def status_block_of(words: raw.Sized) -> StatusBlock:
+    """The status block of these words."""
+    status = Condition(words.status) if words.status else None
+    return StatusBlock(status, words.lkid or None, bytes(words.value), bytes(words.tail))

@@ -17,7 +17,7 @@ impl EnqFlags {
     pub const SYSTEM: EnqFlags = EnqFlags(8);
     /// A new request at NL is granted whatever is queued.
     pub const EXPEDITE: EnqFlags = EnqFlags(16);
-    /// A conversion waits behind those that are queued.
+    /// A conversion waits after those that are queued.
     pub const QUECVT: EnqFlags = EnqFlags(32);
     /// It waits for nobody in a search for a deadlock.
     pub const NODLCKWT: EnqFlags = EnqFlags(64);

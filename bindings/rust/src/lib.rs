@@ -2,11 +2,10 @@
 //!
 //! There are three forms of it, and [`script`] runs lines of text on the second:
 //!
-//! - [`Shared`] is for threads. A call waits for its grant, or a future does; a [`Guard`] gives its lock up on drop,
-//!   and
-//!   closures are told that a lock is in the way. It is the library's layer for threads.
+//! - [`Shared`] is for threads. A call waits for its grant, or a future does. A [`Guard`] gives its lock up on drop,
+//!   and closures learn that a lock is in the way. It is the library's layer for threads.
 //! - [`LockManager`] has the calls of the library. None of them waits: a request that has to wait stays queued, its
-//!   status block tells of its end, and an AST is pending where it names a routine.
+//!   status block tells of its end, and an AST is pending if it names a routine.
 //! - [`hub`] is for threads that never wait: each posts its steps at a port of its own, and takes answers and ASTs.
 //!
 //! docs/LIBRARY.md of the repository says what is proved of the library and what each call answers. The wrapper itself

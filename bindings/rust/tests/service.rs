@@ -275,6 +275,41 @@ fn begins_anew(connection: &Connection, old: ProcessId) {
     }
 }
 
+/// A file of TLS that the environment names.
+fn file(name: &str) -> PathBuf {
+    env::var_os(name).expect(name).into()
+}
+
+/// VLM_TLS_ADDRESS is a replica with TLS, which tests/service_tls.py of the repository has. VLM_TLS_OTHER is a folder
+/// with the files of a client whom the replica refuses.
+#[test]
+fn sessions_by_tls() {
+    let Ok(address) = env::var("VLM_TLS_ADDRESS") else {
+        return;
+    };
+    let lease = Duration::from_secs(60);
+    let own = TlsFiles {
+        certificate: file("VLM_TLS_CERTIFICATE"),
+        key: file("VLM_TLS_KEY"),
+        authority: file("VLM_TLS_AUTHORITY"),
+    };
+    let other = TlsFiles {
+        certificate: file("VLM_TLS_OTHER").join("stranger.pem"),
+        key: file("VLM_TLS_OTHER").join("stranger.key"),
+        ..own.clone()
+    };
+    let refused = Connection::open_secured(&address, lease, &other, || ()).unwrap_err();
+    assert_eq!(refused, Error::Lost);
+    for connection in [
+        Connection::open_secured(&address, lease, &own, || panic!("lost")).unwrap(),
+        Connection::open_leased(&address, lease, || panic!("lost")).unwrap(),
+    ] {
+        let p = connection.declare(9, 1).unwrap();
+        let guard = connection.lock(p, b"A", Mode::Ex).unwrap();
+        assert!(guard.token().unwrap() > 0);
+    }
+}
+
 #[test]
 fn a_session_goes_on_at_another_replica() {
     let Some(daemon) = Daemon::new("replicas") else {

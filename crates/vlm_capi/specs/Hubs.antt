@@ -9,6 +9,7 @@ use Rattle.vlm_words.specs.declared.conditions.Cond.TheVariants.{Normal, Badpara
 use Rattle.vlm_words.specs.declared.steps.Answer.TheVariants.{Plain}
 use Rattle.vlm_words.specs.declared.steps.Step.TheVariants.{Leave}
 use Rattle.vlm_words.specs.Conditions.{condition_number}
+use Rattle.vlm_words.specs.State.{State}
 use Rattle.vlm_model.specs.Reasons.{HasDeparted}
 use Rattle.vlm_model.specs.Stepped.{Outcome}
 use Rattle.vlm_journal.specs.declared.entries.Entry.{Entry}
@@ -234,6 +235,13 @@ node_count (Some (hub_held b)) = nodes b.value.hub
 node_count (Some (core_held s)) = 0
 node_count (Some (port_held p)) = 0
 node_count None = 0
+
+-- the state of the hub of a handle, if it holds one
+abbrev pub hub_state : Option Held → Option State
+hub_state (Some (hub_held b)) = Some (state b.value.hub)
+hub_state (Some (core_held s)) = None
+hub_state (Some (port_held p)) = None
+hub_state None = None
 
 -- the entries of the hub of a handle since the last cut
 abbrev pub entries_shown : Option Held → List Entry

@@ -15,7 +15,7 @@ use Rattle.vlm_words.specs.declared.conditions.Cond.TheVariants.{Insfmem, Ivbufl
 use Rattle.vlm_words.specs.declared.conditions.Cond.TheVariants.{Accvio, Nonexpr, Departed, Widenotvalid}
 use Rattle.vlm_words.specs.declared.steps.Answer.{Answer}
 use Rattle.vlm_words.specs.declared.steps.Answer.TheVariants.{Process, Lock, Victim, Taken, Plain}
-use Rattle.vlm_lines.specs.Texts.{answer_line, node_line, status_block_line, status_tail_line}
+use Rattle.vlm_lines.specs.Texts.{answer_line, node_line}
 use Rattle.vlm_queue.specs.declared.views.RowView.{RowView}
 use Rattle.vlm_capi.specs.declared.printed.VlmText.{VlmText}
 use Rattle.vlm_capi.specs.declared.replies.VlmAst.{VlmAst}
@@ -110,14 +110,11 @@ abbrev pub taken_printed : VlmLine → Option Cond → VlmAst → Option (List �
 taken_printed line None ast = None
 taken_printed line (Some cond) ast = under_name line (λ name. answer_line name (taken_told cond ast))
 
--- the line of a status block, and that of its tail
-abbrev pub block_printed : VlmLine → Option ℕ → Option (Option Block) → Option (List ℕ)
-block_printed line (Some number) (Some block) = under_name line (λ name. status_block_line name number block)
-block_printed line number shown = None
-
-abbrev pub tail_printed : VlmLine → Option ℕ → Option (Option Block) → Option (List ℕ)
-tail_printed line (Some number) (Some block) = under_name line (λ name. status_tail_line name number block)
-tail_printed line number shown = None
+-- the line that a text makes of a status block: its own line, or that of its tail
+abbrev pub status_printed : (List ℕ → ℕ → Option Block → List ℕ) → VlmLine → Option ℕ → Option (Option Block)
+    → Option (List ℕ)
+status_printed text line (Some number) (Some block) = under_name line (λ name. text name number block)
+status_printed text line number shown = None
 
 -- the lock of a struct
 abbrev pub row_told : VlmLock → RowView

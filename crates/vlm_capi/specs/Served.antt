@@ -78,14 +78,7 @@ TookFrom s after status pid old new =
     × (new ≡ no_ast))
     ⊎ (IsFirstPending pid s.processes × AstReplied (Some (core_held s)) (Some (Take pid)) after status old new)
 
--- an AST of any process of the core of a handle is taken; without a core nothing changes
-abbrev pub TookAny : Option Held → Option Held → ℕ → ℕ → VlmAst → VlmAst → Type 0
-TookAny (Some (core_held s)) after status pid old new = TookFrom s after status pid old new
-TookAny (Some (hub_held b)) after status pid old new = TookNone (Some (hub_held b)) after status pid old new
-TookAny (Some (port_held p)) after status pid old new = TookNone (Some (port_held p)) after status pid old new
-TookAny None after status pid old new = TookNone None after status pid old new
-
--- the caller's struct has its size; otherwise nothing changes
+-- if the caller's struct has its size, an AST of any process of the core of a handle is taken; else nothing changes
 abbrev pub TookAnyIf : Bool → Option Held → Option Held → ℕ → ℕ → VlmAst → VlmAst → Type 0
-TookAnyIf true before after status pid old new = TookAny before after status pid old new
-TookAnyIf false before after status pid old new = TookNone before after status pid old new
+TookAnyIf true (Some (core_held s)) after status pid old new = TookFrom s after status pid old new
+TookAnyIf fits before after status pid old new = TookNone before after status pid old new

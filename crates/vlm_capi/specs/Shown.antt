@@ -121,6 +121,12 @@ lock_or_none None = record {
   reserved = replicate 7 0;
 }
 
+-- what a walk shows: its first lock, or the next one after a lock
+abbrev pub ShowsFrom : Option ℕ → (Option (Option LockView) → Type 0) → (ℕ → Option (Option LockView) → Type 0)
+    → Option (Option LockView) → Type 0
+ShowsFrom None First Next = First
+ShowsFrom (Some after) First Next = Next after
+
 -- the first lock in the queue of the resource with the key, if it has one; nothing if there is no such resource, or if
 -- the fields name no key or no queue
 abbrev pub ShowsFirstRow : State → Option ResourceKey → Option Queue → Option (Option LockView) → Type 0

@@ -8,10 +8,11 @@ ghost use Rattle.std.specs.Option.{option_map};
 ghost use Rattle.vlm_capi.specs.Copies.{Told, sized};
 ghost use Rattle.vlm_capi.specs.Structs.{is_options};
 ghost use Rattle.vlm_capi.specs.Entries.{entry_of};
+ghost use Rattle.vlm_capi.specs.Shown.{block_shown, lksb_of};
 ghost use Rattle.vlm_capi.specs.Lending.{IsSameHeld};
 ghost use Rattle.vlm_capi.specs.Replay.{FitsStructs, Replayed, step_of};
 ghost use Rattle.vlm_journal.specs.declared.entries.Entry.{Entry};
-ghost use Rattle.vlm_capi.specs.Hubs.{CountsPosts, CutsHubIf, GivesPortIf, LosesNode, OpensHubIf, TurnsHub, cut_of, entries_shown, lost_status, node_count, turn_count, turn_status};
+ghost use Rattle.vlm_capi.specs.Hubs.{CountsPosts, CutsHubIf, GivesPortIf, LosesNode, OpensHubIf, TurnsHub, cut_of, entries_shown, hub_state, lost_status, node_count, turn_count, turn_status};
 
 use crate::arguments::{VlmOptions, keys_of};
 use crate::copies::{copy_out, sized};
@@ -19,6 +20,7 @@ use crate::entries::{CUT_SIZE, ENTRY_SIZE, VlmCut, VlmEntry, write_entries};
 use crate::handle::Handle;
 use crate::owned_hubs::new_hub;
 use crate::replies::status;
+use crate::shown::{LKSB_SIZE, VlmLksb, lksb_of};
 use std::alloc::{AllocError, Global};
 use vlm_ports::{Part, Turn};
 use vlm_words::conditions::Cond;
@@ -133,6 +135,19 @@ pub extern "C" fn vlm_hub_waiting(handle: &mut Handle, node: u32, posts: &mut us
         }
         Some(None) | None => status(Cond::Badparam),
     }
+}
+
+/// Copies a status block of a process of the hub.
+#[unsafe(no_mangle)]
+#[tactic(auto, unfolding(crate::specs::Shown::block_shown))]
+pub extern "C" fn vlm_hub_block(handle: &mut Handle, pid: u32, block: u32, out: &mut VlmLksb) -> u32
+    ensures told { Told (sized (out.old.size == 80)
+        (option_map lksb_of (block_shown (hub_state handle.old.slot.held) pid block))) out.old out.new result }
+    ensures same { IsSameHeld handle.old.slot.held handle.new.slot.held }
+{
+    let block = handle.with_hub(|owned| owned.block(pid, block)).flatten();
+    let shown = block.map(|block| lksb_of(&block));
+    copy_out(sized(out.size == LKSB_SIZE, shown), out)
 }
 
 /// Counts the nodes that the hub serves.

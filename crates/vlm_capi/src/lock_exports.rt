@@ -53,7 +53,7 @@ pub extern "C" fn vlm_first_blocker(handle: &mut Handle, lkid: u32, out: &mut Vl
     ensures { ReadTold (λ s. ShowsFirstBlocker s lkid) lock_or_none handle.old.slot.held handle.new.slot.held
         (out.old.size == 64) out.old out.new result }
 {
-    write_next(handle.first_blocker(lkid), out)
+    write_next(handle.blocker(lkid, None), out)
 }
 
 /// Copies the next lock for which it waits.
@@ -67,7 +67,7 @@ pub extern "C" fn vlm_next_blocker(
     ensures { ReadTold (λ s. ShowsNextBlocker s lkid blocker) lock_or_none handle.old.slot.held
         handle.new.slot.held (out.old.size == 64) out.old out.new result }
 {
-    write_next(handle.next_blocker(lkid, blocker), out)
+    write_next(handle.blocker(lkid, Some(blocker)), out)
 }
 
 /// Copies the first lock whose queued request waits for a lock.
@@ -76,7 +76,7 @@ pub extern "C" fn vlm_first_blocked(handle: &mut Handle, lkid: u32, out: &mut Vl
     ensures { ReadTold (λ s. ShowsFirstBlocked s lkid) lock_or_none handle.old.slot.held handle.new.slot.held
         (out.old.size == 64) out.old out.new result }
 {
-    write_next(handle.first_blocked(lkid), out)
+    write_next(handle.blocked(lkid, None), out)
 }
 
 /// Copies the next lock whose queued request waits for it.
@@ -90,7 +90,7 @@ pub extern "C" fn vlm_next_blocked(
     ensures { ReadTold (λ s. ShowsNextBlocked s lkid blocked) lock_or_none handle.old.slot.held
         handle.new.slot.held (out.old.size == 64) out.old out.new result }
 {
-    write_next(handle.next_blocked(lkid, blocked), out)
+    write_next(handle.blocked(lkid, Some(blocked)), out)
 }
 
 /// Copies the first lock of a process, in the order of making.

@@ -2,7 +2,7 @@
 
 ghost use Rattle.vlm_core.specs.Blockers.{ShowsFirstBlocked, ShowsFirstBlocker, ShowsNextBlocked, ShowsNextBlocker};
 ghost use Rattle.vlm_core.specs.Locks.{IsLaterOwn, IsLaterSublock, ShowsFirstOwn, ShowsFirstSublock, ShowsNamed, ShowsNextInQueue, ShowsNextOf, ShowsResourceOf};
-ghost use Rattle.vlm_capi.specs.Shown.{Reads, ShowsFirstRow};
+ghost use Rattle.vlm_capi.specs.Shown.{Reads, ShowsFirstRow, ShowsFrom};
 ghost use Rattle.vlm_capi.specs.Keys.{key_of, queue_of};
 
 use crate::handle::Handle;
@@ -23,28 +23,26 @@ impl Handle {
         self.with_core(|core| core.resource_of_lock(lkid))?
     }
 
-    pub(crate) fn first_blocker(&mut self, lkid: u32) -> Option<Option<LockView>>
-        ensures { Reads (λ s. ShowsFirstBlocker s lkid) self.old.slot.held result self.new.slot.held }
+    /// The first lock for which the request of a lock waits, or the next one after the lock `after`.
+    pub(crate) fn blocker(&mut self, lkid: u32, after: Option<u32>) -> Option<Option<LockView>>
+        ensures { Reads (λ s. ShowsFrom after (ShowsFirstBlocker s lkid) (ShowsNextBlocker s lkid)) self.old.slot.held
+            result self.new.slot.held }
     {
-        self.with_core(|core| core.first_blocker(lkid))?
+        match after {
+            None => self.with_core(|core| core.first_blocker(lkid))?,
+            Some(after) => self.with_core(|core| core.next_blocker(lkid, after))?,
+        }
     }
 
-    pub(crate) fn next_blocker(&mut self, lkid: u32, after: u32) -> Option<Option<LockView>>
-        ensures { Reads (λ s. ShowsNextBlocker s lkid after) self.old.slot.held result self.new.slot.held }
+    /// The first lock whose request waits for a lock, or the next one after the lock `after`.
+    pub(crate) fn blocked(&mut self, lkid: u32, after: Option<u32>) -> Option<Option<LockView>>
+        ensures { Reads (λ s. ShowsFrom after (ShowsFirstBlocked s lkid) (ShowsNextBlocked s lkid)) self.old.slot.held
+            result self.new.slot.held }
     {
-        self.with_core(|core| core.next_blocker(lkid, after))?
-    }
-
-    pub(crate) fn first_blocked(&mut self, lkid: u32) -> Option<Option<LockView>>
-        ensures { Reads (λ s. ShowsFirstBlocked s lkid) self.old.slot.held result self.new.slot.held }
-    {
-        self.with_core(|core| core.first_blocked(lkid))?
-    }
-
-    pub(crate) fn next_blocked(&mut self, lkid: u32, after: u32) -> Option<Option<LockView>>
-        ensures { Reads (λ s. ShowsNextBlocked s lkid after) self.old.slot.held result self.new.slot.held }
-    {
-        self.with_core(|core| core.next_blocked(lkid, after))?
+        match after {
+            None => self.with_core(|core| core.first_blocked(lkid))?,
+            Some(after) => self.with_core(|core| core.next_blocked(lkid, after))?,
+        }
     }
 
     pub(crate) fn first_own(&mut self, pid: u32) -> Option<Option<LockView>>

@@ -1,10 +1,11 @@
 //! What the calls of a hub do with the hub of a handle.
 
-ghost use Rattle.std.specs.Prelude.{◌≡◌, ◌<◌, ◌≤◌, IfOk, length, slice_get};
+ghost use Rattle.std.specs.Prelude.{◌≡◌, ◌<◌, ◌≤◌, IfOk, Some, length, slice_get};
 ghost use Rattle.std.specs.Option.{option_map};
 ghost use Rattle.vlm_capi.specs.Entries.{entry_of};
+ghost use Rattle.vlm_capi.specs.Shown.{block_shown};
 ghost use Rattle.vlm_capi.specs.Hubs.{BoxesPort, GivesPort, HasCounted, HasCut, HasLost, HasTurned, IsNewHeld};
-ghost use Rattle.vlm_ports.specs.Hubs.{journal, nodes};
+ghost use Rattle.vlm_ports.specs.Hubs.{journal, nodes, state};
 
 use crate::entries::{VlmEntry, entry_of};
 use crate::held::{Held, OwnedHub};
@@ -12,6 +13,7 @@ use std::alloc::{AllocError, Global};
 use vlm_collections::HashKeys;
 use vlm_core::Core;
 use vlm_ports::{Hub, Part, Port, Turn};
+use vlm_words::blocks::Block;
 use vlm_words::conditions::Cond;
 
 /// Makes a hub of 1 to 8 nodes, with a port of each.
@@ -102,6 +104,18 @@ impl OwnedHub {
         ensures same { self.new ≡ self.old }
     {
         self.hub.journal().len()
+    }
+
+    /// A status block of a process. Numbers start at 1.
+    #[tactic(auto, unfolding(crate::specs::Shown::block_shown))]
+    pub(crate) fn block(&mut self, pid: u32, number: u32) -> Option<Block>
+        ensures told { result ≡ block_shown (Some (state self.old.hub)) pid number }
+        ensures same { self.new ≡ self.old }
+    {
+        if number > 255 {
+            return None;
+        }
+        self.hub.block(pid, number as u8)
     }
 
     pub(crate) fn entry(&mut self, place: usize) -> Option<VlmEntry>

@@ -3,7 +3,8 @@
 ghost use Rattle.std.specs.Prelude.{◌≡◌};
 ghost use Rattle.std.specs.Option.{option_map};
 ghost use Rattle.vlm_words.specs.declared.steps.Answer.{Answer};
-ghost use Rattle.vlm_capi.specs.Printed.{IsToldOf, answer_printed, answer_told, ast_told, ast_with, block_printed, condition_of, row_told, tail_printed, taken_printed, taken_told, text_of, told_printed};
+ghost use Rattle.vlm_lines.specs.Texts.{status_block_line, status_tail_line};
+ghost use Rattle.vlm_capi.specs.Printed.{IsToldOf, answer_printed, answer_told, ast_told, ast_with, condition_of, row_told, status_printed, taken_printed, taken_told, text_of, told_printed};
 
 use crate::numbers::{mode_of, node_of};
 use crate::padding::line_cells;
@@ -166,7 +167,7 @@ pub(crate) fn block_printed(
     number: Option<u8>,
     shown: Option<Option<Block>>,
 ) -> Option<PrintedLine>
-    ensures { option_map (λ text. text.items) result ≡ block_printed line.now number shown }
+    ensures { option_map (λ text. text.items) result ≡ status_printed status_block_line line.now number shown }
 {
     let number = number?;
     let block = shown?;
@@ -182,7 +183,7 @@ pub(crate) fn tail_printed(
     number: Option<u8>,
     shown: Option<Option<Block>>,
 ) -> Option<PrintedLine>
-    ensures { option_map (λ text. text.items) result ≡ tail_printed line.now number shown }
+    ensures { option_map (λ text. text.items) result ≡ status_printed status_tail_line line.now number shown }
 {
     let number = number?;
     let block = shown?;

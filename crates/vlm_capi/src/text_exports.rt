@@ -6,11 +6,11 @@
 ghost use Rattle.std.specs.Prelude.{◌≡◌, ◌==◌, ◌&&◌, Some};
 ghost use Rattle.std.specs.Option.{option_map};
 ghost use Rattle.vlm_lines.specs.Lines.{line_read};
-ghost use Rattle.vlm_lines.specs.Texts.{resource_line, row_line, tail_line};
+ghost use Rattle.vlm_lines.specs.Texts.{resource_line, row_line, status_block_line, status_tail_line, tail_line};
 ghost use Rattle.vlm_capi.specs.Copies.{Told, sized};
 ghost use Rattle.vlm_capi.specs.Keys.{key_of, queue_of};
 ghost use Rattle.vlm_capi.specs.Lending.{core_of};
-ghost use Rattle.vlm_capi.specs.Printed.{block_printed, condition_of, row_told, tail_printed, taken_printed, text_of, told_printed};
+ghost use Rattle.vlm_capi.specs.Printed.{condition_of, row_told, status_printed, taken_printed, text_of, told_printed};
 ghost use Rattle.vlm_capi.specs.ScriptLines.{read_struct};
 ghost use Rattle.vlm_capi.specs.Shown.{block_there, found_shown};
 ghost use Rattle.vlm_capi.specs.Structs.{node_of};
@@ -79,7 +79,7 @@ pub extern "C" fn vlm_print_block(
     text: &mut VlmText,
 ) -> u32
     ensures told { Told (sized ((line.now.size == 464) && (text.old.size == 256))
-        (option_map text_of (block_printed line.now (node_of line.now.number)
+        (option_map text_of (status_printed status_block_line line.now (node_of line.now.number)
         (block_there (core_of handle.old.slot.held) pid line.now.number)))) text.old text.new result }
     ensures same { handle.new.slot.held ≡ handle.old.slot.held }
 {
@@ -100,7 +100,7 @@ pub extern "C" fn vlm_print_tail(
     text: &mut VlmText,
 ) -> u32
     ensures told { Told (sized ((line.now.size == 464) && (text.old.size == 256))
-        (option_map text_of (tail_printed line.now (node_of line.now.number)
+        (option_map text_of (status_printed status_tail_line line.now (node_of line.now.number)
         (block_there (core_of handle.old.slot.held) pid line.now.number)))) text.old text.new result }
     ensures same { handle.new.slot.held ≡ handle.old.slot.held }
 {

@@ -47,6 +47,11 @@ impl Single {
         self.hub.settle(&mut self.port)
     }
 
+    /// The status of this process's first status block; `None` if it has none.
+    pub fn status(&self, pid: u32) -> Option<u8> {
+        Some(self.hub.block(pid, 1)?.status)
+    }
+
     /// Ends it. It waits for nobody.
     pub fn close(self) {
         let Single { hub, port: _ } = self;

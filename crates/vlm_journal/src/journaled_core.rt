@@ -4,6 +4,7 @@ ghost use Rattle.std.specs.Prelude.{◌≡◌, ◌⊎◌, ◌∷◌, ◌+◌, �
 ghost use Rattle.vlm_words.specs.declared.conditions.Cond.TheVariants.{Departed, Normal};
 ghost use Rattle.vlm_model.specs.Pending.{first_pending};
 ghost use Rattle.vlm_model.specs.Reasons.{HasDeparted};
+ghost use Rattle.vlm_model.specs.StatusBlocks.{status_block_at};
 ghost use Rattle.vlm_words.specs.State.{start};
 ghost use Rattle.vlm_model.specs.Stepped.{Outcome};
 ghost use Rattle.std.specs.Option.{option_map};
@@ -20,6 +21,7 @@ use std::marker::Model;
 use std::mem;
 use vlm_core::{Core, Usage};
 use vlm_words::asts::Ast;
+use vlm_words::blocks::Block;
 use vlm_words::names::Name;
 use vlm_words::resources::Domain;
 use vlm_words::steps::{Answer, Step};
@@ -141,6 +143,13 @@ impl JournaledCore {
         let written = entry(0, Step::Leave(node), answer);
         self.entries.push_reserved(written);
         answer
+    }
+
+    /// A process's status block with this number, as [`Core::block`] says.
+    pub fn block(&self, pid: u32, number: u8) -> Option<Block>
+        ensures { result ≡ status_block_at self.now.state.processes pid number }
+    {
+        self.core.block(pid, number)
     }
 
     /// How the root resource of this name in this domain is used, as [`Core::usage`] says.

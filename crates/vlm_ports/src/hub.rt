@@ -13,6 +13,7 @@ use std::sync::Wait;
 use vlm_core::Core;
 use vlm_journal::entries::{Entry, Item, Part};
 use vlm_journal::journaled_core::JournaledCore;
+use vlm_words::blocks::Block;
 use vlm_words::conditions::Cond;
 use vlm_words::steps::{Answer, Step};
 
@@ -46,6 +47,7 @@ struct Attended {
 
 impl Hub {
     ghost use Rattle.vlm_model.specs.Reasons.{HasDeparted};
+    ghost use Rattle.vlm_model.specs.StatusBlocks.{status_block_at};
     ghost use Rattle.vlm_words.specs.State.{start};
     ghost use Rattle.vlm_words.specs.declared.steps.Step.TheVariants.{Leave};
     ghost use Rattle.vlm_words.specs.declared.steps.Answer.TheVariants.{Plain};
@@ -71,6 +73,14 @@ impl Hub {
         ensures legal { GoesOn (base self.now) (journal self.now) (state self.now) }
     {
         self.journaled.entries()
+    }
+
+    /// A process's status block with this number, as [`Core::block`] says. The items of a node bring none: its thread
+    /// has the hub's thread read how a request ended, and the value (this project's own).
+    pub fn block(&self, pid: u32, number: u8) -> Option<Block>
+        ensures { result ≡ status_block_at (state self.now).processes pid number }
+    {
+        self.journaled.block(pid, number)
     }
 
     /// A hub of this many nodes with a new core, and a port for each node, node 1 first. If it is refused, there is no

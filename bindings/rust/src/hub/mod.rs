@@ -53,6 +53,9 @@ pub use steps::{Name, Step};
 
 use crate::condition::{answered, Error};
 use crate::manager::random_keys;
+use crate::names::ProcessId;
+use crate::raw::Lksb;
+use crate::views::StatusBlock;
 
 /// A hub with its lock manager and its journal. Two hubs share nothing. A hub may go to another thread.
 ///
@@ -113,6 +116,14 @@ impl Hub {
         let mut posts = 0;
         answered(self.handle.waiting(u32::from(node), &mut posts))?;
         Ok(posts)
+    }
+
+    /// The status block of this number, from 1, of a process: how its request ended, and the value. The items of a node
+    /// bring no status blocks, so the hub's thread reads them for the threads of ports. None where there is none.
+    pub fn block(&self, process: ProcessId, number: u8) -> Option<StatusBlock> {
+        let mut words = Lksb::new();
+        answered(self.handle.block(process.0, u32::from(number), &mut words)).ok()?;
+        Some(StatusBlock::of(&words))
     }
 
     /// How many nodes the hub serves.

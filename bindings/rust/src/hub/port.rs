@@ -115,8 +115,8 @@ impl Port {
 pub enum Item {
     /// The answer to the oldest post that had no answer yet.
     Answer(Answer),
-    /// An AST of one of the node's processes. The program calls the routine. A port reads no status block, so a
-    /// completion AST says that a request has ended, and not how.
+    /// An AST of one of the node's processes. The program calls the routine. A completion AST says that a request has
+    /// ended. Its status block says how: the hub's thread reads it by [`Hub::block`](super::Hub::block).
     Ast {
         /// The process.
         process: ProcessId,

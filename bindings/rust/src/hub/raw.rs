@@ -4,7 +4,7 @@ use std::cell::UnsafeCell;
 
 pub use vlm_sys::hub::*;
 
-use crate::raw::{calls, Declaration, Dequeue, Options, Request, Setting};
+use crate::raw::{calls, Declaration, Dequeue, Lksb, Options, Request, Setting};
 
 /// A handle that owns its hub. As a handle of a lock manager it is no `Sync`: one call at a time has it.
 pub struct Hub {
@@ -44,6 +44,7 @@ calls! {
     }
     by &Hub {
         waiting = vlm_hub_waiting(node: u32, posts: &mut usize) -> u32;
+        block = vlm_hub_block(pid: u32, block: u32, lksb: &mut Lksb) -> u32;
         nodes = vlm_hub_nodes() -> usize;
         entries = vlm_hub_entries() -> usize;
         entry = vlm_hub_entry(place: usize, entry: &mut Entry) -> u32;

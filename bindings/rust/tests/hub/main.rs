@@ -8,7 +8,10 @@ mod twins;
 use pair::{declaration, Pair};
 use vlm::hub::{Hub, Item, Port};
 use vlm::Error;
-use vlm::{AstKind, DeqFlags, Dequeue, EnqFlags, LockId, Mode, ProcessId, Request, Setting, Which};
+use vlm::{
+    AstKind, Condition, DeqFlags, Dequeue, EnqFlags, LockId, Mode, ProcessId, Request, Setting,
+    Which,
+};
 
 const NOBODY: ProcessId = ProcessId(0x1_0999);
 /// The places between a port and its hub, each way.
@@ -167,6 +170,13 @@ fn asts_are_items() {
         told(&mut pair.first),
         (p, AstKind::Completion, 8, 5, LockId(1))
     );
+    let block = pair.hub.block(p, 1).expect("the block");
+    assert_eq!(
+        (block.status, block.lock),
+        (Some(Condition::Normal), Some(LockId(1)))
+    );
+    assert_eq!(pair.hub.block(p, 200), None);
+    assert_eq!(pair.hub.block(NOBODY, 1), None);
     let other = Request {
         process: q,
         ..request

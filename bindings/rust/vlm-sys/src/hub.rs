@@ -3,7 +3,7 @@
 use std::ffi::c_void;
 use std::mem::{size_of, transmute};
 
-use crate::{structs, Ast, Declaration, Dequeue, Options, Request, Setting};
+use crate::{structs, Ast, Declaration, Dequeue, Lksb, Options, Request, Setting};
 
 /// The answer of a post that found no free place.
 pub const FULL: u32 = 256;
@@ -77,6 +77,7 @@ extern "C" {
     pub fn vlm_hub_turn(hub: *mut VlmHub, made: *mut usize) -> u32;
     pub fn vlm_hub_lost(hub: *mut VlmHub, node: u32) -> u32;
     pub fn vlm_hub_waiting(hub: *mut VlmHub, node: u32, posts: *mut usize) -> u32;
+    pub fn vlm_hub_block(hub: *mut VlmHub, pid: u32, block: u32, lksb: *mut Lksb) -> u32;
     pub fn vlm_hub_nodes(hub: *mut VlmHub) -> usize;
     pub fn vlm_hub_entries(hub: *mut VlmHub) -> usize;
     pub fn vlm_hub_entry(hub: *mut VlmHub, place: usize, entry: *mut Entry) -> u32;

@@ -23,7 +23,7 @@ fn make_alone(rt: &impl Abort, single: &mut Single, step: Step, want: Answer) {
     assert!(rt; is_answer(single.take(), want));
 }
 
-// A hub of one node: a search, and a request whose completion calls routine 8.
+// A hub of one node: a search, and a request whose completion calls routine 8, with its status block.
 #[test]
 fn hub_alone(rt: HostRuntime) -> Result<(), Fail> {
     let mut single = Single::new(rt.alloc())?;
@@ -39,6 +39,8 @@ fn hub_alone(rt: HostRuntime) -> Result<(), Fail> {
     );
     assert!(&rt; single.turn() == Turn::Served(1));
     assert!(&rt; is_ast(single.take(), P, AstKind::Completion));
+    assert!(&rt; single.status(P) == Some(Cond::Normal.number()));
+    assert!(&rt; single.status(Q).is_none());
     single.close();
     Ok(())
 }
