@@ -184,14 +184,13 @@ uint32_t vlm_threads_print_deadlock(const vlm_threads_deadlock *deadlock, FILE *
     if (deadlock->size != sizeof *deadlock)
         return VLM_BADPARAM;
     uint32_t told = deadlock->length < VLM_THREADS_CIRCLE ? deadlock->length : VLM_THREADS_CIRCLE;
-    fputs("A circle: ", file);
     for (uint32_t i = 0; i < told; i++) {
-        fputs(i ? ", " : "", file);
+        fputs(i ? ", " : "A circle: ", file);
         print_step(&deadlock->waits[i], file);
     }
     if (told < deadlock->length)
         fprintf(file, ", and %" PRIu32 " more", deadlock->length - told);
-    fprintf(file, ". The victim is lock %" PRIu32 " of ", deadlock->victim);
+    fprintf(file, "%sThe victim is lock %" PRIu32 " of ", told ? ". " : "", deadlock->victim);
     print_process(deadlock->waits[0].waits_label, deadlock->pid, file);
     fputs(".\n", file);
     return VLM_NORMAL;

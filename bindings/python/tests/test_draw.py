@@ -427,18 +427,21 @@ class Graphs(unittest.TestCase):
         """The request of Q's lock 4 is the most recent one. It waits for P's lock 1, and P's lock 3 for Q's lock 2."""
         line = data_of(DEADLOCK + b"search node=1")["lines"][-1]
         self.assertEqual(line["printed"], "search: victim 4\n")
-        self.assertEqual(line["circle"], {"victim": 4, "waits": [[4, 1], [3, 2]]})
+        text = ("A circle: Q waits for P on A (lock 4 wants EX, lock 1 holds EX), "
+                'P waits for Q on "B\\ (lock 3 wants EX, lock 2 holds EX). The victim is lock 4 of Q.')
+        self.assertEqual(line["circle"], {"victim": 4, "waits": [[4, 1], [3, 2]], "text": text})
 
     def test_a_circle_that_is_too_long_to_be_found(self):
         """Q's request, the last one, waits for 1,000 locks of X before it waits for P's, and P waits for Q."""
         many = b"declare X node=3 group=1 quota=1000 blocks=1\n" + 1_000 * b"enq X CR name=A block=1\n"
         held = b"enq P CR name=A block=1\nenq Q EX name=B block=1\n"
         script = TWO + many + held + b"enq P EX name=B block=2\nenq Q EX name=A block=2\nsearch node=1"
-        self.assertEqual(data_of(script)["lines"][-1]["circle"], {"victim": 1_004, "waits": []})
+        text = "The circle is too long to be shown. The victim is lock 1004 of Q."
+        self.assertEqual(data_of(script)["lines"][-1]["circle"], {"victim": 1_004, "waits": [], "text": text})
 
     def test_a_process_in_its_own_way(self):
         line = data_of(TWO + b"enq P EX name=A block=1\nenq P EX name=A block=2\nsearch node=1")["lines"][-1]
-        self.assertEqual(line["circle"], {"victim": 2, "waits": [[2, 1]]})
+        self.assertEqual((line["circle"]["victim"], line["circle"]["waits"]), (2, [[2, 1]]))
 
     def test_each_line_of_worked_scripts_has_a_picture(self):
         for name in ("conversion-deadlock", "blocked-by-oneself", "sublocks", "departure"):

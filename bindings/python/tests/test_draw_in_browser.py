@@ -166,7 +166,7 @@ class InBrowser(unittest.TestCase):
         self.open(TWO + granted + b"cvt P 1 EX block=1\ncvt Q 2 EX block=1\nsearch node=1", "#line=7")
         text = self.text("#search")
         self.assertIn("The victim is lock 2 of Q.", text)
-        self.assertIn("Q waits for P on A (lock 2 for lock 1), P waits for Q on A (lock 1 for lock 2)", text)
+        self.assertIn("Q waits for P on A (lock 2 holds PR and wants EX, lock 1 holds PR and wants EX), P waits", text)
         waits = "return [...document.querySelectorAll('#search [data-wait]')].map((it) => it.dataset.wait).sort()"
         self.assertEqual(self.browser.run(waits), ["131073 65537", "65537 131073"])
         self.assertEqual(self.browser.run("return document.querySelectorAll('#search .wait.circle').length"), 2)

@@ -33,7 +33,8 @@ def _line(record: Record) -> Dict[str, Any]:
         return {"text": record.text, "idle": True}
     line: Dict[str, Any] = {"text": record.text, "printed": record.printed, "changes": record.changes}
     if record.circle:
-        line["circle"] = {"victim": record.circle.victim, "waits": record.circle.waits}
+        circle = record.circle
+        line["circle"] = {"victim": circle.victim, "waits": circle.waits, "text": circle.text}
     return line
 
 

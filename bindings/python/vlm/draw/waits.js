@@ -79,22 +79,11 @@ function renderSearch(line) {
   if (!line.circle) return;
   const number = state.at;
   goTo(number - 1);
-  const model = waitModel(line.circle), texts = circleTexts(line.circle);
+  const model = waitModel(line.circle);
   goTo(number);
-  section.append(element("p", {}, ...texts));
+  const {text} = line.circle, end = text.lastIndexOf("The victim is ");
+  section.append(element("p", {}, text.slice(0, end), element("span", {class: "victim"}, text.slice(end))));
   if (model.isWhole) section.append(graphFigure(model, SEARCHED));
-}
-
-function circleTexts({victim, waits}) {
-  const owner = nameOf(state.locks.get(victim).pid);
-  const last = [element("span", {class: "victim"}, `The victim is lock ${victim} of ${owner}.`)];
-  if (!waits.length) return ["The circle is too long to be shown. ", ...last];
-  const steps = waits.map(([lock, other]) => {
-    const request = state.locks.get(lock), holder = state.locks.get(other);
-    const names = `${nameOf(request.pid)} waits for ${nameOf(holder.pid)}`;
-    return `${names} on ${resourceName(request.resource)} (lock ${lock} for lock ${other})`;
-  });
-  return [`A circle: ${steps.join(", ")}. `, ...last];
 }
 
 // ---- The graph ----

@@ -2,12 +2,13 @@
 deadlock follows too."""
 
 from collections import deque
-from ctypes import byref
+from ctypes import byref, sizeof
 from dataclasses import dataclass
 from sys import maxsize
 from typing import Deque, Dict, List, Set, Tuple
 
 from .. import _library as raw
+from .._contexts import printed
 from ..manager import LockManager
 from ..values import Condition
 from .state import State
@@ -28,6 +29,8 @@ class Circle:
 
     victim: int
     waits: Tuple[Wait, ...]
+    # All of it as a sentence.
+    text: str
 
 
 def blockers_of(manager: LockManager, lock: int, most: int = maxsize) -> List[int]:
@@ -79,7 +82,34 @@ def circle_of(manager: LockManager, state: State, victim: int) -> Circle:
             if pid not in reached:
                 reached[pid] = lock, blocker
                 requests += _requests_of(state, pid)
-    return Circle(victim, tuple(_way_home(state, reached, victim)) if home in reached else ())
+    waits = _way_home(state, reached, victim) if home in reached else []
+    return Circle(victim, tuple(waits), _sentence(manager, state, victim, waits))
+
+
+def _sentence(manager: LockManager, state: State, victim: int, waits: List[Wait]) -> str:
+    """What the library prints of a deadlock."""
+    home = state.locks[victim].pid
+    words = raw.ThreadsDeadlock(victim=victim, pid=home, length=len(waits))
+    words.waits[0].waits_label[:] = _label(state, home)
+    for wait, (lock, blocker) in zip(words.waits, waits):
+        _fill_wait(manager, state, wait, (lock, blocker))
+    too_long = "" if waits else "The circle is too long to be shown. "
+    return too_long + printed("vlm_threads_print_deadlock", words).rstrip("\n")
+
+
+def _fill_wait(manager: LockManager, state: State, words: raw.Sized, wait: Wait) -> None:
+    request, other = (state.locks[lock] for lock in wait)
+    name = state.resources[request.resource].name
+    for lock, place in zip(wait, (words.waits, words.blocks)):
+        place.size = sizeof(place)
+        manager._call("vlm_find_lock", lock, place)
+    words.name_len = len(name)
+    words.name[:] = name.ljust(len(words.name), b"\0")
+    words.waits_label[:], words.blocks_label[:] = _label(state, request.pid), _label(state, other.pid)
+
+
+def _label(state: State, pid: int) -> bytes:
+    return state.processes[pid].name.encode().ljust(sizeof(raw.Label), b"\0")
 
 
 def _requests_of(state: State, pid: int) -> List[int]:
