@@ -191,7 +191,6 @@ static void run_read_line(struct client *client, const vlm_line *line) {
         run_reading(client, line);
     else
         run_step(client, line);
-    drop_reserved_step(client);
 }
 
 /* Whether a line has to wait: requests do while the dispatcher is quiet. */

@@ -7,7 +7,7 @@
 #include <stdlib.h>
 #include <string.h>
 
-enum { LONGEST_TEXT = 512 };
+enum { LONGEST_TEXT = 512, DIGITS = 20 };
 
 void say(const struct dispatcher *dispatcher, const char *format, ...) {
     char text[LONGEST_TEXT];
@@ -81,12 +81,26 @@ void put_format(struct client *client, const char *format, ...) {
     put(client, text, len < (int)sizeof text ? (size_t)len : sizeof text - 1);
 }
 
+/* Writes a number in decimal digits before `end`, and returns how many there are. Each answer has such numbers. */
+static size_t write_number(char *end, uint64_t number) {
+    size_t count = 0;
+    do {
+        end[-1 - (ptrdiff_t)count++] = (char)('0' + number % 10);
+        number /= 10;
+    } while (number != 0);
+    return count;
+}
+
 /* An answer begins with the number of its line. */
 void begin_answer(struct client *client) {
-    if (client->has_number)
-        put_format(client, "%" PRIu64 " ", client->line_number);
-    else
+    char text[DIGITS + 1];
+    if (!client->has_number) {
         note_change(client);
+        return;
+    }
+    size_t count = write_number(text + DIGITS, client->line_number);
+    text[DIGITS] = ' ';
+    put(client, text + DIGITS - count, count + 1);
 }
 
 void answer(struct client *client, const void *bytes, size_t len) {
@@ -104,7 +118,7 @@ void answer_text(struct client *client, const char *text) {
 
 /* Puts a number in the place of a word of a printed line, counted from 0. */
 void replace_word(vlm_text *text, uint32_t place, uint64_t number) {
-    char *bytes = (char *)text->bytes, digits[24];
+    char *bytes = (char *)text->bytes, digits[DIGITS];
     size_t from = 0, len = text->len;
     while (from < len && bytes[from] == ' ')
         from++;
@@ -113,11 +127,11 @@ void replace_word(vlm_text *text, uint32_t place, uint64_t number) {
     size_t to = from;
     while (to < len && bytes[to] != ' ' && bytes[to] != '\n')
         to++;
-    size_t count = (size_t)snprintf(digits, sizeof digits, "%" PRIu64, number);
+    size_t count = write_number(digits + DIGITS, number);
     if (len - (to - from) + count > sizeof text->bytes)
         return;
     memmove(bytes + from + count, bytes + to, len - to);
-    memcpy(bytes + from, digits, count);
+    memcpy(bytes + from, digits + DIGITS - count, count);
     text->len = (uint32_t)(len - (to - from) + count);
 }
 

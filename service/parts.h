@@ -147,7 +147,6 @@ struct client {
     uint64_t line_number;
     bool has_number;
     bool is_step;
-    struct step *step; /* memory for the step of a numbered line, or null */
     /* What is known of the client. */
     bool is_ended;    /* no more bytes come */
     bool is_over;     /* the connection ends once all is sent */
@@ -213,9 +212,10 @@ struct dispatcher {
     uint64_t token;       /* the last one that was taken */
     struct token *tokens; /* hashed by their locks */
     size_t token_room, token_count;
-    vlm_line line;  /* the line that is run */
-    vlm_text text;  /* the answer to it */
-    vlm_line shown; /* names a process whose AST or block is printed */
+    vlm_line line;      /* the line that is run */
+    vlm_text text;      /* the answer to it */
+    vlm_line shown;     /* names a process whose AST or block is printed */
+    struct step *spare; /* by which the step of a numbered line is surely kept, or null */
     struct counts counts;
 };
 
@@ -243,7 +243,6 @@ bool decimal(struct word word, uint64_t most, uint64_t *number);
 /* repeats.c */
 bool is_repeated(struct client *client);
 bool reserve_step(struct client *client);
-void drop_reserved_step(struct client *client);
 void keep_step(struct client *client, const void *bytes, size_t len);
 void free_steps(struct session *session);
 

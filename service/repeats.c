@@ -4,12 +4,15 @@
 #include <stdlib.h>
 #include <string.h>
 
-/* A numbered step. `bytes` are its line and its answer. */
+/* A numbered step. `bytes` are its line and its answer, and have room for some more. */
 struct step {
     uint64_t number;
-    uint32_t line_len, answer_len;
+    uint32_t line_len, answer_len, room;
     uint8_t bytes[];
 };
+
+/* Room for the bytes of any step. Room comes in parts, so that steps of nearly the same length fit into one place. */
+enum { WHOLE_STEP = LINE + STEP_ANSWER, ROOM_PART = 32 };
 
 /* A session that can't be resumed repeats its last line at most. */
 static uint32_t most_steps(const struct session *session) { return session->seconds != 0 ? KEPT_STEPS : 1; }
@@ -36,39 +39,53 @@ bool is_repeated(struct client *client) {
     return true;
 }
 
-/* Gets the memory that the step of a numbered line takes, since a step that is made has to be kept. */
+static struct step *make_step(size_t room) {
+    struct step *step = malloc(sizeof *step + room);
+    if (step != NULL)
+        step->room = (uint32_t)room;
+    return step;
+}
+
+/* Gets the memory by which the step of a numbered line is surely kept. */
 bool reserve_step(struct client *client) {
     struct session *session = client->session;
+    struct dispatcher *dispatcher = client->dispatcher;
     if (!client->has_number)
         return true;
     if (session->steps == NULL)
         session->steps = calloc(most_steps(session), sizeof(struct step *));
-    client->step = session->steps != NULL ? malloc(sizeof *client->step + client->line_len + STEP_ANSWER) : NULL;
-    return client->step != NULL;
+    if (dispatcher->spare == NULL)
+        dispatcher->spare = make_step(WHOLE_STEP);
+    return session->steps != NULL && dispatcher->spare != NULL;
 }
 
-/* The step of the line was not made: nothing is kept. */
-void drop_reserved_step(struct client *client) {
-    free(client->step);
-    client->step = NULL;
+/* A step with room for so many bytes: `old` if it has that, else a new one in its place, or the dispatcher's spare. */
+static struct step *step_with_room(struct dispatcher *dispatcher, struct step *old, size_t len) {
+    if (old != NULL && old->room >= len)
+        return old;
+    free(old);
+    struct step *made = make_step((len + ROOM_PART - 1) / ROOM_PART * ROOM_PART);
+    if (made != NULL)
+        return made;
+    made = dispatcher->spare;
+    dispatcher->spare = NULL;
+    return made;
 }
 
 /* The step of the line was made: it is the last one of the session, and kept if its line has a number. */
 void keep_step(struct client *client, const void *bytes, size_t len) {
     struct session *session = client->session;
-    struct step *step = client->step, *shorter;
     session->number = client->has_number ? client->line_number : session->number + 1;
-    client->step = NULL;
-    if (step == NULL)
+    if (!client->has_number)
         return;
-    *step = (struct step){session->number, (uint32_t)client->line_len, len < STEP_ANSWER ? (uint32_t)len : STEP_ANSWER};
+    struct step **place = &session->steps[session->next_step];
+    size_t answer_len = len < STEP_ANSWER ? len : STEP_ANSWER;
+    struct step *step = *place = step_with_room(client->dispatcher, *place, client->line_len + answer_len);
+    step->number = session->number;
+    step->line_len = (uint32_t)client->line_len;
+    step->answer_len = (uint32_t)answer_len;
     memcpy(step->bytes, client->line, client->line_len);
-    memcpy(step->bytes + client->line_len, bytes, step->answer_len);
-    shorter = realloc(step, sizeof *step + step->line_len + step->answer_len);
-    if (shorter != NULL)
-        step = shorter;
-    free(session->steps[session->next_step]);
-    session->steps[session->next_step] = step;
+    memcpy(step->bytes + client->line_len, bytes, answer_len);
     session->next_step = (session->next_step + 1) % most_steps(session);
 }
 
