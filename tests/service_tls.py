@@ -121,6 +121,19 @@ def bindings(_program):
         yield from difference("none.pem: No such file or directory" in made.stdout, True)
 
 
+def rust(_program):
+    """The client in Rust locks by TLS, with files that it names and with those of the environment, and is refused."""
+    copy = Path(tempfile.mkdtemp(dir=ROOM().name)) / "rust"
+    shutil.copytree(TOP / "bindings" / "rust", copy, ignore=shutil.ignore_patterns("target", "Cargo.lock"))
+    with Secured(made=PLAIN) as daemon:
+        env = {**os.environ, **environment("alice"), "VLM_PREFIX": str(library.prefix()),
+               "LD_LIBRARY_PATH": str(library.prefix() / "lib"), "VLM_TLS_ADDRESS": daemon.secured,
+               "VLM_TLS_OTHER": str(KEYS())}
+        yield from library.ran("cargo", "test", "--offline", "--quiet", "--test", "service", "sessions_by_tls",
+                               cwd=copy, env=env, seconds=600)
+        yield from difference(daemon.log.read_text().count("unable to get local issuer certificate"), 1)
+
+
 # Clients that are turned away: their certificate, the text that they get, and the text in the log.
 TURNED_AWAY = {"of another authority": ("stranger", "it refuses: unknown CA", "unable to get local issuer certificate"),
                "with an old certificate": ("late", "it refuses: certificate expired", "certificate has expired"),
@@ -513,6 +526,8 @@ def tests():
     found = [Test(f"TLS: a client {kind}", partial(turned_away, kind)) for kind in TURNED_AWAY]
     found += [Test(f"TLS: cut connections of a client with the sanitizer {sanitizer}", partial(cut, sanitizer))
               for sanitizer in PROGRAMS if library.links("cc", sanitizer)]
+    if shutil.which("cargo"):
+        found.append(Test("TLS: the client in Rust", rust))
     return found + [Test("TLS: clients with certificates", talk), Test("TLS: the client in Python", bindings),
                     Test("TLS: a client without a certificate", without_certificate),
                     Test("TLS: the certificate of another host", another_host),

@@ -16,6 +16,8 @@ from pathlib import Path
 
 import library
 import service
+import service_tls
+import tls_keys
 import vms_scripts
 from daemons import PLAIN, SECONDS, Daemon
 from harness import ROOM, TOP, Once, Test, difference
@@ -118,6 +120,17 @@ def replicas(_program):
             yield from library.ran(made, env={**given, "CARRIER": str(os.getpid())})
             yield from difference(proxy.cuts > 0, True)
         yield from library.ran(made, "unreachable", env=environment(SERVICE=addresses(dead)))
+
+
+def secured(_program):
+    """What is wrong with the services at a replica of the lock service, by TLS."""
+    made = made_program(HERE / "services.c", *first_links(), "-Wl,--wrap=calloc,--wrap=realloc")
+    given = {**environment(ENQLM=QUOTA), **tls_keys.environment("alice"),
+             "LD_LIBRARY_PATH": str(library.prefix() / "lib")}
+    rights = f"alice uid={os.getuid()} group=1 syslck\n"
+    with service_tls.Secured(f"search {WAIT}", rights=rights, made=PLAIN) as daemon:
+        # (a client of TCP has no process on this machine)
+        yield from library.ran(made, env={**given, "VLM$SERVICE": daemon.secured, "CARRIER": "0"})
 
 
 def chaos(sanitizer, _program):
@@ -356,6 +369,7 @@ def once():
     found += [Test(f"random calls of threads with the sanitizer {sanitizer}", partial(chaos, sanitizer))
               for sanitizer in sorted({it for _, it in links})]
     found += [Test("the services at replicas", replicas)] * bool(links)
+    found += [Test("the services by TLS", secured)] * (bool(links) and not service_tls.missing())
     found += [Test("examples alone", alone), Test("the names that the libraries for OpenVMS show", names_shown),
               Test("docs/VMS.md against the headers", page)]
     for compiler in filter(shutil.which, library.COMPILERS):
