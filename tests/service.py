@@ -501,6 +501,15 @@ def configured(_program):
             yield from difference((setting, answer), (setting, "P: EXENQLM"))
 
 
+# Starts a daemon with its listening socket at descriptor 3, and tells it that the socket is its own.
+AS_SYSTEMD = """
+import os, sys
+os.dup2(int(sys.argv[1]), 3)
+os.environ["LISTEN_PID"] = str(os.getpid())
+os.execv(sys.argv[2], sys.argv[2:])
+"""
+
+
 def under_systemd(_program):
     """What systemd gives and is told: a listening socket, a folder for the state, readiness, a watchdog, the end."""
     folder = Path(tempfile.mkdtemp(dir=ROOM().name))
@@ -511,8 +520,9 @@ def under_systemd(_program):
         notices.settimeout(20)
         env = {**os.environ, "LISTEN_FDS": "1", "NOTIFY_SOCKET": f"{folder}/notices", "WATCHDOG_USEC": "100000",
                "STATE_DIRECTORY": str(folder)}
-        words = ["sh", "-c", f'LISTEN_PID=$$ exec "$0" -c /dev/null 3<&{listener.fileno()}', CHECKED()]
-        daemon = subprocess.Popen(words, env=env, pass_fds=[listener.fileno()], stderr=subprocess.DEVNULL)
+        words = [sys.executable, "-c", AS_SYSTEMD, listener.fileno(), CHECKED(), "-c", "/dev/null"]
+        daemon = subprocess.Popen([str(word) for word in words], env=env, pass_fds=[listener.fileno()],
+                                  stderr=subprocess.DEVNULL)
         told = [notices.recv(100) for _ in range(3)]
         yield from difference(told, [b"READY=1", b"WATCHDOG=1", b"WATCHDOG=1"])
         with Client(f"{folder}/lock") as client:
