@@ -1,7 +1,7 @@
 """The list in etcd. Nothing else talks to etcd.
 
-Each append is a key of its own, and etcd's revision orders them: no two appends have the same revision. Keys below the
-prefix:
+Each append is a key of its own, and the revision at which etcd made the key orders them: no two appends have the same
+revision. Keys below the prefix:
 
     entries/WRITER-N   a batch of entries
     packed/N           chunk N of the packed batches
@@ -120,17 +120,10 @@ class EtcdList:
             return False
         return True
 
-    def append(self, name: str, batch: bytes) -> None:
-        """Appends a batch, unless there is one of this name."""
-        self._put_new(self._entries + name, batch)
-
-    def _put_new(self, key: str, value: bytes) -> bool:
-        """Puts a key with its value, unless it exists. Returns whether it did."""
-        def ask(client: Any) -> bool:
-            make = client.transactions
-            return client.transaction([make.create(key) == 0], [make.put(key, value)], [])[0]
-
-        return self.call("append", ask)
+    def append(self, name: str, batch: bytes) -> Optional[int]:
+        """Appends a batch. Returns its revision, or None if it was there already: an earlier try may have put it."""
+        put = self.call("append", lambda client: client.put(self._entries + name, batch, prev_kv=True))
+        return None if put.HasField("prev_kv") else int(put.header.revision)
 
     def revision(self) -> int:
         """The last revision."""
@@ -184,7 +177,13 @@ class EtcdList:
 
     def pack(self, number: int, chunk: bytes) -> bool:
         """Writes a chunk. Returns whether it was written: of several writers of one chunk, one writes it."""
-        return self._put_new(self._chunk_key(number), chunk)
+        key = self._chunk_key(number)
+
+        def ask(client: Any) -> bool:
+            make = client.transactions
+            return client.transaction([make.create(key) == 0], [make.put(key, chunk)], [])[0]
+
+        return self.call("append", ask)
 
     def _chunk_key(self, number: int) -> str:
         return f"{self._chunks}{number:08}"

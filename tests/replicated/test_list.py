@@ -18,7 +18,7 @@ sys.path.insert(0, str(LIST))
 # (the program has no ending, and what Python compiles of it is not to stay)
 sys.dont_write_bytecode = True
 import grpc  # noqa: E402
-from etcd3.client import Transactions  # noqa: E402
+from etcd3 import etcdrpc  # noqa: E402
 from chunks import Batch, Log, pack, unpack  # noqa: E402
 from etcd_list import Chunk, Compacted, EtcdList  # noqa: E402
 from members import Place  # noqa: E402
@@ -38,13 +38,18 @@ class Member:
     """Counts what it is asked for, and fails what it is told to fail."""
 
     def __init__(self):
-        self.transactions, self.kvstub, self.channel = Transactions(), self, self
+        self.kvstub, self.channel, self.has_put = self, self, set()
         self.fails, self.calls = set(), {"append": 0, "read": 0, "presence": 0}
         self.before_failure = lambda: None
 
-    def transaction(self, *_):
+    def put(self, key, _value, prev_kv):
+        assert prev_kv
         self._call("append")
-        return True, []
+        put = etcdrpc.PutResponse(header=etcdrpc.ResponseHeader(revision=9))
+        if key in self.has_put:
+            put.prev_kv.create_revision = 8
+        self.has_put.add(key)
+        return put
 
     def Range(self, request, *_):
         self._call("presence" if request.serializable else "read")
@@ -86,6 +91,9 @@ class Members(unittest.TestCase):
         self.members[1].fails = {"append", "presence"}
         self.store.append("a", b"")
         self.assertEqual(self.calls("append"), [1, 0, 1])
+
+    def test_an_append_that_is_repeated_has_no_revision(self):
+        self.assertEqual([self.store.append(name, b"") for name in "aba"], [9, 9, None])
 
     def test_a_call_that_fails_late_moves_nothing(self):
         place = Place(MEMBERS)
@@ -231,16 +239,34 @@ class Keeping(unittest.TestCase):
         self.keeper._tell_batch(batch(1, 1, 1))
 
     def told(self):
-        """The revisions that vlmd was told."""
-        frames, revisions = io.BytesIO(self.to.getvalue()), []
+        """The revisions that vlmd was told, and `a` where its batch is in the list."""
+        frames, told = io.BytesIO(self.to.getvalue()), []
         while head := frames.read(4):
-            revisions += struct.unpack_from("<Q", frames.read(*struct.unpack("<I", head)), 1)
-        return revisions
+            frame = frames.read(*struct.unpack("<I", head))
+            told += "a" if frame == b"a" else struct.unpack_from("<Q", frame, 1)
+        return told
 
     def test_what_was_not_told_is_read_from_a_chunk_that_is_known(self):
         self.keeper._learn()
         self.keeper._read()
         self.assertEqual(self.told(), [1, 2, 3])
+
+    def test_an_append_that_nothing_can_precede_is_told_at_once(self):
+        own = Ends.batch(2, 1, 2)
+        self.keeper._tell_appended(2, own.entries)
+        self.keeper._tell_batch(own)
+        self.assertEqual(self.told(), [1, 2, "a"])
+
+    def test_an_append_after_what_others_may_have_done_is_told_in_order(self):
+        own = Ends.batch(3, 1, 2)
+        self.keeper._tell_appended(3, own.entries)
+        self.keeper._tell_batch(Ends.batch(2, 2, 1))
+        self.keeper._tell_batch(own)
+        self.assertEqual(self.told(), [1, "a", 2, 3])
+
+    def test_an_append_that_was_there_is_not_told_again(self):
+        self.keeper._tell_appended(None, Ends.batch(2, 1, 1).entries)
+        self.assertEqual(self.told(), [1, "a"])
 
     def test_a_reading_that_etcd_overtakes_ends_no_list(self):
         self.store.chunks = mock.Mock(side_effect=Compacted)
