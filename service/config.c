@@ -49,6 +49,7 @@ static uint32_t *limit_of(struct config *config, const char *word) {
                 {"search", &limits->search},
                 {"drain", &limits->drain},
                 {"grace", &config->grace},
+                {"awake", &config->awake},
                 {"tcp-group", &config->tcp_group},
                 {"chunk", &config->chunk},
                 {"identifications", &limits->ids}};

@@ -7,6 +7,7 @@
 #include <netinet/in.h>
 #include <netinet/tcp.h>
 #include <stdlib.h>
+#include <string.h>
 #include <sys/random.h>
 #include <sys/socket.h>
 #include <unistd.h>
@@ -116,6 +117,7 @@ void flush_all(void) {
 }
 
 void hand_on(struct connection *connection, const uint8_t *bytes, size_t len) {
+    vlmd.has_line |= len != 0 && memchr(bytes, '\n', len) == bytes + len - 1;
     if (connection->link != NULL)
         link_hear(connection->link, bytes, len);
     else

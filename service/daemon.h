@@ -32,6 +32,7 @@ struct config {
     char socket[PATH];
     mode_t mode;
     uint32_t grace; /* milliseconds */
+    uint32_t awake; /* microseconds that the loop looks for lines after the last one, before it sleeps */
     struct limits limits;
     struct group_row groups[MOST_GROUPS];
     uint32_t group_count;
@@ -55,6 +56,7 @@ struct daemon {
     struct dispatcher *dispatcher;
     struct replica *replica; /* null: this daemon is alone */
     uv_loop_t loop;
+    bool has_line; /* a client that waits for the answer to its only line was heard in this turn */
 };
 extern struct daemon vlmd;
 

@@ -42,6 +42,8 @@ static struct session *session_of(const struct dispatcher *dispatcher, uint64_t 
 
 /* A beat of a session comes by. */
 void keep_lease(struct session *session) {
+    if (session->is_killed)
+        return;
     session->beat = session->dispatcher->place;
     session->heard = session->dispatcher->now;
     session->overdue = 0;

@@ -111,6 +111,7 @@ struct session {
     struct client *client;           /* null between connections */
     uint32_t seconds;                /* how long it waits for a resume */
     uint64_t until;                  /* without a client: when it ends */
+    bool is_killed;                  /* of a replica: no beat keeps its lease any more */
     uint64_t beat;                   /* of a replica: the place of the last beat */
     uint64_t heard, overdue;         /* of a replica: when that came by, and since when the lease is over, or 0 */
     struct session *previous, *next; /* of the sessions without a client */

@@ -152,7 +152,7 @@ static void move(struct client *client, struct session *session) {
 static bool may_resume(const struct client *client, const struct session *session) {
     const struct rights *own = &client->rights, *had = &session->rights;
     return own->uid == had->uid && own->group == had->group && own->has_syslck == had->has_syslck
-           && session->seconds != 0;
+           && session->seconds != 0 && !session->is_killed;
 }
 
 /* `resume S [asts=N]` */
@@ -234,6 +234,21 @@ void end_left_sessions(struct dispatcher *dispatcher) {
     }
 }
 
+/* Ends a session whose client does not want that. The session of a replica's client ends when its lease is over, since
+ * the client may count on its locks until then. */
+static void kill_session(struct session *session) {
+    struct client *client = session->client;
+    session->is_killed = session->dispatcher->is_replica;
+    if (!session->is_killed)
+        end_session(session);
+    else if (client != NULL)
+        leave_session(client);
+    if (client != NULL) {
+        put_text(client, "session killed\n");
+        client->is_over = true;
+    }
+}
+
 /* `kill S`: an administrator ends a session. */
 static void run_kill(struct client *client, const struct word *words, size_t count) {
     struct session *session = count == 2 ? find_session(client->dispatcher, words[1]) : NULL;
@@ -244,15 +259,10 @@ static void run_kill(struct client *client, const struct word *words, size_t cou
     } else if (session == NULL) {
         answer_text(client, "no such session\n");
     } else {
-        struct client *other = session->client;
         say(client->dispatcher, "session %016" PRIx64 " of pid %" PRIu32 " is killed by user %" PRIu32, session->name,
             session->rights.pid, client->rights.uid);
         answer_text(client, "killed\n");
-        end_session(session);
-        if (other != NULL) {
-            put_text(other, "session killed\n");
-            other->is_over = true;
-        }
+        kill_session(session);
     }
 }
 

@@ -4,6 +4,7 @@
 #include "names.h"
 
 #include <getopt.h>
+#include <sched.h>
 #include <signal.h>
 #include <stdio.h>
 #include <stdlib.h>
@@ -27,7 +28,8 @@ static struct {
     size_t tcp_listener_count;
     bool is_own_listener;
     uv_check_t after;
-    uv_idle_t busy; /* runs while lines are left, so that the loop does not wait */
+    uv_idle_t busy; /* runs while lines are left or expected, so that the loop does not wait */
+    uint64_t awake_until; /* nanoseconds */
     uv_timer_t due, watchdog;
     uint64_t set_for; /* when `due` wakes the loop */
     uv_signal_t signals[3];
@@ -62,6 +64,20 @@ static void write_epoch(void) {
         write_log("the epoch can't be written down");
 }
 
+/* Whether the loop looks for lines again at once. A client that waited for its answer often has another line soon, and
+ * would have to wake the daemon for it. Other programs may have the processor meanwhile. */
+static bool is_awake(void) {
+    if (vlmd.config.awake == 0 || vlmd.replica != NULL)
+        return false;
+    uint64_t now = uv_hrtime();
+    if (vlmd.has_line)
+        loop.awake_until = now + (uint64_t)vlmd.config.awake * 1000;
+    else
+        sched_yield();
+    vlmd.has_line = false;
+    return now < loop.awake_until;
+}
+
 /* After each poll: what is due, the lines that are left, all output, and when to wake. */
 static void on_turn(uv_check_t *check) {
     (void)check;
@@ -76,7 +92,7 @@ static void on_turn(uv_check_t *check) {
     flush_all();
     if (vlmd.replica != NULL)
         list_append();
-    if (dispatcher_is_busy(vlmd.dispatcher))
+    if (dispatcher_is_busy(vlmd.dispatcher) || is_awake())
         uv_idle_start(&loop.busy, on_busy);
     else
         uv_idle_stop(&loop.busy);

@@ -10,6 +10,7 @@
  * - if an answer is not that of the line whose turn it is. */
 #include "replica.h"
 
+#include <inttypes.h>
 #include <stdio.h>
 #include <stdlib.h>
 #include <string.h>
@@ -619,6 +620,53 @@ static void run_raised_limit(void) {
     dispatcher_close(dispatcher);
 }
 
+/* Whether the lease of a session is over at a moment, and ends it then. */
+static bool is_ended(struct dispatcher *dispatcher, uint64_t moment) {
+    uint64_t session, beat;
+    dispatcher_tick(dispatcher, moment);
+    dispatcher_look(dispatcher);
+    return dispatcher_next_end(dispatcher, &session, &beat) && dispatcher_end(dispatcher, session, beat);
+}
+
+/* An administrator ends a session. Its client is told, and no beat keeps its lease. But its lock stays until that is
+ * over. */
+static void run_kill(void) {
+    static const struct rights rights = {.group = 1}, admin = {.group = 1, .is_admin = true};
+    static const struct limits limits = USUAL_LIMITS;
+    static const uint8_t keys[16];
+    struct dispatcher *dispatcher = dispatcher_open(&limits, 0, keys, say_nothing);
+    struct bytes told = {NULL, 0, 0};
+    dispatcher_follow(dispatcher);
+    dispatcher_tick(dispatcher, 1000);
+    struct client *client = client_open(dispatcher, &rights, 0, &told);
+    struct client *other = client_open(dispatcher, &admin, 1, &told);
+    tell_line(client, "open seconds=10", &told);
+    tell_line(client, "declare P", &told);
+    tell_line(client, "enq P EX name=A block=1", &told);
+    uint64_t session = client_session(client);
+    char line[LINE];
+    snprintf(line, sizeof line, "kill %016" PRIx64, session);
+    tell_line(other, line, &told);
+    told.len = 0;
+    tell_line(client, "deq P @1", &told);
+    if (strcmp((const char *)told.all, "session killed\n") != 0 || !client_is_over(client))
+        fail((const char *)told.all);
+    snprintf(line, sizeof line, "resume %016" PRIx64, session);
+    struct client *again = client_open(dispatcher, &rights, 2, &told);
+    told.len = 0;
+    tell_line(again, line, &told);
+    if (strstr((const char *)told.all, "session ended\n") == NULL)
+        fail((const char *)told.all);
+    dispatcher_tick(dispatcher, 9000);
+    dispatcher_keep(dispatcher, session);
+    if (is_ended(dispatcher, 11000) || is_ended(dispatcher, 12000) || !dispatcher_has_locks(dispatcher))
+        fail("a session ends before its lease");
+    if (!is_ended(dispatcher, 12100) || dispatcher_has_locks(dispatcher))
+        fail("a killed session goes on");
+    free(told.all);
+    dispatcher_close(dispatcher);
+}
+
 int main(int count, char **words) {
     if (count != 3)
         return 2;
@@ -631,6 +679,7 @@ int main(int count, char **words) {
     run_many_readings();
     run_all_processes();
     run_raised_limit();
+    run_kill();
     for (unsigned long it = first; it < first + runs; it++) {
         printf("seed %lu: ", it);
         fflush(stdout);
