@@ -42,7 +42,7 @@ static void free_pools(struct dispatcher *dispatcher) {
             free(pool);
         }
     for (uint32_t at = 0; at < dispatcher->process_count; at++) {
-        free(dispatcher->processes[at]->since);
+        free(dispatcher->processes[at]->uses);
         free(dispatcher->processes[at]);
     }
 }

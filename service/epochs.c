@@ -74,7 +74,7 @@ static void renumber(struct dispatcher *dispatcher) {
     for (uint32_t at = 0; at < dispatcher->process_count; at++) {
         struct process *process = dispatcher->processes[at];
         if (process->session == NULL) {
-            free(process->since);
+            free(process->uses);
             free(process);
             continue;
         }

@@ -69,6 +69,12 @@ struct old_block {
 };
 
 /* A process of the lock manager. */
+/* The last request that was accepted for a status block: when it was accepted or ended, and its lock. */
+struct block_use {
+    uint64_t since;
+    uint32_t lkid;
+};
+
 struct process {
     uint32_t pid;
     uint32_t index; /* in the order of making */
@@ -81,10 +87,10 @@ struct process {
     uint64_t number; /* what clients see in the place of the pid */
     uint32_t quota;
     uint32_t blocks;           /* as declared */
-    uint32_t locks;            /* as counted last */
+    uint32_t locks;
     uint8_t named[BLOCK_BITS]; /* the blocks that an accepted request has named */
     uint8_t set[BLOCK_BITS];   /* the blocks whose value part may not be zeros */
-    uint64_t *since;           /* when the last request of a block was accepted or ended */
+    struct block_use *uses;    /* of each block */
     struct old_block *old;     /* of an earlier lock manager, or null */
 };
 
@@ -283,6 +289,7 @@ void release_process(struct process *process);
 struct process *process_of(struct dispatcher *dispatcher, uint32_t pid);
 uint32_t make_process(vlm *manager, const struct pool *pool, uint32_t index, uint32_t *pid);
 void count_locks(struct process *process);
+void count_lock(struct process *process, bool is_new);
 bool has_bit(const uint8_t *bits, uint32_t number);
 void set_bit(uint8_t *bits, uint32_t number);
 
@@ -290,7 +297,7 @@ void set_bit(uint8_t *bits, uint32_t number);
 uint32_t new_request(struct process *process, vlm_request *request);
 void drop_request(struct dispatcher *dispatcher, uint32_t place);
 void accept_request(struct dispatcher *dispatcher, uint32_t place, uint32_t lkid, bool is_new);
-bool wait_if_queued(struct dispatcher *dispatcher, uint32_t place, uint32_t lkid);
+void wait_if_queued(struct dispatcher *dispatcher, uint32_t place, uint32_t lkid);
 void tell(struct dispatcher *dispatcher);
 
 /* cycles.c */

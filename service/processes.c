@@ -56,6 +56,13 @@ void count_locks(struct process *process) {
     process->locks = (uint32_t)read.locks;
 }
 
+/* A process has one lock more, or one less. */
+void count_lock(struct process *process, bool is_new) {
+    uint32_t change = is_new ? 1 : UINT32_MAX;
+    process->session->user->locks += change;
+    process->locks += change;
+}
+
 /* The pool of processes with the rights of a session and enough status blocks; null without memory. */
 static struct pool *find_pool(struct session *session, uint32_t blocks) {
     static const uint32_t sizes[] = {4, 16, 64, VLM_MAX_BLOCKS};
@@ -102,15 +109,15 @@ static bool grow(struct dispatcher *dispatcher) {
 /* Makes one process more for a pool. */
 static struct process *new_process(struct dispatcher *dispatcher, struct pool *pool) {
     struct process *process = calloc(1, sizeof *process);
-    uint64_t *since = calloc(pool->blocks + 1, sizeof *since);
+    struct block_use *uses = calloc(pool->blocks + 1, sizeof *uses);
     uint32_t index = dispatcher->process_count, pid;
-    if (process == NULL || since == NULL || !grow(dispatcher)
+    if (process == NULL || uses == NULL || !grow(dispatcher)
         || make_process(&dispatcher->manager, pool, index, &pid) != VLM_NORMAL) {
         free(process);
-        free(since);
+        free(uses);
         return NULL;
     }
-    *process = (struct process){.pid = pid, .index = index, .pool = pool, .since = since};
+    *process = (struct process){.pid = pid, .index = index, .pool = pool, .uses = uses};
     dispatcher->processes[dispatcher->process_count++] = process;
     return process;
 }

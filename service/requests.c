@@ -54,27 +54,28 @@ void drop_request(struct dispatcher *dispatcher, uint32_t place) {
 void accept_request(struct dispatcher *dispatcher, uint32_t place, uint32_t lkid, bool is_new) {
     struct request *record = &dispatcher->requests[place];
     record->lkid = lkid;
-    record->process->since[record->block] = dispatcher->now;
+    record->process->uses[record->block] = (struct block_use){dispatcher->now, lkid};
     set_bit(record->process->named, record->block);
     if (lkid > dispatcher->last_lkid)
         dispatcher->last_lkid = lkid;
-    if (is_new)
+    if (is_new) {
+        count_lock(record->process, true);
         note_lock(dispatcher, lkid);
+    }
     take_token(dispatcher, record);
 }
 
-/* Once all ASTs of its step were taken, a request that has its record still is queued. Returns whether it is. */
-bool wait_if_queued(struct dispatcher *dispatcher, uint32_t place, uint32_t lkid) {
+/* Once all ASTs of its step were taken, a request that has its record still is queued. */
+void wait_if_queued(struct dispatcher *dispatcher, uint32_t place, uint32_t lkid) {
     struct request *record = &dispatcher->requests[place];
     if (record->process == NULL || record->lkid != lkid)
-        return false;
+        return;
     record->user = record->process->session->user;
     record->user->waiting++;
     record->previous = dispatcher->last_waiting;
     *(record->previous == NOBODY ? &dispatcher->first_waiting : &dispatcher->requests[record->previous].next) = place;
     dispatcher->last_waiting = place;
     dispatcher->waiting_count++;
-    return true;
 }
 
 static void wait_no_more(struct dispatcher *dispatcher, struct request *record) {
@@ -142,9 +143,11 @@ static void complete(struct dispatcher *dispatcher, vlm_ast *ast) {
     struct process *process = record->process;
     wait_no_more(dispatcher, record);
     take_token(dispatcher, record);
-    process->since[record->block] = dispatcher->now;
+    process->uses[record->block].since = dispatcher->now;
     if (process->session != NULL) {
-        count_locks(process);
+        /* (the lock of a request that waited may be gone) */
+        if (record->user != NULL)
+            count_locks(process);
         if (record->has_ast)
             tell_completion(process, record, ast);
     }

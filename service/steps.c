@@ -128,21 +128,15 @@ static void ask(struct client *client, const vlm_line *line, struct process *pro
         drop_request(dispatcher, place);
     answer_step(client, line, status, lkid);
     tell(dispatcher);
-    if (status == VLM_NORMAL && !wait_if_queued(dispatcher, place, lkid))
-        return;
-    /* (a completion has counted them) */
-    if (status == VLM_NORMAL || status == VLM_SYNCH)
-        count_locks(process);
+    if (status == VLM_NORMAL)
+        wait_if_queued(dispatcher, place, lkid);
 }
 
-/* The only lock that a dequeue may give up, or 0. */
-static uint32_t only_lock(vlm *manager, const vlm_dequeue *dequeue) {
-    vlm_lksb block = {.size = sizeof block};
+/* The only lock that a dequeue may give up, or 0. A status block has the lock of its last request. */
+static uint32_t only_lock(const struct process *process, const vlm_dequeue *dequeue) {
     if ((dequeue->flags & (VLM_DEQALL | VLM_DEQ_CANCEL)) != 0)
         return 0;
-    if (dequeue->lock_kind != VLM_BY_BLOCK)
-        return dequeue->lock;
-    return vlm_block(manager, dequeue->pid, dequeue->lock, &block) == VLM_NORMAL ? block.lkid : 0;
+    return dequeue->lock_kind == VLM_BY_BLOCK ? process->uses[dequeue->lock].lkid : dequeue->lock;
 }
 
 static void give_up(struct client *client, const vlm_line *line, struct process *process) {
@@ -150,12 +144,16 @@ static void give_up(struct client *client, const vlm_line *line, struct process 
     vlm_dequeue dequeue = line->dequeue;
     dequeue.pid = process->pid;
     resolve_lock(process, &dequeue.lock, &dequeue.lock_kind);
-    uint32_t lkid = only_lock(&dispatcher->manager, &dequeue), status = vlm_deq(&dispatcher->manager, &dequeue);
-    if (status == VLM_NORMAL)
+    uint32_t lkid = only_lock(process, &dequeue), status = vlm_deq(&dispatcher->manager, &dequeue);
+    bool is_one = status == VLM_NORMAL && lkid != 0;
+    if (is_one) {
         forget_token(dispatcher, lkid);
+        count_lock(process, false);
+    }
     answer_step(client, line, status, 0);
     tell(dispatcher);
-    count_locks(process);
+    if (!is_one)
+        count_locks(process);
 }
 
 static void set_value(struct client *client, const vlm_line *line, struct process *process) {
