@@ -94,7 +94,7 @@ static size_t write_number(char *end, uint64_t number) {
 /* An answer begins with the number of its line. */
 void begin_answer(struct client *client) {
     char text[DIGITS + 1];
-    if (!client->has_number) {
+    if (!client->has_number || client->is_detached) {
         note_change(client);
         return;
     }

@@ -58,9 +58,9 @@ void count_locks(struct process *process) {
 
 /* A process has one lock more, or one less. */
 void count_lock(struct process *process, bool is_new) {
-    uint32_t change = is_new ? 1 : UINT32_MAX;
-    process->session->user->locks += change;
-    process->locks += change;
+    struct user *user = process->session->user;
+    user->locks = is_new ? user->locks + 1 : user->locks - 1;
+    process->locks = is_new ? process->locks + 1 : process->locks - 1;
 }
 
 /* The pool of processes with the rights of a session and enough status blocks; null without memory. */

@@ -17,7 +17,7 @@ enum { KEYS = 16, NAMED = 256 };
 
 static const char usual_file[] = "/etc/vlmd.conf", usual_socket[] = "/run/vlm/lock.sock";
 static const struct config usual_config = {
-    .mode = 0660, .grace = 2000, .prefix = "vlm/", .tcp_group = 1, .chunk = 1 << 20, .limits = USUAL_LIMITS};
+    .mode = 0660, .grace = 2000, .awake = 50, .prefix = "vlm/", .tcp_group = 1, .chunk = 1 << 20, .limits = USUAL_LIMITS};
 
 struct daemon vlmd;
 

@@ -557,6 +557,18 @@ def not_searched(_program):
             yield "the daemon is busy while requests wait"
 
 
+def awake(_program):
+    """A daemon that stays awake for a second line sleeps if none comes."""
+    with Daemon("awake 100000") as daemon, daemon.client().begin("P") as client:
+        yield from difference(client.ask("deq P @1"), "P: IVLOCKID")
+        client.is_quiet(0.3)
+        before = daemon.processor_time()
+        yield from difference(client.is_quiet(1), True)
+        if daemon.processor_time() - before > 0.3:
+            yield "a daemon without clients that ask is busy"
+        yield from difference(client.ask("deq P @1"), "P: IVLOCKID")
+
+
 def deadlocked(_program):
     """A deadlock of two clients ends, with its most recent request, and the cycle is logged."""
     with Daemon("search 200") as daemon, daemon.client().begin("P") as one, daemon.client().begin("Q") as other:
@@ -738,6 +750,7 @@ BEHAVIOURS = {"the first session of the page": shown_talk, "half lines": half_li
               "sessions that are resumed": resumed, "repeated steps": repeated, "processes of another session": hidden,
               "a daemon that ends": restarted, "a second daemon": one_daemon, "configurations": configured,
               "a daemon of systemd": under_systemd, "a deadlock": deadlocked, "no searches": not_searched,
+              "a daemon that stays awake": awake,
               "a change of managers": changed, "no identifications left": drained, "10,000 idle connections": idle,
               "a storm of clients": stormy, "mutated lines": mutated,
               "replicas in one program": lists}
