@@ -110,8 +110,8 @@ typedef struct vlm_hub_service {
 enum { VLM_LEAST_CAPACITY = 32 };
 
 /* Makes turns until vlm_hub_stop is called, and answers the reads after each. Sleeps on the hub's bell after a turn
- * that made nothing. With `entries`, it
- * cuts the journal while there is still place for a turn, and at the end, and calls keep with each part.
+ * that made nothing. With `entries`, it cuts the journal while there is still place for a turn, and at the end, and
+ * calls keep with each part.
  * NORMAL: it was stopped. Posts that it has not made stay at their ports.
  * INSFMEM: the journal got no more memory. Nothing is lost: cut, and call it again.
  * IVBUFLEN: the journal had more than `capacity` entries at the start.
