@@ -86,7 +86,7 @@ struct process {
     uint32_t name_len;
     uint64_t number; /* what clients see in the place of the pid */
     uint32_t quota;
-    uint32_t blocks;           /* as declared */
+    uint32_t blocks; /* as declared */
     uint32_t locks;
     uint8_t named[BLOCK_BITS]; /* the blocks that an accepted request has named */
     uint8_t set[BLOCK_BITS];   /* the blocks whose value part may not be zeros */

@@ -16,8 +16,13 @@
 enum { KEYS = 16, NAMED = 256 };
 
 static const char usual_file[] = "/etc/vlmd.conf", usual_socket[] = "/run/vlm/lock.sock";
-static const struct config usual_config = {
-    .mode = 0660, .grace = 2000, .awake = 50, .prefix = "vlm/", .tcp_group = 1, .chunk = 1 << 20, .limits = USUAL_LIMITS};
+static const struct config usual_config = {.mode = 0660,
+                                           .grace = 2000,
+                                           .awake = 50,
+                                           .prefix = "vlm/",
+                                           .tcp_group = 1,
+                                           .chunk = 1 << 20,
+                                           .limits = USUAL_LIMITS};
 
 struct daemon vlmd;
 
@@ -28,7 +33,7 @@ static struct {
     size_t tcp_listener_count;
     bool is_own_listener;
     uv_check_t after;
-    uv_idle_t busy; /* runs while lines are left or expected, so that the loop does not wait */
+    uv_idle_t busy;       /* runs while lines are left or expected, so that the loop does not wait */
     uint64_t awake_until; /* nanoseconds */
     uv_timer_t due, watchdog;
     uint64_t set_for; /* when `due` wakes the loop */

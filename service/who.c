@@ -59,7 +59,8 @@ static void tell_lock(struct walk *walk, const vlm_lock *lock) {
                domain, mode_name(lock->held), mode_name(lock->want), queues[lock->queue]);
     put_format(walk->client, " %" PRIu64 " %016" PRIx64 " %" PRIu32 " %" PRIu32 " %s %" PRIu64,
                handle_of(dispatcher, lock->lkid), session->name, session->rights.pid, session->rights.uid,
-               session->label[0] != 0 ? session->label : "-", (dispatcher->now - process->uses[lock->block].since) / 1000);
+               session->label[0] != 0 ? session->label : "-",
+               (dispatcher->now - process->uses[lock->block].since) / 1000);
     tell_blocker(walk, lock);
 }
 
