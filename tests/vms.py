@@ -31,7 +31,7 @@ SOURCES = [*sorted((TOP / "vms").glob("*.c")), *library.LAYER_SOURCES, *service.
 DOLLARS = {"gcc": [], "clang": ["-Wno-dollar-in-identifier-extension"]}
 SANITIZERS = library.SANITIZERS[1:]
 # Milliseconds of the deadlock wait in tests.services, and the quota of locks that it reaches.
-WAIT, QUOTA = 300, 40
+WAIT, QUOTA = 3000, 40
 # After how many bytes at most a connection is cut.
 MOST_BYTES = 5000
 # How long random calls are made.

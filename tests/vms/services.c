@@ -1,5 +1,6 @@
 /* Each service of starlet.h and its answers, in one process, over the lock manager that VLM$SERVICE names. A request
- * that waits for this process itself is a deadlock, and ends after the deadlock wait: the tests set that to 300 ms.
+ * that waits for this process itself is a deadlock, and ends after the deadlock wait: the tests set that to 3 seconds,
+ * so that no other request is searched for on a machine that stalls.
  *
  *     services           all tests
  *     services lost PID  kills the lock service PID, and tests that the locks are lost
@@ -31,7 +32,7 @@
 #include <time.h>
 #include <unistd.h>
 
-enum { THREADS = 4, ROUNDS = 50, MANY = 40, WAIT = 300, THOUSAND = 1000, MILLION = 1000000 };
+enum { THREADS = 4, ROUNDS = 50, MANY = 40, WAIT = 3000, THOUSAND = 1000, MILLION = 1000000 };
 
 #define CHECK(fact) check(fact, __LINE__, #fact)
 
