@@ -109,9 +109,10 @@ static void wrong_reads(void) {
     reads[0].reserved = 1;
     EXPECT(read_within(1, LOST), VLM_BADPARAM);
     reads[0].reserved = 0;
-    reads[0].state = 3;
+    /* (the hub's thread looks at it meanwhile) */
+    __atomic_store_n(&reads[0].state, 3, __ATOMIC_SEQ_CST);
     EXPECT(read_within(1, LOST), VLM_BADPARAM);
-    reads[0].state = 0;
+    __atomic_store_n(&reads[0].state, 0, __ATOMIC_SEQ_CST);
     EXPECT(vlm_port_block(&none, &bells[0], &hub_bell, LOST, &reads[0]), VLM_BADPARAM);
     EXPECT(vlm_port_block(&ports[0], &silent, &hub_bell, LOST, &reads[0]), VLM_BADPARAM);
     EXPECT(vlm_port_block(&ports[0], &bells[0], &silent, LOST, &reads[0]), VLM_BADPARAM);
