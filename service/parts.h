@@ -68,13 +68,13 @@ struct old_block {
     uint64_t handle;
 };
 
-/* A process of the lock manager. */
 /* The last request that was accepted for a status block: when it was accepted or ended, and its lock. */
 struct block_use {
     uint64_t since;
     uint32_t lkid;
 };
 
+/* A process of the lock manager. */
 struct process {
     uint32_t pid;
     uint32_t index; /* in the order of making */
