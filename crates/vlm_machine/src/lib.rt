@@ -9,7 +9,7 @@
 //! | Declare | `declarations` | `check_declaration` | with the change | `declare_change` | none |
 //! | SetValue | `value_settings` | `checked_setting` | none | `set_change` | none |
 //! | Take | `ast_takes` | `checked_caller` | none | `take_change` | none |
-//! | Enq | `new_requests` | `checked_request` | in `enter` | `enq_change` | its resource |
+//! | Enq | `new_requests` | `checked_request` | `make_room_beyond`, then in `enter` | `enq_change` | its resource |
 //! | Convert | `conversions` | `checked_names`, `checked_admission` | in `convert` | `convert_change` | its resource |
 //! | Deq | `dequeues` | `checked_dequeue`, `check_alone` | none | `deq_change` | its resource |
 //! | Deq with DEQALL | `dequeues` | `checked_dequeue`, `checked_scope` | none | `deq_all_change` | all touched |

@@ -1,4 +1,5 @@
--- The definitions of most laws. They use no definition that serves, grants or sweeps.
+-- The definitions of most laws. They use no definition that serves, grants or sweeps, but for `step_change` in
+-- `GrantsFollowQueueOrder`: a step before its sweep.
 use Rattle.std.specs.Prelude.{◌≡◌, ◌≢◌, ◌<◌, ◌≤◌, ◌+◌, ◌==◌, ◌⊎◌, ◌++◌, ℕ, zero, suc, Bool, List, [], ◌∷◌, true, false}
 use Rattle.std.specs.Prelude.{All, AllPairs, Any, count_by, sum_by, take, drop, Option, None, Some, IsSome, ⊤}
 use Rattle.std.specs.List.{AllZip}
