@@ -80,7 +80,8 @@ fn declare_line(line: &[u8]) -> Result<Line, LineFault>
 {
     let (first, rest) = needed_word(line)?;
     let name = process_name(first)?;
-    let words = DeclareWords::default().with_words(rest)?;
+    let mut words = DeclareWords::default();
+    words.add_words(rest)?;
     let declaration = declaration_of(words)?;
     Ok(Line::Declare(name, declaration))
 }
@@ -111,7 +112,8 @@ fn enq_line(line: &[u8]) -> Result<Line, LineFault>
     let name = process_name(first)?;
     let (second, rest) = needed_word(after_name)?;
     let mode = mode(second)?;
-    let words = EnqWords::default().with_words(rest)?;
+    let mut words = EnqWords::default();
+    words.add_words(rest)?;
     let resource = words.resource.ok_or(LineFault::WrongWord)?;
     let asked = words.request;
     let block = asked.block.ok_or(LineFault::WrongWord)?;
@@ -140,7 +142,8 @@ fn cvt_line(line: &[u8]) -> Result<Line, LineFault>
     let lock = lock(second)?;
     let (third, rest) = needed_word(after_lock)?;
     let mode = mode(third)?;
-    let words = RequestWords::default().with_words(rest)?;
+    let mut words = RequestWords::default();
+    words.add_words(rest)?;
     let block = words.block.ok_or(LineFault::WrongWord)?;
     let conversion = Conversion {
         pid: NO_PROCESS,
@@ -164,7 +167,8 @@ fn deq_line(line: &[u8]) -> Result<Line, LineFault>
     let name = process_name(first)?;
     let (second, rest) = needed_word(after_name)?;
     let lock = lock(second)?;
-    let words = DeqWords::default().with_words(rest)?;
+    let mut words = DeqWords::default();
+    words.add_words(rest)?;
     let dequeue = Dequeue {
         pid: NO_PROCESS,
         lock,
@@ -182,7 +186,8 @@ fn set_line(line: &[u8]) -> Result<Line, LineFault>
 {
     let (first, rest) = needed_word(line)?;
     let name = process_name(first)?;
-    let words = SetWords::default().with_words(rest)?;
+    let mut words = SetWords::default();
+    words.add_words(rest)?;
     let block = words.block.ok_or(LineFault::WrongWord)?;
     let value = words.value.ok_or(LineFault::WrongWord)?;
     let setting = ValueSetting {
@@ -199,7 +204,8 @@ fn set_line(line: &[u8]) -> Result<Line, LineFault>
 fn node_alone(line: &[u8]) -> Result<u8, LineFault>
     ensures { result ≡ node_alone (words_of line.now) }
 {
-    let words = NodeWords::default().with_words(line)?;
+    let mut words = NodeWords::default();
+    words.add_words(line)?;
     words.node.ok_or(LineFault::WrongWord)
 }
 

@@ -1,6 +1,6 @@
 //! The keyed words and flags that follow the places of a line.
 
-ghost use Rattle.std.specs.Prelude.{◌≡◌};
+ghost use Rattle.std.specs.Prelude.{◌≡◌, Ok, Err, MatchResult};
 ghost use Rattle.vlm_lines.specs.Lines.{all_words, declare_word, deq_word, enq_word, node_word, once, request_word, set_word, words_of};
 
 use crate::cuts::next_word;
@@ -15,27 +15,28 @@ use vlm_words::names::NameArg;
 use vlm_words::steps::Which;
 
 /// The values of the keyed words and flags so far. They come in any order, each once.
-pub(crate) trait Keyed: Copy {
+pub(crate) trait Keyed {
     ghost use Rattle.std.specs.Prelude.{ℕ, List, Result};
     ghost use Rattle.vlm_lines.specs.declared.faults.LineFault.{LineFault};
 
     ghost with_word: { Self → List ℕ → Result Self LineFault };
 
-    /// Adds one more word.
-    fn with_word(self, word: &[u8]) -> Result<Self, LineFault>
-        ensures { result ≡ with_word self word.now };
+    /// Adds one more word. After a fault the values are of no use.
+    fn add_word(&mut self, word: &[u8]) -> Result<(), LineFault>
+        ensures { MatchResult result (λ _. with_word self.old word.now ≡ Ok self.new)
+            (λ fault. with_word self.old word.now ≡ Err fault) };
 
     /// Adds each word.
-    final fn with_words(self, words: &[u8]) -> Result<Self, LineFault>
-        ensures { result ≡ all_words with_word self (words_of words.now) }
+    final fn add_words(&mut self, words: &[u8]) -> Result<(), LineFault>
+        ensures { MatchResult result (λ _. all_words with_word self.old (words_of words.now) ≡ Ok self.new)
+            (λ fault. all_words with_word self.old (words_of words.now) ≡ Err fault) }
     {
-        let mut given = self;
         let mut rest = words;
         while let Some((word, after)) = next_word(rest) {
-            given = given.with_word(word)?;
+            self.add_word(word)?;
             rest = after;
         }
-        Ok(given)
+        Ok(())
     }
 }
 
@@ -52,24 +53,22 @@ impl Keyed for DeclareWords {
     ghost with_word = { declare_word };
 
     #[tactic(auto, unfolding(crate::specs::Lines::declare_word))]
-    fn with_word(self, word: &[u8]) -> Result<Self, LineFault> {
+    fn add_word(&mut self, word: &[u8]) -> Result<(), LineFault> {
         if let Some(digits) = after_key(b"node=", word) {
-            let node = once(self.node, byte(digits))?;
-            Ok(DeclareWords { node, ..self })
+            self.node = once(self.node, byte(digits))?;
+            Ok(())
         } else if let Some(digits) = after_key(b"group=", word) {
-            let group = once(self.group, short(digits))?;
-            Ok(DeclareWords { group, ..self })
+            self.group = once(self.group, short(digits))?;
+            Ok(())
         } else if let Some(digits) = after_key(b"quota=", word) {
-            let quota = once(self.quota, short(digits))?;
-            Ok(DeclareWords { quota, ..self })
+            self.quota = once(self.quota, short(digits))?;
+            Ok(())
         } else if let Some(digits) = after_key(b"blocks=", word) {
-            let blocks = once(self.blocks, byte(digits))?;
-            Ok(DeclareWords { blocks, ..self })
+            self.blocks = once(self.blocks, byte(digits))?;
+            Ok(())
         } else if is_text(word, b"syslck") && !self.syslck {
-            Ok(DeclareWords {
-                syslck: true,
-                ..self
-            })
+            self.syslck = true;
+            Ok(())
         } else {
             Err(LineFault::WrongWord)
         }
@@ -93,22 +92,22 @@ impl Keyed for RequestWords {
     ghost with_word = { request_word };
 
     #[tactic(auto, unfolding(crate::specs::Lines::request_word))]
-    fn with_word(self, word: &[u8]) -> Result<Self, LineFault> {
+    fn add_word(&mut self, word: &[u8]) -> Result<(), LineFault> {
         if let Some(digits) = after_key(b"block=", word) {
-            let block = once(self.block, byte(digits))?;
-            Ok(RequestWords { block, ..self })
+            self.block = once(self.block, byte(digits))?;
+            Ok(())
         } else if let Some(digits) = after_key(b"ast=", word) {
-            let ast = once(self.ast, long(digits))?;
-            Ok(RequestWords { ast, ..self })
+            self.ast = once(self.ast, long(digits))?;
+            Ok(())
         } else if let Some(digits) = after_key(b"bast=", word) {
-            let bast = once(self.bast, long(digits))?;
-            Ok(RequestWords { bast, ..self })
+            self.bast = once(self.bast, long(digits))?;
+            Ok(())
         } else if let Some(digits) = after_key(b"param=", word) {
-            let param = once(self.param, long(digits))?;
-            Ok(RequestWords { param, ..self })
+            self.param = once(self.param, long(digits))?;
+            Ok(())
         } else {
-            let flags = self.flags.with(word, enq_flag(word))?;
-            Ok(RequestWords { flags, ..self })
+            self.flags = self.flags.with(word, enq_flag(word))?;
+            Ok(())
         }
     }
 }
@@ -127,16 +126,15 @@ impl Keyed for EnqWords {
     ghost with_word = { enq_word };
 
     #[tactic(auto, unfolding(crate::specs::Lines::enq_word))]
-    fn with_word(self, word: &[u8]) -> Result<Self, LineFault> {
+    fn add_word(&mut self, word: &[u8]) -> Result<(), LineFault> {
         if let Some(name) = after_key(b"name=", word) {
-            let resource = once(self.resource, read_res(name).ok_or(LineFault::WrongWord))?;
-            Ok(EnqWords { resource, ..self })
+            self.resource = once(self.resource, read_res(name).ok_or(LineFault::WrongWord))?;
+            Ok(())
         } else if let Some(named) = after_key(b"parent=", word) {
-            let parent = once(self.parent, lock(named))?;
-            Ok(EnqWords { parent, ..self })
+            self.parent = once(self.parent, lock(named))?;
+            Ok(())
         } else {
-            let request = self.request.with_word(word)?;
-            Ok(EnqWords { request, ..self })
+            self.request.add_word(word)
         }
     }
 }
@@ -152,16 +150,16 @@ impl Keyed for DeqWords {
     ghost with_word = { deq_word };
 
     #[tactic(auto, unfolding(crate::specs::Lines::deq_word))]
-    fn with_word(self, word: &[u8]) -> Result<Self, LineFault> {
+    fn add_word(&mut self, word: &[u8]) -> Result<(), LineFault> {
         if let Some(digits) = after_key(b"value=", word) {
-            let value = once(self.value, value_of(digits))?;
-            Ok(DeqWords { value, ..self })
+            self.value = once(self.value, value_of(digits))?;
+            Ok(())
         } else if let Some(digits) = after_key(b"tail=", word) {
-            let tail = once(self.tail, tail_of(digits))?;
-            Ok(DeqWords { tail, ..self })
+            self.tail = once(self.tail, tail_of(digits))?;
+            Ok(())
         } else {
-            let flags = self.flags.with(word, deq_flag(word))?;
-            Ok(DeqWords { flags, ..self })
+            self.flags = self.flags.with(word, deq_flag(word))?;
+            Ok(())
         }
     }
 }
@@ -177,16 +175,16 @@ impl Keyed for SetWords {
     ghost with_word = { set_word };
 
     #[tactic(auto, unfolding(crate::specs::Lines::set_word))]
-    fn with_word(self, word: &[u8]) -> Result<Self, LineFault> {
+    fn add_word(&mut self, word: &[u8]) -> Result<(), LineFault> {
         if let Some(digits) = after_key(b"block=", word) {
-            let block = once(self.block, byte(digits))?;
-            Ok(SetWords { block, ..self })
+            self.block = once(self.block, byte(digits))?;
+            Ok(())
         } else if let Some(digits) = after_key(b"value=", word) {
-            let value = once(self.value, value_of(digits))?;
-            Ok(SetWords { value, ..self })
+            self.value = once(self.value, value_of(digits))?;
+            Ok(())
         } else if let Some(digits) = after_key(b"tail=", word) {
-            let tail = once(self.tail, tail_of(digits))?;
-            Ok(SetWords { tail, ..self })
+            self.tail = once(self.tail, tail_of(digits))?;
+            Ok(())
         } else {
             Err(LineFault::WrongWord)
         }
@@ -203,10 +201,10 @@ impl Keyed for NodeWords {
     ghost with_word = { node_word };
 
     #[tactic(auto, unfolding(crate::specs::Lines::node_word))]
-    fn with_word(self, word: &[u8]) -> Result<Self, LineFault> {
+    fn add_word(&mut self, word: &[u8]) -> Result<(), LineFault> {
         if let Some(digits) = after_key(b"node=", word) {
-            let node = once(self.node, byte(digits))?;
-            Ok(NodeWords { node })
+            self.node = once(self.node, byte(digits))?;
+            Ok(())
         } else {
             Err(LineFault::WrongWord)
         }
