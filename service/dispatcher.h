@@ -157,7 +157,8 @@ uint32_t dispatcher_count(const struct dispatcher *dispatcher);
 uint64_t dispatcher_search_due(const struct dispatcher *dispatcher);
 bool dispatcher_search(struct dispatcher *dispatcher);
 
-/* When the epoch has to end for want of IDs, or UINT64_MAX, and its end. */
+/* When the epoch has to end for want of IDs, or UINT64_MAX. Its end: the sessions that have locks are lost, and each
+ * of them ends when its lease is over. */
 uint64_t dispatcher_drain_due(const struct dispatcher *dispatcher);
 void dispatcher_end_epoch(struct dispatcher *dispatcher);
 

@@ -50,20 +50,6 @@ void entry_begin(struct bytes *bytes, enum entry_type type, size_t len) {
     bytes_add_number(bytes, len, 2);
 }
 
-uint64_t reader_number(struct reader *reader, size_t len) {
-    uint64_t number = 0;
-    if (reader->left < len) {
-        reader->is_short = true;
-        reader->left = 0;
-        return 0;
-    }
-    for (size_t at = 0; at < len; at++)
-        number |= (uint64_t)reader->at[at] << (BITS * at);
-    reader->at += len;
-    reader->left -= len;
-    return number;
-}
-
 struct batch_head batch_open(struct reader *batch) {
     struct batch_head head = {0, 0};
     if (batch->left < BATCH_HEAD || memcmp(batch->at, mark, MARK) != 0) {

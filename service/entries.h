@@ -51,7 +51,20 @@ struct reader {
     bool is_short;
 };
 
-uint64_t reader_number(struct reader *reader, size_t len);
+/* (inline, so that a number of a known length is one load: each entry has some) */
+static inline uint64_t reader_number(struct reader *reader, size_t len) {
+    uint64_t number = 0;
+    if (reader->left < len) {
+        reader->is_short = true;
+        reader->left = 0;
+        return 0;
+    }
+    for (size_t at = 0; at < len; at++)
+        number |= (uint64_t)reader->at[at] << (8 * at);
+    reader->at += len;
+    reader->left -= len;
+    return number;
+}
 
 /* An entry that was read. */
 struct entry {

@@ -1,6 +1,7 @@
 /* IDs of locks run out: a lock manager has 4,294,967,295. A handle of a client is an epoch and an
  * ID of that epoch. From 90 % on the dispatcher changes to a new lock manager at a moment without locks,
- * which no client sees. At 99 % it refuses new requests, and some time after that it ends all sessions. */
+ * which no client sees. At 99 % it refuses new requests, and some time after that it ends all sessions; among replicas
+ * those that have locks, since the others do not need the lock manager. */
 #include "parts.h"
 
 #include <inttypes.h>
@@ -129,7 +130,7 @@ void dispatcher_lose(struct dispatcher *dispatcher) {
             end_session(dispatcher->sessions[place].session);
 }
 
-void end_epoch(struct dispatcher *dispatcher) {
+static void end_epoch(struct dispatcher *dispatcher) {
     vlm manager = VLM_CLOSED;
     if (!open_manager(dispatcher, &manager)) {
         end_without_memory(dispatcher);
@@ -139,6 +140,29 @@ void end_epoch(struct dispatcher *dispatcher) {
         dispatcher->session_count);
     dispatcher_lose(dispatcher);
     use_manager(dispatcher, &manager);
+}
+
+static bool has_locks(const struct session *session) {
+    for (uint32_t at = 0; at < session->binding_count; at++)
+        if (session->bindings[at].process != NULL && session->bindings[at].process->locks != 0)
+            return true;
+    return false;
+}
+
+/* Ends the sessions that have locks, among replicas: each when its lease is over. After the last one no lock is held,
+ * and the lock manager is changed. */
+void lose_lock_holders(struct dispatcher *dispatcher) {
+    say(dispatcher,
+        "no identifications left: sessions with locks are lost, and epoch %" PRIu32 " ends with their leases",
+        dispatcher->epoch);
+    dispatcher->drained = UINT64_MAX;
+    for (uint32_t place = 0; place < dispatcher->session_room; place++) {
+        struct session *session = dispatcher->sessions[place].session;
+        if (session == NULL || session->is_killed || !has_locks(session))
+            continue;
+        dispatcher->counts.lost += session->client != NULL;
+        kill_session(session, "lost\n");
+    }
 }
 
 /* Looks whether IDs are short, at a moment between two turns. */

@@ -117,6 +117,7 @@ uint64_t dispatcher_drain_due(const struct dispatcher *dispatcher) {
 }
 
 void dispatcher_end_epoch(struct dispatcher *dispatcher) {
-    if (dispatcher->drained != 0 && vlm_lock_count(&dispatcher->manager) != 0)
-        end_epoch(dispatcher);
+    bool is_heard = dispatcher->drained == UINT64_MAX;
+    if (dispatcher->drained != 0 && !is_heard && vlm_lock_count(&dispatcher->manager) != 0)
+        lose_lock_holders(dispatcher);
 }

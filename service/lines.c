@@ -16,7 +16,8 @@ enum {
     USUAL_BLOCKS = 4
 };
 
-static bool is_blank(char byte) { return byte == ' ' || byte == '\t' || byte == '\r'; }
+/* (most bytes are seen to be none by the first comparison) */
+static bool is_blank(char byte) { return (unsigned char)byte <= ' ' && (byte == ' ' || byte == '\t' || byte == '\r'); }
 
 /* Finds the words of a line, at most `most`, and returns how many there are. */
 size_t split(const char *bytes, size_t len, struct word *words, size_t most) {
@@ -64,11 +65,10 @@ bool decimal(struct word word, uint64_t most, uint64_t *number) {
 /* The number of a line, up to 18 digits and a blank. Returns how many bytes it has; 0: the line has none. */
 static size_t read_number(const char *bytes, size_t len, uint64_t *number) {
     size_t digits = 0;
-    while (digits < len && bytes[digits] >= '0' && bytes[digits] <= '9')
-        digits++;
-    bool has_number = digits > 0 && digits <= DIGITS && digits < len && bytes[digits] == ' '
-                      && decimal((struct word){bytes, digits}, UINT64_MAX, number);
-    return has_number ? digits + 1 : 0;
+    *number = 0;
+    for (; digits < len && digits <= DIGITS && bytes[digits] >= '0' && bytes[digits] <= '9'; digits++)
+        *number = *number * 10 + (uint64_t)(bytes[digits] - '0');
+    return digits > 0 && digits <= DIGITS && digits < len && bytes[digits] == ' ' ? digits + 1 : 0;
 }
 
 /* Takes the number of a line off. */
@@ -176,10 +176,9 @@ static void run_read_line(struct client *client, const vlm_line *line) {
         answer_text(client, "no session\n");
         return;
     }
-    client->is_step = !is_reading;
-    if (client->is_step && is_repeated(client))
+    if (!is_reading && is_repeated(client))
         return;
-    if (client->is_step && !reserve_step(client)) {
+    if (!is_reading && !reserve_step(client)) {
         end_without_memory(client->dispatcher);
         answer_text(client, "no memory\n");
         return;
@@ -207,7 +206,6 @@ static bool is_frequent(struct word word) { return word.len == STEP_LETTERS && w
 bool run_line(struct client *client, const char *bytes, size_t len) {
     struct dispatcher *dispatcher = client->dispatcher;
     struct word words[MOST_WORDS];
-    client->is_step = false;
     take_number(client, &bytes, &len);
     if (len > LINE) {
         answer_text(client, faults[VLM_FAULT_TOO_LONG]);

@@ -225,7 +225,9 @@ void link_hear(struct link *link, const uint8_t *bytes, size_t len) {
     note_excess(link);
 }
 
-bool link_is_heard(const struct link *link) { return !link->is_ended && may_go(link) && link->in.len < MOST_HEARD; }
+bool link_is_heard(const struct link *link) {
+    return !link->is_ended && !link->replica->is_leaving && may_go(link) && link->in.len < MOST_HEARD;
+}
 
 bool link_is_over(const struct link *link) {
     size_t len;

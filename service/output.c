@@ -106,15 +106,9 @@ void begin_answer(struct client *client) {
 void answer(struct client *client, const void *bytes, size_t len) {
     begin_answer(client);
     put(client, bytes, len);
-    if (client->is_step)
-        keep_step(client, bytes, len);
 }
 
-/* The answer is no step's: nothing was done. */
-void answer_text(struct client *client, const char *text) {
-    client->is_step = false;
-    answer(client, text, strlen(text));
-}
+void answer_text(struct client *client, const char *text) { answer(client, text, strlen(text)); }
 
 /* Puts a number in the place of a word of a printed line, counted from 0. */
 void replace_word(vlm_text *text, uint32_t place, uint64_t number) {

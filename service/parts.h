@@ -42,9 +42,8 @@ enum {
     POOL_BUCKETS = 256,
     NODE_PROCESSES = 65535,
     MOST_PROCESSES = VLM_MAX_NODES * NODE_PROCESSES,
-    STEP_ANSWER = 256, /* bytes of the longest answer to a step */
-    KEPT_ROOM = 256,   /* of a client's output between two answers */
-    PAIR = 512         /* bytes of an AST and its block line */
+    KEPT_ROOM = 256, /* of a client's output between two answers */
+    PAIR = 512       /* bytes of an AST and its block line */
 };
 
 #define NOBODY UINT32_MAX  /* no record */
@@ -153,7 +152,6 @@ struct client {
     size_t line_len;
     uint64_t line_number;
     bool has_number;
-    bool is_step;
     /* What is known of the client. */
     bool is_ended;    /* no more bytes come */
     bool is_over;     /* the connection ends once all is sent */
@@ -199,7 +197,8 @@ struct dispatcher {
     uint64_t place;      /* of a replica: in the list */
     uint32_t next_end;   /* of a replica: the place of the session that is asked for its end next */
     uint64_t found_none; /* how many steps there had been at the last search without a victim */
-    uint64_t now, quiet_until, searched, drained, looked;
+    uint64_t now, quiet_until, searched, looked;
+    uint64_t drained; /* when the epoch ends for want of IDs, or 0; UINT64_MAX: the leases of lost sessions end it */
     uint32_t epoch;
     uint32_t last_lkid;
     uint32_t short_of, out_of; /* IDs: from these on they are short, and no more are given */
@@ -250,18 +249,20 @@ bool decimal(struct word word, uint64_t most, uint64_t *number);
 /* repeats.c */
 bool is_repeated(struct client *client);
 bool reserve_step(struct client *client);
-void keep_step(struct client *client, const void *bytes, size_t len);
+void keep_step(struct client *client, uint32_t status, uint64_t given);
 void free_steps(struct session *session);
 
 /* sessions.c */
 bool run_session_line(struct client *client, const struct word *words, size_t count);
 void end_session(struct session *session);
 void leave_session(struct client *client);
+void kill_session(struct session *session, const char *text);
 void end_left_sessions(struct dispatcher *dispatcher);
 struct session *find_session(struct dispatcher *dispatcher, struct word name);
 
 /* steps.c and readings.c */
 void run_step(struct client *client, const vlm_line *line);
+void tell_answer(struct client *client, uint32_t status, uint64_t given);
 void run_reading(struct client *client, const vlm_line *line);
 struct binding *find_binding(struct session *session, const uint8_t *name);
 void show(struct client *client, bool is_tails);
@@ -312,7 +313,7 @@ void keep_lease(struct session *session);
 bool has_ids(const struct dispatcher *dispatcher);
 void share_ids(struct dispatcher *dispatcher);
 void check_ids(struct dispatcher *dispatcher);
-void end_epoch(struct dispatcher *dispatcher);
+void lose_lock_holders(struct dispatcher *dispatcher);
 uint64_t handle_of(const struct dispatcher *dispatcher, uint32_t lkid);
 
 /* output.c */

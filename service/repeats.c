@@ -1,18 +1,21 @@
-/* Numbered lines that come again: a session keeps its last numbered steps, each with its line and its answer. */
+/* Numbered lines that come again: a session keeps its last numbered steps, each with its line and what that was
+ * answered. */
 #include "parts.h"
 
 #include <stdlib.h>
 #include <string.h>
 
-/* A numbered step. `bytes` are its line and its answer, and have room for some more. */
+/* A numbered step. There may be more room than its line needs. */
 struct step {
     uint64_t number;
-    uint32_t line_len, answer_len, room;
-    uint8_t bytes[];
+    uint64_t given; /* what the answer names: the handle of a lock, the number of a process, or 0 */
+    uint32_t status;
+    uint32_t line_len, room;
+    uint8_t line[];
 };
 
-/* Room for the bytes of any step. Room comes in parts, so that steps of nearly the same length fit into one place. */
-enum { WHOLE_STEP = LINE + STEP_ANSWER, ROOM_PART = 32 };
+/* Room comes in parts, so that steps of nearly the same length fit into one place. */
+enum { ROOM_PART = 32 };
 
 /* A session that can't be resumed repeats its last line at most. */
 static uint32_t most_steps(const struct session *session) { return session->seconds != 0 ? KEPT_STEPS : 1; }
@@ -31,9 +34,8 @@ bool is_repeated(struct client *client) {
     if (!client->has_number || client->line_number > session->number)
         return false;
     const struct step *step = find_step(session, client->line_number);
-    client->is_step = false;
-    if (step != NULL && step->line_len == client->line_len && memcmp(step->bytes, client->line, step->line_len) == 0)
-        answer(client, step->bytes + step->line_len, step->answer_len);
+    if (step != NULL && step->line_len == client->line_len && memcmp(step->line, client->line, step->line_len) == 0)
+        tell_answer(client, step->status, step->given);
     else
         answer_text(client, "old number\n");
     return true;
@@ -55,7 +57,7 @@ bool reserve_step(struct client *client) {
     if (session->steps == NULL)
         session->steps = calloc(most_steps(session), sizeof(struct step *));
     if (dispatcher->spare == NULL)
-        dispatcher->spare = make_step(WHOLE_STEP);
+        dispatcher->spare = make_step(LINE);
     return session->steps != NULL && dispatcher->spare != NULL;
 }
 
@@ -73,19 +75,18 @@ static struct step *step_with_room(struct dispatcher *dispatcher, struct step *o
 }
 
 /* The step of the line was made: it is the last one of the session, and kept if its line has a number. */
-void keep_step(struct client *client, const void *bytes, size_t len) {
+void keep_step(struct client *client, uint32_t status, uint64_t given) {
     struct session *session = client->session;
     session->number = client->has_number ? client->line_number : session->number + 1;
     if (!client->has_number)
         return;
     struct step **place = &session->steps[session->next_step];
-    size_t answer_len = len < STEP_ANSWER ? len : STEP_ANSWER;
-    struct step *step = *place = step_with_room(client->dispatcher, *place, client->line_len + answer_len);
+    struct step *step = *place = step_with_room(client->dispatcher, *place, client->line_len);
     step->number = session->number;
+    step->given = given;
+    step->status = status;
     step->line_len = (uint32_t)client->line_len;
-    step->answer_len = (uint32_t)answer_len;
-    memcpy(step->bytes, client->line, client->line_len);
-    memcpy(step->bytes + client->line_len, bytes, answer_len);
+    memcpy(step->line, client->line, client->line_len);
     session->next_step = (session->next_step + 1) % most_steps(session);
 }
 

@@ -96,13 +96,40 @@ static uint64_t drain_due(const struct replica *replica) {
 static uint64_t earlier(uint64_t one, uint64_t other) { return one < other ? one : other; }
 
 uint64_t replica_due(const struct replica *replica) {
+    if (replica->is_leaving)
+        return UINT64_MAX;
     return earlier(beat_due(replica), earlier(search_due(replica), drain_due(replica)));
+}
+
+/* Makes the entry by which the connections of a replica end after its batch of this number. */
+static void end_connections(struct replica *replica, uint64_t name, uint64_t last) {
+    entry_begin(&replica->next, ENTRY_GONE, 16);
+    bytes_add_number(&replica->next, name, 8);
+    bytes_add_number(&replica->next, last, 8);
+}
+
+void replica_leave(struct replica *replica) {
+    replica->is_leaving = true;
+    /* (without a batch it has no connections) */
+    replica->has_left = replica->batches == 0;
+}
+
+bool replica_has_left(const struct replica *replica) { return replica->has_left; }
+
+/* Makes the last entry of a replica that is to end, alone in its batch. */
+static void leave(struct replica *replica) {
+    if (replica->next.len == 0 && !replica->is_under_way)
+        end_connections(replica, replica->name, replica->batches + 1);
 }
 
 void replica_tick(struct replica *replica, uint64_t now) {
     replica->now = now;
     replica->turns++;
     dispatcher_tick(replica->dispatcher, now);
+    if (replica->is_leaving) {
+        leave(replica);
+        return;
+    }
     if (beat_due(replica) <= now)
         beat(replica);
     if (search_due(replica) <= now) {
@@ -223,9 +250,7 @@ static void end_what_is_over(struct replica *replica) {
         if (peer->is_gone || peer->name == replica->name || replica->now <= peer->heard + SILENCE
             || replica->now <= replica->speaking + SILENCE)
             continue;
-        entry_begin(&replica->next, ENTRY_GONE, 16);
-        bytes_add_number(&replica->next, peer->name, 8);
-        bytes_add_number(&replica->next, peer->last, 8);
+        end_connections(replica, peer->name, peer->last);
     }
 }
 
@@ -242,15 +267,20 @@ static bool run_beat(struct replica *replica, const struct peer *peer, struct re
     return has_sessions;
 }
 
-/* A replica that was silent has no connections any more. */
+/* A replica that was silent, or that has left, has no connections any more. */
 static bool run_gone(struct replica *replica, struct reader *payload) {
     uint64_t name = reader_number(payload, 8), last = reader_number(payload, 8);
     struct peer *peer = find_peer(replica, name);
     if (peer == NULL || peer->last != last || peer->is_gone)
         return false;
-    if (name == replica->name)
+    if (name == replica->name && !replica->is_leaving)
         replica_fail("the others have not heard of it for too long");
     peer->is_gone = true;
+    if (name == replica->name) {
+        /* (its clients still get what was answered) */
+        replica->has_left = true;
+        return true;
+    }
     for (uint32_t slot = 0; slot < peer->room; slot++)
         if (peer->clients[slot] != NULL)
             client_close(peer->clients[slot]);

@@ -42,6 +42,7 @@ struct replica {
     struct bytes next, batch; /* entries to be appended, and those that are under way */
     uint64_t batches;         /* that were made */
     bool is_under_way, has_limits, is_ending;
+    bool is_leaving, has_left;  /* it is to end; all others know that it has ended */
     uint64_t searched, drained; /* when it asked for a search, or for the end of the epoch; 0: it was heard */
     struct bytes asked;         /* sessions that the next beat keeps */
     uint64_t beats, beat_at, beat_heard;

@@ -234,9 +234,9 @@ void end_left_sessions(struct dispatcher *dispatcher) {
     }
 }
 
-/* Ends a session whose client does not want that. The session of a replica's client ends when its lease is over, since
- * the client may count on its locks until then. */
-static void kill_session(struct session *session) {
+/* Ends a session whose client does not want that, and tells the client. The session of a replica's client ends when its
+ * lease is over, since the client may count on its locks until then. */
+void kill_session(struct session *session, const char *text) {
     struct client *client = session->client;
     session->is_killed = session->dispatcher->is_replica;
     if (!session->is_killed)
@@ -244,7 +244,7 @@ static void kill_session(struct session *session) {
     else if (client != NULL)
         leave_session(client);
     if (client != NULL) {
-        put_text(client, "session killed\n");
+        put_text(client, text);
         client->is_over = true;
     }
 }
@@ -262,7 +262,7 @@ static void run_kill(struct client *client, const struct word *words, size_t cou
         say(client->dispatcher, "session %016" PRIx64 " of pid %" PRIu32 " is killed by user %" PRIu32, session->name,
             session->rights.pid, client->rights.uid);
         answer_text(client, "killed\n");
-        kill_session(session);
+        kill_session(session, "session killed\n");
     }
 }
 

@@ -14,17 +14,27 @@ struct binding *find_binding(struct session *session, const uint8_t *name) {
     return NULL;
 }
 
-/* Prints and sends the answer to a step. */
-static void answer_step(struct client *client, const vlm_line *line, uint32_t status, uint32_t number) {
-    struct dispatcher *dispatcher = client->dispatcher;
-    vlm_text *text = &dispatcher->text;
-    if (status == VLM_INSFMEM)
-        end_without_memory(dispatcher);
-    vlm_print_answer(line, status, number, text);
-    if (number != 0 && dispatcher->epoch != 0)
-        replace_word(text, LOCK_WORD, handle_of(dispatcher, number));
-    dispatcher->counts.refused += status != VLM_NORMAL && status != VLM_SYNCH;
+/* Prints and sends the answer to the step of the line that is run. It names the handle of a lock, the number of a
+ * process, or nothing: 0. Those of more than 32 bits are none of the script's. */
+void tell_answer(struct client *client, uint32_t status, uint64_t given) {
+    const vlm_line *line = &client->dispatcher->line;
+    vlm_text *text = &client->dispatcher->text;
+    bool is_long = given > UINT32_MAX;
+    if (client->is_detached)
+        return;
+    vlm_print_answer(line, status, is_long ? UINT32_MAX : (uint32_t)given, text);
+    if (is_long)
+        replace_word(text, line->kind == VLM_LINE_DECLARE ? PROCESS_WORD : LOCK_WORD, given);
     answer(client, text->bytes, text->len);
+}
+
+/* A step was made or refused: it is kept, and its client is told. */
+static void answer_step(struct client *client, uint32_t status, uint64_t given) {
+    if (status == VLM_INSFMEM)
+        end_without_memory(client->dispatcher);
+    client->dispatcher->counts.refused += status != VLM_NORMAL && status != VLM_SYNCH;
+    keep_step(client, status, given);
+    tell_answer(client, status, given);
 }
 
 /* Makes room for one name more. */
@@ -58,16 +68,13 @@ static void declare(struct client *client, const vlm_line *line) {
         return;
     }
     if (process == NULL) {
-        answer_step(client, line, VLM_INSFMEM, 0);
+        answer_step(client, VLM_INSFMEM, 0);
         return;
     }
     struct binding *binding = &session->bindings[session->binding_count++];
     memcpy(binding->name, line->name, NAME);
     binding->process = process;
-    vlm_text text = {.size = sizeof text};
-    vlm_print_answer(line, VLM_NORMAL, process->pid, &text);
-    replace_word(&text, PROCESS_WORD, process->number);
-    answer(client, text.bytes, text.len);
+    answer_step(client, VLM_NORMAL, process->number);
 }
 
 /* A status block as the manager is to see it: one above the declared ones is block 0, which does not exist. */
@@ -126,7 +133,7 @@ static void ask(struct client *client, const vlm_line *line, struct process *pro
         accept_request(dispatcher, place, lkid, is_new);
     if (place != NOBODY && status != VLM_NORMAL)
         drop_request(dispatcher, place);
-    answer_step(client, line, status, lkid);
+    answer_step(client, status, handle_of(dispatcher, lkid));
     tell(dispatcher);
     if (status == VLM_NORMAL)
         wait_if_queued(dispatcher, place, lkid);
@@ -150,7 +157,7 @@ static void give_up(struct client *client, const vlm_line *line, struct process 
         forget_token(dispatcher, lkid);
         count_lock(process, false);
     }
-    answer_step(client, line, status, 0);
+    answer_step(client, status, 0);
     tell(dispatcher);
     if (!is_one)
         count_locks(process);
@@ -163,13 +170,13 @@ static void set_value(struct client *client, const vlm_line *line, struct proces
     uint32_t status = vlm_set_value(&client->dispatcher->manager, &setting);
     if (status == VLM_NORMAL)
         set_bit(process->set, setting.block);
-    answer_step(client, line, status, 0);
+    answer_step(client, status, 0);
 }
 
-static void end(struct client *client, const vlm_line *line, struct binding *binding) {
+static void end(struct client *client, struct binding *binding) {
     struct process *process = binding->process;
     binding->process = NULL;
-    answer_step(client, line, VLM_NORMAL, 0);
+    answer_step(client, VLM_NORMAL, 0);
     release_process(process);
 }
 
@@ -182,13 +189,15 @@ void run_step(struct client *client, const vlm_line *line) {
     }
     struct binding *binding = find_binding(client->session, line->name);
     if (binding->process == NULL)
-        answer_step(client, line, VLM_NONEXPR, 0);
+        answer_step(client, VLM_NONEXPR, 0);
     else if (line->kind == VLM_LINE_ENQ || line->kind == VLM_LINE_CVT)
         ask(client, line, binding->process);
     else if (line->kind == VLM_LINE_DEQ)
         give_up(client, line, binding->process);
     else if (line->kind == VLM_LINE_SET)
         set_value(client, line, binding->process);
+    else if (line->kind == VLM_LINE_END)
+        end(client, binding);
     else
-        end(client, line, binding);
+        answer_text(client, "unknown command\n");
 }

@@ -13,7 +13,8 @@
 #include <sys/resource.h>
 #include <unistd.h>
 
-enum { KEYS = 16, NAMED = 256 };
+/* (the last is how long a replica waits at most for its end to be in the list, in milliseconds) */
+enum { KEYS = 16, NAMED = 256, LEAVING = 2000 };
 
 static const char usual_file[] = "/etc/vlmd.conf", usual_socket[] = "/run/vlm/lock.sock";
 static const struct config usual_config = {.mode = 0660,
@@ -35,7 +36,7 @@ static struct {
     uv_check_t after;
     uv_idle_t busy;       /* runs while lines are left or expected, so that the loop does not wait */
     uint64_t awake_until; /* nanoseconds */
-    uv_timer_t due, watchdog;
+    uv_timer_t due, watchdog, leaving;
     uint64_t set_for; /* when `due` wakes the loop */
     uv_signal_t signals[3];
 } loop;
@@ -69,6 +70,11 @@ static void write_epoch(void) {
         write_log("the epoch can't be written down");
 }
 
+static void end(void) {
+    write_log("ended");
+    exit(0);
+}
+
 /* Whether the loop looks for lines again at once. A client that waited for its answer often has another line soon, and
  * would have to wake the daemon for it. Other programs may have the processor meanwhile. */
 static bool is_awake(void) {
@@ -95,6 +101,8 @@ static void on_turn(uv_check_t *check) {
     dispatcher_run(vlmd.dispatcher);
     write_epoch();
     flush_all();
+    if (vlmd.replica != NULL && replica_has_left(vlmd.replica))
+        end();
     if (vlmd.replica != NULL)
         list_append();
     if (dispatcher_is_busy(vlmd.dispatcher) || is_awake())
@@ -139,16 +147,28 @@ static void on_hangup(uv_signal_t *handle, int number) {
     write_log("the configuration is read again");
 }
 
-/* Ends in order. A replica's clients go on at another one. Else clients hear that their locks are lost, and if there
- * were locks, the next daemon waits a grace time. */
+static void on_leaving(uv_timer_t *timer) {
+    (void)timer;
+    end();
+}
+
+/* Ends a replica, once the others know. A second signal does not wait for that. Clients go on at another one. */
+static void leave(void) {
+    if (uv_is_active((uv_handle_t *)&loop.leaving))
+        end();
+    if (loop.is_own_listener)
+        unlink(vlmd.config.socket);
+    replica_leave(vlmd.replica);
+    uv_timer_start(&loop.leaving, on_leaving, LEAVING, 0);
+}
+
+/* Ends in order. Clients hear that their locks are lost, and if there were locks, the next daemon waits a grace time. */
 static void on_end(uv_signal_t *handle, int number) {
     (void)handle, (void)number;
     notify("STOPPING=1");
-    if (loop.is_own_listener && vlmd.replica != NULL)
-        unlink(vlmd.config.socket);
     if (vlmd.replica != NULL) {
-        write_log("ended");
-        exit(0);
+        leave();
+        return;
     }
     bool has_locks = dispatcher_has_locks(vlmd.dispatcher);
     dispatcher_lose(vlmd.dispatcher);
@@ -157,8 +177,7 @@ static void on_end(uv_signal_t *handle, int number) {
         unlink(vlmd.config.socket);
     if (!has_locks && !write_state(loop.state, dispatcher_epoch(vlmd.dispatcher), false))
         write_log("the state can't be written down");
-    write_log("ended");
-    exit(0);
+    end();
 }
 
 static void start_loop(void) {
@@ -166,6 +185,7 @@ static void start_loop(void) {
     uv_check_start(&loop.after, on_turn);
     uv_idle_init(&vlmd.loop, &loop.busy);
     uv_timer_init(&vlmd.loop, &loop.due);
+    uv_timer_init(&vlmd.loop, &loop.leaving);
     uv_timer_init(&vlmd.loop, &loop.watchdog);
     uint64_t watchdog = watchdog_time();
     if (watchdog != 0)

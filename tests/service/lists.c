@@ -1,8 +1,8 @@
 /* lists FIRST COUNT: replicas of the lock service over a list in this program, one run for each seed from FIRST on.
  *
  * Time, the list, the replicas and their clients are all made up here and driven by random numbers. Batches reach the
- * list late, now and then twice; replicas run it at their own pace, stop for a while, end and start anew, from what was
- * kept or from the whole list. Clients ask for locks with sessions that have leases, stop for a while, and go on at
+ * list late, now and then twice; replicas run it at their own pace, stop for a while, end in order or not and start
+ * anew, from what was kept or from the whole list. Clients ask for locks with sessions that have leases, stop for a while, and go on at
  * another replica. A run fails
  * - if two clients believe to hold one resource at a time, each counting its lease from before it sent what was
  *   answered;
@@ -234,7 +234,9 @@ static void move_node(struct node *node) {
     go(node);
     if (pick(4000) == 0)
         node->stopped = now + pick(12000);
-    if (pick(4000) == 0) {
+    if (pick(4000) == 0)
+        replica_leave(node->replica);
+    if (replica_has_left(node->replica) || pick(4000) == 0) {
         stop(node);
         start(node);
     }
@@ -536,6 +538,21 @@ static void run_list_that_stands_still(void) {
     end();
 }
 
+/* A replica ends in order: the others know at once that its connections have ended. */
+static void run_leaving(void) {
+    struct client *client = &clients[0];
+    begin(1);
+    nodes[0].delay = nodes[1].delay = nodes[2].delay = 10;
+    connect_to(client, &nodes[0]);
+    pass_time(client, now + 2000);
+    uint32_t before = dispatcher_count(nodes[1].dispatcher);
+    replica_leave(nodes[0].replica);
+    pass_time(client, now + 500);
+    if (!replica_has_left(nodes[0].replica) || dispatcher_count(nodes[1].dispatcher) != before - 1)
+        fail("connections of a replica that has left go on");
+    end();
+}
+
 /* A client has many lines that its replica runs by itself: it runs a part of them in each turn. */
 static void run_many_readings(void) {
     enum { READINGS = 1000, MOST = 200 };
@@ -592,25 +609,39 @@ static void run_all_processes(void) {
     dispatcher_close(dispatcher);
 }
 
-/* IDs run out, and then the limit is raised: the epoch goes on. */
-static void run_raised_limit(void) {
-    enum { FEW = 100 };
+enum { FEW = 100 };
+
+/* A client whose session has a lease of 10 seconds. */
+static struct client *begin_client(struct dispatcher *dispatcher, uint32_t salt, struct bytes *told) {
     static const struct rights rights = {.group = 1};
+    struct client *client = client_open(dispatcher, &rights, salt, told);
+    tell_line(client, "open seconds=10", told);
+    tell_line(client, "declare P", told);
+    return client;
+}
+
+/* A replica's dispatcher whose IDs a client takes up. */
+static struct dispatcher *run_out_of_ids(struct limits *limits, struct client **client, struct bytes *told) {
     static const uint8_t keys[16];
-    struct limits limits = USUAL_LIMITS;
-    limits.ids = FEW;
-    struct dispatcher *dispatcher = dispatcher_open(&limits, 0, keys, say_nothing);
-    struct bytes told = {NULL, 0, 0};
+    limits->ids = FEW;
+    struct dispatcher *dispatcher = dispatcher_open(limits, 0, keys, say_nothing);
     dispatcher_follow(dispatcher);
-    dispatcher_tick(dispatcher, now);
-    struct client *client = client_open(dispatcher, &rights, 0, &told);
-    tell_line(client, "open", &told);
-    tell_line(client, "declare P", &told);
+    dispatcher_tick(dispatcher, 1000);
+    *client = begin_client(dispatcher, 0, told);
     for (unsigned count = 0; count < FEW; count++)
-        tell_line(client, "enq P NL name=A block=1", &told);
+        tell_line(*client, "enq P NL name=A block=1", told);
     dispatcher_pass(dispatcher, 1);
     if (dispatcher_drain_due(dispatcher) == UINT64_MAX)
         fail("IDs do not run out");
+    return dispatcher;
+}
+
+/* IDs run out, and then the limit is raised: the epoch goes on. */
+static void run_raised_limit(void) {
+    struct limits limits = USUAL_LIMITS;
+    struct bytes told = {NULL, 0, 0};
+    struct client *client;
+    struct dispatcher *dispatcher = run_out_of_ids(&limits, &client, &told);
     limits.ids = UINT32_MAX;
     dispatcher_limit(dispatcher, &limits);
     dispatcher_pass(dispatcher, 2);
@@ -626,6 +657,42 @@ static bool is_ended(struct dispatcher *dispatcher, uint64_t moment) {
     dispatcher_tick(dispatcher, moment);
     dispatcher_look(dispatcher);
     return dispatcher_next_end(dispatcher, &session, &beat) && dispatcher_end(dispatcher, session, beat);
+}
+
+/* An epoch ends in which a lock is held to the last. Its holder is told, and no beat keeps the lease. But the lock stays
+ * until that is over, and nobody gets another one before. A session without locks goes on. */
+static void run_end_of_epoch(void) {
+    struct limits limits = USUAL_LIMITS;
+    struct bytes told = {NULL, 0, 0};
+    struct client *holder;
+    struct dispatcher *dispatcher = run_out_of_ids(&limits, &holder, &told);
+    uint64_t session = client_session(holder);
+    struct client *other = begin_client(dispatcher, 1, &told);
+    told.len = 0;
+    dispatcher_end_epoch(dispatcher);
+    dispatcher_end_epoch(dispatcher);
+    tell_line(holder, "deq P @1", &told);
+    if (strcmp((const char *)told.all, "lost\n") != 0 || !client_is_over(holder) || client_is_over(other))
+        fail((const char *)told.all);
+    dispatcher_tick(dispatcher, 9000);
+    dispatcher_keep(dispatcher, session);
+    dispatcher_keep(dispatcher, client_session(other));
+    dispatcher_pass(dispatcher, 2);
+    told.len = 0;
+    tell_line(other, "enq P EX name=A block=1", &told);
+    if (strcmp((const char *)told.all, "no identifications left\n") != 0)
+        fail((const char *)told.all);
+    if (is_ended(dispatcher, 11000) || is_ended(dispatcher, 12000) || dispatcher_drain_due(dispatcher) != UINT64_MAX)
+        fail("a session ends before its lease");
+    if (!is_ended(dispatcher, 12100))
+        fail("a lost session goes on");
+    dispatcher_pass(dispatcher, 3);
+    told.len = 0;
+    tell_line(other, "enq P EX name=A block=1", &told);
+    if (strcmp((const char *)told.all, "P: NORMAL lock 4294967297\n") != 0 || dispatcher_epoch(dispatcher) != 1)
+        fail((const char *)told.all);
+    free(told.all);
+    dispatcher_close(dispatcher);
 }
 
 /* An administrator ends a session. Its client is told, and no beat keeps its lease. But its lock stays until that is
@@ -676,9 +743,11 @@ int main(int count, char **words) {
     run_late_end();
     run_idle();
     run_list_that_stands_still();
+    run_leaving();
     run_many_readings();
     run_all_processes();
     run_raised_limit();
+    run_end_of_epoch();
     run_kill();
     for (unsigned long it = first; it < first + runs; it++) {
         printf("seed %lu: ", it);
