@@ -157,6 +157,7 @@ extern "C" {
     pub fn vlm_rundown(handle: *mut Vlm, pid: u32) -> u32;
     pub fn vlm_leave(handle: *mut Vlm, node: u32) -> u32;
     pub fn vlm_search(handle: *mut Vlm, node: u32, victim: *mut u32) -> u32;
+    pub fn vlm_find_victim(handle: *mut Vlm, victim: *mut u32) -> u32;
     pub fn vlm_block(handle: *mut Vlm, pid: u32, block: u32, lksb: *mut Lksb) -> u32;
     pub fn vlm_pending(handle: *mut Vlm, pid: u32, count: *mut usize) -> u32;
     pub fn vlm_process_count(handle: *mut Vlm) -> usize;
