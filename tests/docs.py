@@ -207,14 +207,35 @@ def calls(_program):
             yield f"{headers[0]} and man/vlm.3 differ in {sorted(set(there) ^ set(named)) or 'a call named twice'}"
 
 
+def exported(headers):
+    """The calls that headers declare, except those that they define."""
+    text = re.sub(r"/\*.*?\*/", "", "".join(file.read_text() for file in headers), flags=re.S)
+    return set(re.findall(r"\b(vlm_\w+)\(", text)) - set(re.findall(r"\bstatic inline [^;{]*?(vlm_\w+)\(", text))
+
+
 def symbols(_program):
     """packaging/libvlm.symbols has each call of the headers, which the shared library of a package shows."""
-    text = "".join(file.read_text() for file in (TOP / "include").glob("*.h"))
-    text = re.sub(r"/\*.*?\*/", "", text, flags=re.S)
-    there = set(re.findall(r"\b(vlm_\w+)\(", text)) - set(re.findall(r"\bstatic inline [^;{]*?(vlm_\w+)\(", text))
+    there = exported((TOP / "include").glob("*.h"))
     named = set(re.findall(r"^ (vlm_\w+)@Base ", text_of("packaging/libvlm.symbols"), re.M))
     if len(named) < 100 or there != named:
         yield f"packaging/libvlm.symbols and the headers differ in {sorted(there ^ named)}"
+
+
+# Where the packages for Rust and Python declare the calls of vlm.h, and a pattern of one there.
+BINDINGS = (("bindings/rust/vlm-sys/src/lib.rs", r"\bpub fn (vlm_\w+)\("),
+            ("bindings/rust/src/raw.rs", r"\b(vlm_\w+)\("),
+            ("bindings/python/vlm/_library.py", r'^    "(vlm_\w+)": \['))
+# They need no vlm_version: vlm_open compares the versions.
+UNBOUND = {"vlm_version"}
+
+
+def bound_calls(_program):
+    """The packages for Rust and Python have each call of vlm.h."""
+    there = exported([TOP / "include" / "vlm.h"]) - UNBOUND
+    if len(there) < 40:
+        yield f"include/vlm.h has {sorted(there)}"
+    for name, pattern in BINDINGS:
+        yield from (f"{name} has no {it}" for it in sorted(there - set(re.findall(pattern, text_of(name), re.M))))
 
 
 # Where the version stands beside the file VERSION, and a pattern of it there.
@@ -334,7 +355,7 @@ def proof_files(_program):
 
 def checks():
     return (functions, proof_files, short_readme, crate_table, public_names, laws, refusals, sizes, help_forms, flags,
-            calls, symbols, version, kit, links, files, parts)
+            calls, symbols, bound_calls, version, kit, links, files, parts)
 
 
 def blocks():

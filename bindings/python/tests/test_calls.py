@@ -131,10 +131,12 @@ class Calls(unittest.TestCase):
         self.p.enq("A", Mode.PR, 1)
         self.q.enq("A", Mode.PR, 1)
         self.p.convert(1, Mode.EX, 1)
+        self.assertEqual(self.manager.find_victim(), None)
         self.q.convert(2, Mode.EX, 1)
+        self.assertEqual((self.manager.find_victim(), self.manager.queued_count()), (2, 2))
         self.assertEqual(self.manager.search(1), 2)
         self.assertEqual(self.q.status_block(1).status, Condition.DEADLOCK)
-        self.assertEqual(self.manager.search(1), None)
+        self.assertEqual((self.manager.find_victim(), self.manager.search(1)), (None, None))
 
     def test_processes_and_nodes_end(self):
         self.p.rundown()

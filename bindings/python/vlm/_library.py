@@ -119,6 +119,7 @@ _CALLS: Dict[str, List[Any]] = {
     "vlm_rundown": [c_uint32],
     "vlm_leave": [c_uint32],
     "vlm_search": [c_uint32, _NUMBER],
+    "vlm_find_victim": [_NUMBER],
     "vlm_block": [c_uint32, c_uint32, POINTER(Lksb)],
     "vlm_pending": [c_uint32, POINTER(c_size_t)],
     "vlm_process_count": [],

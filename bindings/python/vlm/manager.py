@@ -55,6 +55,13 @@ class LockManager(Owner):
         self._step("vlm_search", word(node, "the node"), victim)
         return victim.value or None
 
+    def find_victim(self) -> Optional[int]:
+        """The lock whose request a search would end now, or None without a deadlock. Nothing changes. It takes as long
+        as a search that finds a victim."""
+        victim = c_uint32()
+        self._step("vlm_find_victim", victim)
+        return victim.value or None
+
     def take_any(self) -> Optional[Tuple[int, Ast]]:
         """Takes the oldest AST of the first process that has one, with the ID of that process: of the first
         node with such a process, the first in order of making. It takes constant time."""

@@ -137,6 +137,19 @@ impl LockManager {
     pub fn search(&mut self, node: u8) -> Result<Option<LockId>, Error> {
         let mut victim = 0;
         answered(self.handle.search(u32::from(node), &mut victim))?;
-        Ok(Some(LockId(victim)).filter(|victim| victim.0 != 0))
+        Ok(victim_of(victim))
     }
+
+    /// The lock whose request a search would end now. None without a deadlock. Nothing changes. It takes as long as a
+    /// search that finds a victim.
+    pub fn find_victim(&self) -> Option<LockId> {
+        let mut victim = 0;
+        answered(self.handle.find_victim(&mut victim)).ok()?;
+        victim_of(victim)
+    }
+}
+
+/// The lock of a victim. 0 is no victim.
+fn victim_of(number: u32) -> Option<LockId> {
+    Some(LockId(number)).filter(|lock| lock.0 != 0)
 }

@@ -52,6 +52,7 @@ calls! {
         search = vlm_search(node: u32, victim: &mut u32) -> u32;
     }
     by &Handle {
+        find_victim = vlm_find_victim(victim: &mut u32) -> u32;
         block = vlm_block(pid: u32, block: u32, lksb: &mut Lksb) -> u32;
         pending = vlm_pending(pid: u32, count: &mut usize) -> u32;
         process_count = vlm_process_count() -> usize;

@@ -90,13 +90,13 @@ impl Session {
         }
         let pid = self.pid_of(&words)?;
         Ok(match words.kind {
-            0 => String::new(),
-            9 => self.take(pid, &words),
-            10 => printed(|text| self.manager.handle.print_block(pid, &words, text)),
-            11 => printed(|text| self.manager.handle.print_tail(pid, &words, text)),
-            12 => self.show(Session::show_resource),
-            13 => self.show(Session::show_tail),
-            _ => self.make(pid, words),
+            raw::LINE_EMPTY => String::new(),
+            raw::LINE_AST => self.take(pid, &words),
+            raw::LINE_BLOCK => printed(|text| self.manager.handle.print_block(pid, &words, text)),
+            raw::LINE_TAIL => printed(|text| self.manager.handle.print_tail(pid, &words, text)),
+            raw::LINE_SHOW => self.show(Session::show_resource),
+            raw::LINE_TAILS => self.show(Session::show_tail),
+            _ => self.make(pid, words)?,
         })
     }
 
@@ -105,33 +105,36 @@ impl Session {
         let bound = self.pids.get(&line.name).copied();
         match (line.kind, bound) {
             _ if line.name_len == 0 => Ok(0),
-            (1, Some(_)) => Err(Fault::NameUsed),
-            (1, None) => Ok(0),
+            (raw::LINE_DECLARE, Some(_)) => Err(Fault::NameUsed),
+            (raw::LINE_DECLARE, None) => Ok(0),
             (_, bound) => bound.ok_or(Fault::UnknownName),
         }
     }
 
-    /// Makes the step of a line.
-    fn make(&mut self, pid: u32, mut line: Line) -> String {
+    /// Makes the step of a line. A later library may read commands that this crate does not know.
+    fn make(&mut self, pid: u32, mut line: Line) -> Result<String, Fault> {
         let (handle, mut number) = (&mut self.manager.handle, 0);
         (line.setting.pid, line.request.pid, line.dequeue.pid) = (pid, pid, pid);
         let status = match line.kind {
-            1 => handle.declare(&line.declaration, &mut number),
-            2 => handle.set_value(&line.setting),
-            3 => {
+            raw::LINE_DECLARE => handle.declare(&line.declaration, &mut number),
+            raw::LINE_SET => handle.set_value(&line.setting),
+            raw::LINE_ENQ => {
                 let name = &line.resource[..line.resource_len as usize];
                 handle.enq(&line.request, name, &mut number)
             }
-            4 => handle.convert(&line.request, &mut number),
-            5 => handle.deq(&line.dequeue),
-            6 => handle.rundown(pid),
-            7 => handle.leave(line.number),
-            _ => handle.search(line.number, &mut number),
+            raw::LINE_CVT => handle.convert(&line.request, &mut number),
+            raw::LINE_DEQ => handle.deq(&line.dequeue),
+            raw::LINE_END => handle.rundown(pid),
+            raw::LINE_LEAVE => handle.leave(line.number),
+            raw::LINE_SEARCH => handle.search(line.number, &mut number),
+            _ => return Err(Fault::UnknownCommand),
         };
-        if line.kind == 1 && number != 0 {
+        if line.kind == raw::LINE_DECLARE && number != 0 {
             self.pids.insert(line.name, number);
         }
-        printed(|text| raw::print_answer(&line, status, number, text))
+        Ok(printed(|text| {
+            raw::print_answer(&line, status, number, text)
+        }))
     }
 
     fn take(&mut self, pid: u32, line: &Line) -> String {
@@ -177,4 +180,21 @@ fn printed(print: impl FnOnce(&mut Text) -> u32) -> String {
     let mut text = Text::new();
     print(&mut text);
     String::from_utf8_lossy(&text.bytes[..text.len as usize]).into_owned()
+}
+
+#[cfg(test)]
+mod tests {
+    use super::*;
+
+    /// The library reads no such line, so one is made up.
+    #[test]
+    fn a_line_of_an_unknown_kind_makes_no_step() {
+        let mut session = Session::new(LockManager::new().expect("memory"));
+        let line = Line {
+            kind: 99,
+            number: 1,
+            ..Line::new()
+        };
+        assert_eq!(session.make(0, line), Err(Fault::UnknownCommand));
+    }
 }

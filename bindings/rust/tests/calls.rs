@@ -262,12 +262,15 @@ fn a_deadlock_has_a_victim() {
             .expect("a lock");
     }
     for (process, lock) in [(p, LockId(1)), (q, LockId(2))] {
+        assert_eq!(manager.find_victim(), None);
         manager
             .convert(&Request::new(process, Mode::Ex, 1), lock)
             .expect("a lock");
     }
+    assert_eq!(manager.find_victim(), Some(LockId(2)));
+    assert_eq!(manager.queued_count(), 2);
     assert_eq!(manager.search(1), Ok(Some(LockId(2))));
-    assert_eq!(manager.search(1), Ok(None));
+    assert_eq!((manager.find_victim(), manager.search(1)), (None, Ok(None)));
     assert_eq!(manager.search(0), Err(Error::Badparam));
 }
 

@@ -26,6 +26,22 @@ impl Vlm {
 /// The version of the header that this file follows, 0.2.0: one byte for each of its numbers.
 pub const VERSION: u32 = 0x00_02_00;
 
+// The kinds of lines of a script. An empty line has no word, or is a comment.
+pub const LINE_EMPTY: u32 = 0;
+pub const LINE_DECLARE: u32 = 1;
+pub const LINE_SET: u32 = 2;
+pub const LINE_ENQ: u32 = 3;
+pub const LINE_CVT: u32 = 4;
+pub const LINE_DEQ: u32 = 5;
+pub const LINE_END: u32 = 6;
+pub const LINE_LEAVE: u32 = 7;
+pub const LINE_SEARCH: u32 = 8;
+pub const LINE_AST: u32 = 9;
+pub const LINE_BLOCK: u32 = 10;
+pub const LINE_TAIL: u32 = 11;
+pub const LINE_SHOW: u32 = 12;
+pub const LINE_TAILS: u32 = 13;
+
 /// Defines structs of the library, each with its size as its first member and a rest of zeros. Pins the sizes that the
 /// header asserts. There is no padding, so each member is where C has it.
 macro_rules! structs {
@@ -141,6 +157,7 @@ extern "C" {
     pub fn vlm_rundown(handle: *mut Vlm, pid: u32) -> u32;
     pub fn vlm_leave(handle: *mut Vlm, node: u32) -> u32;
     pub fn vlm_search(handle: *mut Vlm, node: u32, victim: *mut u32) -> u32;
+    pub fn vlm_find_victim(handle: *mut Vlm, victim: *mut u32) -> u32;
     pub fn vlm_block(handle: *mut Vlm, pid: u32, block: u32, lksb: *mut Lksb) -> u32;
     pub fn vlm_pending(handle: *mut Vlm, pid: u32, count: *mut usize) -> u32;
     pub fn vlm_process_count(handle: *mut Vlm) -> usize;
