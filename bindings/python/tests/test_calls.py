@@ -85,6 +85,7 @@ class Calls(unittest.TestCase):
         waiting = self.q.enq("A", Mode.EX, 3).lock
         manager = self.manager
         self.assertEqual((manager.lock_count(), manager.queued_count()), (4, 1))
+        self.assertEqual((manager.process_count(), manager.resource_count()), (2, 3))
         self.assertEqual([it.lock for it in manager.locks_of(self.p)], [parent, first, second])
         self.assertEqual([it.lock for it in manager.sublocks(parent)], [first, second])
         self.assertEqual([it.lock for it in manager.blockers(waiting)], [parent])

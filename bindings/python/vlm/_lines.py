@@ -172,6 +172,9 @@ def read_line(line: bytes) -> Optional[Line]:
         raise LineFault(_FAULTS[words.fault])
     if words.kind == 0:
         return None
+    # (a later library may read commands that this package does not know)
+    if words.kind not in _READERS:
+        raise LineFault(Fault.UNKNOWN_COMMAND)
     name = bytes(words.name[:words.name_len]).decode("ascii") or None
     return Line(name, _READERS[words.kind](words))
 

@@ -79,6 +79,14 @@ class LockManager(Owner):
         with self._mutex:
             return iter([_resource(words) for words in self._walk_resources()])
 
+    def process_count(self) -> int:
+        """How many processes live."""
+        return self._call("vlm_process_count")
+
+    def resource_count(self) -> int:
+        """How many resources have locks."""
+        return self._call("vlm_resource_count")
+
     def lock_count(self) -> int:
         """How many locks there are, waiting ones included."""
         return self._call("vlm_lock_count")
