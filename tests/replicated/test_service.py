@@ -242,6 +242,25 @@ class Service(OverReplicas):
         self.assertEqual(again.ask("block P 1"), f"P: block 1 status 0 lock 0 value {count - 1:032x}")
         self.assertEqual([again.texts(line) for line in ("show", "tails", "locks")], shown)
 
+    def test_a_replica_that_ends_in_order_tells_the_others(self):
+        there, here = self.begun(0), self.lines(1)
+        before = self.connections(here)
+        ended = self.local.processes["replica 0"]
+        self.local.signal("replica 0", signal.SIGTERM)
+        self.assertEqual((ended.wait(PATIENCE), there.next()), (0, None))
+        # (a silent replica would have its connections for 30 seconds more)
+        end = time.monotonic() + 15
+        while self.connections(here) == before:
+            self.assertLess(time.monotonic(), end, "its connections go on")
+            time.sleep(0.1)
+        self.local.start_replica(0)
+        self.local.wait()
+
+    def connections(self, reader):
+        """How many connections a replica counts, those of all replicas."""
+        told = reader.texts("metrics")
+        return next(int(it.split()[1]) for it in told if it.startswith("vlmd_connections "))
+
     def test_a_new_replica_starts_from_the_chunks(self):
         p = self.begun(0)
         self.make_steps(p, 6 * STEPS)
