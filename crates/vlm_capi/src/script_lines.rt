@@ -1,7 +1,8 @@
 //! The lines of a script, as C gets them. include/vlm.h describes the members.
 
-ghost use Rattle.std.specs.Prelude.{◌≡◌};
-ghost use Rattle.vlm_capi.specs.ScriptLines.{fault_number, line_of_kind, line_struct, named_line, read_struct, with_request};
+ghost use Rattle.std.specs.Prelude.{◌≡◌, length};
+ghost use Rattle.vlm_words.specs.Padding.{padded};
+ghost use Rattle.vlm_capi.specs.ScriptLines.{fault_number, line_of_kind, line_struct, read_struct, with_request};
 
 use crate::arguments::{VlmDeclaration, VlmDequeue, VlmRequest, VlmSetting};
 use crate::padding::{given_name_cells, process_name_cells};
@@ -85,12 +86,12 @@ fn fault_number(fault: LineFault) -> u32
     }
 }
 
-fn line_of_kind(kind: u32) -> VlmLine
-    ensures { result ≡ line_of_kind kind }
+fn empty_line() -> VlmLine
+    ensures { result ≡ line_of_kind 0 }
 {
     VlmLine {
         size: LINE_SIZE,
-        kind,
+        kind: EMPTY,
         fault: 0,
         number: 0,
         name_len: 0,
@@ -105,83 +106,87 @@ fn line_of_kind(kind: u32) -> VlmLine
     }
 }
 
-fn named_line(kind: u32, process: ProcessName) -> VlmLine
-    ensures { result ≡ named_line kind process }
+// Names the process of a line, and says its kind.
+fn name_line(kind: u32, process: ProcessName, line: &mut VlmLine)
+    ensures { line.new ≡ record line.old { kind = kind; name_len = length process; name = padded 16 process } }
 {
     let (name, name_len) = process_name_cells(process);
-    VlmLine {
-        name_len,
-        name,
-        ..line_of_kind(kind)
-    }
+    line.kind = kind;
+    line.name_len = name_len;
+    line.name = name;
 }
 
-fn with_request(line: VlmLine, request: NewRequest) -> VlmLine
-    ensures { result ≡ with_request line request }
+// Names the process of a line, and says its kind and the number of a status block.
+fn block_line(kind: u32, process: ProcessName, number: u8, line: &mut VlmLine)
+    ensures { line.new ≡ record line.old {
+        kind = kind; number = number; name_len = length process; name = padded 16 process } }
+{
+    name_line(kind, process, line);
+    line.number = u32::from(number);
+}
+
+// Says the kind of a line, and the number of a node.
+fn node_line(kind: u32, number: u8, line: &mut VlmLine)
+    ensures { line.new ≡ record line.old { kind = kind; number = number } }
+{
+    line.kind = kind;
+    line.number = u32::from(number);
+}
+
+fn write_request(request: NewRequest, line: &mut VlmLine)
+    ensures { line.new ≡ with_request line.old request }
 {
     let (resource, resource_len) = given_name_cells(request.name);
-    VlmLine {
-        resource_len,
-        resource,
-        request: request_struct(request),
-        ..line
-    }
+    line.resource_len = resource_len;
+    line.resource = resource;
+    line.request = request_struct(request);
 }
 
-fn line_struct(line: Line) -> VlmLine
-    ensures { result ≡ line_struct line }
-{
-    match line {
-        Line::Empty => line_of_kind(EMPTY),
-        Line::Declare(name, declaration) => VlmLine {
-            declaration: declaration_struct(declaration),
-            ..named_line(DECLARE, name)
-        },
-        Line::Set(name, setting) => VlmLine {
-            setting: setting_struct(setting),
-            ..named_line(SET, name)
-        },
-        Line::Enq(name, request) => with_request(named_line(ENQ, name), request),
-        Line::Cvt(name, conversion) => VlmLine {
-            request: conversion_struct(conversion),
-            ..named_line(CVT, name)
-        },
-        Line::Deq(name, dequeue) => VlmLine {
-            dequeue: dequeue_struct(dequeue),
-            ..named_line(DEQ, name)
-        },
-        Line::End(name) => named_line(END, name),
-        Line::Leave(node) => VlmLine {
-            number: u32::from(node),
-            ..line_of_kind(LEAVE)
-        },
-        Line::Search(node) => VlmLine {
-            number: u32::from(node),
-            ..line_of_kind(SEARCH)
-        },
-        Line::Ast(name) => named_line(AST, name),
-        Line::Block(name, number) => VlmLine {
-            number: u32::from(number),
-            ..named_line(BLOCK, name)
-        },
-        Line::Tail(name, number) => VlmLine {
-            number: u32::from(number),
-            ..named_line(TAIL, name)
-        },
-        Line::Show => line_of_kind(SHOW),
-        Line::Tails => line_of_kind(TAILS),
-    }
-}
-
-/// The struct of a line that was read, or of its fault.
-pub(crate) fn read_struct(read: Result<Line, LineFault>) -> VlmLine
-    ensures { result ≡ read_struct read }
+// Writes a line over an empty one.
+fn write_line(read: Line, line: &mut VlmLine)
+    requires empty { line.old ≡ line_of_kind 0 }
+    ensures written { line.new ≡ line_struct read }
 {
     match read {
-        Ok(line) => line_struct(line),
-        Err(fault) => VlmLine {
-            fault: fault_number(fault),
-            ..line_of_kind(EMPTY)
-        },
+        Line::Empty => {}
+        Line::Declare(name, declaration) => {
+            name_line(DECLARE, name, line);
+            line.declaration = declaration_struct(declaration);
+        }
+        Line::Set(name, setting) => {
+            name_line(SET, name, line);
+            line.setting = setting_struct(setting);
+        }
+        Line::Enq(name, request) => {
+            name_line(ENQ, name, line);
+            write_request(request, line);
+        }
+        Line::Cvt(name, conversion) => {
+            name_line(CVT, name, line);
+            line.request = conversion_struct(conversion);
+        }
+        Line::Deq(name, dequeue) => {
+            name_line(DEQ, name, line);
+            line.dequeue = dequeue_struct(dequeue);
+        }
+        Line::End(name) => name_line(END, name, line),
+        Line::Leave(node) => node_line(LEAVE, node, line),
+        Line::Search(node) => node_line(SEARCH, node, line),
+        Line::Ast(name) => name_line(AST, name, line),
+        Line::Block(name, number) => block_line(BLOCK, name, number, line),
+        Line::Tail(name, number) => block_line(TAIL, name, number, line),
+        Line::Show => line.kind = SHOW,
+        Line::Tails => line.kind = TAILS,
+    }
+}
+
+/// Writes the struct of a line that was read, or of its fault.
+pub(crate) fn write_read(read: Result<Line, LineFault>, line: &mut VlmLine)
+    ensures { line.new ≡ read_struct read }
+{
+    *line = empty_line();
+    match read {
+        Ok(read) => write_line(read, line),
+        Err(fault) => line.fault = fault_number(fault),
     }
 }

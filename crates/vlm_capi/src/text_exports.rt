@@ -21,19 +21,23 @@ use crate::numbers::node_of;
 use crate::printed::{
     TEXT_SIZE, VlmText, block_printed, row_told, tail_printed, taken_printed, text_of, told_printed,
 };
-use crate::replies::{AST_SIZE, VlmAst};
+use crate::replies::{AST_SIZE, VlmAst, status};
 use crate::resource_keys::queue_of;
-use crate::script_lines::{LINE_SIZE, VlmLine, read_struct};
+use crate::script_lines::{LINE_SIZE, VlmLine, write_read};
 use crate::shown::{LOCK_SIZE, RESOURCE_SIZE, VlmLock, VlmResource};
 use vlm_lines::{read_line, resource_line, row_line, tail_line};
+use vlm_words::conditions::Cond;
 
 /// Reads a line of a script, without its line feed.
 #[unsafe(no_mangle)]
 pub extern "C" fn vlm_read_line(bytes: &[u8], line: &mut VlmLine) -> u32
     ensures { Told (sized (line.old.size == 464) (Some (read_struct (line_read bytes.now)))) line.old line.new result }
 {
-    let read = Some(read_struct(read_line(bytes)));
-    copy_out(sized(line.size == LINE_SIZE, read), line)
+    if line.size != LINE_SIZE {
+        return status(Cond::Badparam);
+    }
+    write_read(read_line(bytes), line);
+    status(Cond::Normal)
 }
 
 /// Prints the answer to a line of a script.
