@@ -119,7 +119,11 @@ fn name_line(kind: u32, process: ProcessName, line: &mut VlmLine)
 // Names the process of a line, and says its kind and the number of a status block.
 fn block_line(kind: u32, process: ProcessName, number: u8, line: &mut VlmLine)
     ensures { line.new ≡ record line.old {
-        kind = kind; number = number; name_len = length process; name = padded 16 process } }
+      kind = kind;
+      number = number;
+      name_len = length process;
+      name = padded 16 process;
+    } }
 {
     name_line(kind, process, line);
     line.number = u32::from(number);
