@@ -42,8 +42,8 @@ void replica_appended(struct replica *replica);
  * rebuilds the same state. Without memory the program ends, as it does for a batch that no replica has made. */
 void replica_apply(struct replica *replica, uint64_t revision, const struct bytes *batch, struct bytes *kept);
 
-/* The replica is to end: it reads no more, and once what it has is in the list, it tells the others that its connections
- * have ended. Then it has left. */
+/* The replica is to end: it reads no more, and once what it has is in the list, it tells the others that its
+ * connections have ended. Then it has left. */
 void replica_leave(struct replica *replica);
 bool replica_has_left(const struct replica *replica);
 

@@ -162,7 +162,7 @@ static void leave(void) {
     uv_timer_start(&loop.leaving, on_leaving, LEAVING, 0);
 }
 
-/* Ends in order. Clients hear that their locks are lost, and if there were locks, the next daemon waits a grace time. */
+/* Ends in order. Clients hear that their locks are lost. If there were any, the next daemon waits a grace time. */
 static void on_end(uv_signal_t *handle, int number) {
     (void)handle, (void)number;
     notify("STOPPING=1");

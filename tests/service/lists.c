@@ -2,8 +2,8 @@
  *
  * Time, the list, the replicas and their clients are all made up here and driven by random numbers. Batches reach the
  * list late, now and then twice; replicas run it at their own pace, stop for a while, end in order or not and start
- * anew, from what was kept or from the whole list. Clients ask for locks with sessions that have leases, stop for a while, and go on at
- * another replica. A run fails
+ * anew, from what was kept or from the whole list. Clients ask for locks with sessions that have leases, stop for a
+ * while, and go on at another replica. A run fails
  * - if two clients believe to hold one resource at a time, each counting its lease from before it sent what was
  *   answered;
  * - if replicas that have run the same part of the list tell different resources, locks or sessions;
@@ -659,8 +659,8 @@ static bool is_ended(struct dispatcher *dispatcher, uint64_t moment) {
     return dispatcher_next_end(dispatcher, &session, &beat) && dispatcher_end(dispatcher, session, beat);
 }
 
-/* An epoch ends in which a lock is held to the last. Its holder is told, and no beat keeps the lease. But the lock stays
- * until that is over, and nobody gets another one before. A session without locks goes on. */
+/* An epoch ends in which a lock is held to the last. Its holder is told, and no beat keeps the lease. But the lock
+ * stays until that is over, and nobody gets another one before. A session without locks goes on. */
 static void run_end_of_epoch(void) {
     struct limits limits = USUAL_LIMITS;
     struct bytes told = {NULL, 0, 0};
