@@ -138,15 +138,35 @@ class Waits(unittest.TestCase):
         self.p.lock("A", Mode.EX, float("inf")).release()
         self.p.lock("A", Mode.EX, 1e300).release()
 
-    def test_an_interrupted_wait_leaves_no_request(self):
+    def assert_interrupted(self, call, *arguments):
+        """Interrupts a wait of the main thread. One lock is left, and no request."""
         def interrupt(_number, _frame):
             raise KeyboardInterrupt
 
         self.addCleanup(signal.signal, signal.SIGALRM, signal.signal(signal.SIGALRM, interrupt))
+        signal.setitimer(signal.ITIMER_REAL, 0.05)
+        self.assertRaises(KeyboardInterrupt, call, *arguments)
+        self.assertEqual((self.count(), self.count("locks")), (0, 1))
+
+    def test_an_interrupted_wait_leaves_no_request(self):
         with self.p.lock("A", Mode.EX):
-            signal.setitimer(signal.ITIMER_REAL, 0.05)
-            self.assertRaises(KeyboardInterrupt, self.q.lock, "A", Mode.EX, SECONDS)
-            self.assertEqual((self.count(), self.count("locks")), (0, 1))
+            self.assert_interrupted(self.q.lock, "A", Mode.EX, SECONDS)
+
+    def test_the_main_thread_waits_where_the_program_calls_routines(self):
+        other = Shared(by_program=True)
+        self.addCleanup(other.close)
+        for self.shared, own_queue in ((self.shared, True), (other, False)):
+            p, q = (self.shared.declare(own_queue=own_queue) for _ in range(2))
+            with p.lock("A", Mode.EX):
+                self.assert_interrupted(q.lock, "A", Mode.EX, SECONDS)
+                self.assertRaises(TimedOutError, q.lock, "A", Mode.EX, 0.01)
+            with p.lock("A", Mode.NL) as held:
+                blocker = q.lock("A", Mode.EX)
+                self.assertRaises(TimedOutError, held.convert, Mode.PR, 0.01)
+                later = self.pool.submit(self.do_once_it_waits, blocker.release)
+                held.convert(Mode.PR, SECONDS)
+                later.result(SOON)
+            self.assertEqual((self.count(), self.count("locks")), (0, 0))
 
     def do_once_it_waits(self, call):
         while not self.count():

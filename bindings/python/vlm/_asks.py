@@ -2,6 +2,7 @@
 
 import threading
 from contextlib import suppress
+from ctypes import c_uint32
 from math import ceil
 from typing import TYPE_CHECKING, Any, Callable, Optional
 
@@ -16,6 +17,8 @@ if TYPE_CHECKING:
 
     from .clients import Client
 
+# After so many seconds an interrupted wait is cancelled again, if it had not begun.
+_AGAIN = 0.01
 _NORMAL, _SYNCH, _NOTQUEUED = int(Condition.NORMAL), int(Condition.SYNCH), int(Condition.NOTQUEUED)
 
 
@@ -39,18 +42,21 @@ class Asked:
         """Makes the request and waits for its end: the answer, NORMAL for a grant.
 
         A wait in the library can't be interrupted. So the main thread, which gets Python's signals, waits for the
-        completion routine, if that is called by another thread."""
-        shared, words = self.client.shared, self.words
-        if not self.client._is_called or threading.current_thread() is not threading.main_thread():
-            words.milliseconds = milliseconds(timeout)
-            return self._make(shared._call("enq" if self.name is not None else "convert"), None)
-        longest, flags = seconds(timeout), words.flags
-        words.flags = flags | Flags.NOQUEUE
-        status = self._make(shared._call("enq" if self.name is not None else "convert"), None)
-        words.flags = flags
+        completion routine, or, where the program itself calls that, for another thread that waits."""
+        if threading.current_thread() is not threading.main_thread():
+            return self.make(timeout)
+        longest, flags = seconds(timeout), self.words.flags
+        self.words.flags = flags | Flags.NOQUEUE
+        status = self.make(None)
+        self.words.flags = flags
         if status != _NOTQUEUED or flags & Flags.NOQUEUE:
             return status
-        return Waiting(self, longest).wait()
+        return Waiting(self, longest).wait() if self.client._is_called else LentWaiting(self, timeout).wait()
+
+    def make(self, timeout: Optional[float]) -> int:
+        """Makes the request and waits for its end in the library."""
+        self.words.milliseconds = milliseconds(timeout)
+        return self._make(self.client.shared._call("enq" if self.name is not None else "convert"), None)
 
     def start_in_task(self) -> "asyncio.Future[Optional[Event]]":
         """Makes the request for a task: a future of the event that ends it, or of None if its process ends."""
@@ -102,8 +108,20 @@ class Asked:
 
     def undo(self) -> None:
         """Cancels the request. A new lock that was granted meanwhile is given up."""
-        if not self.cancel() and self.name is not None:
+        if not self.cancel():
+            self.give_up()
+
+    def give_up(self) -> None:
+        """Gives up a new lock, which was granted."""
+        if self.name is not None:
             self.client._deq(self.words.lkid, 0)
+
+    def cancel_wait(self) -> None:
+        """Cancels the request for which another thread waits in the library, if it waits already."""
+        shared, lock = self.client.shared, c_uint32()
+        shared._call("lkid")(shared._open_layer(), self.words, lock)
+        if lock.value:
+            self.client._deq(lock.value, 2)
 
 
 class Waiting:
@@ -132,3 +150,38 @@ class Waiting:
     def _tell(self, event: Event) -> None:
         self._event = event
         self._ended.set()
+
+
+class LentWaiting:
+    """A wait of this thread for another one, which makes the request and waits in the library."""
+
+    def __init__(self, asked: Asked, timeout: Optional[float]) -> None:
+        self._asked, self._timeout = asked, timeout
+        self._ended = threading.Event()
+        self._status = 0
+        self._error: Optional[BaseException] = None
+
+    def wait(self) -> int:
+        threading.Thread(target=self._make, daemon=True).start()
+        try:
+            self._ended.wait()
+        except BaseException:
+            self._undo()
+            raise
+        if self._error is not None:
+            raise self._error
+        return self._status
+
+    def _make(self) -> None:
+        try:
+            self._status = self._asked.make(self._timeout)
+        except BaseException as error:  # (the thread that waits raises it)
+            self._error = error
+        self._ended.set()
+
+    def _undo(self) -> None:
+        while not self._ended.is_set():
+            self._asked.cancel_wait()
+            self._ended.wait(_AGAIN)
+        if self._status == _NORMAL:
+            self._asked.give_up()

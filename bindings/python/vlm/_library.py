@@ -189,6 +189,7 @@ _LAYER_CALLS: Dict[str, List[Any]] = {
     "vlm_threads_convert": [POINTER(ThreadsRequest)],
     "vlm_threads_start_enq": [POINTER(ThreadsRequest), c_char_p, c_size_t],
     "vlm_threads_start_convert": [POINTER(ThreadsRequest)],
+    "vlm_threads_lkid": [POINTER(ThreadsRequest), _NUMBER],
     "vlm_threads_deq": [POINTER(ThreadsDequeue)],
     "vlm_threads_cancel": [c_uint32, _NUMBER],
     "vlm_threads_fd": [POINTER(c_int)],
