@@ -8,8 +8,11 @@ chunk keeps the head of the batch that the entry names. All numbers are little-e
 
 import lzma
 import struct
+from concurrent.futures import ThreadPoolExecutor
 from dataclasses import dataclass
-from typing import Dict, Iterator, List, Set, Tuple
+from typing import Dict, Iterator, List, Set, Tuple, TypeVar
+
+_Item = TypeVar("_Item")
 
 _HEAD, _REPLICA, _NUMBERED, _ENTRY = 24, slice(8, 16), slice(8, 24), struct.Struct("<IHH")
 _BEAT, _END, _GONE = 4, 5, 7
@@ -98,6 +101,16 @@ def unpack(chunk: bytes) -> Tuple[int, List[Batch]]:
         batches.append(Batch(revision, "", plain[at:at + length]))
         at += length
     return covered, batches
+
+
+def ahead(items: Iterator[_Item]) -> Iterator[_Item]:
+    """The same items. Another thread gets the next one while the last one is used. So a chunk is read and unpacked
+    while vlmd runs the one before it."""
+    with ThreadPoolExecutor(1) as pool:
+        following = pool.submit(lambda: next(items, None))
+        while (item := following.result()) is not None:
+            following = pool.submit(lambda: next(items, None))
+            yield item
 
 
 class Log:

@@ -21,7 +21,7 @@ import grpc
 from etcd3 import etcdrpc
 from etcd3.exceptions import ConnectionFailedError, ConnectionTimeoutError, InternalServerError
 
-from chunks import Batch, unpack
+from chunks import Batch, ahead, unpack
 from members import Place
 
 _T = TypeVar("_T")
@@ -132,6 +132,9 @@ class EtcdList:
     def chunks(self, known: int, revision: int) -> Iterator[Chunk]:
         """The chunks after those that are known, as they are at a revision. Raises Compacted if etcd has forgotten it.
         """
+        return ahead(self._unpacked(known, revision))
+
+    def _unpacked(self, known: int, revision: int) -> Iterator[Chunk]:
         while True:
             key = self._chunk_key(known + 1)
             found = self._range(key, range_end=key + "\0", revision=revision).kvs

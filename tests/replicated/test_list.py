@@ -19,7 +19,7 @@ sys.path.insert(0, str(LIST))
 sys.dont_write_bytecode = True
 import grpc  # noqa: E402
 from etcd3 import etcdrpc  # noqa: E402
-from chunks import Batch, Log, pack, unpack  # noqa: E402
+from chunks import Batch, Log, ahead, pack, unpack  # noqa: E402
 from etcd_list import Chunk, Compacted, EtcdList  # noqa: E402
 from members import Place  # noqa: E402
 
@@ -186,6 +186,22 @@ class Chunks(unittest.TestCase):
         line = an_entry(0, LINE, b"line")
         kept = self.packed(placed(1, 1, 1), placed(2, 1, 2), placed(3, 2, 1, line), placed(4, 2, 2))
         self.assertEqual(kept, [placed(2, 1, 2), placed(3, 2, 1, line), placed(4, 2, 2)])
+
+    def test_the_next_chunk_is_read_while_one_is_used(self):
+        begun = [threading.Event() for _ in range(3)]
+
+        def items():
+            for number, event in enumerate(begun):
+                event.set()
+                yield number
+            raise Compacted
+
+        found = []
+        with self.assertRaises(Compacted):
+            for item in ahead(items()):
+                found.append(item)
+                self.assertTrue(begun[min(item + 1, 2)].wait(PATIENCE))
+        self.assertEqual(found, [0, 1, 2])
 
     def test_a_chunk_ends_once_it_is_full(self):
         line = an_entry(0, LINE, bytes(100))
