@@ -51,7 +51,7 @@ struct reader {
     bool is_short;
 };
 
-/* (inline, so that a number of a known length is one load: each entry has some) */
+/* Inline, since each entry has numbers, and one of a known length is a single load. */
 static inline uint64_t reader_number(struct reader *reader, size_t len) {
     uint64_t number = 0;
     if (reader->left < len) {

@@ -16,7 +16,7 @@ enum {
     USUAL_BLOCKS = 4
 };
 
-/* (most bytes are seen to be none by the first comparison) */
+/* (the first comparison is enough for most bytes) */
 static bool is_blank(char byte) { return (unsigned char)byte <= ' ' && (byte == ' ' || byte == '\t' || byte == '\r'); }
 
 /* Finds the words of a line, at most `most`, and returns how many there are. */

@@ -13,8 +13,10 @@
 #include <sys/resource.h>
 #include <unistd.h>
 
-/* (the last is how long a replica waits at most for its end to be in the list, in milliseconds) */
-enum { KEYS = 16, NAMED = 256, LEAVING = 5000 };
+enum { KEYS = 16, NAMED = 256 };
+
+/* How long a replica that ends waits for its entry in the list, in milliseconds. */
+enum { LEAVING = 5000 };
 
 static const char usual_file[] = "/etc/vlmd.conf", usual_socket[] = "/run/vlm/lock.sock";
 static const struct config usual_config = {.mode = 0660,

@@ -523,13 +523,18 @@ static void run_idle(void) {
     end();
 }
 
-/* The list stands still for long, and then takes the batch of one replica first: the others go on. */
-static void run_list_that_stands_still(void) {
-    struct client *client = &clients[0];
+/* Begins with a client that has a session at the first node. */
+static void begin_with(struct client *client) {
     begin(1);
     nodes[0].delay = nodes[1].delay = nodes[2].delay = 10;
     connect_to(client, &nodes[0]);
     pass_time(client, now + 2000);
+}
+
+/* The list stands still for long, and then takes the batch of one replica first: the others go on. */
+static void run_list_that_stands_still(void) {
+    struct client *client = &clients[0];
+    begin_with(client);
     nodes[0].delay = 40000;
     nodes[1].delay = nodes[2].delay = 41000;
     pass_time(client, now + 1500);
@@ -541,10 +546,7 @@ static void run_list_that_stands_still(void) {
 /* A replica ends in order: the others know at once that its connections have ended. */
 static void run_leaving(void) {
     struct client *client = &clients[0];
-    begin(1);
-    nodes[0].delay = nodes[1].delay = nodes[2].delay = 10;
-    connect_to(client, &nodes[0]);
-    pass_time(client, now + 2000);
+    begin_with(client);
     uint32_t before = dispatcher_count(nodes[1].dispatcher);
     replica_leave(nodes[0].replica);
     pass_time(client, now + 500);
@@ -559,10 +561,7 @@ static void run_many_readings(void) {
     struct client *client = &clients[0];
     struct node *node = &nodes[0];
     size_t len, all = 0;
-    begin(1);
-    nodes[0].delay = nodes[1].delay = nodes[2].delay = 10;
-    connect_to(client, node);
-    pass_time(client, now + 2000);
+    begin_with(client);
     for (unsigned it = 0; it < READINGS; it++)
         link_hear(client->link, (const uint8_t *)"who none\n", 9);
     for (unsigned turn = 0; turn < READINGS && all < READINGS; turn++) {

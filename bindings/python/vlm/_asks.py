@@ -17,7 +17,7 @@ if TYPE_CHECKING:
 
     from .clients import Client
 
-# After so many seconds an interrupted wait is cancelled again, if it had not begun.
+# Seconds between two attempts to cancel an interrupted wait. The first one may come before the wait begins.
 _AGAIN = 0.01
 _NORMAL, _SYNCH, _NOTQUEUED = int(Condition.NORMAL), int(Condition.SYNCH), int(Condition.NOTQUEUED)
 

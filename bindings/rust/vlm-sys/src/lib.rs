@@ -26,20 +26,34 @@ impl Vlm {
 /// The version of the header that this file follows, 0.2.0: one byte for each of its numbers.
 pub const VERSION: u32 = 0x00_02_00;
 
-// The kinds of lines of a script. An empty line has no word, or is a comment.
+// The kinds of lines of a script.
+/// No word, or a comment.
 pub const LINE_EMPTY: u32 = 0;
+/// `declare`: a process.
 pub const LINE_DECLARE: u32 = 1;
+/// `set`: a status block's value part.
 pub const LINE_SET: u32 = 2;
+/// `enq`: a new lock.
 pub const LINE_ENQ: u32 = 3;
+/// `cvt`: another mode of a lock.
 pub const LINE_CVT: u32 = 4;
+/// `deq`: a lock is given up, or its request cancelled.
 pub const LINE_DEQ: u32 = 5;
+/// `end`: the end of a process.
 pub const LINE_END: u32 = 6;
+/// `leave`: a node departs.
 pub const LINE_LEAVE: u32 = 7;
+/// `search`: for a deadlock.
 pub const LINE_SEARCH: u32 = 8;
+/// `ast`: takes an AST.
 pub const LINE_AST: u32 = 9;
+/// `block`: shows a status block.
 pub const LINE_BLOCK: u32 = 10;
+/// `tail`: shows the tail of a status block.
 pub const LINE_TAIL: u32 = 11;
+/// `show`: shows all resources.
 pub const LINE_SHOW: u32 = 12;
+/// `tails`: shows the tails of all value blocks.
 pub const LINE_TAILS: u32 = 13;
 
 /// Defines structs of the library, each with its size as its first member and a rest of zeros. Pins the sizes that the
