@@ -16,28 +16,35 @@ enum {
     USUAL_BLOCKS = 4
 };
 
+static const char parent_key[] = "parent=";
+
 /* (the first comparison is enough for most bytes) */
 static bool is_blank(char byte) { return (unsigned char)byte <= ' ' && (byte == ' ' || byte == '\t' || byte == '\r'); }
 
+/* Takes the next word off the rest of a line. It is empty if there is none. */
+static struct word next_word(struct word *rest) {
+    const char *from = rest->bytes, *end = from + rest->len;
+    while (from < end && is_blank(*from))
+        from++;
+    const char *to = from;
+    while (to < end && !is_blank(*to))
+        to++;
+    *rest = (struct word){to, (size_t)(end - to)};
+    return (struct word){from, (size_t)(to - from)};
+}
+
 /* Finds the words of a line, at most `most`, and returns how many there are. */
 size_t split(const char *bytes, size_t len, struct word *words, size_t most) {
+    struct word rest = {bytes, len};
     size_t count = 0;
-    for (size_t at = 0; at < len;) {
-        size_t from = at;
-        while (at < len && !is_blank(bytes[at]))
-            at++;
-        if (at > from) {
-            if (count < most)
-                words[count] = (struct word){bytes + from, at - from};
-            count++;
-        }
-        at += at < len;
-    }
+    for (struct word word = next_word(&rest); word.len != 0; word = next_word(&rest), count++)
+        if (count < most)
+            words[count] = word;
     return count;
 }
 
 bool is_word(struct word word, const char *text) {
-    return word.len == strlen(text) && memcmp(word.bytes, text, word.len) == 0;
+    return word.len == strlen(text) && memcmp(word.bytes, text, strlen(text)) == 0;
 }
 
 /* Whether a word has a form such as `key=REST`; `key` has the equals sign. */
@@ -82,11 +89,12 @@ static void take_number(struct client *client, const char **bytes, size_t *len) 
 enum line_kind dispatcher_kind(const char *line, size_t len) {
     static const char *const changes[] = {"enq",     "cvt",  "deq",    "set",   "end",
                                           "declare", "open", "resume", "close", "kill"};
-    struct word word;
     uint64_t number;
     size_t taken = read_number(line, len, &number);
-    if (len - taken > LINE || split(line + taken, len - taken, &word, 1) == 0)
+    struct word rest = {line + taken, len - taken};
+    if (rest.len > LINE)
         return LINE_READS;
+    struct word word = next_word(&rest);
     for (size_t at = 0; at < sizeof changes / sizeof *changes; at++)
         if (is_word(word, changes[at]))
             return LINE_CHANGES;
@@ -126,26 +134,27 @@ static uint32_t lkid_of(const struct dispatcher *dispatcher, uint64_t handle) {
     return handle == 0 ? 0 : handle >> 32 == dispatcher->epoch && (uint32_t)handle != 0 ? (uint32_t)handle : NO_LOCK;
 }
 
-/* The word of a line that may be a handle: the third of `cvt` and `deq`, and what follows `parent=` in `enq`. A line of
- * more words than a line may have is wrong in any case. */
-static bool find_handle(const struct word *words, size_t count, struct word *handle) {
-    if (count > 2 && (is_word(words[0], "cvt") || is_word(words[0], "deq"))) {
-        *handle = words[2];
-        return true;
-    }
-    if (!is_word(words[0], "enq"))
+/* The word of a line that may be a handle: the third of `cvt` and `deq`, and what follows `parent=` in `enq`. `rest` is
+ * what follows the first word. */
+static bool find_handle(struct word command, struct word rest, struct word *handle) {
+    if (is_word(command, "enq")) {
+        /* (most lines have no parent, and need no second reading of their words) */
+        while (memchr(rest.bytes, parent_key[0], rest.len) != NULL)
+            if (keyed(next_word(&rest), parent_key, handle))
+                return true;
         return false;
-    for (size_t at = STEP_LETTERS; at < count; at++)
-        if (keyed(words[at], "parent=", handle))
-            return true;
-    return false;
+    }
+    next_word(&rest);
+    *handle = next_word(&rest);
+    return is_word(command, "cvt") || is_word(command, "deq");
 }
 
-/* Reads a line in which a lock may be named by its handle. */
-static bool read_with_handle(struct dispatcher *dispatcher, struct word whole, const struct word *words, size_t count) {
-    struct word handle;
+/* Reads the client's line, in which a lock may be named by its handle. */
+static bool read_with_handle(const struct client *client, struct word command, struct word rest) {
+    struct dispatcher *dispatcher = client->dispatcher;
+    struct word whole = {client->line, client->line_len}, handle;
     uint64_t number;
-    if (!find_handle(words, count, &handle) || !decimal(handle, UINT64_MAX, &number))
+    if (!find_handle(command, rest, &handle) || !decimal(handle, UINT64_MAX, &number))
         return vlm_read_line((const uint8_t *)whole.bytes, whole.len, &dispatcher->line) == VLM_NORMAL;
     char text[LINE + 24];
     size_t before = (size_t)(handle.bytes - whole.bytes), after = whole.len - before - handle.len;
@@ -193,19 +202,31 @@ static void run_read_line(struct client *client, const vlm_line *line) {
 }
 
 /* Whether a line has to wait: requests do while the dispatcher is quiet. */
-static bool has_to_wait(struct client *client, const struct word *words, size_t count) {
-    struct dispatcher *dispatcher = client->dispatcher;
-    client->is_waiting = dispatcher->quiet_until != 0 && count > 0 && is_word(words[0], "enq");
+static bool has_to_wait(struct client *client, struct word command) {
+    client->is_waiting = client->dispatcher->quiet_until != 0 && is_word(command, "enq");
     return client->is_waiting;
 }
 
-/* Whether a line is surely none of a session: most lines are such steps. */
+/* Whether a line is surely none of a session, and no declaration: most lines are such steps. */
 static bool is_frequent(struct word word) { return word.len == STEP_LETTERS && word.bytes[0] != 'w'; }
+
+/* Runs the client's line if it is one of a session. Else reads it, and says whether it could. */
+static bool run_or_read(struct client *client, struct word command, struct word rest, bool *is_read) {
+    struct word words[MOST_WORDS];
+    if (is_frequent(command)) {
+        *is_read = read_with_handle(client, command, rest);
+        return false;
+    }
+    size_t count = split(client->line, client->line_len, words, MOST_WORDS);
+    if (run_session_line(client, words, count))
+        return true;
+    *is_read = is_word(command, "declare") ? as_declaration(client, words, count, &client->dispatcher->line)
+                                           : read_with_handle(client, command, rest);
+    return false;
+}
 
 /* Runs a line without its line feed. Returns false, and has done nothing, if the line has to wait. */
 bool run_line(struct client *client, const char *bytes, size_t len) {
-    struct dispatcher *dispatcher = client->dispatcher;
-    struct word words[MOST_WORDS];
     take_number(client, &bytes, &len);
     if (len > LINE) {
         answer_text(client, faults[VLM_FAULT_TOO_LONG]);
@@ -213,14 +234,13 @@ bool run_line(struct client *client, const char *bytes, size_t len) {
     }
     client->line = bytes;
     client->line_len = len;
-    size_t count = split(bytes, len, words, MOST_WORDS), kept = count < MOST_WORDS ? count : MOST_WORDS;
-    if (has_to_wait(client, words, count))
+    struct word rest = {bytes, len}, command = next_word(&rest);
+    bool is_read;
+    if (has_to_wait(client, command))
         return false;
-    if (count == 0 || (!is_frequent(words[0]) && run_session_line(client, words, count)))
+    if (command.len == 0 || run_or_read(client, command, rest, &is_read))
         return true;
-    vlm_line *line = &dispatcher->line;
-    bool is_read = is_word(words[0], "declare") ? as_declaration(client, words, count, line)
-                                                : read_with_handle(dispatcher, (struct word){bytes, len}, words, kept);
+    const vlm_line *line = &client->dispatcher->line;
     if (!is_read || line->fault != 0)
         answer_text(client, faults[is_read ? line->fault : VLM_FAULT_WRONG_WORD]);
     else

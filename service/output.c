@@ -112,21 +112,22 @@ void answer_text(struct client *client, const char *text) { answer(client, text,
 
 /* Puts a number in the place of a word of a printed line, counted from 0. */
 void replace_word(vlm_text *text, uint32_t place, uint64_t number) {
-    char *bytes = (char *)text->bytes, digits[DIGITS];
-    size_t from = 0, len = text->len;
-    while (from < len && bytes[from] == ' ')
+    char *from = (char *)text->bytes, *end = from + text->len, digits[DIGITS];
+    while (from < end && *from == ' ')
         from++;
-    for (; place > 0 && from < len; from++)
-        place -= bytes[from] == ' ';
-    size_t to = from;
-    while (to < len && bytes[to] != ' ' && bytes[to] != '\n')
+    for (; place > 0 && from < end; place--) {
+        char *blank = memchr(from, ' ', (size_t)(end - from));
+        from = blank != NULL ? blank + 1 : end;
+    }
+    char *to = from;
+    while (to < end && *to != ' ' && *to != '\n')
         to++;
-    size_t count = write_number(digits + DIGITS, number);
-    if (len - (to - from) + count > sizeof text->bytes)
+    size_t count = write_number(digits + DIGITS, number), len = text->len - (size_t)(to - from) + count;
+    if (len > sizeof text->bytes)
         return;
-    memmove(bytes + from + count, bytes + to, len - to);
-    memcpy(bytes + from, digits + DIGITS - count, count);
-    text->len = (uint32_t)(len - (to - from) + count);
+    memmove(from + count, to, (size_t)(end - to));
+    memcpy(from, digits + DIGITS - count, count);
+    text->len = (uint32_t)len;
 }
 
 const uint8_t *client_output(const struct client *client, size_t *len) {
