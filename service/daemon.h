@@ -100,9 +100,9 @@ uint64_t watchdog_time(void);
 bool listen_to(int listener, bool is_tcp);
 void flush_all(void);
 
-/* list.c. Starts the program that keeps the list; has it append what waits. `is_ready` is called once the replica has
- * run all that was in the list. */
+/* list.c. Starts the program that keeps the list; has it append what waits, or returns true: more lines are expected
+ * at once. `is_ready` is called once the replica has run all that was in the list. */
 bool list_open(const struct config *config, void (*is_ready)(void));
-void list_append(void);
+bool list_append(void);
 
 #endif

@@ -24,6 +24,8 @@ struct link {
     uint64_t beat;  /* the one that its `alive` waits for, or 0 */
     uint64_t turn;  /* in which it has run lines last, and how many */
     uint32_t readings;
+    uint64_t batch; /* the replica's last one that had lines of this client; how many of them no line has followed */
+    uint32_t answered;
     struct bytes in;
     size_t from;   /* the bytes before it have become lines */
     bool is_ended; /* no more bytes come */
@@ -126,6 +128,17 @@ static bool has_turn(struct link *link) {
     return true;
 }
 
+/* Counts a line of the next batch. It may be one that is expected after the last batch. */
+static void count_line(struct link *link) {
+    struct replica *replica = link->replica;
+    link->lines++;
+    replica->lines++;
+    if (link->batch == replica->batches && link->answered > 0 && replica->expected > 0) {
+        link->answered--;
+        replica->expected--;
+    }
+}
+
 /* Runs a line, or makes an entry of it. Returns false, and has done nothing, if the line has to wait. */
 static bool run(struct link *link, const char *line, size_t len) {
     struct bytes *next = &link->replica->next;
@@ -133,7 +146,7 @@ static bool run(struct link *link, const char *line, size_t len) {
     if (kind == LINE_CHANGES) {
         if (link->lines == MOST_LINES)
             return false;
-        link->lines++;
+        count_line(link);
         entry_begin(next, ENTRY_LINE, 4 + len);
         bytes_add_number(next, link->slot, 4);
         bytes_add(next, line, len);
@@ -188,6 +201,11 @@ void link_line_has_run(struct replica *replica, uint32_t slot) {
     if (link == NULL)
         return;
     link->lines--;
+    if (link->batch != replica->batches) {
+        link->batch = replica->batches;
+        link->answered = 0;
+    }
+    link->answered++;
     if (link->lines == 0 || link->lines == MOST_LINES - 1)
         link_go(link);
 }

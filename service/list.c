@@ -20,11 +20,16 @@
 
 enum { HEAD = 4, MOST_FRAME = 64 << 20, LONGEST_PATH = 4096, FIRST_READ = 64 << 10 };
 
+/* How long an append waits for the next lines of clients that the last one has answered, in nanoseconds. Without them
+ * it would go at once, and they would wait for one more. */
+enum { GATHERING = 300000 };
+
 static struct {
     uv_process_t process;
     uv_pipe_t to, from;
     struct bytes heard;
     void (*is_ready)(void);
+    uint64_t gathers_until;
 } list;
 
 static void fail(const char *text) {
@@ -56,20 +61,32 @@ static void begin_frame(struct bytes *frame, char letter, size_t len) {
     bytes_add(frame, &letter, 1);
 }
 
-void list_append(void) {
+bool list_append(void) {
+    if (replica_expected(vlmd.replica) != 0 && uv_hrtime() < list.gathers_until)
+        return true;
     struct bytes batch = replica_batch(vlmd.replica), frame;
     if (batch.len == 0)
-        return;
+        return false;
     begin_frame(&frame, 'a', batch.len);
     bytes_add(&frame, batch.all, batch.len);
     send_frame(&frame);
+    return false;
+}
+
+/* An append may wait from here on: the last batch is in the list, or was answered. */
+static void begin_gathering(void) { list.gathers_until = uv_hrtime() + GATHERING; }
+
+static void end_append(void) {
+    replica_appended(vlmd.replica);
+    begin_gathering();
 }
 
 /* Runs a batch. What a chunk is to keep of it goes back. */
 static void run_batch(struct reader *read, bool is_kept) {
     uint64_t revision = reader_number(read, 8);
     struct bytes batch = {(uint8_t *)read->at, read->left, 0}, kept = {NULL, 0, 0}, frame;
-    replica_apply(vlmd.replica, revision, &batch, is_kept ? NULL : &kept);
+    if (replica_apply(vlmd.replica, revision, &batch, is_kept ? NULL : &kept))
+        begin_gathering();
     if (kept.len == 0)
         return;
     begin_frame(&frame, 'k', 8 + kept.len);
@@ -84,7 +101,7 @@ static void run_frame(struct reader *read) {
     if (letter == 'b' || letter == 'p')
         run_batch(read, letter == 'p');
     else if (letter == 'a')
-        replica_appended(vlmd.replica);
+        end_append();
     else if (letter == 'r')
         list.is_ready();
     else

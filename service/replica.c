@@ -146,8 +146,14 @@ struct bytes replica_batch(struct replica *replica) {
     if (replica->is_under_way || replica->next.len == 0)
         return (struct bytes){NULL, 0, 0};
     batch_make(&replica->batch, (struct batch_head){replica->name, ++replica->batches}, &replica->next);
+    replica->expected = replica->lines;
+    replica->lines = 0;
     replica->is_under_way = true;
     return replica->batch;
+}
+
+uint32_t replica_expected(const struct replica *replica) {
+    return replica->is_under_way || replica->next.len == 0 ? 0 : replica->expected;
 }
 
 void replica_appended(struct replica *replica) { replica->is_under_way = false; }
@@ -340,7 +346,7 @@ static struct peer *peer_of(struct replica *replica, struct batch_head head) {
     return peer != NULL ? peer : add_peer(replica, head.replica);
 }
 
-void replica_apply(struct replica *replica, uint64_t revision, const struct bytes *batch, struct bytes *kept) {
+bool replica_apply(struct replica *replica, uint64_t revision, const struct bytes *batch, struct bytes *kept) {
     struct reader reader = {batch->all, batch->len, false};
     struct batch_head head = batch_open(&reader);
     struct peer *peer = peer_of(replica, head);
@@ -360,4 +366,5 @@ void replica_apply(struct replica *replica, uint64_t revision, const struct byte
     }
     if (reader.is_short)
         replica_fail("the list has a batch that no replica has made");
+    return head.replica == replica->name;
 }

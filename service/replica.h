@@ -38,9 +38,14 @@ uint64_t replica_due(const struct replica *replica);
 struct bytes replica_batch(struct replica *replica);
 void replica_appended(struct replica *replica);
 
+/* If there is something to be appended: how many lines of the last batch no other line of their clients has followed
+ * yet. Clients that were answered often send the next line at once, and a batch with these lines too spares an append. */
+uint32_t replica_expected(const struct replica *replica);
+
 /* Runs a batch of the list. Revisions rise. `kept`, if it is not null, gets the batch without what did nothing: that
- * rebuilds the same state. Without memory the program ends, as it does for a batch that no replica has made. */
-void replica_apply(struct replica *replica, uint64_t revision, const struct bytes *batch, struct bytes *kept);
+ * rebuilds the same state. Returns whether this replica has made the batch. Without memory the program ends, as it does
+ * for a batch that no replica has made. */
+bool replica_apply(struct replica *replica, uint64_t revision, const struct bytes *batch, struct bytes *kept);
 
 /* The replica is to end: it reads no more, and once what it has is in the list, it tells the others that its
  * connections have ended. Then it has left. */

@@ -41,6 +41,7 @@ struct replica {
     uint32_t slot_count, free_slot;
     struct bytes next, batch; /* entries to be appended, and those that are under way */
     uint64_t batches;         /* that were made */
+    uint32_t lines, expected; /* in `next`; of the last batch, those whose clients have sent no other line since */
     bool is_under_way, has_limits, is_ending;
     bool is_leaving, has_left;  /* it is to end; all others know that it has ended */
     uint64_t searched, drained; /* when it asked for a search, or for the end of the epoch; 0: it was heard */

@@ -105,9 +105,10 @@ static void on_turn(uv_check_t *check) {
     flush_all();
     if (vlmd.replica != NULL && replica_has_left(vlmd.replica))
         end();
-    if (vlmd.replica != NULL)
-        list_append();
-    if (dispatcher_is_busy(vlmd.dispatcher) || is_awake())
+    bool is_gathering = vlmd.replica != NULL && list_append();
+    if (is_gathering)
+        sched_yield();
+    if (dispatcher_is_busy(vlmd.dispatcher) || is_gathering || is_awake())
         uv_idle_start(&loop.busy, on_busy);
     else
         uv_idle_stop(&loop.busy);

@@ -555,6 +555,48 @@ static void run_leaving(void) {
     end();
 }
 
+static void need_expected(const struct replica *replica, uint32_t expected) {
+    if (replica_expected(replica) != expected)
+        fail("a replica expects another number of lines");
+}
+
+static void send_text(struct link *link, const char *line) { link_hear(link, (const uint8_t *)line, strlen(line)); }
+
+/* Before its next batch, a replica may wait for the next lines of the clients that the last one has answered. */
+static void run_next_lines(void) {
+    static const struct limits limits = USUAL_LIMITS;
+    static const struct rights rights = {.group = 1};
+    static const uint8_t keys[16];
+    struct dispatcher *dispatcher = dispatcher_open(&limits, 0, keys, say_nothing);
+    struct replica *replica = replica_open(dispatcher, 1);
+    struct link *link = link_open(replica, &rights, 0, replica);
+    struct bytes batch = replica_batch(replica);
+    replica_appended(replica);
+    replica_apply(replica, 1, &batch, NULL);
+    send_text(link, "open\n");
+    need_expected(replica, 0);
+    batch = replica_batch(replica);
+    send_text(link, "declare A\n");
+    need_expected(replica, 0);
+    replica_appended(replica);
+    need_expected(replica, 1);
+    if (!replica_apply(replica, 2, &batch, NULL))
+        fail("a replica does not know its own batch");
+    need_expected(replica, 1);
+    send_text(link, "declare B\n");
+    need_expected(replica, 0);
+    batch = replica_batch(replica);
+    replica_appended(replica);
+    replica_apply(replica, 3, &batch, NULL);
+    need_expected(replica, 0);
+    send_text(link, "declare C\n");
+    need_expected(replica, 1);
+    send_text(link, "declare D\n");
+    need_expected(replica, 0);
+    replica_close(replica);
+    dispatcher_close(dispatcher);
+}
+
 /* A client has many lines that its replica runs by itself: it runs a part of them in each turn. */
 static void run_many_readings(void) {
     enum { READINGS = 1000, MOST = 200 };
@@ -743,6 +785,7 @@ int main(int count, char **words) {
     run_idle();
     run_list_that_stands_still();
     run_leaving();
+    run_next_lines();
     run_many_readings();
     run_all_processes();
     run_raised_limit();
